@@ -1,0 +1,46 @@
+-- What is known of the office where a change is accepted.
+use Rattle.std.proofs.Common.{◌≡◌, false, Some, None, Option}
+use Rattle.std.specs.Prelude.{IsSome, ⊤}
+use Rattle.cpi_rows.specs.Keyed.{row_at}
+use Rattle.cpi_rows.specs.Held.{held_by}
+use Rattle.cpi_rows.specs.Keyed.{at}
+use Rattle.cpi_store.specs.Office.{bearer_of}
+use Rattle.cpi_survey.specs.Survey.{quote_key, quote_cmp}
+use Rattle.cpi_store.specs.Office.{Office}
+use Rattle.cpi_survey.specs.Survey.{with_name}
+use Rattle.cpi_store.specs.Office.{Change, PutsItem, PutsCalendar, Registers, PutsOutlet, Assigns, Quotes}
+use Rattle.cpi_office.specs.Desk.{Verdict, Refuses, Stands, Makes}
+
+-- a change that is made: what is never replaced is new, what it speaks of is there, and a release is computed
+abbrev pub Fits : Change → Office → Type 0
+Fits (PutsItem i) o = at (λ i. i.code) i.code o.items ≡ None
+Fits (PutsCalendar r) o = ⊤
+Fits (Registers b) o = (at (λ b. b.number) b.number o.collectors ≡ None) × (bearer_of b.key o.collectors ≡ None)
+Fits (PutsOutlet u) o = at (λ u. u.number) u.number o.outlets ≡ None
+Fits (Assigns b a) o =
+    (at (λ a. a.slot) a.assignment.slot (held_by b.number o.assignments) ≡ None)
+    × (at (λ b. b.number) b.number o.collectors ≡ Some b)
+    × IsSome (at (λ u. u.number) a.assignment.outlet o.outlets)
+    × IsSome (at (λ i. i.code) a.assignment.item o.items)
+    × (a ≡ with_name o.outlets a.assignment)
+Fits (Quotes b q) o = (at (λ b. b.number) b.number o.collectors ≡ Some b) × IsSome (at (λ a. a.slot) q.slot (held_by b.number o.assignments))
+
+-- a change whose row stands already
+abbrev pub Stood : Change → Office → Type 0
+Stood (PutsItem i) o = at (λ i. i.code) i.code o.items ≡ Some i
+Stood (PutsCalendar r) o = at (λ r. r.month) r.month o.calendar ≡ Some r
+Stood (Registers b) o = at (λ b. b.number) b.number o.collectors ≡ Some b
+Stood (PutsOutlet u) o = ⊤
+Stood (Assigns b a) o =
+    (at (λ a. a.slot) a.assignment.slot (held_by b.number o.assignments) ≡ Some a.assignment)
+    × (at (λ b. b.number) b.number o.collectors ≡ Some b)
+    × (a ≡ with_name o.outlets a.assignment)
+Stood (Quotes b q) o =
+    (at (λ b. b.number) b.number o.collectors ≡ Some b)
+    × (row_at quote_cmp quote_key (q.slot, q.month) (held_by b.number o.quotes) ≡ Some q)
+
+abbrev pub Holds : Option Verdict → Office → Type 0
+Holds None o = ⊤
+Holds (Some (Refuses f)) o = ⊤
+Holds (Some (Stands c)) o = Stood c o
+Holds (Some (Makes c)) o = Fits c o

@@ -1,0 +1,62 @@
+-- Rows that are the same are equal.
+use Rattle.std.proofs.Common.{◌≡◌, ℕ, Bool, true, false, List, refl, ap, ◌∙◌}
+use Rattle.std.specs.Prelude.{◌&&◌, ◌==◌}
+use Rattle.std.specs.Cmp.Lexicographic.{pointwise_decides, bytes_decides}
+use Rattle.std.proofs.lemmas.Bool.{eqb-true, false≢true}
+use Rattle.cpi_codes.specs.Text.{same_text}
+use Rattle.cpi_survey.specs.Same.{same_item, same_outlet, same_calendar, same_bearer, same_assignment}
+use Rattle.cpi_survey.specs.Survey.{is_same_mark}
+use Rattle.cpi_survey.specs.declared.types.Item.{Item}
+use Rattle.cpi_survey.specs.declared.types.CalendarRow.{CalendarRow}
+use Rattle.cpi_survey.specs.declared.types.Bearer.{Bearer}
+use Rattle.cpi_survey.specs.declared.types.Outlet.{Outlet}
+use Rattle.cpi_survey.specs.declared.types.Assignment.{Assignment}
+use Rattle.cpi_survey.specs.declared.types.Mark.{Mark}
+use Rattle.cpi_survey.specs.declared.types.Mark.TheVariants.{Price}
+
+text_equal : (a b : List ℕ) → same_text a b ≡ true → a ≡ b
+text_equal a b e = (bytes_decides a b).0 e
+
+pub mark_equal : (a b : Mark) → is_same_mark a b ≡ true → a ≡ b
+mark_equal (Price p) (Price q) e = ap Price (eqb-true p q e)
+
+both : (s t : Bool) → (s && t) ≡ true → (s ≡ true) × (t ≡ true)
+both true true e = (refl, refl)
+both true false e = absurd (false≢true e)
+both false t e = absurd (false≢true e)
+
+same_number : (x y : ℕ) → (x == y) ≡ true → x ≡ y
+same_number x y e = eqb-true x y e
+
+pub item_equal : (a b : Item) → same_item a b ≡ true → a ≡ b
+item_equal a b e =
+    let h = both (a.code == b.code && same_text a.text b.text && same_text a.unit b.unit && a.low == b.low) (a.high == b.high) e in
+    let i = both (a.code == b.code && same_text a.text b.text && same_text a.unit b.unit) (a.low == b.low) h.0 in
+    let j = both (a.code == b.code && same_text a.text b.text) (same_text a.unit b.unit) i.0 in
+    let k = both (a.code == b.code) (same_text a.text b.text) j.0 in
+    λ n. record { code = same_number a.code b.code k.0 n; text = text_equal a.text b.text k.1 n; unit = text_equal a.unit b.unit j.1 n; low = same_number a.low b.low i.1 n; high = same_number a.high b.high h.1 n }
+
+pub calendar_equal : (a b : CalendarRow) → same_calendar a b ≡ true → a ≡ b
+calendar_equal a b e =
+    let h = both (a.month == b.month && a.opens == b.opens && a.closes == b.closes) (a.publishes == b.publishes) e in
+    let i = both (a.month == b.month && a.opens == b.opens) (a.closes == b.closes) h.0 in
+    let j = both (a.month == b.month) (a.opens == b.opens) i.0 in
+    λ n. record { month = same_number a.month b.month j.0 n; opens = same_number a.opens b.opens j.1 n; closes = same_number a.closes b.closes i.1 n; publishes = same_number a.publishes b.publishes h.1 n }
+
+pub bearer_equal : (a b : Bearer) → same_bearer a b ≡ true → a ≡ b
+bearer_equal a b e =
+    let h = both (a.number == b.number) (a.key == b.key) e in
+    λ n. record { number = same_number a.number b.number h.0 n; key = same_number a.key b.key h.1 n }
+
+pub outlet_equal : (a b : Outlet) → same_outlet a b ≡ true → a ≡ b
+outlet_equal a b e =
+    let h = both (a.number == b.number) (same_text a.name b.name) e in
+    λ n. record { number = same_number a.number b.number h.0 n; name = text_equal a.name b.name h.1 n }
+
+pub assignment_equal : (a b : Assignment) → same_assignment a b ≡ true → a ≡ b
+assignment_equal a b e =
+    let h = both (a.slot == b.slot && a.outlet == b.outlet && a.item == b.item && a.first_month == b.first_month) (a.last_month == b.last_month) e in
+    let i = both (a.slot == b.slot && a.outlet == b.outlet && a.item == b.item) (a.first_month == b.first_month) h.0 in
+    let j = both (a.slot == b.slot && a.outlet == b.outlet) (a.item == b.item) i.0 in
+    let k = both (a.slot == b.slot) (a.outlet == b.outlet) j.0 in
+    λ n. record { slot = same_number a.slot b.slot k.0 n; outlet = same_number a.outlet b.outlet k.1 n; item = same_number a.item b.item j.1 n; first_month = same_number a.first_month b.first_month i.1 n; last_month = same_number a.last_month b.last_month h.1 n }

@@ -1,0 +1,70 @@
+-- A run goes on by one request.
+use Rattle.std.proofs.Common.{◌≡◌, ℕ, false, inl, inr, List, [], ◌∷◌, ◌++◌, length, refl, sym, ap, ◌∙◌, arith, append_assoc}
+use Rattle.std.proofs.lemmas.List.{append-nil}
+use Rattle.cpi_store.specs.Office.{Office}
+use Rattle.cpi_office.specs.Runs.{replies, reply_to, after, next}
+use Rattle.cpi_office.specs.Served.{served, told, all_served, all_told, IsRun, Ran, is_failure}
+use Rattle.cpi_office.specs.Calls.{Serves}
+use Rattle.cpi_office.proofs.Failures.{never_failure}
+use Rattle.cpi_office.specs.declared.types.Ask.{Ask}
+use Rattle.cpi_office.specs.declared.types.Reply.{Reply}
+use Rattle.cpi_office.specs.declared.types.Reply.TheVariants.{Refused}
+use Rattle.cpi_survey.specs.declared.types.Refusal.TheVariants.{Unavailable}
+use Rattle.std.specs.Prelude.{◌⊎◌}
+
+pub after-append : (xs ys : List Ask) (o : Office) → after (xs ++ ys) o ≡ after ys (after xs o)
+after-append [] ys o = refl
+after-append (x ∷ xs) ys o = after-append xs ys (next x o)
+
+pub replies-append : (xs ys : List Ask) (o : Office) → replies (xs ++ ys) o ≡ replies xs o ++ replies ys (after xs o)
+replies-append [] ys o = refl
+replies-append (x ∷ xs) ys o = ap (λ rs. reply_to x.now x.caller x.request o ∷ rs) (replies-append xs ys (next x o))
+
+served_more : (front : List Ask) (rs : List Reply) (a : Ask) (r : Reply) → length rs ≡ length front → all_served (front ++ a ∷ []) (rs ++ r ∷ []) ≡ all_served front rs ++ served a r
+served_more [] [] a r e = append-nil (served a r)
+served_more [] (s ∷ rs) a r e = absurd (omega (arith, e))
+served_more (b ∷ front) [] a r e = absurd (omega (arith, e))
+served_more (b ∷ front) (s ∷ rs) a r e =
+    ap (λ xs. served b s ++ xs) (served_more front rs a r (omega (arith, e))) ∙ sym (append_assoc (served b s) (all_served front rs) (served a r))
+
+told_more : (rs : List Reply) (r : Reply) → all_told (rs ++ r ∷ []) ≡ all_told rs ++ told r
+told_more [] r = append-nil (told r)
+told_more (s ∷ rs) r = ap (λ xs. told s ++ xs) (told_more rs r) ∙ sym (append_assoc (told s) (all_told rs) (told r))
+
+module _ (o u w : Office) (front : List Ask) (rs : List Reply) (a : Ask) (r : Reply) where
+  pub run_more : length rs ≡ length front → IsRun o front rs u → replies (served a r) u ≡ told r → w ≡ after (served a r) u → IsRun o (front ++ a ∷ []) (rs ++ r ∷ []) w
+  run_more same so_far reply office = record {
+    answers =
+        ap (λ xs. replies xs o) (served_more front rs a r same)
+        ∙ replies-append (all_served front rs) (served a r) o
+        ∙ ap (λ x. replies (all_served front rs) o ++ replies (served a r) x) (sym so_far.office)
+        ∙ ap (λ ys. replies (all_served front rs) o ++ ys) reply
+        ∙ ap (λ ys. ys ++ told r) so_far.answers
+        ∙ sym (told_more rs r);
+    office =
+        office
+        ∙ ap (after (served a r)) so_far.office
+        ∙ sym (after-append (all_served front rs) (served a r) o)
+        ∙ ap (λ xs. after xs o) (sym (served_more front rs a r same));
+  }
+
+-- one call of the office is a run of the one request, or of none
+module _ {B : Type 0} (is_clean : B → Type 0) (lists : B → Office) (failures : B → ℕ) where
+  run_one : (a : Ask) (r : Reply) (o u : Office) → (r ≡ reply_to a.now a.caller a.request o) → (u ≡ next a o) → (replies (served a r) o ≡ told r) × (u ≡ after (served a r) o)
+  run_one a r o u e f =
+      let fair : is_failure r ≡ false = ap is_failure e ∙ never_failure a.now a.caller a.request o in
+      rw fair (ap (λ x. x ∷ []) (sym e), f)
+
+  run_none : (a : Ask) (r : Reply) (o u : Office) → (r ≡ Refused Unavailable) → (u ≡ o) → (replies (served a r) o ≡ told r) × (u ≡ after (served a r) o)
+  run_none a r o u e f = rw e (refl, f)
+
+  pub ran_more : (old mid new : B) (front : List Ask) (rs : List Reply) (a : Ask) (r : Reply) → length rs ≡ length front → Ran is_clean lists old mid front rs →
+      Serves is_clean lists failures mid new r (reply_to a.now a.caller a.request (lists mid)) (next a (lists mid)) → Ran is_clean lists old new (front ++ a ∷ []) (rs ++ r ∷ [])
+  ran_more old mid new front rs a r same ran serves = record {
+    was_clean = λ clean. ran.was_clean (serves.was_clean clean);
+    run = λ clean. by (serves.served clean) (ran.run (serves.was_clean clean));
+  }
+    where
+      by : ((r ≡ reply_to a.now a.caller a.request (lists mid)) × (lists new ≡ next a (lists mid))) ⊎ ((r ≡ Refused Unavailable) × (lists new ≡ lists mid)) → IsRun (lists old) front rs (lists mid) → IsRun (lists old) (front ++ a ∷ []) (rs ++ r ∷ []) (lists new)
+      by (inl h) so_far = let one = run_one a r (lists mid) (lists new) h.0 h.1 in run_more (lists old) (lists mid) (lists new) front rs a r same so_far one.0 one.1
+      by (inr h) so_far = let none = run_none a r (lists mid) (lists new) h.0 h.1 in run_more (lists old) (lists mid) (lists new) front rs a r same so_far none.0 none.1

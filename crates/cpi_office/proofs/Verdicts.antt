@@ -1,0 +1,179 @@
+-- What becomes of a request holds of the office: a change that is made fits, and one that stands is there.
+use Rattle.std.proofs.Common.{◌≡◌, ℕ, Bool, true, false, List, Some, None, Option, Result, Ok, Err, refl, sym, ap, ◌∙◌, subst, inl, inr}
+use Rattle.std.specs.Prelude.{◌⊎◌, IsSome, nat_lt, nat_le, ◌||◌, is_none, option_map}
+use Rattle.std.specs.Ordering.{nat_cmp}
+use Rattle.std.proofs.lemmas.Bool.{false≢true}
+use Rattle.std.proofs.lemmas.Map.Lookups.{exact_pairs, exact_unsigned}
+use Rattle.cpi_rows.specs.Keyed.{at, row_at}
+use Rattle.cpi_rows.specs.Held.{held_by}
+use Rattle.cpi_rows.proofs.Found.{row_key, at_key, at-map}
+use Rattle.cpi_survey.specs.Rows.{QuoteRow, EntryRow}
+use Rattle.cpi_survey.specs.Survey.{decided, in_slot, over_quote, in_month, in_window, is_same_mark, with_name, quote_cmp, quote_key, greatest_receipt}
+use Rattle.cpi_survey.specs.Same.{same_item, same_outlet, same_calendar, same_bearer, same_assignment}
+use Rattle.cpi_survey.specs.declared.types.Item.{Item}
+use Rattle.cpi_survey.specs.declared.types.CalendarRow.{CalendarRow}
+use Rattle.cpi_survey.specs.declared.types.Bearer.{Bearer}
+use Rattle.cpi_survey.specs.declared.types.Outlet.{Outlet}
+use Rattle.cpi_survey.specs.declared.types.Assignment.{Assignment}
+use Rattle.cpi_survey.specs.declared.types.Assigned.{Assigned}
+use Rattle.cpi_survey.specs.declared.types.Decision.{Decision}
+use Rattle.cpi_survey.specs.declared.types.Refusal.{Refusal}
+use Rattle.cpi_store.specs.Office.{Office, own_part, public_part, bearer_of}
+use Rattle.cpi_office.specs.Views.{view, own_view}
+use Rattle.cpi_office.specs.Desk.{Verdict, standing, put_once, item_put, outlet_put, registered, to_collector, standing_for, outlet_judged, assigned, calendar_put}
+use Rattle.cpi_office.specs.Runs.{commanded, of_collector, verdict, decision_verdict, entered, quoted}
+use Rattle.cpi_office.specs.Sound.{IsSound}
+use Rattle.cpi_office.specs.declared.types.Request.{Request}
+use Rattle.cpi_office.specs.declared.types.Request.TheVariants as request
+use Rattle.cpi_office.specs.declared.types.Caller.{Caller}
+use Rattle.cpi_office.specs.declared.types.Caller.TheVariants as caller
+use Rattle.cpi_office.proofs.Accepted.{Holds}
+use Rattle.cpi_office.proofs.Failures.{if_holds}
+use Rattle.cpi_office.proofs.Bearers.{bearer_listed}
+use Rattle.cpi_office.proofs.Same.{item_equal, calendar_equal, bearer_equal, assignment_equal, mark_equal}
+
+module _ (o : Office) where
+  abbrev Fair : Verdict → Type 0
+  Fair v = Holds (Some v) o
+
+  item_fair : (i : Item) (w : Option Item) → at (λ i. i.code) i.code o.items ≡ w → Fair (item_put i w)
+  item_fair i None e = e
+  item_fair i (Some old) e = by (same_item old i) refl
+    where
+      by : (t : Bool) → same_item old i ≡ t → Fair (item_put i (Some old))
+      by true f = rw f (e ∙ ap Some (item_equal old i f))
+      by false f = rw f tt
+
+  outlet_fair : (u : Outlet) (w : Option Outlet) → at (λ u. u.number) u.number o.outlets ≡ w → Fair (outlet_put u w)
+  outlet_fair u None e = e
+  outlet_fair u (Some old) e = by (same_outlet old u) refl
+    where
+      by : (t : Bool) → same_outlet old u ≡ t → Fair (outlet_put u (Some old))
+      by true f = rw f tt
+      by false f = rw f tt
+
+  calendar_fair : (r : CalendarRow) (w : Option CalendarRow) → at (λ r. r.month) r.month o.calendar ≡ w → Fair (calendar_put r w)
+  calendar_fair r None e = tt
+  calendar_fair r (Some old) e = by (same_calendar old r) refl
+    where
+      by : (t : Bool) → same_calendar old r ≡ t → Fair (calendar_put r (Some old))
+      by true f = rw f (e ∙ ap Some (calendar_equal old r f))
+      by false f = rw f tt
+
+  registered_fair : (b : Bearer) (w v : Option Bearer) → at (λ b. b.number) b.number o.collectors ≡ w → bearer_of b.key o.collectors ≡ v → Fair (registered b w v)
+  registered_fair b None None e f = (e, f)
+  registered_fair b None (Some other) e f = tt
+  registered_fair b (Some old) v e f = if_holds Fair (same_bearer old b) _ _ (λ same. e ∙ ap Some (bearer_equal old b same)) (λ other. tt)
+
+  module _ (n : ℕ) (x : Assignment) where
+    abbrev slot_free : Type 0
+    slot_free = at (λ a. a.slot) x.slot (held_by n o.assignments) ≡ None
+
+    to_collector_fair : (w : Option Bearer) → at (λ b. b.number) n o.collectors ≡ w → slot_free → IsSome (at (λ u. u.number) x.outlet o.outlets) → IsSome (at (λ i. i.code) x.item o.items) → Fair (to_collector (with_name o.outlets x) w)
+    to_collector_fair None e free outlet item = tt
+    to_collector_fair (Some b) e free outlet item =
+        let same : b.number ≡ n = at_key (λ b. b.number) n b o.collectors e in
+        (ap (λ k. at (λ a. a.slot) x.slot (held_by k o.assignments)) same ∙ free, ap (λ k. at (λ b. b.number) k o.collectors) same ∙ e, outlet, item, refl)
+
+    standing_fair : (w : Option Bearer) → at (λ b. b.number) n o.collectors ≡ w → at (λ a. a.slot) x.slot (held_by n o.assignments) ≡ Some x → Fair (standing_for (with_name o.outlets x) w)
+    standing_fair None e there = tt
+    standing_fair (Some b) e there =
+        let same : b.number ≡ n = at_key (λ b. b.number) n b o.collectors e in
+        (ap (λ k. at (λ a. a.slot) x.slot (held_by k o.assignments)) same ∙ there, ap (λ k. at (λ b. b.number) k o.collectors) same ∙ e, refl)
+
+    known : {X : Type 0} (w : Option X) → is_none w ≡ false → IsSome w
+    known None e = absurd (false≢true (sym e))
+    known (Some y) e = refl
+
+    assigned_fair : (w : Option Bearer) (v : Option Assignment) → at (λ b. b.number) n o.collectors ≡ w → at (λ a. a.slot) x.slot (held_by n o.assignments) ≡ v →
+        Fair (assigned (with_name o.outlets x) (at (λ i. i.code) x.item o.items) (at (λ u. u.number) x.outlet o.outlets) w (standing same_assignment x v))
+    assigned_fair w None e free =
+        if_holds Fair (is_none (at (λ i. i.code) x.item o.items)) _ _ (λ miss. tt) (λ item.
+        if_holds Fair (is_none (at (λ u. u.number) x.outlet o.outlets)) _ _ (λ miss. tt) (λ outlet.
+        to_collector_fair w e free (known (at (λ u. u.number) x.outlet o.outlets) outlet) (known (at (λ i. i.code) x.item o.items) item)))
+    assigned_fair w (Some old) e there = by (same_assignment old x) refl
+      where
+        by : (t : Bool) → same_assignment old x ≡ t → Fair (assigned (with_name o.outlets x) (at (λ i. i.code) x.item o.items) (at (λ u. u.number) x.outlet o.outlets) w (standing same_assignment x (Some old)))
+        by true f = rw f (standing_fair w e (there ∙ ap Some (assignment_equal old x f)))
+        by false f = rw f tt
+
+  -- ---- an entry
+
+  module _ (b : Bearer) (found : at (λ b. b.number) b.number o.collectors ≡ Some b) (entry : EntryRow) (has : IsSome (at (λ a. a.slot) entry.slot (held_by b.number o.assignments))) where
+    abbrev Meets : Result Decision Refusal → Type 0
+    Meets d = Holds (Some (decision_verdict b entry d)) o
+
+    window_meets : (now : ℕ) (row : CalendarRow) (a : Assignment) (greatest : ℕ) → Meets (in_window now entry row a greatest)
+    window_meets now row a greatest =
+        if_holds Meets (nat_lt entry.month a.first_month || nat_lt a.last_month entry.month) _ _ (λ e. tt) (λ e.
+        if_holds Meets (nat_lt now row.opens) _ _ (λ e. tt) (λ e.
+        if_holds Meets (nat_le row.closes now) _ _ (λ e. tt) (λ e.
+        if_holds Meets (nat_le 1000000 greatest) _ _ (λ e. tt) (λ e. (found, has)))))
+
+    month_meets : (now : ℕ) (row : Option CalendarRow) (a : Assignment) (greatest : ℕ) → Meets (in_month now entry row a greatest)
+    month_meets now None a greatest = tt
+    month_meets now (Some row) a greatest = window_meets now row a greatest
+
+    -- the stored quote is the entry with its receipt
+    again_is : (q : QuoteRow) → row_at quote_cmp quote_key (entry.slot, entry.month) (held_by b.number o.quotes) ≡ Some q → is_same_mark q.mark entry.mark ≡ true →
+        row_at quote_cmp quote_key (entry.slot, entry.month) (held_by b.number o.quotes) ≡ Some (quoted entry q.receipt)
+    again_is q stored same =
+        let keys : (q.slot, q.month) ≡ (entry.slot, entry.month) = exact_pairs nat_cmp nat_cmp exact_unsigned exact_unsigned (q.slot, q.month) (entry.slot, entry.month) (row_key quote_cmp quote_key (entry.slot, entry.month) q (held_by b.number o.quotes) stored) in
+        let marks = mark_equal q.mark entry.mark same in
+        let is : q ≡ quoted entry q.receipt = λ n. record { slot = (keys n).0; month = (keys n).1; mark = marks n; receipt = q.receipt } in
+        stored ∙ ap Some is
+
+    over_meets : (now : ℕ) (row : Option CalendarRow) (a : Assignment) (q : Option QuoteRow) (greatest : ℕ) → row_at quote_cmp quote_key (entry.slot, entry.month) (held_by b.number o.quotes) ≡ q → Meets (over_quote now entry row a q greatest)
+    over_meets now row a None greatest stored = month_meets now row a greatest
+    over_meets now row a (Some q) greatest stored = if_holds Meets (is_same_mark q.mark entry.mark) _ _ (λ same. (found, again_is q stored same)) (λ other. month_meets now row a greatest)
+
+  module _ (b : Bearer) (found : at (λ b. b.number) b.number o.collectors ≡ Some b) (now : ℕ) (entry : EntryRow) where
+    slot_meets : (a : Option Assigned) → (a ≡ None) ⊎ IsSome (at (λ a. a.slot) entry.slot (held_by b.number o.assignments)) → Holds (Some (decision_verdict b entry (in_slot now entry (public_part o) a (own_part b.number o)))) o
+    slot_meets None has = tt
+    slot_meets (Some a) (inl none) = cc
+    slot_meets (Some a) (inr has) = over_meets b found entry has now _ a.assignment _ _ refl
+
+    decided_meets : Holds (Some (decision_verdict b entry (decided now entry (public_part o) (own_part b.number o)))) o
+    decided_meets = by (at (λ a. a.slot) entry.slot (held_by b.number o.assignments)) refl
+      where
+        named : at (λ a. a.assignment.slot) entry.slot (own_part b.number o).assignments ≡ option_map (with_name o.outlets) (at (λ a. a.slot) entry.slot (held_by b.number o.assignments))
+        named = at-map (with_name o.outlets) (λ a. a.assignment.slot) entry.slot (held_by b.number o.assignments)
+
+        by : (x : Option Assignment) → at (λ a. a.slot) entry.slot (held_by b.number o.assignments) ≡ x → Holds (Some (decision_verdict b entry (decided now entry (public_part o) (own_part b.number o)))) o
+        by None e = slot_meets (at (λ a. a.assignment.slot) entry.slot (own_part b.number o).assignments) (inl (named ∙ ap (option_map (with_name o.outlets)) e))
+        by (Some x) e = slot_meets (at (λ a. a.assignment.slot) entry.slot (own_part b.number o).assignments) (inr (subst IsSome (sym e) refl))
+
+entered_holds : (o : Office) → IsSound o → (key now : ℕ) (entry : EntryRow) → Holds (of_collector key now (request.Submit entry) (view (caller.Collector key) o)) o
+entered_holds o s key now entry = by (bearer_of key o.collectors) refl
+  where
+    by : (w : Option Bearer) → bearer_of key o.collectors ≡ w → Holds (entered key now entry (view (caller.Collector key) o) (option_map (own_view o) w)) o
+    by None e = tt
+    by (Some b) e =
+        let listed = bearer_listed key b o.collectors s.collectors e in
+        subst (λ k. Holds (Some (decision_verdict (record { number = b.number; key = k }) entry (decided now entry (public_part o) (own_part b.number o)))) o) listed.bears (decided_meets o b listed.found now entry)
+
+module _ (now : ℕ) (o : Office) where
+  command_holds : (r : Request) → Holds (commanded r o) o
+  command_holds (request.PutItem i) = item_fair o i (at (λ i. i.code) i.code o.items) refl
+  command_holds (request.PutCalendar row) = calendar_fair o row (at (λ r. r.month) row.month o.calendar) refl
+  command_holds (request.Register b) = registered_fair o b (at (λ b. b.number) b.number o.collectors) (bearer_of b.key o.collectors) refl refl
+  command_holds (request.PutOutlet u) = outlet_fair o u (at (λ u. u.number) u.number o.outlets) refl
+  command_holds (request.Assign n a) = assigned_fair o n a (at (λ b. b.number) n o.collectors) (at (λ a. a.slot) a.slot (held_by n o.assignments)) refl refl
+  command_holds request.Items = tt
+  command_holds (request.Quotes first last) = tt
+  command_holds (request.Submit entry) = tt
+
+  collector_holds : IsSound o → (key : ℕ) (r : Request) → Holds (of_collector key now r (view (caller.Collector key) o)) o
+  collector_holds s key (request.Submit entry) = entered_holds o s key now entry
+  collector_holds s key (request.PutItem i) = tt
+  collector_holds s key (request.PutCalendar row) = tt
+  collector_holds s key (request.Register b) = tt
+  collector_holds s key (request.PutOutlet u) = tt
+  collector_holds s key (request.Assign n a) = tt
+  collector_holds s key request.Items = tt
+  collector_holds s key (request.Quotes first last) = tt
+
+  pub verdict_holds : IsSound o → (k : Caller) (r : Request) → Holds (verdict now k r o) o
+  verdict_holds s caller.Public r = tt
+  verdict_holds s caller.Desk r = command_holds r
+  verdict_holds s (caller.Collector key) r = collector_holds s key r

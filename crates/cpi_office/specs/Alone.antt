@@ -1,0 +1,32 @@
+-- What one collector is told, whatever other collectors ask.
+use Rattle.std.specs.Prelude.{◌≡◌, ℕ, Bool, false, not, ◌==◌, List, [], ◌∷◌, ◌++◌, filter, if◌then◌else◌}
+use Rattle.cpi_store.specs.Office.{Office}
+use Rattle.cpi_office.specs.Runs.{reply_to, next}
+use Rattle.cpi_office.specs.Sound.{IsSound}
+use Rattle.cpi_office.specs.declared.types.Ask.{Ask}
+use Rattle.cpi_office.specs.declared.types.Reply.{Reply}
+use Rattle.cpi_office.specs.declared.types.Caller.{Caller}
+use Rattle.cpi_office.specs.declared.types.Caller.TheVariants.{Public, Collector, Desk}
+
+abbrev pub is_bearer : ℕ → Caller → Bool
+is_bearer key (Collector k) = k == key
+is_bearer key Public = false
+is_bearer key Desk = false
+
+-- a collector with another key
+abbrev pub is_other : ℕ → Caller → Bool
+is_other key (Collector k) = not (k == key)
+is_other key Public = false
+is_other key Desk = false
+
+abbrev pub without_others : ℕ → List Ask → List Ask
+without_others key asks = filter (λ a. not (is_other key a.caller)) asks
+
+-- the replies of a run to the requests that come with the key, in order
+abbrev pub told_to : ℕ → List Ask → Office → List Reply
+told_to key [] o = []
+told_to key (a ∷ asks) o = (if is_bearer key a.caller then reply_to a.now a.caller a.request o ∷ [] else []) ++ told_to key asks (next a o)
+
+-- A collector is told the same if all requests of all other collectors are left out.
+abbrev pub OthersDoNotMatter : Type 0
+OthersDoNotMatter = (key : ℕ) (asks : List Ask) (o : Office) → IsSound o → told_to key asks o ≡ told_to key (without_others key asks) o

@@ -1,0 +1,73 @@
+-- What each command of the desk does: refused, standing already, or a row that is put.
+use Rattle.std.specs.Prelude.{ℕ, List, Option, Some, None, is_none, if◌then◌else◌, Bool}
+use Rattle.cpi_rows.specs.Keyed.{at}
+use Rattle.cpi_survey.specs.Same.{same_item, same_outlet, same_calendar, same_bearer, same_assignment}
+use Rattle.cpi_survey.specs.declared.types.Item.{Item}
+use Rattle.cpi_survey.specs.declared.types.Outlet.{Outlet}
+use Rattle.cpi_survey.specs.declared.types.CalendarRow.{CalendarRow}
+use Rattle.cpi_survey.specs.declared.types.Assignment.{Assignment}
+use Rattle.cpi_survey.specs.declared.types.Assigned.{Assigned}
+use Rattle.cpi_survey.specs.declared.types.Bearer.{Bearer}
+use Rattle.cpi_survey.specs.declared.types.Refusal.{Refusal}
+use Rattle.cpi_survey.specs.declared.types.Refusal.TheVariants.{Taken, UnknownItem, UnknownOutlet, UnknownCollector}
+use Rattle.cpi_store.specs.Office.{Office, Change, PutsItem, PutsCalendar, Registers, PutsOutlet, Assigns}
+use Rattle.cpi_office.specs.declared.types.Standing.{Standing}
+use Rattle.cpi_office.specs.declared.types.Standing.TheVariants.{Free, Same, Other}
+
+-- What becomes of a command or an entry. What stands already is accepted, and changes nothing.
+pub data Verdict : Type 0 where
+  Refuses : Refusal → Verdict
+  Stands : Change → Verdict
+  Makes : Change → Verdict
+
+-- a row against the one that stands in its place
+abbrev pub standing : {X Y : Type 0} → (Y → X → Bool) → X → Option Y → Standing
+standing same x None = Free
+standing same x (Some old) = if same old x then Same else Other
+
+-- ---- rows that are never replaced
+
+abbrev pub put_once : Change → Standing → Verdict
+put_once c Free = Makes c
+put_once c Same = Stands c
+put_once c Other = Refuses Taken
+
+abbrev pub item_put : Item → Option Item → Verdict
+item_put i old = put_once (PutsItem i) (standing same_item i old)
+
+abbrev pub outlet_put : Outlet → Option Outlet → Verdict
+outlet_put u old = put_once (PutsOutlet u) (standing same_outlet u old)
+
+-- who has the number, and who bears the key
+abbrev pub registered : Bearer → Option Bearer → Option Bearer → Verdict
+registered b None None = Makes (Registers b)
+registered b None (Some other) = Refuses Taken
+registered b (Some old) bearer = if same_bearer old b then Stands (Registers b) else Refuses Taken
+
+abbrev pub to_collector : Assigned → Option Bearer → Verdict
+to_collector a None = Refuses UnknownCollector
+to_collector a (Some b) = Makes (Assigns b a)
+
+abbrev pub standing_for : Assigned → Option Bearer → Verdict
+standing_for a None = Refuses Taken
+standing_for a (Some b) = Stands (Assigns b a)
+
+abbrev pub outlet_judged : Assigned → Option Outlet → Option Bearer → Verdict
+outlet_judged a outlet bearer = if is_none outlet then Refuses UnknownOutlet else to_collector a bearer
+
+-- the collector, and what stands in the slot
+abbrev pub assigned : Assigned → Option Item → Option Outlet → Option Bearer → Standing → Verdict
+assigned a item outlet bearer Same = standing_for a bearer
+assigned a item outlet bearer Other = Refuses Taken
+assigned a item outlet bearer Free =
+    if is_none item then Refuses UnknownItem else outlet_judged a outlet bearer
+
+-- ---- rows that are replaced
+
+abbrev pub replaced : Change → Standing → Verdict
+replaced c Free = Makes c
+replaced c Same = Stands c
+replaced c Other = Makes c
+
+abbrev pub calendar_put : CalendarRow → Option CalendarRow → Verdict
+calendar_put row old = replaced (PutsCalendar row) (standing same_calendar row old)

@@ -1,0 +1,16 @@
+-- A decision that stores a quote gives it a receipt above the greatest.
+use Rattle.std.specs.Prelude.{ℕ, ◌<◌, Result, Ok, Err, ⊤}
+use Rattle.cpi_survey.specs.declared.types.Bearer.{Bearer}
+use Rattle.cpi_store.specs.Office.{Office, changed, Quotes}
+use Rattle.cpi_survey.specs.declared.types.Decision.{Decision}
+use Rattle.cpi_survey.specs.declared.types.Decision.TheVariants.{Again, Put}
+use Rattle.cpi_survey.specs.declared.types.Refusal.{Refusal}
+
+abbrev pub IsNew : Result Decision Refusal → ℕ → Type 0
+IsNew (Ok (Put quote)) greatest = greatest < quote.receipt
+IsNew _ greatest = ⊤
+
+-- a new quote is stored, and nothing else
+abbrev pub stored : Bearer → Result Decision Refusal → Office → Office
+stored b (Ok (Put quote)) o = changed (Quotes b quote) o
+stored b _ o = o

@@ -1,0 +1,29 @@
+-- What one caller may see of an office.
+use Rattle.std.specs.Prelude.{ℕ, List, Option, Some, None, option_map}
+use Rattle.cpi_survey.specs.Survey.{PublicPart, OwnPart}
+use Rattle.cpi_survey.specs.declared.types.Bearer.{Bearer}
+use Rattle.cpi_store.specs.Office.{Office, public_part, own_part, bearer_of}
+use Rattle.cpi_office.specs.declared.types.Caller.{Caller}
+use Rattle.cpi_office.specs.declared.types.Caller.TheVariants.{Public, Collector, Desk}
+
+-- a collector's number, and what is the collector's own
+pub record OwnView : Type 0 where
+  pub number : ℕ
+  pub part : OwnPart
+
+-- the public specification, and the caller's own part
+pub record View : Type 0 where
+  pub public : PublicPart
+  pub own : Option OwnView
+
+abbrev pub own_view : Office → Bearer → OwnView
+own_view o b = record { number = b.number; part = own_part b.number o }
+
+-- the own part of whoever bears the key; the public and the desk have none
+abbrev pub own : Caller → Office → Option OwnView
+own (Collector key) o = option_map (own_view o) (bearer_of key o.collectors)
+own Public o = None
+own Desk o = None
+
+abbrev pub view : Caller → Office → View
+view k o = record { public = public_part o; own = own k o }

@@ -1,0 +1,37 @@
+//! The office: what each caller sees, is answered and changes.
+#![tactic(auto)]
+
+mod handle;
+mod run;
+pub mod types;
+
+pub use handle::Office;
+
+ghost use Rattle.cpi_office.specs.Laws.{StaysSound, ViewsAreRebuilt, ChangesAreEnough, AnswersAreAlike, RepliesAreFromViews};
+
+/// After any list of requests, a caller's view is the view before with the accepted requests that the caller sees.
+pub fn views_are_rebuilt()
+    ensures sound { StaysSound }
+    ensures views { ViewsAreRebuilt }
+    ensures changes { ChangesAreEnough }
+    ensures answers { AnswersAreAlike }
+    ensures replies { RepliesAreFromViews }
+{
+}
+
+ghost use Rattle.cpi_office.specs.Alone.{OthersDoNotMatter};
+
+/// A collector is told the same, reply by reply, if all requests of all other collectors are left out of the list.
+pub fn others_do_not_matter()
+    ensures { OthersDoNotMatter }
+{
+}
+
+ghost use Rattle.cpi_store.specs.Office.{empty_office};
+ghost use Rattle.cpi_office.specs.Sound.{IsSound};
+
+/// An empty office is sound.
+pub fn empty_is_sound()
+    ensures { IsSound empty_office }
+{
+}

@@ -1,0 +1,26 @@
+ghost use Rattle.std.specs.Prelude.{◌≡◌, ◌++◌, List, IfOk, OnErr, length};
+ghost use Rattle.cpi_office.specs.Served.{Ran};
+ghost use Rattle.cpi_office.specs.declared.types.Ask.{Ask as TheAsk};
+ghost use Rattle.cpi_office.specs.declared.types.Reply.{Reply as TheReply};
+
+use crate::handle::Office;
+use crate::types::{Ask, Reply};
+use std::alloc::AllocError;
+use cpi_store::Book;
+
+impl<B: Book> Office<B> {
+    /// Answers requests in order. Where memory is refused, a front of them has been carried out.
+    pub fn run(&mut self, asks: Vec<Ask>) -> Result<Vec<Reply>, AllocError>
+        ensures each { IfOk result (λ rs. length rs.items ≡ length asks.items) }
+        ensures ok { IfOk result (λ rs. Ran B.is_clean B.lists self.old.book self.new.book asks.items rs.items) }
+        ensures err { OnErr result ((front : List TheAsk) × (rest : List TheAsk) × (rs : List TheReply) × (asks.items ≡ front ++ rest) × Ran B.is_clean B.lists self.old.book self.new.book front rs) }
+    {
+        let mut told = Vec::new(self.allocator());
+        let mut rest = asks.into_iter();
+        while let Some(ask) = rest.next() {
+            let reply = self.handle(ask.now, ask.caller, ask.request);
+            told.push(reply)?;
+        }
+        Ok(told)
+    }
+}

@@ -1,0 +1,46 @@
+use cpi_codes::{CollectorId, Key, Moment, Month, Rows};
+use cpi_survey::{Assignment, Bearer, CalendarRow, Entry, Item, Outlet, Quote, Refusal};
+
+#[derive(Clone, Copy, Debug, PartialEq, Eq)]
+pub enum Caller {
+    Public,
+    Collector(Key),
+    Desk,
+}
+
+#[derive(Debug, Drop)]
+pub enum Request {
+    Items,
+    Quotes(Month, Month),
+    Submit(Entry),
+    PutItem(Item),
+    Register(Bearer),
+    PutOutlet(Outlet),
+    Assign(CollectorId, Assignment),
+    PutCalendar(CalendarRow),
+}
+
+#[derive(Debug, Drop)]
+pub enum Reply {
+    Receipt(u32),
+    Done,
+    Quotes(Rows<Quote>),
+    Items(Rows<Item>),
+    Refused(Refusal),
+}
+
+/// One request, with who makes it and when.
+#[derive(Debug, Drop)]
+pub struct Ask {
+    pub now: Moment,
+    pub caller: Caller,
+    pub request: Request,
+}
+
+/// Whether the place of a row is free, or taken by a row with the same content or with other content.
+#[derive(Clone, Copy, Debug, PartialEq, Eq)]
+pub enum Standing {
+    Free,
+    Same,
+    Other,
+}

@@ -1,0 +1,47 @@
+-- A collector with all that is the collector's, as the book in memory keeps it.
+use Rattle.std.specs.Prelude.{◌≡◌, ℕ, List, map, IsSome}
+use Rattle.std.specs.List.{AllByRecursion}
+use Rattle.cpi_rows.specs.Keyed.{at}
+use Rattle.cpi_rows.specs.Gathered.{gathered}
+use Rattle.cpi_survey.specs.Rows.{QuoteRow}
+use Rattle.cpi_survey.specs.declared.types.Assignment.{Assignment}
+use Rattle.cpi_survey.specs.declared.types.Assigned.{Assigned}
+use Rattle.cpi_survey.specs.Survey.{OwnPart, with_name}
+use Rattle.cpi_survey.specs.declared.types.Outlet.{Outlet}
+use Rattle.cpi_survey.specs.declared.types.Bearer.{Bearer}
+use Rattle.cpi_store.specs.Office.{Office}
+use Rattle.cpi_store.specs.declared.holder.Holder.{Holder}
+
+abbrev pub collector_of_holder : Holder → Bearer
+collector_of_holder h = record { number = h.number; key = h.key }
+
+abbrev pub collectors_of : List Holder → List Bearer
+collectors_of hs = map collector_of_holder hs
+
+abbrev pub assignments_of : Holder → List Assignment
+assignments_of h = map (λ a. a.assignment) h.own.assignments
+
+abbrev pub quotes_of : Holder → List QuoteRow
+quotes_of h = h.own.quotes
+
+abbrev pub all_assignments : List Holder → List (ℕ × Assignment)
+all_assignments hs = gathered (λ h. h.number) assignments_of hs
+
+abbrev pub all_quotes : List Holder → List (ℕ × QuoteRow)
+all_quotes hs = gathered (λ h. h.number) quotes_of hs
+
+-- the office that a book in memory holds, and how often it failed
+pub record Kept : Type 0 where
+  pub office : Office
+  pub failures : ℕ
+
+-- the assignments of each holder, with the names that the outlets have
+abbrev pub named_by : List Outlet → List (List Assigned) → List (List Assigned)
+named_by outlets lists = map (λ own. map (with_name outlets) (map (λ a. a.assignment) own)) lists
+
+-- the outlet of each assignment is there
+abbrev pub HasOutlet : List Outlet → Assigned → Type 0
+HasOutlet outlets a = IsSome (at (λ u. u.number) a.assignment.outlet outlets)
+
+abbrev pub ArePlaced : List Outlet → List (List Assigned) → Type 0
+ArePlaced outlets lists = AllByRecursion (AllByRecursion (HasOutlet outlets)) lists

@@ -1,0 +1,65 @@
+-- The office as lists, each in the order of what it is listed by, and what an accepted request puts into them.
+use Rattle.std.specs.Prelude.{ℕ, List, [], ◌∷◌, map, Option, Some, None, if◌then◌else◌, ◌==◌}
+use Rattle.std.specs.Ordering.{nat_cmp}
+use Rattle.cpi_rows.specs.Keyed.{row_at, put, at, put_by}
+use Rattle.cpi_rows.specs.Held.{held_by, held_cmp, held_key}
+use Rattle.cpi_survey.specs.declared.types.Item.{Item}
+use Rattle.cpi_survey.specs.declared.types.Outlet.{Outlet}
+use Rattle.cpi_survey.specs.declared.types.CalendarRow.{CalendarRow}
+use Rattle.cpi_survey.specs.declared.types.Assignment.{Assignment}
+use Rattle.cpi_survey.specs.declared.types.Assigned.{Assigned}
+use Rattle.cpi_survey.specs.declared.types.Bearer.{Bearer}
+use Rattle.cpi_survey.specs.Rows.{QuoteRow}
+use Rattle.cpi_survey.specs.Survey.{PublicPart, OwnPart, with_name, quote_cmp, quote_key}
+
+-- an assignment and a quote stand beside the number of their collector
+pub record Office : Type 0 where
+  pub items : List Item  -- by code
+  pub calendar : List CalendarRow  -- by month
+  pub collectors : List Bearer  -- by number
+  pub outlets : List Outlet  -- by number
+  pub assignments : List (ℕ × Assignment)  -- by collector and slot
+  pub quotes : List (ℕ × QuoteRow)  -- by collector, slot and month
+
+abbrev pub empty_office : Office
+empty_office = record { items = []; calendar = []; collectors = []; outlets = []; assignments = []; quotes = [] }
+
+-- what everybody may see
+abbrev pub public_part : Office → PublicPart
+public_part o = record { items = o.items; calendar = o.calendar }
+
+-- what a collector has
+abbrev pub own_part : ℕ → Office → OwnPart
+own_part c o = record { assignments = map (with_name o.outlets) (held_by c o.assignments); quotes = held_by c o.quotes }
+
+-- the one who bears the key
+abbrev pub bearer_of : ℕ → List Bearer → Option Bearer
+bearer_of key [] = None
+bearer_of key (b ∷ bs) = if b.key == key then Some b else bearer_of key bs
+
+-- the assignments and quotes of all collectors, each with its collector's number
+abbrev pub put_assignment : ℕ → Assignment → List (ℕ × Assignment) → List (ℕ × Assignment)
+put_assignment number a rows = put (held_cmp nat_cmp) (held_key (λ x. x.slot)) (number, a) rows
+
+abbrev pub put_quote : ℕ → QuoteRow → List (ℕ × QuoteRow) → List (ℕ × QuoteRow)
+put_quote number q rows = put (held_cmp quote_cmp) (held_key quote_key) (number, q) rows
+
+-- A row that an accepted request puts.
+pub data Change : Type 0 where
+  PutsItem : Item → Change
+  PutsCalendar : CalendarRow → Change
+  Registers : Bearer → Change
+  PutsOutlet : Outlet → Change
+  -- for this collector; with the outlet's name of that moment
+  Assigns : Bearer → Assigned → Change
+  -- of this collector
+  Quotes : Bearer → QuoteRow → Change
+
+-- the office with the row in its place
+abbrev pub changed : Change → Office → Office
+changed (PutsItem i) o = record o { items = put_by (λ i. i.code) i o.items }
+changed (PutsCalendar r) o = record o { calendar = put_by (λ r. r.month) r o.calendar }
+changed (Registers b) o = record o { collectors = put_by (λ b. b.number) b o.collectors }
+changed (PutsOutlet u) o = record o { outlets = put_by (λ u. u.number) u o.outlets }
+changed (Assigns b a) o = record o { assignments = put_assignment b.number a.assignment o.assignments }
+changed (Quotes b q) o = record o { quotes = put_quote b.number q o.quotes }

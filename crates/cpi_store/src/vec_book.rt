@@ -1,0 +1,194 @@
+use crate::book::{Book, Parts, StoreFault};
+use crate::holder::{Holder, put_quote_of};
+use cpi_codes::{CollectorId, Key, OutletId};
+use cpi_failures::Failures;
+use cpi_rows::{find_row, put_row};
+use std::alloc::Global;
+use std::collections::BTreeMap;
+use std::marker::Model;
+use cpi_survey::{Assigned, Bearer, CalendarRow, Item, Outlet, Own, Public, Quote};
+
+/// An office in memory.
+#[derive(Drop)]
+pub struct VecBook {
+    public: Public,
+    holders: Vec<Holder>,
+    outlets: Vec<Outlet>,
+    bearers: BTreeMap<Key, Bearer>,
+    // what a number that nobody has, has
+    nobody: Own,
+    failed: Failures,
+}
+
+impl Model for VecBook {
+    ghost use Rattle.std.specs.Prelude.{◌≡◌, ℕ, [], map};
+    ghost use Rattle.std.specs.Ordering.{nat_cmp};
+    ghost use Rattle.std.specs.BTreeMap.{get};
+    ghost use Rattle.cpi_rows.specs.Keyed.{IsInOrder};
+    ghost use Rattle.cpi_store.specs.Office.{bearer_of};
+    ghost use Rattle.cpi_store.specs.Holders.{Kept, ArePlaced, collectors_of, all_assignments, all_quotes, named_by};
+
+    ghost Value = { Kept };
+
+    ghost view = { λ b. record {
+        office = record {
+            items = b.public.items;
+            calendar = b.public.calendar;
+            collectors = collectors_of b.holders.items;
+            outlets = b.outlets.items;
+            assignments = all_assignments b.holders.items;
+            quotes = all_quotes b.holders.items;
+        };
+        failures = b.failed.count;
+    } };
+
+    ghost invariant = { λ b. record {
+        holders : IsInOrder nat_cmp (λ h. h.number) b.holders.items;
+        bearers : (key : ℕ) → get nat_cmp b.bearers key ≡ bearer_of key (collectors_of b.holders.items);
+        outlets : IsInOrder nat_cmp (λ u. u.number) b.outlets.items;
+        placed : ArePlaced b.outlets.items (map (λ h. h.own.assignments) b.holders.items);
+        nobody : b.nobody ≡ record { assignments = []; quotes = [] };
+        names : named_by b.outlets.items (map (λ h. h.own.assignments) b.holders.items) ≡ map (λ h. h.own.assignments) b.holders.items;
+    } };
+}
+
+impl VecBook {
+    ghost use Rattle.std.specs.Prelude.{◌≡◌, IsSome, option_map};
+    ghost use Rattle.std.specs.Ordering.{nat_cmp};
+    ghost use Rattle.cpi_rows.specs.Keyed.{row_at, at};
+    ghost use Rattle.cpi_store.specs.Office.{public_part, own_part};
+
+    fn parts_of(&self, collector: CollectorId) -> Parts<'_>
+        ensures public { result.public.now ≡ public_part self.now.office }
+        ensures own { result.own.now ≡ own_part collector self.now.office }
+    {
+        match find_row(&self.holders, &collector) {
+            Some(holder) => Parts {
+                public: &self.public,
+                own: &holder.own,
+            },
+            None => Parts {
+                public: &self.public,
+                own: &self.nobody,
+            },
+        }
+    }
+}
+
+impl VecBook {
+    ghost use Rattle.std.specs.Prelude.{◌≡◌};
+    ghost use Rattle.cpi_rows.specs.Keyed.{at};
+    ghost use Rattle.cpi_store.specs.Office.{empty_office};
+
+    /// An empty office.
+    pub fn new(alloc: Global) -> VecBook
+        ensures { result.office ≡ empty_office }
+    {
+        VecBook {
+            public: Public::from_parts(Vec::new(alloc), Vec::new(alloc)),
+            holders: Vec::new(alloc),
+            outlets: Vec::new(alloc),
+            bearers: BTreeMap::new(alloc),
+            nobody: Own::from_parts(Vec::new(alloc), Vec::new(alloc), 0),
+            failed: Failures::none(),
+        }
+    }
+
+    fn holder_at(&self, number: CollectorId) -> Option<Bearer>
+        ensures { result ≡ at (λ b. b.number) number self.now.office.collectors }
+    {
+        match find_row(&self.holders, &number) {
+            Some(holder) => Some(Bearer {
+                number: holder.number,
+                key: holder.key,
+            }),
+            None => None,
+        }
+    }
+}
+
+impl Book for VecBook {
+    ghost use Rattle.std.specs.Prelude.{⊤};
+
+    ghost lists = { λ b. b.office };
+
+    ghost failures = { λ b. b.failures };
+
+    ghost is_clean = { λ _. ⊤ };
+
+    fn bearer_of(&mut self, key: Key) -> Result<Option<Bearer>, StoreFault> {
+        Ok(self.bearers.get(&key).copied())
+    }
+
+    fn bearer_at(&mut self, number: CollectorId) -> Result<Option<Bearer>, StoreFault> {
+        Ok(self.holder_at(number))
+    }
+
+    fn outlet(&mut self, number: OutletId) -> Result<Option<&Outlet>, StoreFault> {
+        Ok(find_row(&self.outlets, &number))
+    }
+
+    fn public_part(&mut self) -> Result<&Public, StoreFault> {
+        Ok(&self.public)
+    }
+
+    fn parts(&mut self, collector: CollectorId) -> Result<Parts<'_>, StoreFault> {
+        Ok(self.parts_of(collector))
+    }
+
+    fn put_item(&mut self, item: Item) -> Result<(), StoreFault> {
+        match self.public.put_item(item) {
+            Ok(()) => Ok(()),
+            Err(_) => {
+                let more = self.failed.one_more();
+                self.failed = more;
+                Err(StoreFault)
+            }
+        }
+    }
+
+    fn put_calendar(&mut self, row: CalendarRow) -> Result<(), StoreFault> {
+        match self.public.put_calendar(row) {
+            Ok(()) => Ok(()),
+            Err(_) => {
+                let more = self.failed.one_more();
+                self.failed = more;
+                Err(StoreFault)
+            }
+        }
+    }
+
+    fn put_collector(&mut self, _bearer: Bearer) -> Result<(), StoreFault> {
+        let more = self.failed.one_more();
+        self.failed = more;
+        Err(StoreFault)
+    }
+
+    fn put_outlet(&mut self, outlet: Outlet) -> Result<(), StoreFault> {
+        match put_row(&mut self.outlets, outlet) {
+            Ok(()) => Ok(()),
+            Err(_) => {
+                let more = self.failed.one_more();
+                self.failed = more;
+                Err(StoreFault)
+            }
+        }
+    }
+
+    fn put_assignment(&mut self, _bearer: Bearer, _assigned: Assigned) -> Result<(), StoreFault> {
+        let more = self.failed.one_more();
+        self.failed = more;
+        Err(StoreFault)
+    }
+
+    fn put_quote(&mut self, bearer: Bearer, quote: Quote) -> Result<(), StoreFault> {
+        match put_quote_of(&mut self.holders, bearer.number, quote) {
+            Ok(()) => Ok(()),
+            Err(_) => {
+                let more = self.failed.one_more();
+                self.failed = more;
+                Err(StoreFault)
+            }
+        }
+    }
+}
