@@ -268,3 +268,10 @@ impl<T> Rows<T> {
     }
 }
 
+
+/// The identity of a series: the collector and the slot that it was first given to.
+#[derive(Clone, Copy, Debug, PartialEq, Eq)]
+pub struct SeriesId {
+    pub collector: CollectorId,
+    pub slot: Slot,
+}

@@ -4,10 +4,10 @@ use Rattle.std.specs.Prelude.{IsSome, ⊤}
 use Rattle.cpi_rows.specs.Keyed.{row_at}
 use Rattle.cpi_rows.specs.Held.{held_by}
 use Rattle.cpi_rows.specs.Keyed.{at}
-use Rattle.cpi_store.specs.Office.{bearer_of}
-use Rattle.cpi_survey.specs.Survey.{quote_key, quote_cmp}
+use Rattle.cpi_store.specs.Bearer.{bearer_of}
+use Rattle.cpi_survey.specs.Quote.{quote_key, quote_cmp}
 use Rattle.cpi_store.specs.Office.{Office}
-use Rattle.cpi_survey.specs.Survey.{with_name}
+use Rattle.cpi_store.specs.Outlet.{with_name}
 use Rattle.cpi_store.specs.Office.{Change, PutsItem, PutsCalendar, Registers, PutsOutlet, Assigns, Quotes}
 use Rattle.cpi_office.specs.Desk.{Verdict, Refuses, Stands, Makes}
 

@@ -3,12 +3,13 @@ use Rattle.std.proofs.Common.{◌≡◌, ◌≢◌, ℕ, Bool, true, false, eqb,
 use Rattle.std.specs.Prelude.{◌⊎◌, filter}
 use Rattle.std.proofs.lemmas.Bool.Decides.{eqb_tells}
 use Rattle.std.proofs.lemmas.List.{append-nil}
-use Rattle.cpi_survey.specs.Rows.{EntryRow}
-use Rattle.cpi_survey.specs.Survey.{decided}
-use Rattle.cpi_survey.specs.declared.types.Bearer.{Bearer}
-use Rattle.cpi_survey.specs.declared.types.Decision.{Decision}
-use Rattle.cpi_survey.specs.declared.types.Decision.TheVariants.{Again, Put}
-use Rattle.cpi_survey.specs.declared.types.Refusal.{Refusal}
+use Rattle.cpi_survey.specs.Entry.{EntryRow}
+use Rattle.cpi_survey.specs.Decision.{decided}
+use Rattle.cpi_store.specs.declared.bearer.Bearer.{Bearer}
+use Rattle.cpi_survey.specs.declared.decision.Decision.{Decision}
+use Rattle.cpi_survey.specs.declared.decision.Decision.TheVariants.{Again, Put}
+use Rattle.cpi_survey.specs.declared.refusal.Refusal.{Refusal as EntryRefusal}
+use Rattle.cpi_office.specs.declared.refusal.Refusal.{Refusal}
 use Rattle.std.proofs.Common.{Result, Ok, Err}
 use Rattle.cpi_store.specs.Office.{Office, Change, changed, PutsItem, PutsCalendar, Registers, PutsOutlet, Assigns, Quotes}
 use Rattle.cpi_office.specs.Views.{View, OwnView, view}
@@ -85,7 +86,7 @@ module _ (key : ℕ) where
     abbrev Unseen : Option Verdict → Type 0
     Unseen v = (seen Mine (accepted v ++ []) ≡ []) × ((o : Office) → bare (after_verdict v o) ≡ bare o)
 
-    decision_unseen : (n : ℕ) (entry : EntryRow) (d : Result Decision Refusal) → Unseen (Some (decision_verdict (record { number = n; key = other }) entry d))
+    decision_unseen : (n : ℕ) (entry : EntryRow) (d : Result Decision EntryRefusal) → Unseen (Some (decision_verdict (record { number = n; key = other }) entry d))
     decision_unseen n entry (Err f) = (refl, λ o. refl)
     decision_unseen n entry (Ok (Again receipt)) = (rw apart refl, λ o. refl)
     decision_unseen n entry (Ok (Put q)) = (rw apart refl, λ o. refl)

@@ -10,13 +10,13 @@ use Rattle.std.proofs.lemmas.Map.Keys.{sorted_tail}
 use Rattle.cpi_rows.specs.Keyed.{IsInOrder}
 use Rattle.cpi_rows.specs.Held.{held_by}
 use Rattle.cpi_rows.specs.Keyed.{at, put_by}
-use Rattle.cpi_store.specs.Office.{bearer_of}
-use Rattle.cpi_survey.specs.Survey.{with_name}
+use Rattle.cpi_store.specs.Bearer.{bearer_of}
+use Rattle.cpi_store.specs.Outlet.{with_name}
 use Rattle.cpi_office.specs.Sound.{BearOwnKeys, HasItsAssignment}
-use Rattle.cpi_survey.specs.declared.types.Bearer.{Bearer}
-use Rattle.cpi_survey.specs.declared.types.Outlet.{Outlet}
-use Rattle.cpi_survey.specs.declared.types.Assignment.{Assignment}
-use Rattle.cpi_survey.specs.Rows.{QuoteRow}
+use Rattle.cpi_store.specs.declared.bearer.Bearer.{Bearer}
+use Rattle.cpi_store.specs.declared.outlet.Outlet.{Outlet}
+use Rattle.cpi_survey.specs.declared.assignment.Assignment.{Assignment}
+use Rattle.cpi_survey.specs.Quote.{QuoteRow}
 use Rattle.cpi_rows.proofs.Puts.{parted, first_apart, at-put_found, at-put_other, row_at-put_same}
 
 abbrev number : Bearer → ℕ

@@ -1,7 +1,7 @@
 -- A call after a read.
 use Rattle.std.proofs.Common.{◌≡◌, ℕ, Result, sym, ap, ◌∙◌, inl, inr, arith}
 use Rattle.std.specs.Prelude.{◌⊎◌, ◌≤◌}
-use Rattle.cpi_survey.specs.declared.types.Refusal.TheVariants.{Unavailable}
+use Rattle.cpi_office.specs.declared.refusal.Refusal.TheVariants.{Unavailable}
 use Rattle.cpi_store.specs.declared.book.StoreFault.{StoreFault}
 use Rattle.cpi_store.specs.Office.{Office}
 use Rattle.cpi_store.specs.Calls.{Reads}

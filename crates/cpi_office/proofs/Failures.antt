@@ -3,18 +3,29 @@ use Rattle.std.proofs.Common.{◌≡◌, ℕ, Bool, true, false, List, Some, Non
 use Rattle.std.specs.Prelude.{if◌then◌else◌, nat_lt, nat_le, ◌||◌, is_none, option_map}
 use Rattle.cpi_rows.specs.Keyed.{at, row_at}
 use Rattle.cpi_rows.specs.Held.{held_by}
-use Rattle.cpi_survey.specs.Rows.{QuoteRow, EntryRow}
-use Rattle.cpi_survey.specs.Survey.{PublicPart, OwnPart, decided, in_slot, over_quote, in_month, in_window, is_same_mark, with_name}
-use Rattle.cpi_survey.specs.Same.{same_bearer, same_item, same_outlet, same_calendar, same_assignment}
-use Rattle.cpi_survey.specs.declared.types.Item.{Item}
-use Rattle.cpi_survey.specs.declared.types.Outlet.{Outlet}
-use Rattle.cpi_survey.specs.declared.types.CalendarRow.{CalendarRow}
-use Rattle.cpi_survey.specs.declared.types.Assignment.{Assignment}
-use Rattle.cpi_survey.specs.declared.types.Assigned.{Assigned}
-use Rattle.cpi_survey.specs.declared.types.Bearer.{Bearer}
-use Rattle.cpi_survey.specs.declared.types.Decision.{Decision}
-use Rattle.cpi_survey.specs.declared.types.Refusal.{Refusal}
-use Rattle.cpi_store.specs.Office.{Office, Change, bearer_of}
+use Rattle.cpi_survey.specs.Quote.{QuoteRow}
+use Rattle.cpi_survey.specs.Entry.{EntryRow}
+use Rattle.cpi_survey.specs.Public.{PublicPart}
+use Rattle.cpi_survey.specs.Own.{OwnPart}
+use Rattle.cpi_survey.specs.Decision.{decided, in_slot, over_quote, in_month, in_window}
+use Rattle.cpi_survey.specs.Mark.{is_same_mark}
+use Rattle.cpi_store.specs.Outlet.{with_name}
+use Rattle.cpi_store.specs.Bearer.{same_bearer}
+use Rattle.cpi_plan.specs.Items.{same_item}
+use Rattle.cpi_store.specs.Outlet.{same_outlet}
+use Rattle.cpi_plan.specs.Calendar.{same_calendar}
+use Rattle.cpi_survey.specs.Assignment.{same_assignment}
+use Rattle.cpi_plan.specs.declared.items.Item.{Item}
+use Rattle.cpi_store.specs.declared.outlet.Outlet.{Outlet}
+use Rattle.cpi_plan.specs.Calendar.{CalendarPart}
+use Rattle.cpi_survey.specs.declared.assignment.Assignment.{Assignment}
+use Rattle.cpi_survey.specs.declared.assignment.Assigned.{Assigned}
+use Rattle.cpi_store.specs.declared.bearer.Bearer.{Bearer}
+use Rattle.cpi_survey.specs.declared.decision.Decision.{Decision}
+use Rattle.cpi_survey.specs.declared.refusal.Refusal.{Refusal as EntryRefusal}
+use Rattle.cpi_office.specs.declared.refusal.Refusal.{Refusal}
+use Rattle.cpi_store.specs.Office.{Office, Change}
+use Rattle.cpi_store.specs.Bearer.{bearer_of}
 use Rattle.cpi_office.specs.Views.{View, OwnView, view}
 use Rattle.cpi_office.specs.Desk.{Verdict, standing, put_once, registered, outlet_judged, to_collector, standing_for, assigned, replaced}
 use Rattle.cpi_office.specs.Runs.{decision_reply, verdict_reply, known_answer, reply_to}
@@ -31,24 +42,24 @@ pub if_holds : {A : Type 0} (P : A → Type 0) (c : Bool) (x y : A) → (c ≡ t
 if_holds P true x y f g = f refl
 if_holds P false x y f g = g refl
 
-abbrev Decides : Result Decision Refusal → Type 0
+abbrev Decides : Result Decision EntryRefusal → Type 0
 Decides d = is_failure (decision_reply d) ≡ false
 
 abbrev Judges : Verdict → Type 0
 Judges v = is_failure (verdict_reply v) ≡ false
 
-window_decides : (now : ℕ) (entry : EntryRow) (row : CalendarRow) (a : Assignment) (greatest : ℕ) → Decides (in_window now entry row a greatest)
+window_decides : (now : ℕ) (entry : EntryRow) (row : CalendarPart) (a : Assignment) (greatest : ℕ) → Decides (in_window now entry row a greatest)
 window_decides now entry row a greatest =
     if_holds Decides (nat_lt entry.month a.first_month || nat_lt a.last_month entry.month) _ _ (λ e. refl) (λ e.
     if_holds Decides (nat_lt now row.opens) _ _ (λ e. refl) (λ e.
     if_holds Decides (nat_le row.closes now) _ _ (λ e. refl) (λ e.
     if_holds Decides (nat_le 1000000 greatest) _ _ (λ e. refl) (λ e. refl))))
 
-month_decides : (now : ℕ) (entry : EntryRow) (row : Option CalendarRow) (a : Assignment) (greatest : ℕ) → Decides (in_month now entry row a greatest)
+month_decides : (now : ℕ) (entry : EntryRow) (row : Option CalendarPart) (a : Assignment) (greatest : ℕ) → Decides (in_month now entry row a greatest)
 month_decides now entry None a greatest = refl
 month_decides now entry (Some row) a greatest = window_decides now entry row a greatest
 
-over_decides : (now : ℕ) (entry : EntryRow) (row : Option CalendarRow) (a : Assignment) (q : Option QuoteRow) (greatest : ℕ) → Decides (over_quote now entry row a q greatest)
+over_decides : (now : ℕ) (entry : EntryRow) (row : Option CalendarPart) (a : Assignment) (q : Option QuoteRow) (greatest : ℕ) → Decides (over_quote now entry row a q greatest)
 over_decides now entry row a None greatest = month_decides now entry row a greatest
 over_decides now entry row a (Some q) greatest = if_holds Decides (is_same_mark q.mark entry.mark) _ _ (λ e. refl) (λ e. month_decides now entry row a greatest)
 

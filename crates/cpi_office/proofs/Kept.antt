@@ -13,12 +13,12 @@ use Rattle.cpi_rows.specs.Keyed.{put, IsInOrder}
 use Rattle.cpi_rows.specs.Held.{held_by, held_cmp, held_key}
 use Rattle.cpi_rows.specs.Keyed.{at}
 use Rattle.cpi_store.specs.Office.{put_assignment}
-use Rattle.cpi_survey.specs.Survey.{quote_key, quote_cmp}
+use Rattle.cpi_survey.specs.Quote.{quote_key, quote_cmp}
 use Rattle.cpi_store.specs.Office.{Office}
 use Rattle.cpi_store.specs.Office.{Change, changed, PutsItem, PutsCalendar, Registers, PutsOutlet, Assigns, Quotes}
 use Rattle.cpi_office.specs.Sound.{IsSound, HasItsRows, HasItsAssignment}
-use Rattle.cpi_survey.specs.declared.types.Assignment.{Assignment}
-use Rattle.cpi_survey.specs.Rows.{QuoteRow}
+use Rattle.cpi_survey.specs.declared.assignment.Assignment.{Assignment}
+use Rattle.cpi_survey.specs.Quote.{QuoteRow}
 use Rattle.cpi_rows.proofs.Held.{puts_own, puts_other}
 use Rattle.cpi_rows.proofs.Places.{put_in_order}
 use Rattle.cpi_rows.proofs.Puts.{at-put_some, at-put_found}
@@ -88,7 +88,6 @@ module _ (o : Office) (s : IsSound o) (n : ℕ) (a : Assignment) (new : at (λ a
       by : (w : Option Assignment) → at (λ a. a.slot) row.1.slot (held_by row.0 o.assignments) ≡ w → IsSome w → HasItsAssignment (put_assignment n a o.assignments) row
       by None e some = absurd (false≢true some)
       by (Some x) e some = subst IsSome (sym (still_found row.0 row.1.slot x e)) refl
-
 
 -- ---- each change
 

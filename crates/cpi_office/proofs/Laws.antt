@@ -100,4 +100,3 @@ pub replies_from_views : RepliesAreFromViews
 replies_from_views before rest a o s other =
     reply_at before rest a o
     ∙ ap Some (told a.now a.caller a.request (after before o) other ∙ ap (answer a.now a.caller a.request) (rebuilt before o a.caller s))
-

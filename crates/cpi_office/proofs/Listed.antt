@@ -5,8 +5,8 @@ use Rattle.std.specs.Ordering.{nat_cmp, is_eq}
 use Rattle.std.proofs.lemmas.Bool.{eqb-true}
 use Rattle.std.proofs.lemmas.Cmp.{tied_itself, nat_cmp_total}
 use Rattle.cpi_rows.specs.Keyed.{at}
-use Rattle.cpi_survey.specs.declared.types.Bearer.{Bearer}
-use Rattle.cpi_store.specs.Office.{bearer_of}
+use Rattle.cpi_store.specs.declared.bearer.Bearer.{Bearer}
+use Rattle.cpi_store.specs.Bearer.{bearer_of}
 
 some_more : (n : ℕ) (x : Bearer) (bs : List Bearer) → (t : Bool) → is_eq (nat_cmp x.number n) ≡ t → IsSome (at (λ b. b.number) n bs) → IsSome (at (λ b. b.number) n (x ∷ bs))
 some_more n x bs true e some = rw e refl

@@ -5,11 +5,11 @@ use Rattle.std.specs.Ordering.{nat_cmp, is_eq}
 use Rattle.std.specs.declared.cmp.Ordering.TheVariants.{Equal}
 use Rattle.std.proofs.lemmas.Bool.{false≢true}
 use Rattle.cpi_rows.specs.Keyed.{at}
-use Rattle.cpi_survey.specs.Survey.{with_name}
-use Rattle.cpi_survey.specs.Same.{same_assignment}
-use Rattle.cpi_survey.specs.declared.types.Outlet.{Outlet}
-use Rattle.cpi_survey.specs.declared.types.Assignment.{Assignment}
-use Rattle.cpi_survey.specs.declared.types.Assigned.{Assigned}
+use Rattle.cpi_store.specs.Outlet.{with_name}
+use Rattle.cpi_survey.specs.Assignment.{same_assignment}
+use Rattle.cpi_store.specs.declared.outlet.Outlet.{Outlet}
+use Rattle.cpi_survey.specs.declared.assignment.Assignment.{Assignment}
+use Rattle.cpi_survey.specs.declared.assignment.Assigned.{Assigned}
 use Rattle.cpi_office.specs.declared.types.Standing.TheVariants.{Free}
 use Rattle.cpi_rows.proofs.Found.{at_key}
 use Rattle.cpi_office.specs.Desk.{standing}
@@ -21,7 +21,7 @@ standing_named us a slot [] = refl
 standing_named us a slot (r ∷ rows) = by (is_eq (nat_cmp r.slot slot)) refl (standing_named us a slot rows)
   where
     by : (t : Bool) → is_eq (nat_cmp r.slot slot) ≡ t → standing same_assigned a (at (λ a. a.assignment.slot) slot (map (with_name us) rows)) ≡ standing same_assignment a (at (λ a. a.slot) slot rows) →
-      standing same_assigned a (at (λ a. a.assignment.slot) slot (map (with_name us) (r ∷ rows))) ≡ standing same_assignment a (at (λ a. a.slot) slot (r ∷ rows))
+        standing same_assigned a (at (λ a. a.assignment.slot) slot (map (with_name us) (r ∷ rows))) ≡ standing same_assignment a (at (λ a. a.slot) slot (r ∷ rows))
     by true e rest = rw e refl
     by false e rest = rw e rest
 

@@ -4,15 +4,19 @@ use Rattle.std.specs.Prelude.{◌&&◌, ◌==◌}
 use Rattle.std.specs.Cmp.Lexicographic.{pointwise_decides, bytes_decides}
 use Rattle.std.proofs.lemmas.Bool.{eqb-true, false≢true}
 use Rattle.cpi_codes.specs.Text.{same_text}
-use Rattle.cpi_survey.specs.Same.{same_item, same_outlet, same_calendar, same_bearer, same_assignment}
-use Rattle.cpi_survey.specs.Survey.{is_same_mark}
-use Rattle.cpi_survey.specs.declared.types.Item.{Item}
-use Rattle.cpi_survey.specs.declared.types.CalendarRow.{CalendarRow}
-use Rattle.cpi_survey.specs.declared.types.Bearer.{Bearer}
-use Rattle.cpi_survey.specs.declared.types.Outlet.{Outlet}
-use Rattle.cpi_survey.specs.declared.types.Assignment.{Assignment}
-use Rattle.cpi_survey.specs.declared.types.Mark.{Mark}
-use Rattle.cpi_survey.specs.declared.types.Mark.TheVariants.{Price}
+use Rattle.cpi_plan.specs.Items.{same_item}
+use Rattle.cpi_store.specs.Outlet.{same_outlet}
+use Rattle.cpi_plan.specs.Calendar.{same_calendar}
+use Rattle.cpi_store.specs.Bearer.{same_bearer}
+use Rattle.cpi_survey.specs.Assignment.{same_assignment}
+use Rattle.cpi_survey.specs.Mark.{is_same_mark}
+use Rattle.cpi_plan.specs.declared.items.Item.{Item}
+use Rattle.cpi_plan.specs.Calendar.{CalendarPart}
+use Rattle.cpi_store.specs.declared.bearer.Bearer.{Bearer}
+use Rattle.cpi_store.specs.declared.outlet.Outlet.{Outlet}
+use Rattle.cpi_survey.specs.declared.assignment.Assignment.{Assignment}
+use Rattle.cpi_survey.specs.declared.mark.Mark.{Mark}
+use Rattle.cpi_survey.specs.declared.mark.Mark.TheVariants.{Price}
 
 text_equal : (a b : List ℕ) → same_text a b ≡ true → a ≡ b
 text_equal a b e = (bytes_decides a b).0 e
@@ -36,7 +40,7 @@ item_equal a b e =
     let k = both (a.code == b.code) (same_text a.text b.text) j.0 in
     λ n. record { code = same_number a.code b.code k.0 n; text = text_equal a.text b.text k.1 n; unit = text_equal a.unit b.unit j.1 n; low = same_number a.low b.low i.1 n; high = same_number a.high b.high h.1 n }
 
-pub calendar_equal : (a b : CalendarRow) → same_calendar a b ≡ true → a ≡ b
+pub calendar_equal : (a b : CalendarPart) → same_calendar a b ≡ true → a ≡ b
 calendar_equal a b e =
     let h = both (a.month == b.month && a.opens == b.opens && a.closes == b.closes) (a.publishes == b.publishes) e in
     let i = both (a.month == b.month && a.opens == b.opens) (a.closes == b.closes) h.0 in
@@ -55,8 +59,18 @@ outlet_equal a b e =
 
 pub assignment_equal : (a b : Assignment) → same_assignment a b ≡ true → a ≡ b
 assignment_equal a b e =
-    let h = both (a.slot == b.slot && a.outlet == b.outlet && a.item == b.item && a.first_month == b.first_month) (a.last_month == b.last_month) e in
-    let i = both (a.slot == b.slot && a.outlet == b.outlet && a.item == b.item) (a.first_month == b.first_month) h.0 in
+    let placed = a.slot == b.slot && a.outlet == b.outlet && a.item == b.item in
+    let f = both (placed && a.first_month == b.first_month && a.last_month == b.last_month && a.series.collector == b.series.collector) (a.series.slot == b.series.slot) e in
+    let g = both (placed && a.first_month == b.first_month && a.last_month == b.last_month) (a.series.collector == b.series.collector) f.0 in
+    let h = both (placed && a.first_month == b.first_month) (a.last_month == b.last_month) g.0 in
+    let i = both placed (a.first_month == b.first_month) h.0 in
     let j = both (a.slot == b.slot && a.outlet == b.outlet) (a.item == b.item) i.0 in
     let k = both (a.slot == b.slot) (a.outlet == b.outlet) j.0 in
-    λ n. record { slot = same_number a.slot b.slot k.0 n; outlet = same_number a.outlet b.outlet k.1 n; item = same_number a.item b.item j.1 n; first_month = same_number a.first_month b.first_month i.1 n; last_month = same_number a.last_month b.last_month h.1 n }
+    λ n. record {
+      slot = same_number a.slot b.slot k.0 n;
+      outlet = same_number a.outlet b.outlet k.1 n;
+      item = same_number a.item b.item j.1 n;
+      first_month = same_number a.first_month b.first_month i.1 n;
+      last_month = same_number a.last_month b.last_month h.1 n;
+      series = record { collector = same_number a.series.collector b.series.collector g.1 n; slot = same_number a.series.slot b.series.slot f.1 n };
+    }

@@ -9,7 +9,7 @@ use Rattle.cpi_office.proofs.Failures.{never_failure}
 use Rattle.cpi_office.specs.declared.types.Ask.{Ask}
 use Rattle.cpi_office.specs.declared.types.Reply.{Reply}
 use Rattle.cpi_office.specs.declared.types.Reply.TheVariants.{Refused}
-use Rattle.cpi_survey.specs.declared.types.Refusal.TheVariants.{Unavailable}
+use Rattle.cpi_office.specs.declared.refusal.Refusal.TheVariants.{Unavailable}
 use Rattle.std.specs.Prelude.{◌⊎◌}
 
 pub after-append : (xs ys : List Ask) (o : Office) → after (xs ++ ys) o ≡ after ys (after xs o)

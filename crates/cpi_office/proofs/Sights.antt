@@ -7,21 +7,23 @@ use Rattle.std.proofs.lemmas.Bool.Decides.{eqb_tells}
 use Rattle.std.proofs.lemmas.Cmp.{nat_cmp_total}
 use Rattle.cpi_rows.specs.Held.{held_by}
 use Rattle.cpi_rows.specs.Keyed.{at, put_by}
-use Rattle.cpi_store.specs.Office.{put_assignment, put_quote, bearer_of}
-use Rattle.cpi_survey.specs.Survey.{quote_key, quote_cmp}
+use Rattle.cpi_store.specs.Office.{put_assignment, put_quote}
+use Rattle.cpi_store.specs.Bearer.{bearer_of}
+use Rattle.cpi_survey.specs.Quote.{quote_key, quote_cmp}
 use Rattle.cpi_store.specs.Office.{Office, own_part, public_part}
-use Rattle.cpi_survey.specs.Survey.{OwnPart, with_name}
-use Rattle.cpi_survey.specs.declared.types.Assigned.{Assigned}
+use Rattle.cpi_survey.specs.Own.{OwnPart}
+use Rattle.cpi_store.specs.Outlet.{with_name}
+use Rattle.cpi_survey.specs.declared.assignment.Assigned.{Assigned}
 use Rattle.cpi_office.specs.Views.{View, view, own, OwnView, own_view}
 use Rattle.cpi_store.specs.Office.{Change, changed, PutsItem, PutsCalendar, Registers, PutsOutlet, Assigns, Quotes}
 use Rattle.cpi_office.specs.Runs.{sights, build, with_assigned, with_quote}
 use Rattle.cpi_office.specs.Sound.{IsSound, HasItsRows}
-use Rattle.cpi_survey.specs.declared.types.Item.{Item}
-use Rattle.cpi_survey.specs.declared.types.CalendarRow.{CalendarRow}
-use Rattle.cpi_survey.specs.declared.types.Bearer.{Bearer}
-use Rattle.cpi_survey.specs.declared.types.Outlet.{Outlet}
-use Rattle.cpi_survey.specs.declared.types.Assignment.{Assignment}
-use Rattle.cpi_survey.specs.Rows.{QuoteRow}
+use Rattle.cpi_plan.specs.declared.items.Item.{Item}
+use Rattle.cpi_plan.specs.Calendar.{CalendarPart}
+use Rattle.cpi_store.specs.declared.bearer.Bearer.{Bearer}
+use Rattle.cpi_store.specs.declared.outlet.Outlet.{Outlet}
+use Rattle.cpi_survey.specs.declared.assignment.Assignment.{Assignment}
+use Rattle.cpi_survey.specs.Quote.{QuoteRow}
 use Rattle.cpi_office.specs.declared.types.Caller.{Caller}
 use Rattle.cpi_office.specs.declared.types.Caller.TheVariants.{Public, Collector, Desk}
 use Rattle.cpi_rows.proofs.Held.{puts_own, puts_other}
@@ -42,7 +44,7 @@ shows_item Public o i = refl
 shows_item (Collector key) o i = refl
 shows_item Desk o i = refl
 
-pub shows_calendar : (k : Caller) (o : Office) (r : CalendarRow) → Shows k o (PutsCalendar r)
+pub shows_calendar : (k : Caller) (o : Office) (r : CalendarPart) → Shows k o (PutsCalendar r)
 shows_calendar Public o r = refl
 shows_calendar (Collector key) o r = refl
 shows_calendar Desk o r = refl
@@ -154,4 +156,3 @@ shows_registered (Collector key) o s b new free = by (eqb_tells b.key key)
         let nobody : bearer_of key o.collectors ≡ None = ap (λ k. bearer_of k o.collectors) (sym same.1) ∙ free in
         rw (same.0, bearer-put_own b o.collectors s.collectors new key same.0 nobody, nobody, no_assignments o s b new, no_quotes o s b new) refl
     by (inr apart) = rw (apart.0, bearer-put_other b o.collectors s.collectors new key apart.0) refl
-

@@ -10,14 +10,14 @@ use Rattle.std.proofs.lemmas.Cmp.{nat_cmp_total, tied_itself, ranked, on_total, 
 use Rattle.cpi_rows.specs.Keyed.{row_at}
 use Rattle.cpi_rows.specs.Held.{held_by, held_cmp, held_key}
 use Rattle.cpi_rows.specs.Keyed.{at}
-use Rattle.cpi_store.specs.Office.{bearer_of}
-use Rattle.cpi_survey.specs.Survey.{quote_key, quote_cmp}
+use Rattle.cpi_store.specs.Bearer.{bearer_of}
+use Rattle.cpi_survey.specs.Quote.{quote_key, quote_cmp}
 use Rattle.cpi_store.specs.Office.{Office}
 use Rattle.cpi_office.specs.Views.{view, OwnView, own_view}
 use Rattle.cpi_store.specs.Office.{Change, changed, PutsItem, PutsCalendar, Registers, PutsOutlet, Assigns, Quotes}
 use Rattle.cpi_office.specs.Runs.{sights, build}
 use Rattle.cpi_office.specs.Sound.{IsSound}
-use Rattle.cpi_survey.specs.declared.types.Bearer.{Bearer}
+use Rattle.cpi_store.specs.declared.bearer.Bearer.{Bearer}
 use Rattle.cpi_office.specs.declared.types.Caller.{Caller}
 use Rattle.cpi_office.specs.declared.types.Caller.TheVariants.{Public, Collector, Desk}
 use Rattle.cpi_rows.proofs.Puts.{put_standing}

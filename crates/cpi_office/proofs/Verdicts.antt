@@ -7,18 +7,28 @@ use Rattle.std.proofs.lemmas.Map.Lookups.{exact_pairs, exact_unsigned}
 use Rattle.cpi_rows.specs.Keyed.{at, row_at}
 use Rattle.cpi_rows.specs.Held.{held_by}
 use Rattle.cpi_rows.proofs.Found.{row_key, at_key, at-map}
-use Rattle.cpi_survey.specs.Rows.{QuoteRow, EntryRow}
-use Rattle.cpi_survey.specs.Survey.{decided, in_slot, over_quote, in_month, in_window, is_same_mark, with_name, quote_cmp, quote_key, greatest_receipt}
-use Rattle.cpi_survey.specs.Same.{same_item, same_outlet, same_calendar, same_bearer, same_assignment}
-use Rattle.cpi_survey.specs.declared.types.Item.{Item}
-use Rattle.cpi_survey.specs.declared.types.CalendarRow.{CalendarRow}
-use Rattle.cpi_survey.specs.declared.types.Bearer.{Bearer}
-use Rattle.cpi_survey.specs.declared.types.Outlet.{Outlet}
-use Rattle.cpi_survey.specs.declared.types.Assignment.{Assignment}
-use Rattle.cpi_survey.specs.declared.types.Assigned.{Assigned}
-use Rattle.cpi_survey.specs.declared.types.Decision.{Decision}
-use Rattle.cpi_survey.specs.declared.types.Refusal.{Refusal}
-use Rattle.cpi_store.specs.Office.{Office, own_part, public_part, bearer_of}
+use Rattle.cpi_survey.specs.Quote.{QuoteRow}
+use Rattle.cpi_survey.specs.Entry.{EntryRow}
+use Rattle.cpi_survey.specs.Decision.{decided, in_slot, over_quote, in_month, in_window}
+use Rattle.cpi_survey.specs.Mark.{is_same_mark}
+use Rattle.cpi_store.specs.Outlet.{with_name}
+use Rattle.cpi_survey.specs.Quote.{quote_cmp, quote_key, greatest_receipt}
+use Rattle.cpi_plan.specs.Items.{same_item}
+use Rattle.cpi_store.specs.Outlet.{same_outlet}
+use Rattle.cpi_plan.specs.Calendar.{same_calendar}
+use Rattle.cpi_store.specs.Bearer.{same_bearer}
+use Rattle.cpi_survey.specs.Assignment.{same_assignment}
+use Rattle.cpi_plan.specs.declared.items.Item.{Item}
+use Rattle.cpi_plan.specs.Calendar.{CalendarPart}
+use Rattle.cpi_store.specs.declared.bearer.Bearer.{Bearer}
+use Rattle.cpi_store.specs.declared.outlet.Outlet.{Outlet}
+use Rattle.cpi_survey.specs.declared.assignment.Assignment.{Assignment}
+use Rattle.cpi_survey.specs.declared.assignment.Assigned.{Assigned}
+use Rattle.cpi_survey.specs.declared.decision.Decision.{Decision}
+use Rattle.cpi_survey.specs.declared.refusal.Refusal.{Refusal as EntryRefusal}
+use Rattle.cpi_office.specs.declared.refusal.Refusal.{Refusal}
+use Rattle.cpi_store.specs.Office.{Office, own_part, public_part}
+use Rattle.cpi_store.specs.Bearer.{bearer_of}
 use Rattle.cpi_office.specs.Views.{view, own_view}
 use Rattle.cpi_office.specs.Desk.{Verdict, standing, put_once, item_put, outlet_put, registered, to_collector, standing_for, outlet_judged, assigned, calendar_put}
 use Rattle.cpi_office.specs.Runs.{commanded, of_collector, verdict, decision_verdict, entered, quoted}
@@ -52,7 +62,7 @@ module _ (o : Office) where
       by true f = rw f tt
       by false f = rw f tt
 
-  calendar_fair : (r : CalendarRow) (w : Option CalendarRow) → at (λ r. r.month) r.month o.calendar ≡ w → Fair (calendar_put r w)
+  calendar_fair : (r : CalendarPart) (w : Option CalendarPart) → at (λ r. r.month) r.month o.calendar ≡ w → Fair (calendar_put r w)
   calendar_fair r None e = tt
   calendar_fair r (Some old) e = by (same_calendar old r) refl
     where
@@ -100,17 +110,17 @@ module _ (o : Office) where
   -- ---- an entry
 
   module _ (b : Bearer) (found : at (λ b. b.number) b.number o.collectors ≡ Some b) (entry : EntryRow) (has : IsSome (at (λ a. a.slot) entry.slot (held_by b.number o.assignments))) where
-    abbrev Meets : Result Decision Refusal → Type 0
+    abbrev Meets : Result Decision EntryRefusal → Type 0
     Meets d = Holds (Some (decision_verdict b entry d)) o
 
-    window_meets : (now : ℕ) (row : CalendarRow) (a : Assignment) (greatest : ℕ) → Meets (in_window now entry row a greatest)
+    window_meets : (now : ℕ) (row : CalendarPart) (a : Assignment) (greatest : ℕ) → Meets (in_window now entry row a greatest)
     window_meets now row a greatest =
         if_holds Meets (nat_lt entry.month a.first_month || nat_lt a.last_month entry.month) _ _ (λ e. tt) (λ e.
         if_holds Meets (nat_lt now row.opens) _ _ (λ e. tt) (λ e.
         if_holds Meets (nat_le row.closes now) _ _ (λ e. tt) (λ e.
         if_holds Meets (nat_le 1000000 greatest) _ _ (λ e. tt) (λ e. (found, has)))))
 
-    month_meets : (now : ℕ) (row : Option CalendarRow) (a : Assignment) (greatest : ℕ) → Meets (in_month now entry row a greatest)
+    month_meets : (now : ℕ) (row : Option CalendarPart) (a : Assignment) (greatest : ℕ) → Meets (in_month now entry row a greatest)
     month_meets now None a greatest = tt
     month_meets now (Some row) a greatest = window_meets now row a greatest
 
@@ -123,7 +133,7 @@ module _ (o : Office) where
         let is : q ≡ quoted entry q.receipt = λ n. record { slot = (keys n).0; month = (keys n).1; mark = marks n; receipt = q.receipt } in
         stored ∙ ap Some is
 
-    over_meets : (now : ℕ) (row : Option CalendarRow) (a : Assignment) (q : Option QuoteRow) (greatest : ℕ) → row_at quote_cmp quote_key (entry.slot, entry.month) (held_by b.number o.quotes) ≡ q → Meets (over_quote now entry row a q greatest)
+    over_meets : (now : ℕ) (row : Option CalendarPart) (a : Assignment) (q : Option QuoteRow) (greatest : ℕ) → row_at quote_cmp quote_key (entry.slot, entry.month) (held_by b.number o.quotes) ≡ q → Meets (over_quote now entry row a q greatest)
     over_meets now row a None greatest stored = month_meets now row a greatest
     over_meets now row a (Some q) greatest stored = if_holds Meets (is_same_mark q.mark entry.mark) _ _ (λ same. (found, again_is q stored same)) (λ other. month_meets now row a greatest)
 

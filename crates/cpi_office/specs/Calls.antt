@@ -1,6 +1,6 @@
 -- What a call of the office does over a book.
 use Rattle.std.specs.Prelude.{◌≡◌, ◌⊎◌, ℕ, ◌≤◌}
-use Rattle.cpi_survey.specs.declared.types.Refusal.TheVariants.{Unavailable}
+use Rattle.cpi_office.specs.declared.refusal.Refusal.TheVariants.{Unavailable}
 use Rattle.cpi_store.specs.Office.{Office}
 use Rattle.cpi_office.specs.declared.types.Reply.{Reply}
 use Rattle.cpi_office.specs.declared.types.Reply.TheVariants as say

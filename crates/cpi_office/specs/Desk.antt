@@ -1,15 +1,19 @@
 -- What each command of the desk does: refused, standing already, or a row that is put.
 use Rattle.std.specs.Prelude.{ℕ, List, Option, Some, None, is_none, if◌then◌else◌, Bool}
 use Rattle.cpi_rows.specs.Keyed.{at}
-use Rattle.cpi_survey.specs.Same.{same_item, same_outlet, same_calendar, same_bearer, same_assignment}
-use Rattle.cpi_survey.specs.declared.types.Item.{Item}
-use Rattle.cpi_survey.specs.declared.types.Outlet.{Outlet}
-use Rattle.cpi_survey.specs.declared.types.CalendarRow.{CalendarRow}
-use Rattle.cpi_survey.specs.declared.types.Assignment.{Assignment}
-use Rattle.cpi_survey.specs.declared.types.Assigned.{Assigned}
-use Rattle.cpi_survey.specs.declared.types.Bearer.{Bearer}
-use Rattle.cpi_survey.specs.declared.types.Refusal.{Refusal}
-use Rattle.cpi_survey.specs.declared.types.Refusal.TheVariants.{Taken, UnknownItem, UnknownOutlet, UnknownCollector}
+use Rattle.cpi_plan.specs.Items.{same_item}
+use Rattle.cpi_store.specs.Outlet.{same_outlet}
+use Rattle.cpi_plan.specs.Calendar.{same_calendar}
+use Rattle.cpi_store.specs.Bearer.{same_bearer}
+use Rattle.cpi_survey.specs.Assignment.{same_assignment}
+use Rattle.cpi_plan.specs.declared.items.Item.{Item}
+use Rattle.cpi_store.specs.declared.outlet.Outlet.{Outlet}
+use Rattle.cpi_plan.specs.Calendar.{CalendarPart}
+use Rattle.cpi_survey.specs.declared.assignment.Assignment.{Assignment}
+use Rattle.cpi_survey.specs.declared.assignment.Assigned.{Assigned}
+use Rattle.cpi_store.specs.declared.bearer.Bearer.{Bearer}
+use Rattle.cpi_office.specs.declared.refusal.Refusal.{Refusal}
+use Rattle.cpi_office.specs.declared.refusal.Refusal.TheVariants.{Taken, UnknownItem, UnknownOutlet, UnknownCollector}
 use Rattle.cpi_store.specs.Office.{Office, Change, PutsItem, PutsCalendar, Registers, PutsOutlet, Assigns}
 use Rattle.cpi_office.specs.declared.types.Standing.{Standing}
 use Rattle.cpi_office.specs.declared.types.Standing.TheVariants.{Free, Same, Other}
@@ -69,5 +73,5 @@ replaced c Free = Makes c
 replaced c Same = Stands c
 replaced c Other = Makes c
 
-abbrev pub calendar_put : CalendarRow → Option CalendarRow → Verdict
+abbrev pub calendar_put : CalendarPart → Option CalendarPart → Verdict
 calendar_put row old = replaced (PutsCalendar row) (standing same_calendar row old)

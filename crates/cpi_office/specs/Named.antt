@@ -1,14 +1,14 @@
 -- Assignments with their outlets' names.
 use Rattle.std.specs.Prelude.{◌≡◌, Bool, List, Option, Some, None, option_map}
 use Rattle.cpi_rows.specs.Keyed.{at}
-use Rattle.cpi_survey.specs.declared.types.Bearer.{Bearer}
-use Rattle.cpi_survey.specs.declared.types.Refusal.TheVariants.{Taken}
+use Rattle.cpi_store.specs.declared.bearer.Bearer.{Bearer}
+use Rattle.cpi_office.specs.declared.refusal.Refusal.TheVariants.{Taken}
 use Rattle.cpi_office.specs.declared.types.Reply.{Reply}
 use Rattle.cpi_office.specs.declared.types.Reply.TheVariants as reply
-use Rattle.cpi_survey.specs.Same.{same_assignment}
-use Rattle.cpi_survey.specs.declared.types.Outlet.{Outlet}
-use Rattle.cpi_survey.specs.declared.types.Assignment.{Assignment}
-use Rattle.cpi_survey.specs.declared.types.Assigned.{Assigned}
+use Rattle.cpi_survey.specs.Assignment.{same_assignment}
+use Rattle.cpi_store.specs.declared.outlet.Outlet.{Outlet}
+use Rattle.cpi_survey.specs.declared.assignment.Assignment.{Assignment}
+use Rattle.cpi_survey.specs.declared.assignment.Assigned.{Assigned}
 
 abbrev pub same_assigned : Assigned → Assignment → Bool
 same_assigned old a = same_assignment old.assignment a

@@ -3,20 +3,28 @@ use Rattle.std.specs.Prelude.{ℕ, Bool, false, ◌==◌, List, [], ◌∷◌, �
 use Rattle.std.specs.List.{flat_map}
 use Rattle.cpi_rows.specs.Keyed.{put, at, put_by}
 use Rattle.cpi_rows.specs.Held.{held_by}
-use Rattle.cpi_survey.specs.Rows.{QuoteRow, EntryRow}
-use Rattle.cpi_survey.specs.Survey.{OwnPart, decided, quotes_within, with_name, quote_cmp, quote_key}
-use Rattle.cpi_survey.specs.declared.types.Item.{Item}
-use Rattle.cpi_survey.specs.declared.types.CalendarRow.{CalendarRow}
-use Rattle.cpi_survey.specs.declared.types.Assigned.{Assigned}
-use Rattle.cpi_survey.specs.declared.types.Bearer.{Bearer}
-use Rattle.cpi_survey.specs.declared.types.Decision.{Decision}
-use Rattle.cpi_survey.specs.declared.types.Decision.TheVariants.{Again, Put}
-use Rattle.cpi_survey.specs.declared.types.Refusal.{Refusal}
-use Rattle.cpi_survey.specs.declared.types.Refusal.TheVariants as refusal
-use Rattle.cpi_store.specs.Office.{Office, public_part, bearer_of, Change, changed, PutsItem, PutsCalendar, Registers, PutsOutlet, Assigns, Quotes}
+use Rattle.cpi_survey.specs.Quote.{QuoteRow}
+use Rattle.cpi_survey.specs.Entry.{EntryRow}
+use Rattle.cpi_survey.specs.Own.{OwnPart}
+use Rattle.cpi_survey.specs.Decision.{decided}
+use Rattle.cpi_survey.specs.Within.{quotes_within}
+use Rattle.cpi_store.specs.Outlet.{with_name}
+use Rattle.cpi_survey.specs.Quote.{quote_cmp, quote_key}
+use Rattle.cpi_plan.specs.declared.items.Item.{Item}
+use Rattle.cpi_plan.specs.Calendar.{CalendarPart}
+use Rattle.cpi_survey.specs.declared.assignment.Assigned.{Assigned}
+use Rattle.cpi_store.specs.declared.bearer.Bearer.{Bearer}
+use Rattle.cpi_survey.specs.declared.decision.Decision.{Decision}
+use Rattle.cpi_survey.specs.declared.decision.Decision.TheVariants.{Again, Put}
+use Rattle.cpi_survey.specs.declared.refusal.Refusal.{Refusal as EntryRefusal}
+use Rattle.cpi_office.specs.declared.refusal.Refusal.{Refusal}
+use Rattle.cpi_office.specs.declared.refusal.Refusal.TheVariants as refusal
+use Rattle.cpi_store.specs.Office.{Office, public_part, Change, changed, PutsItem, PutsCalendar, Registers, PutsOutlet, Assigns, Quotes}
+use Rattle.cpi_store.specs.Bearer.{bearer_of}
+use Rattle.cpi_office.specs.Refusal.{of_survey}
 use Rattle.cpi_office.specs.Views.{View, OwnView, own_view, view}
 use Rattle.cpi_office.specs.Desk.{Verdict, Refuses, Stands, Makes, standing, item_put, outlet_put, registered, assigned, calendar_put}
-use Rattle.cpi_survey.specs.Same.{same_assignment}
+use Rattle.cpi_survey.specs.Assignment.{same_assignment}
 use Rattle.cpi_office.specs.declared.types.Caller.{Caller}
 use Rattle.cpi_office.specs.declared.types.Caller.TheVariants as caller
 use Rattle.cpi_office.specs.declared.types.Request.{Request}
@@ -32,8 +40,8 @@ abbrev pub read : Request → View → Reply
 read request.Items v = reply.Items v.public.items
 read _ v = reply.Refused refusal.NotForCaller
 
-abbrev pub decision_reply : Result Decision Refusal → Reply
-decision_reply (Err f) = reply.Refused f
+abbrev pub decision_reply : Result Decision EntryRefusal → Reply
+decision_reply (Err f) = reply.Refused (of_survey f)
 decision_reply (Ok (Again receipt)) = reply.Receipt receipt
 decision_reply (Ok (Put q)) = reply.Receipt q.receipt
 
@@ -69,8 +77,8 @@ abbrev pub quoted : EntryRow → ℕ → QuoteRow
 quoted entry receipt = record { slot = entry.slot; month = entry.month; mark = entry.mark; receipt = receipt }
 
 -- what becomes of an entry, decided for this collector
-abbrev pub decision_verdict : Bearer → EntryRow → Result Decision Refusal → Verdict
-decision_verdict b entry (Err f) = Refuses f
+abbrev pub decision_verdict : Bearer → EntryRow → Result Decision EntryRefusal → Verdict
+decision_verdict b entry (Err f) = Refuses (of_survey f)
 decision_verdict b entry (Ok (Again receipt)) = Stands (Quotes b (quoted entry receipt))
 decision_verdict b entry (Ok (Put q)) = Makes (Quotes b q)
 
@@ -169,7 +177,7 @@ changes (a ∷ asks) o = made (verdict a.now a.caller a.request o) ++ changes as
 -- A row of a caller's own view.
 pub data Sight : Type 0 where
   SeesItem : Item → Sight
-  SeesCalendar : CalendarRow → Sight
+  SeesCalendar : CalendarPart → Sight
   IsRegistered : ℕ → Sight
   IsAssigned : Assigned → Sight
   HasQuoted : QuoteRow → Sight

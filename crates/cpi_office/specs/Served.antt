@@ -1,7 +1,7 @@
 -- Runs in which a request may be answered that the office is unavailable, and then changes nothing.
 use Rattle.std.specs.Prelude.{◌≡◌, Bool, true, false, List, [], ◌∷◌, ◌++◌, if◌then◌else◌}
-use Rattle.cpi_survey.specs.declared.types.Refusal.{Refusal}
-use Rattle.cpi_survey.specs.declared.types.Refusal.TheVariants.{Unavailable}
+use Rattle.cpi_office.specs.declared.refusal.Refusal.{Refusal}
+use Rattle.cpi_office.specs.declared.refusal.Refusal.TheVariants.{Unavailable}
 use Rattle.cpi_store.specs.Office.{Office}
 use Rattle.cpi_office.specs.Runs.{replies, after}
 use Rattle.cpi_office.specs.declared.types.Ask.{Ask}

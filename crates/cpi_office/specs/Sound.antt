@@ -4,11 +4,12 @@ use Rattle.std.specs.List.{AllByRecursion}
 use Rattle.std.specs.Ordering.{nat_cmp}
 use Rattle.cpi_rows.specs.Keyed.{IsInOrder, at}
 use Rattle.cpi_rows.specs.Held.{held_cmp, held_key, held_by}
-use Rattle.cpi_survey.specs.Rows.{QuoteRow}
-use Rattle.cpi_survey.specs.Survey.{quote_cmp, quote_key}
-use Rattle.cpi_survey.specs.declared.types.Bearer.{Bearer}
-use Rattle.cpi_survey.specs.declared.types.Assignment.{Assignment}
-use Rattle.cpi_store.specs.Office.{Office, bearer_of}
+use Rattle.cpi_survey.specs.Quote.{QuoteRow}
+use Rattle.cpi_survey.specs.Quote.{quote_cmp, quote_key}
+use Rattle.cpi_store.specs.declared.bearer.Bearer.{Bearer}
+use Rattle.cpi_survey.specs.declared.assignment.Assignment.{Assignment}
+use Rattle.cpi_store.specs.Office.{Office}
+use Rattle.cpi_store.specs.Bearer.{bearer_of}
 
 -- whoever has a number is the only one to bear that key
 abbrev pub BearOwnKeys : List Bearer → Type 0

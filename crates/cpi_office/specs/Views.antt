@@ -1,8 +1,10 @@
 -- What one caller may see of an office.
 use Rattle.std.specs.Prelude.{ℕ, List, Option, Some, None, option_map}
-use Rattle.cpi_survey.specs.Survey.{PublicPart, OwnPart}
-use Rattle.cpi_survey.specs.declared.types.Bearer.{Bearer}
-use Rattle.cpi_store.specs.Office.{Office, public_part, own_part, bearer_of}
+use Rattle.cpi_survey.specs.Public.{PublicPart}
+use Rattle.cpi_survey.specs.Own.{OwnPart}
+use Rattle.cpi_store.specs.declared.bearer.Bearer.{Bearer}
+use Rattle.cpi_store.specs.Office.{Office, public_part, own_part}
+use Rattle.cpi_store.specs.Bearer.{bearer_of}
 use Rattle.cpi_office.specs.declared.types.Caller.{Caller}
 use Rattle.cpi_office.specs.declared.types.Caller.TheVariants.{Public, Collector, Desk}
 

@@ -4,9 +4,16 @@ ghost use Rattle.std.specs.Ordering.{nat_cmp};
 ghost use Rattle.cpi_rows.specs.Keyed.{at};
 ghost use Rattle.cpi_rows.specs.Held.{held_by};
 ghost use Rattle.cpi_store.specs.Calls.{Reads};
-ghost use Rattle.cpi_store.specs.Office.{public_part, own_part, bearer_of, changed, PutsItem, PutsCalendar, Quotes};
-ghost use Rattle.cpi_survey.specs.Survey.{with_name, decided, greatest_receipt, quotes_within};
-ghost use Rattle.cpi_survey.specs.Same.{same_assignment, same_item, same_calendar, same_outlet};
+ghost use Rattle.cpi_store.specs.Office.{public_part, own_part, changed, PutsItem, PutsCalendar, Quotes};
+ghost use Rattle.cpi_store.specs.Bearer.{bearer_of};
+ghost use Rattle.cpi_store.specs.Outlet.{with_name};
+ghost use Rattle.cpi_survey.specs.Decision.{decided};
+ghost use Rattle.cpi_survey.specs.Quote.{greatest_receipt};
+ghost use Rattle.cpi_survey.specs.Within.{quotes_within};
+ghost use Rattle.cpi_survey.specs.Assignment.{same_assignment};
+ghost use Rattle.cpi_plan.specs.Items.{same_item};
+ghost use Rattle.cpi_plan.specs.Calendar.{same_calendar};
+ghost use Rattle.cpi_store.specs.Outlet.{same_outlet};
 ghost use Rattle.cpi_office.specs.Views.{view};
 ghost use Rattle.cpi_office.specs.Desk.{standing, to_collector, assigned, outlet_judged, item_put, outlet_put, calendar_put, registered};
 ghost use Rattle.cpi_office.specs.Runs.{collector_reply, collector_after, reply_to, after_one, collector_answer, decision_reply, decision_verdict, with_verdict, verdict_reply};
@@ -14,11 +21,13 @@ ghost use Rattle.cpi_office.specs.Named.{again_reply, same_assigned, IsNamed};
 ghost use Rattle.cpi_office.specs.Receipts.{IsNew, stored};
 ghost use Rattle.cpi_office.specs.Calls.{Serves};
 
+use crate::refusal::Refusal;
 use crate::types::{Caller, Reply, Request, Standing};
 use cpi_codes::{CollectorId, Key, Moment, Month, Rows};
+use cpi_plan::{CalendarRow, Item};
+use cpi_store::{Bearer, Book, Outlet, StoreFault};
+use cpi_survey::{Assigned, Assignment, Decision, Entry, Quote};
 use std::alloc::{AllocError, Global};
-use cpi_store::{Book, StoreFault};
-use cpi_survey::{Assigned, Assignment, Bearer, CalendarRow, Decision, Entry, Item, Outlet, Quote, Refusal};
 
 // ---- commands of the desk
 
@@ -63,7 +72,7 @@ fn find_calendar<B: Book>(book: &mut B, row: &CalendarRow) -> Result<Standing, S
     ensures { Reads B.is_clean B.lists B.failures book.old book.new result (λ found. found ≡ standing same_calendar row.now (at (λ r. r.month) row.now.month (B.lists book.old).calendar)) }
 {
     let public = book.public_part()?;
-    Ok(standing_calendar(row, public.calendar_row(row.month)))
+    Ok(standing_calendar(row, public.calendar_row(row.month())))
 }
 
 fn standing_calendar(row: &CalendarRow, old: Option<&CalendarRow>) -> Standing
@@ -133,7 +142,10 @@ fn put_outlet<B: Book>(book: &mut B, outlet: Outlet) -> Reply
 }
 
 /// Who has the number, and who bears the key.
-fn find_bearers<B: Book>(book: &mut B, bearer: Bearer) -> Result<(Option<Bearer>, Option<Bearer>), StoreFault>
+fn find_bearers<B: Book>(
+    book: &mut B,
+    bearer: Bearer,
+) -> Result<(Option<Bearer>, Option<Bearer>), StoreFault>
     ensures { Reads B.is_clean B.lists B.failures book.old book.new result (λ found. (found.0 ≡ at (λ b. b.number) bearer.number (B.lists book.old).collectors) × (found.1 ≡ bearer_of bearer.key (B.lists book.old).collectors)) }
 {
     let at_number = book.bearer_at(bearer.number)?;
@@ -165,7 +177,12 @@ fn register<B: Book>(book: &mut B, bearer: Bearer) -> Reply
 // ---- an entry of a quote
 
 /// Decides an entry of a collector.
-fn decide<B: Book>(book: &mut B, now: Moment, collector: CollectorId, entry: Entry) -> Result<Result<Decision, Refusal>, StoreFault>
+fn decide<B: Book>(
+    book: &mut B,
+    now: Moment,
+    collector: CollectorId,
+    entry: Entry,
+) -> Result<Result<Decision, cpi_survey::Refusal>, StoreFault>
     ensures { Reads B.is_clean B.lists B.failures book.old book.new result (λ decision. decision ≡ decided now entry (public_part (B.lists book.old)) (own_part collector (B.lists book.old))) }
 {
     let parts = book.parts(collector)?;
@@ -185,13 +202,17 @@ fn store_quote<B: Book>(book: &mut B, bearer: Bearer, quote: Quote) -> Reply
     }
 }
 
-fn carry_out<B: Book>(book: &mut B, bearer: Bearer, decision: &Result<Decision, Refusal>) -> Reply
+fn carry_out<B: Book>(
+    book: &mut B,
+    bearer: Bearer,
+    decision: &Result<Decision, cpi_survey::Refusal>,
+) -> Reply
     requires known { B.is_clean book.old → IsSome (at (λ b. b.number) bearer.number (B.lists book.old).collectors) }
     requires new { B.is_clean book.old → IsNew decision.now (greatest_receipt (held_by bearer.number (B.lists book.old).quotes)) }
     ensures { Serves B.is_clean B.lists B.failures book.old book.new result (decision_reply decision.now) (stored bearer decision.now (B.lists book.old)) }
 {
     match decision {
-        Err(refusal) => Reply::Refused(*refusal),
+        Err(refusal) => Reply::Refused(Refusal::of_survey(*refusal)),
         Ok(Decision::Again(receipt)) => Reply::Receipt(*receipt),
         Ok(Decision::Put(quote)) => store_quote(book, bearer, *quote),
     }
@@ -220,7 +241,10 @@ fn enter<B: Book>(book: &mut B, now: Moment, bearer: Bearer, entry: Entry) -> Re
 
 // ---- reads
 
-fn read_items<B: Book>(alloc: Global, book: &mut B) -> Result<Result<Vec<Item>, AllocError>, StoreFault>
+fn read_items<B: Book>(
+    alloc: Global,
+    book: &mut B,
+) -> Result<Result<Vec<Item>, AllocError>, StoreFault>
     ensures { Reads B.is_clean B.lists B.failures book.old book.new result (λ found. IfOk found (λ items. items.items ≡ (B.lists book.old).items)) }
 {
     let public = book.public_part()?;
@@ -236,14 +260,26 @@ fn items<B: Book>(alloc: Global, book: &mut B) -> Reply
     }
 }
 
-fn read_quotes<B: Book>(alloc: Global, book: &mut B, collector: CollectorId, first: Month, last: Month) -> Result<Result<Vec<Quote>, AllocError>, StoreFault>
+fn read_quotes<B: Book>(
+    alloc: Global,
+    book: &mut B,
+    collector: CollectorId,
+    first: Month,
+    last: Month,
+) -> Result<Result<Vec<Quote>, AllocError>, StoreFault>
     ensures { Reads B.is_clean B.lists B.failures book.old book.new result (λ found. IfOk found (λ quotes. quotes.items ≡ quotes_within first last (held_by collector (B.lists book.old).quotes))) }
 {
     let parts = book.parts(collector)?;
     Ok(parts.own.quotes_within(alloc, first, last))
 }
 
-fn quotes<B: Book>(alloc: Global, book: &mut B, collector: CollectorId, first: Month, last: Month) -> Reply
+fn quotes<B: Book>(
+    alloc: Global,
+    book: &mut B,
+    collector: CollectorId,
+    first: Month,
+    last: Month,
+) -> Reply
     ensures { Serves B.is_clean B.lists B.failures book.old book.new result (Reply.Quotes (quotes_within first last (held_by collector (B.lists book.old).quotes))) (B.lists book.old) }
 {
     match read_quotes(alloc, book, collector, first, last) {
@@ -270,7 +306,11 @@ fn standing_assignment(assignment: &Assignment, old: Option<&Assigned>) -> Stand
 }
 
 /// What stands in the slot, and whether the item is unknown.
-fn find_slot<B: Book>(book: &mut B, collector: CollectorId, assignment: &Assignment) -> Result<(Standing, bool), StoreFault>
+fn find_slot<B: Book>(
+    book: &mut B,
+    collector: CollectorId,
+    assignment: &Assignment,
+) -> Result<(Standing, bool), StoreFault>
     ensures { Reads B.is_clean B.lists B.failures book.old book.new result (λ found.
         (found.0 ≡ standing same_assigned assignment.now (at (λ a. a.assignment.slot) assignment.now.slot (own_part collector (B.lists book.old)).assignments))
         × (found.1 ≡ is_none (at (λ i. i.code) assignment.now.item (B.lists book.old).items))) }
@@ -281,14 +321,22 @@ fn find_slot<B: Book>(book: &mut B, collector: CollectorId, assignment: &Assignm
 }
 
 /// The assignment with its outlet's name, where the outlet is known.
-fn name_outlet<B: Book>(alloc: Global, book: &mut B, assignment: Assignment) -> Result<Result<Option<Assigned>, AllocError>, StoreFault>
+fn name_outlet<B: Book>(
+    alloc: Global,
+    book: &mut B,
+    assignment: Assignment,
+) -> Result<Result<Option<Assigned>, AllocError>, StoreFault>
     ensures { Reads B.is_clean B.lists B.failures book.old book.new result (λ found. IfOk found (λ named. IsNamed (B.lists book.old).outlets assignment named)) }
 {
     let outlet = book.outlet(assignment.outlet)?;
     Ok(with_name(alloc, assignment, outlet))
 }
 
-fn with_name(alloc: Global, assignment: Assignment, outlet: Option<&Outlet>) -> Result<Option<Assigned>, AllocError>
+fn with_name(
+    alloc: Global,
+    assignment: Assignment,
+    outlet: Option<&Outlet>,
+) -> Result<Option<Assigned>, AllocError>
     ensures { IfOk result (λ named. named ≡ option_map (λ u. record { assignment = assignment; outlet_name = u.name }) (option_copied outlet.entry)) }
 {
     match outlet {
@@ -320,7 +368,12 @@ fn assign_to<B: Book>(book: &mut B, collector: CollectorId, assigned: Assigned) 
 }
 
 /// Puts a new assignment, if there are its outlet and the collector.
-fn assign_new<B: Book>(alloc: Global, book: &mut B, collector: CollectorId, assignment: Assignment) -> Reply
+fn assign_new<B: Book>(
+    alloc: Global,
+    book: &mut B,
+    collector: CollectorId,
+    assignment: Assignment,
+) -> Reply
     requires free { B.is_clean book.old → at (λ a. a.slot) assignment.slot (held_by collector (B.lists book.old).assignments) ≡ None }
     requires item { B.is_clean book.old → IsSome (at (λ i. i.code) assignment.item (B.lists book.old).items) }
     ensures { let o = B.lists book.old in let v = outlet_judged (with_name o.outlets assignment) (at (λ u. u.number) assignment.outlet o.outlets) (at (λ b. b.number) collector o.collectors) in
@@ -345,7 +398,12 @@ fn assign_again<B: Book>(book: &mut B, collector: CollectorId) -> Reply
     }
 }
 
-fn assign_judged<B: Book>(alloc: Global, book: &mut B, collector: CollectorId, assignment: Assignment) -> Reply
+fn assign_judged<B: Book>(
+    alloc: Global,
+    book: &mut B,
+    collector: CollectorId,
+    assignment: Assignment,
+) -> Reply
     ensures { let o = B.lists book.old in let v = assigned (with_name o.outlets assignment) (at (λ i. i.code) assignment.item o.items) (at (λ u. u.number) assignment.outlet o.outlets) (at (λ b. b.number) collector o.collectors)
         (standing same_assigned assignment (at (λ a. a.assignment.slot) assignment.slot (own_part collector o).assignments)) in
         Serves B.is_clean B.lists B.failures book.old book.new result (verdict_reply v) (with_verdict v o) }
@@ -359,7 +417,12 @@ fn assign_judged<B: Book>(alloc: Global, book: &mut B, collector: CollectorId, a
     }
 }
 
-fn assign<B: Book>(alloc: Global, book: &mut B, collector: CollectorId, assignment: Assignment) -> Reply
+fn assign<B: Book>(
+    alloc: Global,
+    book: &mut B,
+    collector: CollectorId,
+    assignment: Assignment,
+) -> Reply
     ensures { let o = B.lists book.old in let v = assigned (with_name o.outlets assignment) (at (λ i. i.code) assignment.item o.items) (at (λ u. u.number) assignment.outlet o.outlets) (at (λ b. b.number) collector o.collectors)
         (standing same_assignment assignment (at (λ a. a.slot) assignment.slot (held_by collector o.assignments))) in
         Serves B.is_clean B.lists B.failures book.old book.new result (verdict_reply v) (with_verdict v o) }
@@ -379,7 +442,13 @@ fn serve_public<B: Book>(alloc: Global, book: &mut B, now: Moment, request: Requ
     }
 }
 
-fn serve_known<B: Book>(alloc: Global, book: &mut B, now: Moment, bearer: Bearer, request: Request) -> Reply
+fn serve_known<B: Book>(
+    alloc: Global,
+    book: &mut B,
+    now: Moment,
+    bearer: Bearer,
+    request: Request,
+) -> Reply
     requires known { B.is_clean book.old → IsSome (at (λ b. b.number) bearer.number (B.lists book.old).collectors) }
     ensures { let o = B.lists book.old in
         Serves B.is_clean B.lists B.failures book.old book.new result (collector_reply now request o (Some bearer)) (collector_after bearer.key now request o (Some bearer)) }
@@ -392,7 +461,13 @@ fn serve_known<B: Book>(alloc: Global, book: &mut B, now: Moment, bearer: Bearer
     }
 }
 
-fn serve_collector<B: Book>(alloc: Global, book: &mut B, now: Moment, key: Key, request: Request) -> Reply
+fn serve_collector<B: Book>(
+    alloc: Global,
+    book: &mut B,
+    now: Moment,
+    key: Key,
+    request: Request,
+) -> Reply
     ensures { let o = B.lists book.old in
         Serves B.is_clean B.lists B.failures book.old book.new result (reply_to now (Caller.Collector key) request o) (after_one now (Caller.Collector key) request o) }
 {
@@ -449,7 +524,13 @@ impl<B: Book> Office<B> {
     {
         match caller {
             Caller::Public => serve_public(self.alloc, &mut self.book, now, request),
-            Caller::Collector(key) => serve_collector(self.alloc, &mut self.book, now, key, request),
+            Caller::Collector(key) => serve_collector(
+                self.alloc,
+                &mut self.book,
+                now,
+                key,
+                request,
+            ),
             Caller::Desk => serve_desk(self.alloc, &mut self.book, now, request),
         }
     }

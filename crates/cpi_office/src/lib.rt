@@ -2,12 +2,15 @@
 #![tactic(auto)]
 
 mod handle;
+mod refusal;
 mod run;
-pub mod types;
-
-pub use handle::Office;
+mod types;
 
 ghost use Rattle.cpi_office.specs.Laws.{StaysSound, ViewsAreRebuilt, ChangesAreEnough, AnswersAreAlike, RepliesAreFromViews};
+
+pub use handle::Office;
+pub use refusal::Refusal;
+pub use types::{Ask, Caller, Reply, Request};
 
 /// After any list of requests, a caller's view is the view before with the accepted requests that the caller sees.
 pub fn views_are_rebuilt()
@@ -16,16 +19,14 @@ pub fn views_are_rebuilt()
     ensures changes { ChangesAreEnough }
     ensures answers { AnswersAreAlike }
     ensures replies { RepliesAreFromViews }
-{
-}
+{}
 
 ghost use Rattle.cpi_office.specs.Alone.{OthersDoNotMatter};
 
 /// A collector is told the same, reply by reply, if all requests of all other collectors are left out of the list.
 pub fn others_do_not_matter()
     ensures { OthersDoNotMatter }
-{
-}
+{}
 
 ghost use Rattle.cpi_store.specs.Office.{empty_office};
 ghost use Rattle.cpi_office.specs.Sound.{IsSound};
@@ -33,5 +34,4 @@ ghost use Rattle.cpi_office.specs.Sound.{IsSound};
 /// An empty office is sound.
 pub fn empty_is_sound()
     ensures { IsSound empty_office }
-{
-}
+{}

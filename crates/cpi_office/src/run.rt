@@ -5,8 +5,8 @@ ghost use Rattle.cpi_office.specs.declared.types.Reply.{Reply as TheReply};
 
 use crate::handle::Office;
 use crate::types::{Ask, Reply};
-use std::alloc::AllocError;
 use cpi_store::Book;
+use std::alloc::AllocError;
 
 impl<B: Book> Office<B> {
     /// Answers requests in order. Where memory is refused, a front of them has been carried out.

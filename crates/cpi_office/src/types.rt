@@ -1,5 +1,8 @@
+use crate::refusal::Refusal;
 use cpi_codes::{CollectorId, Key, Moment, Month, Rows};
-use cpi_survey::{Assignment, Bearer, CalendarRow, Entry, Item, Outlet, Quote, Refusal};
+use cpi_plan::{CalendarRow, Item};
+use cpi_store::{Bearer, Outlet};
+use cpi_survey::{Assignment, Entry, Quote};
 
 #[derive(Clone, Copy, Debug, PartialEq, Eq)]
 pub enum Caller {

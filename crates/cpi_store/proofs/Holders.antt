@@ -11,10 +11,12 @@ use Rattle.cpi_rows.specs.Held.{held_by, held_cmp, held_key}
 use Rattle.cpi_rows.specs.Gathered.{gathered, rows_in}
 use Rattle.cpi_rows.proofs.Places.{row_found, put_at_row, put_in_order}
 use Rattle.cpi_rows.proofs.Gathered.{held_gathered, put_gathered}
-use Rattle.cpi_survey.specs.Rows.{QuoteRow}
-use Rattle.cpi_survey.specs.Survey.{quote_cmp, quote_key, with_name, OwnPart}
-use Rattle.cpi_survey.specs.declared.types.Outlet.{Outlet}
-use Rattle.cpi_survey.specs.declared.types.Assignment.{Assignment}
+use Rattle.cpi_survey.specs.Quote.{QuoteRow}
+use Rattle.cpi_survey.specs.Quote.{quote_cmp, quote_key}
+use Rattle.cpi_store.specs.Outlet.{with_name}
+use Rattle.cpi_survey.specs.Own.{OwnPart}
+use Rattle.cpi_store.specs.declared.outlet.Outlet.{Outlet}
+use Rattle.cpi_survey.specs.declared.assignment.Assignment.{Assignment}
 use Rattle.cpi_store.specs.declared.holder.Holder.{Holder}
 use Rattle.cpi_store.specs.Holders.{collectors_of, collector_of_holder, all_assignments, all_quotes, assignments_of, quotes_of, named_by}
 
@@ -49,7 +51,7 @@ module _ (hs : List Holder) (sorted : IsInOrder nat_cmp (λ h. h.number) hs) (c 
 
     pub assignments_after : after.own.assignments ≡ h.own.assignments → all_assignments (set hs at after) ≡ all_assignments hs
     assignments_after e = flat_map_set_same (λ g. map (λ x. (g.number, x)) (assignments_of g)) hs at after h
-      (ap (λ n. map (λ x. (n, x)) (assignments_of after)) same_at ∙ ap (λ ws. map (λ x. ((get_or hs at h).number, x)) (map (λ a. a.assignment) ws)) (e ∙ ap (λ (g : Holder). g.own.assignments) found))
+        (ap (λ n. map (λ x. (n, x)) (assignments_of after)) same_at ∙ ap (λ ws. map (λ x. ((get_or hs at h).number, x)) (map (λ a. a.assignment) ws)) (e ∙ ap (λ (g : Holder). g.own.assignments) found))
 
     pub order_after : IsInOrder nat_cmp (λ g. g.number) (set hs at after)
     order_after =
@@ -58,7 +60,7 @@ module _ (hs : List Holder) (sorted : IsInOrder nat_cmp (λ h. h.number) hs) (c 
 
     pub collectors_after : after.key ≡ h.key → collectors_of (set hs at after) ≡ collectors_of hs
     collectors_after e = map_set_same collector_of_holder hs at after h
-      (ap (λ n. record { number = n; key = after.key }) same_at ∙ ap (λ k. record { number = (get_or hs at h).number; key = k }) (e ∙ ap (λ (g : Holder). g.key) found))
+        (ap (λ n. record { number = n; key = after.key }) same_at ∙ ap (λ k. record { number = (get_or hs at h).number; key = k }) (e ∙ ap (λ (g : Holder). g.key) found))
 
     pub own_assignments_after : after.own.assignments ≡ h.own.assignments → map (λ (g : Holder). g.own.assignments) (set hs at after) ≡ map (λ (g : Holder). g.own.assignments) hs
     own_assignments_after e = map_set_same (λ (g : Holder). g.own.assignments) hs at after h (e ∙ ap (λ (g : Holder). g.own.assignments) found)
@@ -74,7 +76,7 @@ known_holder c (h ∷ hs) some = by (nat_cmp h.number c) refl some (known_holder
     by Greater p some rest = rw (ap is_eq p) (rest (rw (ap is_eq p) at some))
 
 found_more : (outlets : List Outlet) (c : ℕ) (h g : Holder) (hs : List Holder) → (s : Ordering) → nat_cmp g.number c ≡ s → named_by outlets (map (λ (x : Holder). x.own.assignments) (g ∷ hs)) ≡ map (λ (x : Holder). x.own.assignments) (g ∷ hs) → row_at nat_cmp (λ (x : Holder). x.number) c (g ∷ hs) ≡ Some h →
-  (named_by outlets (map (λ (x : Holder). x.own.assignments) hs) ≡ map (λ (x : Holder). x.own.assignments) hs → row_at nat_cmp (λ (x : Holder). x.number) c hs ≡ Some h → map (with_name outlets) (assignments_of h) ≡ h.own.assignments) → map (with_name outlets) (assignments_of h) ≡ h.own.assignments
+    (named_by outlets (map (λ (x : Holder). x.own.assignments) hs) ≡ map (λ (x : Holder). x.own.assignments) hs → row_at nat_cmp (λ (x : Holder). x.number) c hs ≡ Some h → map (with_name outlets) (assignments_of h) ≡ h.own.assignments) → map (with_name outlets) (assignments_of h) ≡ h.own.assignments
 found_more outlets c h g hs Less p names found rest = rest (cc) (rw (ap is_eq p) at found)
 found_more outlets c h g hs Equal p names found rest = let same : Some g ≡ Some h = rw (ap is_eq p) at found in let here : g ≡ h = cc in let first : map (with_name outlets) (assignments_of g) ≡ g.own.assignments = cc in rw (← here) first
 found_more outlets c h g hs Greater p names found rest = rest (cc) (rw (ap is_eq p) at found)
@@ -85,7 +87,7 @@ found_names outlets c h (g ∷ hs) names found = found_more outlets c h g hs (na
 
 -- what a found holder has is what its rows among all say
 pub own_found : (outlets : List Outlet) (c : ℕ) (h : Holder) (hs : List Holder) → IsInOrder nat_cmp (λ x. x.number) hs → named_by outlets (map (λ (x : Holder). x.own.assignments) hs) ≡ map (λ (x : Holder). x.own.assignments) hs → row_at nat_cmp (λ (x : Holder). x.number) c hs ≡ Some h →
-  h.own ≡ record { assignments = map (with_name outlets) (held_by c (all_assignments hs)); quotes = held_by c (all_quotes hs) }
+    h.own ≡ record { assignments = map (with_name outlets) (held_by c (all_assignments hs)); quotes = held_by c (all_quotes hs) }
 own_found outlets c h hs sorted names found =
     let quotes : held_by c (all_quotes hs) ≡ h.own.quotes = held_gathered quote_cmp quote_key (λ g. g.number) quotes_of c hs sorted ∙ ap (rows_in quotes_of) found in
     let rows : held_by c (all_assignments hs) ≡ assignments_of h = held_gathered nat_cmp (λ (a : Assignment). a.slot) (λ g. g.number) assignments_of c hs sorted ∙ ap (rows_in assignments_of) found in
@@ -96,7 +98,7 @@ nothing = record { assignments = []; quotes = [] }
 
 -- a number that no holder has, has nothing
 pub own_missing : (outlets : List Outlet) (c : ℕ) (hs : List Holder) → IsInOrder nat_cmp (λ x. x.number) hs → row_at nat_cmp (λ (x : Holder). x.number) c hs ≡ None →
-  nothing ≡ record { assignments = map (with_name outlets) (held_by c (all_assignments hs)); quotes = held_by c (all_quotes hs) }
+    nothing ≡ record { assignments = map (with_name outlets) (held_by c (all_assignments hs)); quotes = held_by c (all_quotes hs) }
 own_missing outlets c hs sorted none =
     let quotes : held_by c (all_quotes hs) ≡ [] = held_gathered quote_cmp quote_key (λ g. g.number) quotes_of c hs sorted ∙ ap (rows_in quotes_of) none in
     let rows : held_by c (all_assignments hs) ≡ [] = held_gathered nat_cmp (λ (a : Assignment). a.slot) (λ g. g.number) assignments_of c hs sorted ∙ ap (rows_in assignments_of) none in

@@ -6,9 +6,9 @@ use Rattle.std.specs.List.{AllByRecursion}
 use Rattle.std.proofs.lemmas.Bool.{false≢true}
 use Rattle.cpi_rows.specs.Keyed.{at, put_by, IsInOrder}
 use Rattle.cpi_rows.proofs.Puts.{at-put_found, at-put_some}
-use Rattle.cpi_survey.specs.Survey.{with_name}
-use Rattle.cpi_survey.specs.declared.types.Outlet.{Outlet}
-use Rattle.cpi_survey.specs.declared.types.Assigned.{Assigned}
+use Rattle.cpi_store.specs.Outlet.{with_name}
+use Rattle.cpi_store.specs.declared.outlet.Outlet.{Outlet}
+use Rattle.cpi_survey.specs.declared.assignment.Assigned.{Assigned}
 use Rattle.cpi_store.specs.Holders.{named_by, HasOutlet, ArePlaced}
 
 module _ (u : Outlet) (us : List Outlet) (sorted : IsInOrder nat_cmp (λ u. u.number) us) (new : at (λ u. u.number) u.number us ≡ None) where

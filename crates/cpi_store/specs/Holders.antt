@@ -3,12 +3,13 @@ use Rattle.std.specs.Prelude.{◌≡◌, ℕ, List, map, IsSome}
 use Rattle.std.specs.List.{AllByRecursion}
 use Rattle.cpi_rows.specs.Keyed.{at}
 use Rattle.cpi_rows.specs.Gathered.{gathered}
-use Rattle.cpi_survey.specs.Rows.{QuoteRow}
-use Rattle.cpi_survey.specs.declared.types.Assignment.{Assignment}
-use Rattle.cpi_survey.specs.declared.types.Assigned.{Assigned}
-use Rattle.cpi_survey.specs.Survey.{OwnPart, with_name}
-use Rattle.cpi_survey.specs.declared.types.Outlet.{Outlet}
-use Rattle.cpi_survey.specs.declared.types.Bearer.{Bearer}
+use Rattle.cpi_survey.specs.Quote.{QuoteRow}
+use Rattle.cpi_survey.specs.declared.assignment.Assignment.{Assignment}
+use Rattle.cpi_survey.specs.declared.assignment.Assigned.{Assigned}
+use Rattle.cpi_survey.specs.Own.{OwnPart}
+use Rattle.cpi_store.specs.Outlet.{with_name}
+use Rattle.cpi_store.specs.declared.outlet.Outlet.{Outlet}
+use Rattle.cpi_store.specs.declared.bearer.Bearer.{Bearer}
 use Rattle.cpi_store.specs.Office.{Office}
 use Rattle.cpi_store.specs.declared.holder.Holder.{Holder}
 

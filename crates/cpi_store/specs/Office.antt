@@ -3,19 +3,22 @@ use Rattle.std.specs.Prelude.{ℕ, List, [], ◌∷◌, map, Option, Some, None,
 use Rattle.std.specs.Ordering.{nat_cmp}
 use Rattle.cpi_rows.specs.Keyed.{row_at, put, at, put_by}
 use Rattle.cpi_rows.specs.Held.{held_by, held_cmp, held_key}
-use Rattle.cpi_survey.specs.declared.types.Item.{Item}
-use Rattle.cpi_survey.specs.declared.types.Outlet.{Outlet}
-use Rattle.cpi_survey.specs.declared.types.CalendarRow.{CalendarRow}
-use Rattle.cpi_survey.specs.declared.types.Assignment.{Assignment}
-use Rattle.cpi_survey.specs.declared.types.Assigned.{Assigned}
-use Rattle.cpi_survey.specs.declared.types.Bearer.{Bearer}
-use Rattle.cpi_survey.specs.Rows.{QuoteRow}
-use Rattle.cpi_survey.specs.Survey.{PublicPart, OwnPart, with_name, quote_cmp, quote_key}
+use Rattle.cpi_plan.specs.declared.items.Item.{Item}
+use Rattle.cpi_store.specs.declared.outlet.Outlet.{Outlet}
+use Rattle.cpi_plan.specs.Calendar.{CalendarPart}
+use Rattle.cpi_survey.specs.declared.assignment.Assignment.{Assignment}
+use Rattle.cpi_survey.specs.declared.assignment.Assigned.{Assigned}
+use Rattle.cpi_store.specs.declared.bearer.Bearer.{Bearer}
+use Rattle.cpi_survey.specs.Quote.{QuoteRow}
+use Rattle.cpi_survey.specs.Public.{PublicPart}
+use Rattle.cpi_survey.specs.Own.{OwnPart}
+use Rattle.cpi_store.specs.Outlet.{with_name}
+use Rattle.cpi_survey.specs.Quote.{quote_cmp, quote_key}
 
 -- an assignment and a quote stand beside the number of their collector
 pub record Office : Type 0 where
   pub items : List Item  -- by code
-  pub calendar : List CalendarRow  -- by month
+  pub calendar : List CalendarPart  -- by month
   pub collectors : List Bearer  -- by number
   pub outlets : List Outlet  -- by number
   pub assignments : List (ℕ × Assignment)  -- by collector and slot
@@ -32,11 +35,6 @@ public_part o = record { items = o.items; calendar = o.calendar }
 abbrev pub own_part : ℕ → Office → OwnPart
 own_part c o = record { assignments = map (with_name o.outlets) (held_by c o.assignments); quotes = held_by c o.quotes }
 
--- the one who bears the key
-abbrev pub bearer_of : ℕ → List Bearer → Option Bearer
-bearer_of key [] = None
-bearer_of key (b ∷ bs) = if b.key == key then Some b else bearer_of key bs
-
 -- the assignments and quotes of all collectors, each with its collector's number
 abbrev pub put_assignment : ℕ → Assignment → List (ℕ × Assignment) → List (ℕ × Assignment)
 put_assignment number a rows = put (held_cmp nat_cmp) (held_key (λ x. x.slot)) (number, a) rows
@@ -47,7 +45,7 @@ put_quote number q rows = put (held_cmp quote_cmp) (held_key quote_key) (number,
 -- A row that an accepted request puts.
 pub data Change : Type 0 where
   PutsItem : Item → Change
-  PutsCalendar : CalendarRow → Change
+  PutsCalendar : CalendarPart → Change
   Registers : Bearer → Change
   PutsOutlet : Outlet → Change
   -- for this collector; with the outlet's name of that moment

@@ -1,8 +1,11 @@
 ghost use Rattle.std.specs.Prelude.{◌≡◌, ◌<◌, ℕ, IsSome, None, Some};
 ghost use Rattle.std.specs.Option.{option_copied};
 
+use crate::bearer::Bearer;
+use crate::outlet::Outlet;
 use cpi_codes::{CollectorId, Key, OutletId};
-use cpi_survey::{Assigned, Bearer, CalendarRow, Item, Outlet, Own, Public, Quote};
+use cpi_plan::{CalendarRow, Item};
+use cpi_survey::{Assigned, Own, Public, Quote};
 
 /// The store failed, and nothing was changed.
 #[derive(Clone, Copy, Debug, PartialEq, Eq)]
@@ -18,8 +21,10 @@ pub struct Parts<'a> {
 /// An office that is kept somewhere.
 pub trait Book {
     ghost use Rattle.std.specs.Borrow.{sem};
-    ghost use Rattle.cpi_survey.specs.Survey.{greatest_receipt, with_name};
-    ghost use Rattle.cpi_store.specs.Office.{Office, public_part, own_part, bearer_of, changed, PutsItem, PutsCalendar, Registers, PutsOutlet, Assigns, Quotes};
+    ghost use Rattle.cpi_survey.specs.Quote.{greatest_receipt};
+    ghost use Rattle.cpi_store.specs.Outlet.{with_name};
+    ghost use Rattle.cpi_store.specs.Office.{Office, public_part, own_part, changed, PutsItem, PutsCalendar, Registers, PutsOutlet, Assigns, Quotes};
+    ghost use Rattle.cpi_store.specs.Bearer.{bearer_of};
     ghost use Rattle.cpi_store.specs.Calls.{Reads, Writes, EndsAs};
     ghost use Rattle.cpi_rows.specs.Held.{held_by};
     ghost use Rattle.cpi_rows.specs.Keyed.{at};

@@ -1,7 +1,10 @@
+use crate::bearer::Bearer;
 use crate::book::{Book, Parts, StoreFault};
+use crate::failures::Failures;
+use crate::outlet::Outlet;
 use cpi_codes::{CollectorId, Key, OutletId};
-use cpi_failures::Failures;
-use cpi_survey::{Assigned, Bearer, CalendarRow, Item, Outlet, Public, Quote};
+use cpi_plan::{CalendarRow, Item};
+use cpi_survey::{Assigned, Public, Quote};
 
 /// A book that passes each call on but the n-th, which it fails.
 #[derive(Drop)]

@@ -2,13 +2,13 @@ ghost use Rattle.std.specs.Prelude.{◌≡◌, ◌<◌, ℕ, map, OnOk, OnErr, I
 ghost use Rattle.std.specs.Ordering.{nat_cmp};
 ghost use Rattle.cpi_rows.specs.Keyed.{put, row_at, IsInOrder};
 ghost use Rattle.cpi_rows.specs.Held.{held_by, held_cmp, held_key};
-ghost use Rattle.cpi_survey.specs.Survey.{greatest_receipt, quote_cmp, quote_key};
+ghost use Rattle.cpi_survey.specs.Quote.{greatest_receipt, quote_cmp, quote_key};
 ghost use Rattle.cpi_store.specs.Holders.{collectors_of, all_assignments, all_quotes};
 
 use cpi_codes::{CollectorId, Key};
 use cpi_rows::{Keyed, place_of};
-use std::alloc::AllocError;
 use cpi_survey::{Own, Quote};
+use std::alloc::AllocError;
 
 /// A collector with all that is the collector's.
 #[derive(Drop)]

@@ -1,12 +1,15 @@
+use crate::bearer::Bearer;
 use crate::book::{Book, Parts, StoreFault};
+use crate::failures::Failures;
 use crate::holder::{Holder, put_quote_of};
+use crate::outlet::Outlet;
 use cpi_codes::{CollectorId, Key, OutletId};
-use cpi_failures::Failures;
+use cpi_plan::{CalendarRow, Item};
 use cpi_rows::{find_row, put_row};
+use cpi_survey::{Assigned, Own, Public, Quote};
 use std::alloc::Global;
 use std::collections::BTreeMap;
 use std::marker::Model;
-use cpi_survey::{Assigned, Bearer, CalendarRow, Item, Outlet, Own, Public, Quote};
 
 /// An office in memory.
 #[derive(Drop)]
@@ -25,30 +28,30 @@ impl Model for VecBook {
     ghost use Rattle.std.specs.Ordering.{nat_cmp};
     ghost use Rattle.std.specs.BTreeMap.{get};
     ghost use Rattle.cpi_rows.specs.Keyed.{IsInOrder};
-    ghost use Rattle.cpi_store.specs.Office.{bearer_of};
+    ghost use Rattle.cpi_store.specs.Bearer.{bearer_of};
     ghost use Rattle.cpi_store.specs.Holders.{Kept, ArePlaced, collectors_of, all_assignments, all_quotes, named_by};
 
     ghost Value = { Kept };
 
     ghost view = { λ b. record {
-        office = record {
-            items = b.public.items;
-            calendar = b.public.calendar;
-            collectors = collectors_of b.holders.items;
-            outlets = b.outlets.items;
-            assignments = all_assignments b.holders.items;
-            quotes = all_quotes b.holders.items;
-        };
-        failures = b.failed.count;
+      office = record {
+        items = b.public.items;
+        calendar = b.public.calendar;
+        collectors = collectors_of b.holders.items;
+        outlets = b.outlets.items;
+        assignments = all_assignments b.holders.items;
+        quotes = all_quotes b.holders.items;
+      };
+      failures = b.failed.count;
     } };
 
     ghost invariant = { λ b. record {
-        holders : IsInOrder nat_cmp (λ h. h.number) b.holders.items;
-        bearers : (key : ℕ) → get nat_cmp b.bearers key ≡ bearer_of key (collectors_of b.holders.items);
-        outlets : IsInOrder nat_cmp (λ u. u.number) b.outlets.items;
-        placed : ArePlaced b.outlets.items (map (λ h. h.own.assignments) b.holders.items);
-        nobody : b.nobody ≡ record { assignments = []; quotes = [] };
-        names : named_by b.outlets.items (map (λ h. h.own.assignments) b.holders.items) ≡ map (λ h. h.own.assignments) b.holders.items;
+      holders : IsInOrder nat_cmp (λ h. h.number) b.holders.items;
+      bearers : (key : ℕ) → get nat_cmp b.bearers key ≡ bearer_of key (collectors_of b.holders.items);
+      outlets : IsInOrder nat_cmp (λ u. u.number) b.outlets.items;
+      placed : ArePlaced b.outlets.items (map (λ h. h.own.assignments) b.holders.items);
+      nobody : b.nobody ≡ record { assignments = []; quotes = [] };
+      names : named_by b.outlets.items (map (λ h. h.own.assignments) b.holders.items) ≡ map (λ h. h.own.assignments) b.holders.items;
     } };
 }
 

@@ -3,8 +3,8 @@ use Rattle.std.proofs.Common.{◌≡◌, ℕ, ◌<◌, ◌≤◌, ◌+◌, Bool,
 use Rattle.std.specs.Prelude.{filter}
 use Rattle.std.specs.Ordering.{is_lt, is_gt}
 use Rattle.cpi_rows.specs.Keyed.{put}
-use Rattle.cpi_survey.specs.Rows.{QuoteRow}
-use Rattle.cpi_survey.specs.Survey.{greatest_receipt, quote_cmp, quote_key}
+use Rattle.cpi_survey.specs.Quote.{QuoteRow}
+use Rattle.cpi_survey.specs.Quote.{greatest_receipt, quote_cmp, quote_key}
 
 greatest_append : (xs ys : List QuoteRow) → greatest_receipt (xs ++ ys) ≡ max (greatest_receipt xs) (greatest_receipt ys)
 greatest_append [] ys = omega arith

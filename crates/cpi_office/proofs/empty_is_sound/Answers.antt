@@ -2,7 +2,7 @@ use Rattle.std.proofs.Common.{◌≡◌, Some, None}
 use Rattle.std.specs.Ordering.{nat_cmp}
 use Rattle.cpi_rows.specs.Held.{held_cmp, held_key}
 use Rattle.cpi_rows.proofs.Places.{none_in_order}
-use Rattle.cpi_survey.specs.Survey.{quote_cmp, quote_key}
+use Rattle.cpi_survey.specs.Quote.{quote_cmp, quote_key}
 use Rattle.cpi_office.proofs.empty_is_sound.Goals as goal
 
 pub returns : goal.returns

@@ -1,6 +1,6 @@
 use Rattle.std.proofs.Common.{◌≡◌, None, sym, ◌∙◌}
 use Rattle.cpi_rows.specs.Held.{held_by}
-use Rattle.cpi_survey.specs.Same.{same_assignment}
+use Rattle.cpi_survey.specs.Assignment.{same_assignment}
 use Rattle.cpi_office.proofs.Named.{standing_named, is_free}
 use Rattle.cpi_office.proofs.handle.assign_judged.Goals as goal
 

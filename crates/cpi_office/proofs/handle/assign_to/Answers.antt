@@ -2,7 +2,7 @@ use Rattle.std.proofs.Common.{◌≡◌, Some, None, sym, ap, ◌∙◌}
 use Rattle.cpi_rows.specs.Keyed.{at}
 use Rattle.cpi_rows.specs.Held.{held_by}
 use Rattle.cpi_rows.proofs.Found.{at_key}
-use Rattle.cpi_survey.specs.declared.types.Bearer.{Bearer}
+use Rattle.cpi_store.specs.declared.bearer.Bearer.{Bearer}
 use Rattle.cpi_office.proofs.handle.assign_to.Goals as goal
 
 pub put_assignment-requires-clause-known : goal.put_assignment-requires-clause-known

@@ -1,4 +1,4 @@
-use Rattle.cpi_survey.specs.Survey.{decided}
+use Rattle.cpi_survey.specs.Decision.{decided}
 use Rattle.cpi_store.specs.Office.{public_part, own_part}
 use Rattle.cpi_office.proofs.Receipts.{stored_is}
 use Rattle.cpi_office.proofs.handle.enter.Goals as goal

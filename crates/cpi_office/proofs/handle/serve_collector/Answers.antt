@@ -1,14 +1,17 @@
 use Rattle.std.proofs.Common.{◌≡◌, Some, sym, ap, ◌∙◌}
-use Rattle.cpi_store.specs.Office.{Office, bearer_of}
+use Rattle.cpi_store.specs.Office.{Office}
+use Rattle.cpi_store.specs.Bearer.{bearer_of}
 use Rattle.cpi_office.specs.Runs.{collector_reply, collector_after}
 use Rattle.cpi_office.proofs.Listed.{bearer_some, bearer_key}
 use Rattle.cpi_office.proofs.Calls.{serves_after}
 use Rattle.cpi_office.proofs.handle.serve_collector.Goals as goal
 
 pub serve_known-requires : goal.serve_known-requires
-serve_known-requires g c = record { known = λ clean.
-    let reads = c.in-Ok-Some.ensures.reads in
-    rw (reads.kept clean) (bearer_some c.args.key c.in-Ok-Some.bearer _ (sym (reads.shown clean) ∙ c.in-Ok-Some.field-0-is)) }
+serve_known-requires g c = record {
+  known = λ clean.
+      let reads = c.in-Ok-Some.ensures.reads in
+      rw (reads.kept clean) (bearer_some c.args.key c.in-Ok-Some.bearer _ (sym (reads.shown clean) ∙ c.in-Ok-Some.field-0-is));
+}
 
 pub returns-in-Ok-Some : goal.returns-in-Ok-Some
 returns-in-Ok-Some g c =
@@ -24,6 +27,7 @@ returns-in-Ok-Some g c =
     (collector_after b.key now r (g.B.Book.lists mid) (Some b)) (collector_after key now r o (bearer_of key o.collectors))
     reads c.serve_known.ensures
     (λ clean.
-      let found : bearer_of key o.collectors ≡ Some b = sym (reads.shown clean) ∙ c.in-Ok-Some.field-0-is in
-      (ap (λ u. collector_reply now r u (Some b)) (reads.kept clean) ∙ ap (collector_reply now r o) (sym found),
-       ap (λ u. collector_after b.key now r u (Some b)) (reads.kept clean) ∙ ap (λ k. collector_after k now r o (Some b)) (bearer_key key b o.collectors found) ∙ ap (collector_after key now r o) (sym found)))
+    let found : bearer_of key o.collectors ≡ Some b = sym (reads.shown clean) ∙ c.in-Ok-Some.field-0-is in (
+      ap (λ u. collector_reply now r u (Some b)) (reads.kept clean) ∙ ap (collector_reply now r o) (sym found),
+      ap (λ u. collector_after b.key now r u (Some b)) (reads.kept clean) ∙ ap (λ k. collector_after k now r o (Some b)) (bearer_key key b o.collectors found) ∙ ap (collector_after key now r o) (sym found),
+    ))

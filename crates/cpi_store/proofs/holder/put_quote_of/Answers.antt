@@ -6,7 +6,7 @@ use Rattle.std.proofs.lemmas.Cmp.{nat_cmp_total}
 use Rattle.cpi_rows.specs.Keyed.{IsPlace}
 use Rattle.cpi_rows.proofs.Places.{missing_at_gap}
 use Rattle.std.proofs.lemmas.Result.{on_ok_weaker}
-use Rattle.cpi_survey.specs.Survey.{OwnPart}
+use Rattle.cpi_survey.specs.Own.{OwnPart}
 use Rattle.cpi_store.specs.declared.holder.Holder.{Holder}
 use Rattle.cpi_store.proofs.Holders.{own_quotes, quotes_after, assignments_after, order_after, collectors_after, own_assignments_after}
 use Rattle.cpi_store.proofs.holder.put_quote_of.Goals as goal

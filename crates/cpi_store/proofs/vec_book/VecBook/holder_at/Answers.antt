@@ -4,7 +4,7 @@ use Rattle.std.specs.Option.{option_copied}
 use Rattle.std.specs.Ordering.{nat_cmp}
 use Rattle.cpi_rows.specs.Keyed.{row_at}
 use Rattle.cpi_rows.proofs.Found.{at-map}
-use Rattle.cpi_survey.specs.declared.types.Bearer.{Bearer}
+use Rattle.cpi_store.specs.declared.bearer.Bearer.{Bearer}
 use Rattle.cpi_store.specs.declared.holder.Holder.{Holder}
 use Rattle.cpi_store.specs.Holders.{collector_of_holder}
 use Rattle.cpi_store.proofs.vec_book.VecBook.holder_at.Goals as goal

@@ -1,7 +1,7 @@
 use Rattle.std.proofs.Common.{◌≡◌, [], refl, sym}
 use Rattle.std.specs.Ordering.{nat_cmp}
 use Rattle.cpi_rows.proofs.Places.{none_in_order}
-use Rattle.cpi_survey.specs.Survey.{quote_cmp, quote_key}
+use Rattle.cpi_survey.specs.Quote.{quote_cmp, quote_key}
 use Rattle.cpi_store.proofs.vec_book.VecBook.new.Goals as goal
 
 pub from_parts-requires-clause-items : goal.from_parts-requires-clause-items

@@ -2,7 +2,7 @@ use Rattle.std.proofs.Common.{◌≡◌, None, sym, ap, ◌∙◌, arith, Ok, Er
 use Rattle.std.specs.Prelude.{OnErr, map}
 use Rattle.std.specs.Ordering.{nat_cmp}
 use Rattle.cpi_rows.specs.Keyed.{at, put_by}
-use Rattle.cpi_survey.specs.declared.types.Outlet.{Outlet}
+use Rattle.cpi_store.specs.declared.outlet.Outlet.{Outlet}
 use Rattle.cpi_store.specs.declared.holder.Holder.{Holder}
 use Rattle.cpi_store.specs.Office.{Office}
 use Rattle.cpi_store.specs.Holders.{Kept, ArePlaced, named_by, collectors_of, all_assignments, all_quotes}
@@ -41,10 +41,12 @@ returns-in-Ok c =
     let hs = c.self.inside.holders.items in
     let after : c.put_row.new.rows.items ≡ put_by (λ (u : Outlet). u.number) c.args.outlet c.self.inside.outlets.items = rw c.in-Ok.is at c.put_row.ensures.ok in
     rw (← c.self.view_is)
-    (record { writes = record {
-      was_clean = λ k. tt;
-      done = λ k. ap (λ us. record { items = c.self.inside.public.items; calendar = c.self.inside.public.calendar; collectors = collectors_of hs; outlets = us; assignments = all_assignments hs; quotes = all_quotes hs }) after;
-      kept = λ k. tt;
-      count = omega arith;
-      fault = tt;
-    } })
+    (record {
+      writes = record {
+        was_clean = λ k. tt;
+        done = λ k. ap (λ us. record { items = c.self.inside.public.items; calendar = c.self.inside.public.calendar; collectors = collectors_of hs; outlets = us; assignments = all_assignments hs; quotes = all_quotes hs }) after;
+        kept = λ k. tt;
+        count = omega arith;
+        fault = tt;
+      };
+    })

@@ -1,6 +1,6 @@
 use Rattle.std.proofs.Common.{sym, ap, ◌∙◌}
 use Rattle.cpi_store.proofs.Holders.{known_holder}
-use Rattle.cpi_store.specs.Office.{bearer_of}
+use Rattle.cpi_store.specs.Bearer.{bearer_of}
 use Rattle.cpi_store.specs.Holders.{Kept}
 use Rattle.cpi_store.proofs.vec_book.VecBookBook.put_quote.Goals as goal
 

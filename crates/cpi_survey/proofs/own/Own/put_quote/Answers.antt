@@ -1,6 +1,6 @@
 use Rattle.std.proofs.Common.{sym, ap, ◌∙◌}
 use Rattle.cpi_survey.proofs.Receipts.{greatest_put}
-use Rattle.cpi_survey.specs.Survey.{greatest_receipt}
+use Rattle.cpi_survey.specs.Quote.{greatest_receipt}
 use Rattle.cpi_survey.proofs.own.Own.put_quote.Goals as goal
 
 pub invariant_of-self-2 : goal.invariant_of-self-2

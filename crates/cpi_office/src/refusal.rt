@@ -1,0 +1,73 @@
+ghost use Rattle.std.specs.Prelude.{◌≡◌};
+ghost use Rattle.cpi_office.specs.Refusal.{of_survey, number_of};
+
+/// Why a request is refused. Each refusal has a number, by which it is told.
+#[derive(Clone, Copy, Debug, PartialEq, Eq)]
+pub enum Refusal {
+    /// The record is none of the forms, or outside the limits.
+    BadRequest,
+    /// No collector has the key.
+    UnknownKey,
+    /// The request isn't one of that kind of caller.
+    NotForCaller,
+    /// The collector has no such slot.
+    UnknownSlot,
+    /// The calendar has no row of the month.
+    UnknownMonth,
+    /// The month is outside the assignment.
+    NotActive,
+    /// The window of the month hasn't opened yet.
+    NotOpen,
+    /// The window of the month has closed.
+    Closed,
+    /// The collector's greatest receipt is 1,000,000.
+    ReceiptsUsedUp,
+    /// The code, number, key or slot stands with other content.
+    Taken,
+    /// An assignment's item isn't known.
+    UnknownItem,
+    /// An assignment's outlet isn't known.
+    UnknownOutlet,
+    /// An assignment's collector isn't known.
+    UnknownCollector,
+    /// Memory was refused, or the store failed during the request.
+    Unavailable,
+}
+
+impl Refusal {
+    /// The number by which the refusal is told.
+    pub fn number(self) -> u16
+        ensures { result ≡ number_of self }
+    {
+        match self {
+            Refusal::BadRequest => 10,
+            Refusal::UnknownKey => 11,
+            Refusal::NotForCaller => 12,
+            Refusal::UnknownSlot => 20,
+            Refusal::UnknownMonth => 21,
+            Refusal::NotActive => 22,
+            Refusal::NotOpen => 23,
+            Refusal::Closed => 24,
+            Refusal::ReceiptsUsedUp => 27,
+            Refusal::Taken => 40,
+            Refusal::UnknownItem => 41,
+            Refusal::UnknownOutlet => 42,
+            Refusal::UnknownCollector => 43,
+            Refusal::Unavailable => 90,
+        }
+    }
+
+    /// The refusal of an entry, among all refusals.
+    pub fn of_survey(refusal: cpi_survey::Refusal) -> Refusal
+        ensures { result ≡ of_survey refusal }
+    {
+        match refusal {
+            cpi_survey::Refusal::UnknownSlot => Refusal::UnknownSlot,
+            cpi_survey::Refusal::UnknownMonth => Refusal::UnknownMonth,
+            cpi_survey::Refusal::NotActive => Refusal::NotActive,
+            cpi_survey::Refusal::NotOpen => Refusal::NotOpen,
+            cpi_survey::Refusal::Closed => Refusal::Closed,
+            cpi_survey::Refusal::ReceiptsUsedUp => Refusal::ReceiptsUsedUp,
+        }
+    }
+}

@@ -1,0 +1,32 @@
+// A count that stands in contracts alone. It takes no bytes, and so it has no last value.
+
+ghost use Rattle.std.specs.Prelude.{◌≡◌, ℕ, ◌+◌};
+
+use std::marker::Model;
+
+/// How often a store has failed.
+#[derive(Drop)]
+pub struct Failures {
+    pub ghost count: { ℕ },
+}
+
+impl Model for Failures {
+    ghost use Rattle.std.specs.Borrow.{ftrue};
+
+    ghost also_owns = { λ _. ftrue };
+}
+
+impl Failures {
+    pub fn none() -> Failures
+        ensures { result.count ≡ 0 }
+    {
+        Failures {}
+    }
+
+    /// The count after one more failure.
+    pub fn one_more(&self) -> Failures
+        ensures { result.count ≡ self.now.count + 1 }
+    {
+        Failures {}
+    }
+}

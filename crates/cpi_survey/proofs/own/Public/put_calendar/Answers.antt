@@ -1,4 +1,0 @@
-use Rattle.cpi_survey.proofs.own.Public.put_calendar.Goals as goal
-
-pub returns-clause-replaced : goal.returns-clause-replaced
-returns-clause-replaced c = rw (← c.self.view_is) c.put_row.ensures.replaced

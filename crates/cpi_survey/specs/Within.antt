@@ -1,0 +1,12 @@
+-- The quotes of some months.
+use Rattle.std.specs.Prelude.{ℕ, ◌+◌, ◌-◌, Bool, ◌==◌, List, filter}
+use Rattle.std.specs.List.{flat_map, range_with_len}
+use Rattle.cpi_survey.specs.Quote.{QuoteRow}
+
+-- the quotes of a month
+abbrev pub is_of : ℕ → QuoteRow → Bool
+is_of month q = q.month == month
+
+-- the quotes of some months: those of the first month, then those of the next, and each month's by slot
+abbrev pub quotes_within : ℕ → ℕ → List QuoteRow → List QuoteRow
+quotes_within first last quotes = flat_map (λ month. filter (is_of month) quotes) (range_with_len first (last + 1 - first))

@@ -1,0 +1,58 @@
+ghost use Rattle.std.specs.Prelude.{◌≡◌};
+ghost use Rattle.cpi_survey.specs.Assignment.{same_assignment};
+
+use cpi_codes::{ItemCode, Month, Name, OutletId, SeriesId, Slot};
+use cpi_rows::Keyed;
+
+/// What a slot of a collector is for: an item to be priced in an outlet, from the first month to the last.
+#[derive(Clone, Copy, Debug, PartialEq, Eq)]
+pub struct Assignment {
+    pub slot: Slot,
+    pub outlet: OutletId,
+    pub item: ItemCode,
+    pub first_month: Month,
+    pub last_month: Month,
+    /// The series that is priced, named by the collector and the slot that it was first given to.
+    pub series: SeriesId,
+}
+
+impl Assignment {
+    pub fn is_same(&self, other: &Assignment) -> bool
+        ensures { result ≡ same_assignment self.now other.now }
+    {
+        self.slot == other.slot
+            && self.outlet == other.outlet
+            && self.item == other.item
+            && self.first_month == other.first_month
+            && self.last_month == other.last_month
+            && self.series.collector == other.series.collector
+            && self.series.slot == other.series.slot
+    }
+}
+
+impl Keyed for Assignment {
+    type Key = Slot;
+
+    ghost key = { λ a. a.slot };
+
+    fn key(&self) -> Slot {
+        self.slot
+    }
+}
+
+/// An assignment with its outlet's name, as its collector sees it.
+#[derive(Debug, Drop)]
+pub struct Assigned {
+    pub assignment: Assignment,
+    pub outlet_name: Name,
+}
+
+impl Keyed for Assigned {
+    type Key = Slot;
+
+    ghost key = { λ a. a.assignment.slot };
+
+    fn key(&self) -> Slot {
+        self.assignment.slot
+    }
+}

@@ -1,0 +1,97 @@
+ghost use Rattle.std.specs.Prelude.{◌≡◌, IfOk, OnOk, OnErr, IsSome, IsOk};
+ghost use Rattle.std.specs.Ordering.{nat_cmp};
+ghost use Rattle.std.specs.Option.{option_copied};
+ghost use Rattle.cpi_rows.specs.Keyed.{IsInOrder, put, row_at, at};
+
+use cpi_codes::{ItemCode, Month};
+use cpi_plan::{CalendarRow, Item};
+use cpi_rows::{find_row, put_row};
+use std::alloc::{AllocError, Global};
+use std::marker::Model;
+
+/// The public specification.
+#[derive(Drop)]
+pub struct Public {
+    items: Vec<Item>,
+    calendar: Vec<CalendarRow>,
+}
+
+impl Model for Public {
+    ghost use Rattle.std.specs.Ordering.{nat_cmp};
+    ghost use Rattle.cpi_rows.specs.Keyed.{IsInOrder};
+    ghost use Rattle.cpi_survey.specs.Public.{PublicPart};
+
+    ghost Value = { PublicPart };
+
+    ghost view = { λ p. record { items = p.items.items; calendar = p.calendar.items } };
+
+    ghost invariant = { λ p. record {
+      items : IsInOrder nat_cmp (λ i. i.code) p.items.items;
+      calendar : IsInOrder nat_cmp (λ r. r.month) p.calendar.items;
+    } };
+}
+
+impl Public {
+    pub fn from_parts(items: Vec<Item>, calendar: Vec<CalendarRow>) -> Public
+        requires items { IsInOrder nat_cmp (λ i. i.code) items.items }
+        requires calendar { IsInOrder nat_cmp (λ r. r.month) calendar.items }
+        ensures { result ≡ record { items = items.items; calendar = calendar.items } }
+    {
+        Public { items, calendar }
+    }
+
+    /// The item with the code.
+    pub fn item(&self, code: ItemCode) -> Option<&Item>
+        ensures { option_copied result ≡ at (λ i. i.code) code self.now.items }
+    {
+        find_row(&self.items, &code)
+    }
+
+    /// The row of the month.
+    pub fn calendar_row(&self, month: Month) -> Option<&CalendarRow>
+        ensures { option_copied result ≡ at (λ r. r.month) month self.now.calendar }
+    {
+        find_row(&self.calendar, &month)
+    }
+
+    /// The items in the order of their codes.
+    pub fn items(&self) -> &[Item]
+        ensures { result.now ≡ self.now.items }
+    {
+        &self.items
+    }
+
+    /// The items once more.
+    pub fn copy_items(&self, alloc: Global) -> Result<Vec<Item>, AllocError>
+        ensures { IfOk result (λ items. items.items ≡ self.now.items) }
+    {
+        copy_items(alloc, &self.items)
+    }
+
+    /// Puts an item, over the one that stands if there is one, which takes no memory.
+    pub fn put_item(&mut self, item: Item) -> Result<(), AllocError>
+        ensures ok { OnOk result (self.new ≡ record self.old { items = put nat_cmp (λ i. i.code) item self.old.items }) }
+        ensures err { OnErr result (self.new ≡ self.old) }
+    {
+        put_row(&mut self.items, item)
+    }
+
+    /// Puts a month's row, over the one that stands if there is one, which takes no memory.
+    pub fn put_calendar(&mut self, row: CalendarRow) -> Result<(), AllocError>
+        ensures ok { OnOk result (self.new ≡ record self.old { calendar = put nat_cmp (λ r. r.month) row self.old.calendar }) }
+        ensures err { OnErr result (self.new ≡ self.old) }
+        ensures replaced { IsSome (row_at nat_cmp (λ r. r.month) row.month self.old.calendar) → IsOk result }
+    {
+        put_row(&mut self.calendar, row)
+    }
+}
+
+fn copy_items(alloc: Global, items: &[Item]) -> Result<Vec<Item>, AllocError>
+    ensures { IfOk result (λ copies. copies.items ≡ items.now) }
+{
+    let mut copies = Vec::new(alloc);
+    for item in items {
+        copies.push(item.copy(alloc)?)?;
+    }
+    Ok(copies)
+}
