@@ -1,7 +1,6 @@
 use Rattle.std.proofs.Common.{sym, ap, Some, ◌∙◌}
-use Rattle.std.proofs.lemmas.List.{get_or_default}
 use Rattle.cpi_rows.proofs.Places.{row_found, missing_at_gap}
-use Rattle.cpi_rows.proofs.find_row.Goals as goal
+use Rattle.cpi_rows.proofs.lookup.find_row.Goals as goal
 
 pub returns-in-Ok : goal.returns-in-Ok
 returns-in-Ok g c =

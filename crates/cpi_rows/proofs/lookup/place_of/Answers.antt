@@ -1,7 +1,7 @@
-use Rattle.std.proofs.Common.{rules, subst}
+use Rattle.std.proofs.Common.{rules}
 use Rattle.std.proofs.lemmas.List.Sorted.{answers_always}
 use Rattle.cpi_rows.proofs.Places.{placed}
-use Rattle.cpi_rows.proofs.place_of.Goals as goal
+use Rattle.cpi_rows.proofs.lookup.place_of.Goals as goal
 
 pub returns : goal.returns
 returns g c =

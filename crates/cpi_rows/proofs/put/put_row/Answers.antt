@@ -1,8 +1,8 @@
-use Rattle.std.proofs.Common.{sym, ap, ◌∙◌, Ok, Err, IsSome, subst}
+use Rattle.std.proofs.Common.{◌∙◌, Ok, Err}
 use Rattle.std.proofs.lemmas.Bool.{false≢true}
-use Rattle.cpi_rows.specs.Keyed.{put, row_at, IsInOrder, IsPlace}
+use Rattle.cpi_rows.specs.Keyed.{IsPlace}
 use Rattle.cpi_rows.proofs.Places.{put_at_row, put_at_gap, put_in_order, missing_at_gap}
-use Rattle.cpi_rows.proofs.put_row.Goals as goal
+use Rattle.cpi_rows.proofs.put.put_row.Goals as goal
 
 pub returns-in-Ok-clause-ok : goal.returns-in-Ok-clause-ok
 returns-in-Ok-clause-ok g c =
