@@ -1,5 +1,5 @@
 -- Item codes, as the number that their bytes write.
-use Rattle.std.specs.Prelude.{◌≡◌, ℕ, ◌-◌, Bool, ◌&&◌, ◌||◌, nat_le, if◌then◌else◌, List, ◌++◌, length, replicate, Option, Some, None}
+use Rattle.std.specs.Prelude.{◌≡◌, ℕ, ◌-◌, Bool, ◌&&◌, ◌||◌, ◌==◌, not, nat_le, if◌then◌else◌, List, ◌++◌, length, replicate, Option, Some, None}
 use Rattle.std.specs.List.{list_all}
 use Rattle.std.specs.Char.{is_ascii_uppercase, is_ascii_digit}
 use Rattle.std.specs.Int.Digits.{number_from_digits}
@@ -23,6 +23,10 @@ item_number text = number_from_digits 256 (filled text)
 -- the item code that a text writes
 unfoldable pub item_code_of : List ℕ → Option ℕ
 item_code_of text = if is_item_text text then Some (item_number text) else None
+
+-- a byte that fills nothing up
+abbrev pub is_no_zero : ℕ → Bool
+is_no_zero byte = not (byte == 0)
 
 -- some text writes the item code
 abbrev pub IsItemCode : ℕ → Type 0

@@ -1,8 +1,9 @@
 //! Codes of items.
-ghost use Rattle.std.specs.Prelude.{◌≡◌, ◌≤◌, ◌<◌, ◌^◌, length, slice_index, IfOk, Some, true};
+ghost use Rattle.std.specs.Prelude.{◌≡◌, ◌≤◌, ◌<◌, ◌^◌, length, slice_index, filter, List, ℕ, IfOk, Some, true};
+ghost use Rattle.std.specs.Char.{is_ascii};
 ghost use Rattle.std.specs.List.{list_all};
 ghost use Rattle.std.specs.String.{string_bytes};
-ghost use Rattle.cpi_codes.specs.ItemCode.{is_item_character as is_character_of_item, is_item_text as is_text_of_item, item_code_of, item_number};
+ghost use Rattle.cpi_codes.specs.ItemCode.{is_item_character as is_character_of_item, is_item_text as is_text_of_item, filled, item_code_of, item_number, is_no_zero};
 
 use std::alloc::{AllocError, Global};
 use std::marker::Model;
@@ -42,6 +43,13 @@ impl ItemCode {
             value: number_of_bytes(text),
         })
     }
+
+    /// The text that writes the code.
+    pub fn text(self, alloc: Global) -> Result<String, AllocError>
+        ensures { IfOk result (λ s. item_code_of (string_bytes s) ≡ Some self) }
+    {
+        text_of(alloc, &bytes_of(self.value))
+    }
 }
 
 fn is_item_text(text: &[u8]) -> bool
@@ -75,6 +83,33 @@ fn number_of_bytes(text: &[u8]) -> u128
         value = 256 * value + u128::from(byte_at(text, place));
     }
     value
+}
+
+// The bytes of the text that writes the item code, filled up with zeros to 12.
+fn bytes_of(value: u128) -> [u8; 12]
+    ensures { (text : List ℕ) → item_code_of text ≡ Some value → result ≡ filled text }
+{
+    let mut bytes = [0; LONGEST];
+    let mut rest = value;
+    for place in (0..LONGEST).rev() {
+        bytes[place] = (rest % 256) as u8;
+        rest /= 256;
+    }
+    bytes
+}
+
+// The bytes before and between the zeros, as a text.
+fn text_of(alloc: Global, bytes: &[u8]) -> Result<String, AllocError>
+    requires { list_all is_ascii bytes.now ≡ true }
+    ensures { IfOk result (λ s. string_bytes s ≡ filter is_no_zero bytes.now) }
+{
+    let mut text = String::new(alloc);
+    for byte in bytes {
+        if *byte != 0 {
+            text.push(char::from(*byte))?;
+        }
+    }
+    Ok(text)
 }
 
 // The byte at the place, and zero past the end.
