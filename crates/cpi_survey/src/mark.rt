@@ -1,5 +1,5 @@
 ghost use Rattle.std.specs.Prelude.{◌≡◌};
-ghost use Rattle.cpi_survey.specs.Mark.{is_same_mark};
+ghost use Rattle.cpi_survey.specs.Mark.{is_same_mark, observed_price};
 
 use cpi_codes::Price;
 
@@ -11,11 +11,21 @@ pub enum Mark {
 }
 
 impl Mark {
+    /// Whether both are the same kind of mark with the same value.
     pub fn is_same(self, other: Mark) -> bool
         ensures { result ≡ is_same_mark self other }
     {
         match (self, other) {
             (Mark::Price(price), Mark::Price(other)) => price == other,
+        }
+    }
+
+    /// The price that was observed, in minor units.
+    pub fn observed_price(self) -> Option<Price>
+        ensures { result ≡ observed_price self }
+    {
+        match self {
+            Mark::Price(price) => Some(price),
         }
     }
 }

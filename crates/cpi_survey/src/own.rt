@@ -87,9 +87,10 @@ impl Own {
         self.greatest
     }
 
-    /// The quotes by slot and month.
-    pub fn quotes(&self) -> &[Quote]
-        ensures { result.now ≡ self.now.quotes }
+    /// All quotes, by slot and then by month.
+    pub fn all_quotes(&self) -> &[Quote]
+        ensures quotes { result.now ≡ self.now.quotes }
+        ensures order { IsInOrder quote_cmp quote_key result.now }
     {
         &self.quotes
     }

@@ -16,7 +16,7 @@ impl Own {
     ) -> Result<Vec<Quote>, AllocError>
         ensures { IfOk result (λ found. found.items ≡ quotes_within first last self.now.quotes) }
     {
-        quotes_within(alloc, first, last, self.quotes())
+        quotes_within(alloc, first, last, self.all_quotes())
     }
 }
 
