@@ -47,7 +47,7 @@ fn standing_item(item: &Item, old: Option<&Item>) -> Standing
 }
 
 fn find_item<B: Book>(book: &mut B, item: &Item) -> Result<Standing, StoreFault>
-    ensures { Reads B.is_clean B.lists B.failures book.old book.new result (λ found. found ≡ standing same_item item.now (at (λ i. i.code) item.now.code (B.lists book.old).items)) }
+    ensures { Reads B.is_clean B.lists B.failures B.may_leave book.old book.new result (λ found. found ≡ standing same_item item.now (at (λ i. i.code) item.now.code (B.lists book.old).items)) }
 {
     let public = book.public_part()?;
     Ok(standing_item(item, public.item(item.code)))
@@ -69,7 +69,7 @@ fn put_item<B: Book>(book: &mut B, item: Item) -> Reply
 }
 
 fn find_calendar<B: Book>(book: &mut B, row: &CalendarRow) -> Result<Standing, StoreFault>
-    ensures { Reads B.is_clean B.lists B.failures book.old book.new result (λ found. found ≡ standing same_calendar row.now (at (λ r. r.month) row.now.month (B.lists book.old).calendar)) }
+    ensures { Reads B.is_clean B.lists B.failures B.may_leave book.old book.new result (λ found. found ≡ standing same_calendar row.now (at (λ r. r.month) row.now.month (B.lists book.old).calendar)) }
 {
     let public = book.public_part()?;
     Ok(standing_calendar(row, public.calendar_row(row.month())))
@@ -120,7 +120,7 @@ fn standing_outlet(outlet: &Outlet, old: Option<&Outlet>) -> Standing
 }
 
 fn find_outlet<B: Book>(book: &mut B, outlet: &Outlet) -> Result<Standing, StoreFault>
-    ensures { Reads B.is_clean B.lists B.failures book.old book.new result (λ found. found ≡ standing same_outlet outlet.now (at (λ u. u.number) outlet.now.number (B.lists book.old).outlets)) }
+    ensures { Reads B.is_clean B.lists B.failures B.may_leave book.old book.new result (λ found. found ≡ standing same_outlet outlet.now (at (λ u. u.number) outlet.now.number (B.lists book.old).outlets)) }
 {
     let old = book.outlet(outlet.number)?;
     Ok(standing_outlet(outlet, old))
@@ -146,7 +146,7 @@ fn find_bearers<B: Book>(
     book: &mut B,
     bearer: Bearer,
 ) -> Result<(Option<Bearer>, Option<Bearer>), StoreFault>
-    ensures { Reads B.is_clean B.lists B.failures book.old book.new result (λ found. (found.0 ≡ at (λ b. b.number) bearer.number (B.lists book.old).collectors) × (found.1 ≡ bearer_of bearer.key (B.lists book.old).collectors)) }
+    ensures { Reads B.is_clean B.lists B.failures B.may_leave book.old book.new result (λ found. (found.0 ≡ at (λ b. b.number) bearer.number (B.lists book.old).collectors) × (found.1 ≡ bearer_of bearer.key (B.lists book.old).collectors)) }
 {
     let at_number = book.bearer_at(bearer.number)?;
     let of_key = book.bearer_of(bearer.key)?;
@@ -183,7 +183,7 @@ fn decide<B: Book>(
     collector: CollectorId,
     entry: Entry,
 ) -> Result<Result<Decision, cpi_survey::Refusal>, StoreFault>
-    ensures { Reads B.is_clean B.lists B.failures book.old book.new result (λ decision. decision ≡ decided now entry (public_part (B.lists book.old)) (own_part collector (B.lists book.old))) }
+    ensures { Reads B.is_clean B.lists B.failures B.may_leave book.old book.new result (λ decision. decision ≡ decided now entry (public_part (B.lists book.old)) (own_part collector (B.lists book.old))) }
 {
     let parts = book.parts(collector)?;
     Ok(parts.own.submit(parts.public, now, entry))
@@ -245,7 +245,7 @@ fn read_items<B: Book>(
     alloc: Global,
     book: &mut B,
 ) -> Result<Result<Vec<Item>, AllocError>, StoreFault>
-    ensures { Reads B.is_clean B.lists B.failures book.old book.new result (λ found. IfOk found (λ items. items.items ≡ (B.lists book.old).items)) }
+    ensures { Reads B.is_clean B.lists B.failures B.may_leave book.old book.new result (λ found. IfOk found (λ items. items.items ≡ (B.lists book.old).items)) }
 {
     let public = book.public_part()?;
     Ok(public.copy_items(alloc))
@@ -267,7 +267,7 @@ fn read_quotes<B: Book>(
     first: Month,
     last: Month,
 ) -> Result<Result<Vec<Quote>, AllocError>, StoreFault>
-    ensures { Reads B.is_clean B.lists B.failures book.old book.new result (λ found. IfOk found (λ quotes. quotes.items ≡ quotes_within first last (held_by collector (B.lists book.old).quotes))) }
+    ensures { Reads B.is_clean B.lists B.failures B.may_leave book.old book.new result (λ found. IfOk found (λ quotes. quotes.items ≡ quotes_within first last (held_by collector (B.lists book.old).quotes))) }
 {
     let parts = book.parts(collector)?;
     Ok(parts.own.quotes_within(alloc, first, last))
@@ -311,7 +311,7 @@ fn find_slot<B: Book>(
     collector: CollectorId,
     assignment: &Assignment,
 ) -> Result<(Standing, bool), StoreFault>
-    ensures { Reads B.is_clean B.lists B.failures book.old book.new result (λ found.
+    ensures { Reads B.is_clean B.lists B.failures B.may_leave book.old book.new result (λ found.
         (found.0 ≡ standing same_assigned assignment.now (at (λ a. a.assignment.slot) assignment.now.slot (own_part collector (B.lists book.old)).assignments))
         × (found.1 ≡ is_none (at (λ i. i.code) assignment.now.item (B.lists book.old).items))) }
 {
@@ -326,7 +326,7 @@ fn name_outlet<B: Book>(
     book: &mut B,
     assignment: Assignment,
 ) -> Result<Result<Option<Assigned>, AllocError>, StoreFault>
-    ensures { Reads B.is_clean B.lists B.failures book.old book.new result (λ found. IfOk found (λ named. IsNamed (B.lists book.old).outlets assignment named)) }
+    ensures { Reads B.is_clean B.lists B.failures B.may_leave book.old book.new result (λ found. IfOk found (λ named. IsNamed (B.lists book.old).outlets assignment named)) }
 {
     let outlet = book.outlet(assignment.outlet)?;
     Ok(with_name(alloc, assignment, outlet))
