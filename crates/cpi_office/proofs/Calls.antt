@@ -10,8 +10,8 @@ use Rattle.cpi_office.specs.declared.reply.Reply.{Reply}
 use Rattle.cpi_office.specs.declared.reply.Reply.TheVariants as say
 
 module _ {B : Type 0} (is_clean : B → Type 0) (lists : B → Office) (failures : B → ℕ) where
-  pub serves_after : {T : Type 0} (old mid new : B) (result : Result T StoreFault) (Shown : T → Type 0) (reply said wanted : Reply) (made after : Office) →
-      Reads is_clean lists failures old mid result Shown → Serves is_clean lists failures mid new reply said made → (is_clean mid → (said ≡ wanted) × (made ≡ after)) → Serves is_clean lists failures old new reply wanted after
+  pub serves_after : {may_leave : B → Office → Type 0} {T : Type 0} (old mid new : B) (result : Result T StoreFault) (Shown : T → Type 0) (reply said wanted : Reply) (made after : Office) →
+      Reads is_clean lists failures may_leave old mid result Shown → Serves is_clean lists failures mid new reply said made → (is_clean mid → (said ≡ wanted) × (made ≡ after)) → Serves is_clean lists failures old new reply wanted after
   serves_after old mid new result Shown reply said wanted made after reads serves same = record {
     was_clean = λ clean. reads.was_clean (serves.was_clean clean);
     served = λ clean. by clean (serves.served clean);

@@ -59,7 +59,7 @@ fn find_slot<B: Book>(
     collector: CollectorId,
     assignment: &Assignment,
 ) -> Result<(Standing, bool), StoreFault>
-    ensures { Reads B.is_clean B.lists B.failures book.old book.new result (λ found.
+    ensures { Reads B.is_clean B.lists B.failures B.may_leave book.old book.new result (λ found.
         (found.0 ≡ standing same_assigned assignment.now (at (λ a. a.assignment.slot) assignment.now.slot (own_part collector (B.lists book.old)).assignments))
         × (found.1 ≡ is_none (at (λ i. i.code) assignment.now.item (B.lists book.old).items))) }
 {
@@ -120,7 +120,7 @@ fn name_outlet<B: Book>(
     book: &mut B,
     assignment: Assignment,
 ) -> Result<Result<Option<Assigned>, AllocError>, StoreFault>
-    ensures { Reads B.is_clean B.lists B.failures book.old book.new result (λ found. IfOk found (λ named. IsNamed (B.lists book.old).outlets assignment named)) }
+    ensures { Reads B.is_clean B.lists B.failures B.may_leave book.old book.new result (λ found. IfOk found (λ named. IsNamed (B.lists book.old).outlets assignment named)) }
 {
     let outlet = book.outlet(assignment.outlet)?;
     Ok(with_name(alloc, assignment, outlet))

@@ -31,7 +31,7 @@ pub fn put_calendar<B: Book>(book: &mut B, row: CalendarRow) -> Reply
 
 /// What stands at the month of the row.
 fn find_calendar<B: Book>(book: &mut B, row: &CalendarRow) -> Result<Standing, StoreFault>
-    ensures { Reads B.is_clean B.lists B.failures book.old book.new result (λ found. found ≡ standing same_calendar row.now (at (λ r. r.month) row.now.month (B.lists book.old).calendar)) }
+    ensures { Reads B.is_clean B.lists B.failures B.may_leave book.old book.new result (λ found. found ≡ standing same_calendar row.now (at (λ r. r.month) row.now.month (B.lists book.old).calendar)) }
 {
     let public = book.public_part()?;
     Ok(standing_calendar(row, public.calendar_row(row.month())))

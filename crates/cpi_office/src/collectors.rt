@@ -37,7 +37,7 @@ fn find_bearers<B: Book>(
     book: &mut B,
     bearer: Bearer,
 ) -> Result<(Option<Bearer>, Option<Bearer>), StoreFault>
-    ensures { Reads B.is_clean B.lists B.failures book.old book.new result (λ found. (found.0 ≡ at (λ b. b.number) bearer.number (B.lists book.old).collectors) × (found.1 ≡ bearer_of bearer.key (B.lists book.old).collectors)) }
+    ensures { Reads B.is_clean B.lists B.failures B.may_leave book.old book.new result (λ found. (found.0 ≡ at (λ b. b.number) bearer.number (B.lists book.old).collectors) × (found.1 ≡ bearer_of bearer.key (B.lists book.old).collectors)) }
 {
     let at_number = book.bearer_at(bearer.number)?;
     let of_key = book.bearer_of(bearer.key)?;

@@ -44,7 +44,7 @@ pub fn items<B: Book>(alloc: Global, book: &mut B) -> Reply
 
 /// What stands at the code of the item.
 fn find_item<B: Book>(book: &mut B, item: &Item) -> Result<Standing, StoreFault>
-    ensures { Reads B.is_clean B.lists B.failures book.old book.new result (λ found. found ≡ standing same_item item.now (at (λ i. i.code) item.now.code (B.lists book.old).items)) }
+    ensures { Reads B.is_clean B.lists B.failures B.may_leave book.old book.new result (λ found. found ≡ standing same_item item.now (at (λ i. i.code) item.now.code (B.lists book.old).items)) }
 {
     let public = book.public_part()?;
     Ok(standing_item(item, public.item(item.code)))
@@ -69,7 +69,7 @@ fn read_items<B: Book>(
     alloc: Global,
     book: &mut B,
 ) -> Result<Result<Vec<Item>, AllocError>, StoreFault>
-    ensures { Reads B.is_clean B.lists B.failures book.old book.new result (λ found. IfOk found (λ items. items.items ≡ (B.lists book.old).items)) }
+    ensures { Reads B.is_clean B.lists B.failures B.may_leave book.old book.new result (λ found. IfOk found (λ items. items.items ≡ (B.lists book.old).items)) }
 {
     let public = book.public_part()?;
     Ok(public.copy_items(alloc))

@@ -30,7 +30,7 @@ pub fn put_outlet<B: Book>(book: &mut B, outlet: Outlet) -> Reply
 
 /// What stands at the number of the outlet.
 fn find_outlet<B: Book>(book: &mut B, outlet: &Outlet) -> Result<Standing, StoreFault>
-    ensures { Reads B.is_clean B.lists B.failures book.old book.new result (λ found. found ≡ standing same_outlet outlet.now (at (λ u. u.number) outlet.now.number (B.lists book.old).outlets)) }
+    ensures { Reads B.is_clean B.lists B.failures B.may_leave book.old book.new result (λ found. found ≡ standing same_outlet outlet.now (at (λ u. u.number) outlet.now.number (B.lists book.old).outlets)) }
 {
     let old = book.outlet(outlet.number)?;
     Ok(standing_outlet(outlet, old))

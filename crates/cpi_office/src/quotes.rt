@@ -35,7 +35,7 @@ fn read_quotes<B: Book>(
     first: Month,
     last: Month,
 ) -> Result<Result<Vec<Quote>, AllocError>, StoreFault>
-    ensures { Reads B.is_clean B.lists B.failures book.old book.new result (λ found. IfOk found (λ quotes. quotes.items ≡ quotes_within first last (held_by collector (B.lists book.old).quotes))) }
+    ensures { Reads B.is_clean B.lists B.failures B.may_leave book.old book.new result (λ found. IfOk found (λ quotes. quotes.items ≡ quotes_within first last (held_by collector (B.lists book.old).quotes))) }
 {
     let parts = book.parts(collector)?;
     Ok(parts.own.quotes_within(alloc, first, last))

@@ -45,7 +45,7 @@ fn decide<B: Book>(
     collector: CollectorId,
     entry: Entry,
 ) -> Result<Result<Decision, cpi_survey::Refusal>, StoreFault>
-    ensures { Reads B.is_clean B.lists B.failures book.old book.new result (λ decision. decision ≡ decided now entry (public_part (B.lists book.old)) (own_part collector (B.lists book.old))) }
+    ensures { Reads B.is_clean B.lists B.failures B.may_leave book.old book.new result (λ decision. decision ≡ decided now entry (public_part (B.lists book.old)) (own_part collector (B.lists book.old))) }
 {
     let parts = book.parts(collector)?;
     Ok(parts.own.submit(parts.public, now, entry))

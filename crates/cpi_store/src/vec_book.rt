@@ -65,15 +65,18 @@ impl VecBook {
         ensures public { result.public.now ≡ public_part self.now.office }
         ensures own { result.own.now ≡ own_part collector self.now.office }
     {
+        Parts {
+            public: &self.public,
+            own: self.own_of(collector),
+        }
+    }
+
+    fn own_of(&self, collector: CollectorId) -> &Own
+        ensures { result.now ≡ own_part collector self.now.office }
+    {
         match find_row(&self.holders, &collector) {
-            Some(holder) => Parts {
-                public: &self.public,
-                own: &holder.own,
-            },
-            None => Parts {
-                public: &self.public,
-                own: &self.nobody,
-            },
+            Some(holder) => &holder.own,
+            None => &self.nobody,
         }
     }
 }
@@ -119,6 +122,10 @@ impl Book for VecBook {
 
     ghost is_clean = { λ _. ⊤ };
 
+    ghost may_leave = { λ _ _. ⊥ };
+
+    ghost finds_always = { ⊤ };
+
     fn bearer_of(&mut self, key: Key) -> Result<Option<Bearer>, StoreFault> {
         Ok(self.bearers.get(&key).copied())
     }
@@ -127,12 +134,24 @@ impl Book for VecBook {
         Ok(self.holder_at(number))
     }
 
+    fn collector_of(&mut self, key: Key) -> Result<Option<CollectorId>, StoreFault> {
+        Ok(self.bearers.get(&key).map(|bearer| bearer.number))
+    }
+
+    fn collector_key(&mut self, number: CollectorId) -> Result<Option<Key>, StoreFault> {
+        Ok(self.holder_at(number).map(|bearer| bearer.key))
+    }
+
     fn outlet(&mut self, number: OutletId) -> Result<Option<&Outlet>, StoreFault> {
         Ok(find_row(&self.outlets, &number))
     }
 
     fn public_part(&mut self) -> Result<&Public, StoreFault> {
         Ok(&self.public)
+    }
+
+    fn own(&mut self, collector: CollectorId) -> Result<&Own, StoreFault> {
+        Ok(self.own_of(collector))
     }
 
     fn parts(&mut self, collector: CollectorId) -> Result<Parts<'_>, StoreFault> {
