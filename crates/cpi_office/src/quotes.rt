@@ -7,7 +7,8 @@ ghost use Rattle.cpi_office.specs.Calls.{Serves};
 
 use crate::refusal::Refusal;
 use crate::reply::Reply;
-use cpi_codes::{CollectorId, Month, Rows};
+use cpi_codes::{CollectorId, Month};
+use cpi_rows::Rows;
 use cpi_store::{Book, StoreFault};
 use cpi_survey::Quote;
 use std::alloc::{AllocError, Global};
