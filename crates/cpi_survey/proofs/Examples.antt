@@ -1,15 +1,12 @@
 -- Small cases, computed: what entries are answered through a window and after it, in which order they are refused, and which price is the last.
-use Rattle.std.proofs.Common.{◌≡◌, ℕ, Bool, true, false, List, [], ◌∷◌, Some, None, Ok, Err, refl}
+use Rattle.std.proofs.Common.{◌≡◌, ℕ, true, false, List, [], ◌∷◌, Some, None, Ok, Err, refl}
 use Rattle.std.specs.Prelude.{Result}
-use Rattle.cpi_plan.specs.Calendar.{CalendarPart}
-use Rattle.cpi_survey.specs.declared.assignment.Assignment.{Assignment}
 use Rattle.cpi_survey.specs.declared.assignment.Assigned.{Assigned}
 use Rattle.cpi_survey.specs.declared.mark.Mark.TheVariants.{Price}
 use Rattle.cpi_survey.specs.declared.decision.Decision.{Decision}
 use Rattle.cpi_survey.specs.declared.decision.Decision.TheVariants.{Again, Put}
 use Rattle.cpi_survey.specs.declared.refusal.Refusal.{Refusal}
 use Rattle.cpi_survey.specs.declared.refusal.Refusal.TheVariants.{UnknownSlot, UnknownMonth, NotActive, NotOpen, Closed, ReceiptsUsedUp}
-use Rattle.cpi_survey.specs.Entry.{EntryRow}
 use Rattle.cpi_survey.specs.Quote.{QuoteRow}
 use Rattle.cpi_survey.specs.Public.{PublicPart}
 use Rattle.cpi_survey.specs.Own.{OwnPart}

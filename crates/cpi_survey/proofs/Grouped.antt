@@ -1,5 +1,5 @@
 -- A list in the order of a number is the rows of each number, one number after the other.
-use Rattle.std.proofs.Common.{◌≡◌, ◌≢◌, ℕ, zero, suc, ◌+◌, ◌<◌, ◌≤◌, Bool, true, false, List, [], ◌∷◌, ◌++◌, length, get_or, refl, sym, ap, ◌∙◌, arith, inl, inr}
+use Rattle.std.proofs.Common.{◌≡◌, ◌≢◌, ℕ, zero, suc, ◌+◌, ◌<◌, ◌≤◌, Bool, true, false, List, [], ◌∷◌, ◌++◌, refl, sym, ap, ◌∙◌, arith, inl, inr}
 use Rattle.std.specs.Prelude.{filter, not, ⊤, ◌==◌, ◌⊎◌}
 use Rattle.std.specs.List.{AllByRecursion, flat_map, range_with_len}
 use Rattle.std.specs.List.Sorted.{IsNonDecreasingBy}
@@ -100,4 +100,4 @@ module _ {X : Type 0} (n : X → ℕ) where
       parted a xs r (low a (suc len) xs all)
       ∙ ap (λ ys. ys ++ rest) (same a (omega arith) (omega arith))
       ∙ ap (λ ys. f a ++ ys) (grouped f len (a + 1) rest (rises-filter (is_off a) xs r) (rest_in a len xs all)
-        (λ m ge lt. off_at a m xs (λ e. absurd (omega arith)) ∙ same m (omega arith) (omega arith)))
+      (λ m ge lt. off_at a m xs (λ e. absurd (omega arith)) ∙ same m (omega arith) (omega arith)))

@@ -1,8 +1,7 @@
 -- The latest quote that passes, among quotes by slot and month.
-use Rattle.std.proofs.Common.{◌≡◌, ◌≢◌, ℕ, ◌+◌, ◌<◌, ◌≤◌, Bool, true, false, List, [], ◌∷◌, ◌++◌, Some, None, refl, sym, ap, ◌∙◌, arith, inl, inr, cond, length, take, get_or, zero, suc}
-use Rattle.std.specs.Prelude.{filter, nat_lt, ◌&&◌, ◌==◌, ◌⊎◌, Option, is_some, Result, Ok, Err}
+use Rattle.std.proofs.Common.{◌≡◌, ◌≢◌, ℕ, ◌<◌, ◌≤◌, Bool, true, false, List, [], ◌∷◌, ◌++◌, Some, None, refl, sym, ap, ◌∙◌, arith, inl, inr, length, take, get_or, zero, suc}
+use Rattle.std.specs.Prelude.{filter, nat_lt, ◌&&◌, ◌==◌, is_some, Ok, Err}
 use Rattle.std.specs.List.{AllByRecursion}
-use Rattle.std.specs.List.Sorted.{IsStrictlySortedBy}
 use Rattle.std.specs.declared.cmp.Ordering.{Ordering}
 use Rattle.std.specs.declared.cmp.Ordering.TheVariants.{Less, Equal, Greater}
 use Rattle.std.specs.Ordering.{nat_cmp, is_lt, ordering_reverse}
@@ -15,7 +14,7 @@ use Rattle.std.proofs.lemmas.Map.Keys.{sorted_head, sorted_tail, Less-from_sorte
 use Rattle.cpi_rows.specs.Keyed.{IsInOrder, IsPlace}
 use Rattle.cpi_survey.specs.Mark.{observed_price}
 use Rattle.cpi_survey.specs.Quote.{QuoteRow, quote_cmp, quote_key}
-use Rattle.cpi_survey.specs.LastPrice.{latest, later_of, is_earlier}
+use Rattle.cpi_survey.specs.LastPrice.{latest, is_earlier}
 
 pub quote_order : IsTotalOrder quote_cmp
 quote_order = then_total (on_total (λ (k : ℕ × ℕ). k.0) nat_cmp_total) (on_total (λ (k : ℕ × ℕ). k.1) nat_cmp_total)

@@ -3,10 +3,10 @@ ghost use Rattle.cpi_survey.specs.Mark.{is_same_mark, observed_price};
 
 use cpi_codes::Price;
 
-/// What a collector found in a month.
+/// What a collector found for a slot in a month.
 #[derive(Clone, Copy, Debug, PartialEq, Eq)]
 pub enum Mark {
-    /// The price of the item.
+    /// The price of the item, in minor units.
     Price(Price),
 }
 
@@ -20,7 +20,7 @@ impl Mark {
         }
     }
 
-    /// The price that was observed, in minor units.
+    /// The price that was observed, in minor units, if one was.
     pub fn observed_price(self) -> Option<Price>
         ensures { result ≡ observed_price self }
     {
