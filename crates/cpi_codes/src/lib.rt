@@ -30,3 +30,6 @@ pub use outlets::OutletId;
 pub use prices::Price;
 pub use series::SeriesId;
 pub use slots::Slot;
+
+#[cfg(test)]
+mod tests;
