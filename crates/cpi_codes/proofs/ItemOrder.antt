@@ -98,17 +98,21 @@ more-first p x y u v small h =
 
 same-first : (p x u v : ℕ) → nat_cmp (x * p + u) (x * p + v) ≡ nat_cmp u v
 same-first p x u v = elim (cases_order u v) [
-    inl same ↦ equal (x * p + u) (x * p + v) (omega arith) ∙ sym (equal u v same)
-    | inr differ ↦ elim differ [
-        inl below ↦ less (x * p + u) (x * p + v) (omega arith) ∙ sym (less u v below)
-        | inr above ↦ greater (x * p + u) (x * p + v) (omega arith) ∙ sym (greater u v above) ] ]
+  | inl same ↦ equal (x * p + u) (x * p + v) (omega arith) ∙ sym (equal u v same)
+  | inr differ ↦ elim differ [
+    | inl below ↦ less (x * p + u) (x * p + v) (omega arith) ∙ sym (less u v below)
+    | inr above ↦ greater (x * p + u) (x * p + v) (omega arith) ∙ sym (greater u v above)
+  ]
+]
 
 by-digits : (p x y u v : ℕ) → u < p → v < p → nat_cmp (x * p + u) (y * p + v) ≡ ordering_then (nat_cmp x y) (nat_cmp u v)
 by-digits p x y u v small tiny = elim (cases_order x y) [
-    inl same ↦ rw (equal x y same) (rw same (same-first p y u v))
-    | inr differ ↦ elim differ [
-        inl below ↦ rw (less x y below) (less (x * p + u) (y * p + v) (more-first p x y u v small below))
-        | inr above ↦ rw (greater x y above) (greater (x * p + u) (y * p + v) (more-first p y x v u tiny above)) ] ]
+  | inl same ↦ rw (equal x y same) (rw same (same-first p y u v))
+  | inr differ ↦ elim differ [
+    | inl below ↦ rw (less x y below) (less (x * p + u) (y * p + v) (more-first p x y u v small below))
+    | inr above ↦ rw (greater x y above) (greater (x * p + u) (y * p + v) (more-first p y x v u tiny above))
+  ]
+]
 
 -- the numbers stand in the order of the texts
 pub weighed-order : (k : ℕ) (a b : List ℕ) → length a ≤ k → length b ≤ k → list_all is_item_character a ≡ true → list_all is_item_character b ≡ true → nat_cmp (weighed k a) (weighed k b) ≡ slice_cmp nat_cmp a b

@@ -5,3 +5,4 @@ pub mod NameTests
 pub mod ItemOrder
 pub mod NumberTexts
 pub mod MonthSpelling
+pub mod KeyTexts

@@ -49,8 +49,20 @@ month-of-digits : (a b c d e f : ℕ) → a < 10 → b < 10 → c < 10 → d < 1
     month_of (spelled a b c d e f) ≡ month_in ((((0 * 10 + a) * 10 + b) * 10 + c) * 10 + d) ((0 * 10 + e) * 10 + f)
 unfolding spelled
 month-of-digits a b c d e f ha hb hc hd he hf =
-    rw (digit-true a ha, digit-true b hb, digit-true c hc, digit-true d hd, digit-true e he, digit-true f hf,
-        digit-worth a ha, digit-worth b hb, digit-worth c hc, digit-worth d hd, digit-worth e he, digit-worth f hf) refl
+    rw (
+      digit-true a ha,
+      digit-true b hb,
+      digit-true c hc,
+      digit-true d hd,
+      digit-true e he,
+      digit-true f hf,
+      digit-worth a ha,
+      digit-worth b hb,
+      digit-worth c hc,
+      digit-worth d hd,
+      digit-worth e he,
+      digit-worth f hf,
+    ) refl
 
 in-calendar : (month : ℕ) → month < 2400 → month_in (year_of month) (month_of_year month) ≡ Ok month
 in-calendar month h =

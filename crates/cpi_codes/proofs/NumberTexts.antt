@@ -24,10 +24,11 @@ or-true false = refl
 
 decimal-first : (n : ℕ) → n < 2 ^ 64 → ((length (decimal n) == 1) || not (slice_index (decimal n) 0 == 48)) ≡ true
 decimal-first n h = elim (cases_lt 0 n) [
-    inl above ↦ (let first = first_decimal n above h in
-        let differs : (get_or (decimal n) 0 0 == 48) ≡ false = grind (arith, nat_tests) in
-        rw differs (or-true (length (decimal n) == 1)))
-    | inr none ↦ (let zero-is : n ≡ 0 = omega arith in rw (zero-is, decimal_digit 0 (lit< tt)) refl) ]
+  | inl above ↦ (let first = first_decimal n above h in
+      let differs : (get_or (decimal n) 0 0 == 48) ≡ false = grind (arith, nat_tests) in
+      rw differs (or-true (length (decimal n) == 1)))
+  | inr none ↦ (let zero-is : n ≡ 0 = omega arith in rw (zero-is, decimal_digit 0 (lit< tt)) refl)
+]
 
 pub decimal-is-number : (n : ℕ) → n < 2 ^ 64 → is_number (decimal n) ≡ true
 decimal-is-number n h =
