@@ -106,7 +106,10 @@ impl VecBook {
 }
 
 impl Book for VecBook {
-    ghost use Rattle.std.specs.Prelude.{⊤};
+    ghost use Rattle.std.specs.Prelude.{⊤, IsOk, IsSome};
+    ghost use Rattle.cpi_rows.specs.Keyed.{at};
+    ghost use Rattle.cpi_store.specs.Office.{changed, PutsCalendar};
+    ghost use Rattle.cpi_store.specs.Calls.{Writes};
 
     ghost lists = { λ b. b.office };
 
@@ -153,22 +156,17 @@ impl Book for VecBook {
     fn put_item(&mut self, item: Item) -> Result<(), StoreFault> {
         match self.public.put_item(item) {
             Ok(()) => Ok(()),
-            Err(_) => {
-                let more = self.failed.one_more();
-                self.failed = more;
-                Err(StoreFault)
-            }
+            Err(_) => Err(self.failed.fault()),
         }
     }
 
-    fn put_calendar(&mut self, row: CalendarRow) -> Result<(), StoreFault> {
+    fn put_calendar(&mut self, row: CalendarRow) -> Result<(), StoreFault>
+        ensures writes { Writes ⟦<VecBook as Book>⟧.is_clean ⟦<VecBook as Book>⟧.lists ⟦<VecBook as Book>⟧.failures ⟦<VecBook as Book>⟧.may_leave self.old self.new result (changed (PutsCalendar row) self.old.office) }
+        ensures replaced { IsSome (at (λ r. r.month) row.month self.old.office.calendar) → IsOk result }
+    {
         match self.public.put_calendar(row) {
             Ok(()) => Ok(()),
-            Err(_) => {
-                let more = self.failed.one_more();
-                self.failed = more;
-                Err(StoreFault)
-            }
+            Err(_) => Err(self.failed.fault()),
         }
     }
 
@@ -176,44 +174,28 @@ impl Book for VecBook {
         let holder = Holder::new(self.alloc, bearer);
         match put_holder(&mut self.holders, &mut self.bearers, holder) {
             Ok(()) => Ok(()),
-            Err(_) => {
-                let more = self.failed.one_more();
-                self.failed = more;
-                Err(StoreFault)
-            }
+            Err(_) => Err(self.failed.fault()),
         }
     }
 
     fn put_outlet(&mut self, outlet: Outlet) -> Result<(), StoreFault> {
         match put_row(&mut self.outlets, outlet) {
             Ok(()) => Ok(()),
-            Err(_) => {
-                let more = self.failed.one_more();
-                self.failed = more;
-                Err(StoreFault)
-            }
+            Err(_) => Err(self.failed.fault()),
         }
     }
 
     fn put_assignment(&mut self, bearer: Bearer, assigned: Assigned) -> Result<(), StoreFault> {
         match put_assignment_of(&mut self.holders, bearer.number, assigned) {
             Ok(()) => Ok(()),
-            Err(_) => {
-                let more = self.failed.one_more();
-                self.failed = more;
-                Err(StoreFault)
-            }
+            Err(_) => Err(self.failed.fault()),
         }
     }
 
     fn put_quote(&mut self, bearer: Bearer, quote: Quote) -> Result<(), StoreFault> {
         match put_quote_of(&mut self.holders, bearer.number, quote) {
             Ok(()) => Ok(()),
-            Err(_) => {
-                let more = self.failed.one_more();
-                self.failed = more;
-                Err(StoreFault)
-            }
+            Err(_) => Err(self.failed.fault()),
         }
     }
 }
