@@ -79,7 +79,7 @@ impl VecBook {
 
     /// An empty office.
     pub fn new(alloc: Global) -> VecBook
-        ensures { result.office ≡ empty_office }
+        ensures { result ≡ record { office = empty_office; failures = 0 } }
     {
         VecBook {
             public: Public::from_parts(Vec::new(alloc), Vec::new(alloc)),
@@ -106,10 +106,13 @@ impl VecBook {
 }
 
 impl Book for VecBook {
-    ghost use Rattle.std.specs.Prelude.{⊤, IsOk, IsSome};
-    ghost use Rattle.cpi_rows.specs.Keyed.{at};
-    ghost use Rattle.cpi_store.specs.Office.{changed, PutsCalendar};
-    ghost use Rattle.cpi_store.specs.Calls.{Writes};
+    ghost use Rattle.std.specs.Prelude.{◌≡◌, ◌<◌, ⊤, IsOk, IsSome};
+    ghost use Rattle.cpi_rows.specs.Keyed.{row_at, at};
+    ghost use Rattle.cpi_rows.specs.Held.{held_by};
+    ghost use Rattle.cpi_survey.specs.Quote.{greatest_receipt, quote_cmp, quote_key};
+    ghost use Rattle.cpi_store.specs.Office.{changed, PutsCalendar, Quotes};
+    ghost use Rattle.cpi_store.specs.Bearer.{bearer_of, collector_of, collector_key};
+    ghost use Rattle.cpi_store.specs.Holders.{KeptReads, KeptWrites};
 
     ghost lists = { λ b. b.office };
 
@@ -121,19 +124,31 @@ impl Book for VecBook {
 
     ghost finds_always = { ⊤ };
 
-    fn bearer_of(&mut self, key: Key) -> Result<Option<Bearer>, StoreFault> {
+    fn bearer_of(&mut self, key: Key) -> Result<Option<Bearer>, StoreFault>
+        ensures reads { KeptReads self.old self.new result (λ found. found ≡ bearer_of key self.old.office.collectors) }
+        ensures always { IsOk result }
+    {
         Ok(self.bearers.get(&key).copied())
     }
 
-    fn bearer_at(&mut self, number: CollectorId) -> Result<Option<Bearer>, StoreFault> {
+    fn bearer_at(&mut self, number: CollectorId) -> Result<Option<Bearer>, StoreFault>
+        ensures reads { KeptReads self.old self.new result (λ found. found ≡ at (λ b. b.number) number self.old.office.collectors) }
+        ensures always { IsOk result }
+    {
         Ok(self.holder_at(number))
     }
 
-    fn collector_of(&mut self, key: Key) -> Result<Option<CollectorId>, StoreFault> {
+    fn collector_of(&mut self, key: Key) -> Result<Option<CollectorId>, StoreFault>
+        ensures reads { KeptReads self.old self.new result (λ found. found ≡ collector_of key self.old.office.collectors) }
+        ensures always { IsOk result }
+    {
         Ok(self.bearers.get(&key).map(|bearer| bearer.number))
     }
 
-    fn collector_key(&mut self, number: CollectorId) -> Result<Option<Key>, StoreFault> {
+    fn collector_key(&mut self, number: CollectorId) -> Result<Option<Key>, StoreFault>
+        ensures reads { KeptReads self.old self.new result (λ found. found ≡ collector_key number self.old.office.collectors) }
+        ensures always { IsOk result }
+    {
         Ok(self.holder_at(number).map(|bearer| bearer.key))
     }
 
@@ -161,7 +176,7 @@ impl Book for VecBook {
     }
 
     fn put_calendar(&mut self, row: CalendarRow) -> Result<(), StoreFault>
-        ensures writes { Writes ⟦<VecBook as Book>⟧.is_clean ⟦<VecBook as Book>⟧.lists ⟦<VecBook as Book>⟧.failures ⟦<VecBook as Book>⟧.may_leave self.old self.new result (changed (PutsCalendar row) self.old.office) }
+        ensures writes { KeptWrites self.old self.new result (changed (PutsCalendar row) self.old.office) }
         ensures replaced { IsSome (at (λ r. r.month) row.month self.old.office.calendar) → IsOk result }
     {
         match self.public.put_calendar(row) {
@@ -192,7 +207,12 @@ impl Book for VecBook {
         }
     }
 
-    fn put_quote(&mut self, bearer: Bearer, quote: Quote) -> Result<(), StoreFault> {
+    fn put_quote(&mut self, bearer: Bearer, quote: Quote) -> Result<(), StoreFault>
+        requires known { IsSome (at (λ b. b.number) bearer.number self.old.office.collectors) }
+        requires receipt { greatest_receipt (held_by bearer.number self.old.office.quotes) < quote.receipt }
+        ensures writes { KeptWrites self.old self.new result (changed (Quotes bearer quote) self.old.office) }
+        ensures replaced { IsSome (row_at quote_cmp quote_key (quote.slot, quote.month) (held_by bearer.number self.old.office.quotes)) → IsOk result }
+    {
         match put_quote_of(&mut self.holders, bearer.number, quote) {
             Ok(()) => Ok(()),
             Err(_) => Err(self.failed.fault()),
