@@ -19,7 +19,7 @@ mod standing;
 mod submit;
 
 pub use caller::Caller;
-pub use laws::{empty_is_sound, others_do_not_matter, views_are_rebuilt};
+pub use laws::{empty_is_sound, others_do_not_matter, runs_tell_alike, views_are_rebuilt};
 pub use office::Office;
 pub use refusal::Refusal;
 pub use reply::Reply;
