@@ -15,10 +15,12 @@ pub struct FailBook<B: Book> {
 }
 
 impl<B: Book> FailBook<B> {
-    ghost use Rattle.std.specs.Prelude.{◌≡◌, ◌<◌, ◌≤◌, IsTrue, true, false};
+    ghost use Rattle.std.specs.Prelude.{◌≡◌, ◌==◌, ◌-◌, ◌+◌, if◌then◌else◌};
 
     pub fn new(inner: B, nth: u64) -> FailBook<B>
-        ensures { result.inner ≡ inner }
+        ensures inner { result.inner ≡ inner }
+        ensures left { result.left ≡ nth }
+        ensures failed { result.own_failures.count ≡ 0 }
     {
         FailBook {
             inner,
@@ -29,10 +31,10 @@ impl<B: Book> FailBook<B> {
 
     // Whether this call fails.
     fn fails(&mut self) -> bool
+        ensures nth { result ≡ (self.old.left == 1) }
+        ensures left { self.new.left ≡ self.old.left - 1 }
         ensures inner { self.new.inner ≡ self.old.inner }
-        ensures count { self.old.own_failures.count ≤ self.new.own_failures.count }
-        ensures fails { result ≡ true → self.old.own_failures.count < self.new.own_failures.count }
-        ensures same { result ≡ false → self.new.own_failures.count ≡ self.old.own_failures.count }
+        ensures count { self.new.own_failures.count ≡ self.old.own_failures.count + (if result then 1 else 0) }
     {
         if self.left == 0 {
             return false;

@@ -1,7 +1,7 @@
 use crate::bearer::Bearer;
 use crate::book::{Book, Parts, StoreFault};
 use crate::failures::Failures;
-use crate::holder::{Holder, put_quote_of};
+use crate::holder::{Holder, put_assignment_of, put_holder, put_quote_of};
 use crate::outlet::Outlet;
 use cpi_codes::{CollectorId, Key, OutletId};
 use cpi_plan::{CalendarRow, Item};
@@ -21,6 +21,7 @@ pub struct VecBook {
     // what a number that nobody has, has
     nobody: Own,
     failed: Failures,
+    alloc: Global,
 }
 
 impl Model for VecBook {
@@ -29,21 +30,11 @@ impl Model for VecBook {
     ghost use Rattle.std.specs.BTreeMap.{get};
     ghost use Rattle.cpi_rows.specs.Keyed.{IsInOrder};
     ghost use Rattle.cpi_store.specs.Bearer.{bearer_of};
-    ghost use Rattle.cpi_store.specs.Holders.{Kept, ArePlaced, collectors_of, all_assignments, all_quotes, named_by};
+    ghost use Rattle.cpi_store.specs.Holders.{Kept, ArePlaced, collectors_of, named_by, office_of};
 
     ghost Value = { Kept };
 
-    ghost view = { λ b. record {
-      office = record {
-        items = b.public.items;
-        calendar = b.public.calendar;
-        collectors = collectors_of b.holders.items;
-        outlets = b.outlets.items;
-        assignments = all_assignments b.holders.items;
-        quotes = all_quotes b.holders.items;
-      };
-      failures = b.failed.count;
-    } };
+    ghost view = { λ b. record { office = office_of b.public b.outlets.items b.holders.items; failures = b.failed.count } };
 
     ghost invariant = { λ b. record {
       holders : IsInOrder nat_cmp (λ h. h.number) b.holders.items;
@@ -97,6 +88,7 @@ impl VecBook {
             bearers: BTreeMap::new(alloc),
             nobody: Own::from_parts(Vec::new(alloc), Vec::new(alloc), 0),
             failed: Failures::none(),
+            alloc,
         }
     }
 
@@ -114,7 +106,10 @@ impl VecBook {
 }
 
 impl Book for VecBook {
-    ghost use Rattle.std.specs.Prelude.{⊤};
+    ghost use Rattle.std.specs.Prelude.{⊤, IsOk, IsSome};
+    ghost use Rattle.cpi_rows.specs.Keyed.{at};
+    ghost use Rattle.cpi_store.specs.Office.{changed, PutsCalendar};
+    ghost use Rattle.cpi_store.specs.Calls.{Writes};
 
     ghost lists = { λ b. b.office };
 
@@ -161,56 +156,46 @@ impl Book for VecBook {
     fn put_item(&mut self, item: Item) -> Result<(), StoreFault> {
         match self.public.put_item(item) {
             Ok(()) => Ok(()),
-            Err(_) => {
-                let more = self.failed.one_more();
-                self.failed = more;
-                Err(StoreFault)
-            }
+            Err(_) => Err(self.failed.fault()),
         }
     }
 
-    fn put_calendar(&mut self, row: CalendarRow) -> Result<(), StoreFault> {
+    fn put_calendar(&mut self, row: CalendarRow) -> Result<(), StoreFault>
+        ensures writes { Writes ⟦<VecBook as Book>⟧.is_clean ⟦<VecBook as Book>⟧.lists ⟦<VecBook as Book>⟧.failures ⟦<VecBook as Book>⟧.may_leave self.old self.new result (changed (PutsCalendar row) self.old.office) }
+        ensures replaced { IsSome (at (λ r. r.month) row.month self.old.office.calendar) → IsOk result }
+    {
         match self.public.put_calendar(row) {
             Ok(()) => Ok(()),
-            Err(_) => {
-                let more = self.failed.one_more();
-                self.failed = more;
-                Err(StoreFault)
-            }
+            Err(_) => Err(self.failed.fault()),
         }
     }
 
-    fn put_collector(&mut self, _bearer: Bearer) -> Result<(), StoreFault> {
-        let more = self.failed.one_more();
-        self.failed = more;
-        Err(StoreFault)
+    fn put_collector(&mut self, bearer: Bearer) -> Result<(), StoreFault> {
+        let holder = Holder::new(self.alloc, bearer);
+        match put_holder(&mut self.holders, &mut self.bearers, holder) {
+            Ok(()) => Ok(()),
+            Err(_) => Err(self.failed.fault()),
+        }
     }
 
     fn put_outlet(&mut self, outlet: Outlet) -> Result<(), StoreFault> {
         match put_row(&mut self.outlets, outlet) {
             Ok(()) => Ok(()),
-            Err(_) => {
-                let more = self.failed.one_more();
-                self.failed = more;
-                Err(StoreFault)
-            }
+            Err(_) => Err(self.failed.fault()),
         }
     }
 
-    fn put_assignment(&mut self, _bearer: Bearer, _assigned: Assigned) -> Result<(), StoreFault> {
-        let more = self.failed.one_more();
-        self.failed = more;
-        Err(StoreFault)
+    fn put_assignment(&mut self, bearer: Bearer, assigned: Assigned) -> Result<(), StoreFault> {
+        match put_assignment_of(&mut self.holders, bearer.number, assigned) {
+            Ok(()) => Ok(()),
+            Err(_) => Err(self.failed.fault()),
+        }
     }
 
     fn put_quote(&mut self, bearer: Bearer, quote: Quote) -> Result<(), StoreFault> {
         match put_quote_of(&mut self.holders, bearer.number, quote) {
             Ok(()) => Ok(()),
-            Err(_) => {
-                let more = self.failed.one_more();
-                self.failed = more;
-                Err(StoreFault)
-            }
+            Err(_) => Err(self.failed.fault()),
         }
     }
 }

@@ -66,6 +66,15 @@ impl Own {
         Ok(())
     }
 
+    /// Puts an assignment, over the one of its slot if there is one, which takes no memory.
+    pub fn put_assignment(&mut self, assigned: Assigned) -> Result<(), AllocError>
+        ensures ok { OnOk result (self.new ≡ record self.old { assignments = put nat_cmp (λ a. a.assignment.slot) assigned self.old.assignments }) }
+        ensures err { OnErr result (self.new ≡ self.old) }
+        ensures quotes { self.new.quotes ≡ self.old.quotes }
+    {
+        put_row(&mut self.assignments, assigned)
+    }
+
     /// The assignment of the slot.
     pub fn assigned(&self, slot: Slot) -> Option<&Assigned>
         ensures { option_copied result ≡ at (λ a. a.assignment.slot) slot self.now.assignments }
