@@ -11,8 +11,8 @@ ghost use Rattle.cpi_office.specs.Calls.{Serves};
 use crate::refusal::Refusal;
 use crate::reply::Reply;
 use crate::standing::Standing;
-use cpi_codes::Rows;
 use cpi_plan::Item;
+use cpi_rows::Rows;
 use cpi_store::{Book, StoreFault};
 use std::alloc::{AllocError, Global};
 

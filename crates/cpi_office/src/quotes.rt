@@ -7,7 +7,8 @@ ghost use Rattle.cpi_office.specs.Calls.{Serves};
 
 use crate::refusal::Refusal;
 use crate::reply::Reply;
-use cpi_codes::{CollectorId, Month, Rows};
+use cpi_codes::{CollectorId, Month};
+use cpi_rows::Rows;
 use cpi_store::{Book, StoreFault};
 use cpi_survey::Quote;
 use std::alloc::{AllocError, Global};
@@ -38,5 +39,5 @@ fn read_quotes<B: Book>(
     ensures { Reads B.is_clean B.lists B.failures B.may_leave book.old book.new result (λ found. IfOk found (λ quotes. quotes.items ≡ quotes_within first last (held_by collector (B.lists book.old).quotes))) }
 {
     let parts = book.parts(collector)?;
-    Ok(parts.own.quotes_within(alloc, first, last))
+    Ok(parts.own.quotes(alloc, first, last))
 }

@@ -1,6 +1,6 @@
 use crate::refusal::Refusal;
-use cpi_codes::Rows;
 use cpi_plan::Item;
+use cpi_rows::Rows;
 use cpi_survey::Quote;
 
 /// What a request is answered.
