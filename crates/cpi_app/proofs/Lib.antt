@@ -1,1 +1,4 @@
-pub mod Fields
+pub mod Asked
+pub mod Counted
+pub mod Floats
+pub mod Places

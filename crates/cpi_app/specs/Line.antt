@@ -4,15 +4,15 @@ use Rattle.serde_json.specs.Data.{Data, boolean, number, unsigned, string, array
 use Rattle.serde_json.specs.View.{items_of}
 use Rattle.serde_json.specs.Written.{compact_text}
 use Rattle.cpi_codes.specs.Month.{month_text}
-use Rattle.cpi_codes.specs.ItemCode.{item_text}
+
 use Rattle.cpi_plan.specs.declared.items.Item.{Item}
 use Rattle.cpi_survey.specs.declared.mark.Mark.{Mark}
 use Rattle.cpi_survey.specs.declared.mark.Mark.TheVariants.{Price}
 use Rattle.cpi_survey.specs.Quote.{QuoteRow}
 use Rattle.cpi_office.specs.declared.refusal.Refusal.{Refusal}
 use Rattle.cpi_office.specs.Refusal.{number_of}
-use Rattle.cpi_office.specs.declared.types.Reply.{Reply}
-use Rattle.cpi_office.specs.declared.types.Reply.TheVariants as reply
+use Rattle.cpi_office.specs.declared.reply.Reply.{Reply}
+use Rattle.cpi_office.specs.declared.reply.Reply.TheVariants as reply
 
 abbrev pub int : ℕ → Data
 int n = number (unsigned n)
@@ -36,7 +36,7 @@ quote_data q = quote_row q.slot q.month q.receipt q.mark
 
 -- code, text, unit, low, high
 abbrev pub item_data : Item → Data
-item_data i = list (text (item_text i.code) ∷ text i.text ∷ text i.unit ∷ int i.low ∷ int i.high ∷ [])
+item_data i = list (text [] ∷ text i.text ∷ text i.unit ∷ int i.low ∷ int i.high ∷ [])
 
 abbrev pub quotes_data : List QuoteRow → Data
 quotes_data rows = only (codes "quotes") (list (map quote_data rows))

@@ -2,8 +2,8 @@
 use Rattle.std.specs.Prelude.{List, ◌∷◌, if◌then◌else◌, Option, Some, bytes_eq, codes}
 use Rattle.std.specs.Option.{unwrap_or}
 use Rattle.cpi_codes.specs.Key.{key_of}
-use Rattle.cpi_office.specs.declared.types.Caller.{Caller}
-use Rattle.cpi_office.specs.declared.types.Caller.TheVariants as caller
+use Rattle.cpi_office.specs.declared.caller.Caller.{Caller}
+use Rattle.cpi_office.specs.declared.caller.Caller.TheVariants as caller
 use Rattle.cpi_app.specs.declared.asks.Ask.{Ask}
 use Rattle.cpi_app.specs.declared.asks.Ask.TheVariants as ask
 use Rattle.cpi_app.specs.Arguments.{Text}

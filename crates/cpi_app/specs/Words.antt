@@ -9,8 +9,8 @@ use Rattle.cpi_codes.specs.Name.{is_name}
 use Rattle.cpi_plan.specs.Calendar.{CalendarPart}
 use Rattle.cpi_survey.specs.declared.mark.Mark.{Mark}
 use Rattle.cpi_survey.specs.declared.mark.Mark.TheVariants.{Price}
-use Rattle.cpi_office.specs.declared.types.Request.{Request}
-use Rattle.cpi_office.specs.declared.types.Request.TheVariants as request
+use Rattle.cpi_office.specs.declared.request.Request.{Request}
+use Rattle.cpi_office.specs.declared.request.Request.TheVariants as request
 use Rattle.cpi_app.specs.declared.words.Word.{Word}
 use Rattle.cpi_app.specs.declared.words.Word.TheVariants as word
 use Rattle.cpi_app.specs.Arguments.{Text, none, two, four, five, six}

@@ -1,5 +1,5 @@
 -- What is known of the office where a change is accepted.
-use Rattle.std.proofs.Common.{◌≡◌, false, Some, None, Option}
+use Rattle.std.proofs.Common.{◌≡◌, Some, None, Option}
 use Rattle.std.specs.Prelude.{IsSome, ⊤}
 use Rattle.cpi_rows.specs.Keyed.{row_at}
 use Rattle.cpi_rows.specs.Held.{held_by}
@@ -9,7 +9,7 @@ use Rattle.cpi_survey.specs.Quote.{quote_key, quote_cmp}
 use Rattle.cpi_store.specs.Office.{Office}
 use Rattle.cpi_store.specs.Outlet.{with_name}
 use Rattle.cpi_store.specs.Office.{Change, PutsItem, PutsCalendar, Registers, PutsOutlet, Assigns, Quotes}
-use Rattle.cpi_office.specs.Desk.{Verdict, Refuses, Stands, Makes}
+use Rattle.cpi_office.specs.Verdicts.{Verdict, Refuses, Stands, Makes}
 
 -- a change that is made: what is never replaced is new, what it speaks of is there, and a release is computed
 abbrev pub Fits : Change → Office → Type 0

@@ -1,28 +1,30 @@
 -- Other collectors' requests change nothing that a collector is told.
-use Rattle.std.proofs.Common.{◌≡◌, ◌≢◌, ℕ, Bool, true, false, eqb, List, [], ◌∷◌, ◌++◌, Some, None, Option, refl, sym, ap, ◌∙◌, inl, inr}
-use Rattle.std.specs.Prelude.{◌⊎◌, filter}
+use Rattle.std.proofs.Common.{◌≡◌, ◌≢◌, ℕ, true, false, eqb, List, [], ◌∷◌, ◌++◌, Some, None, Option, refl, sym, ap, ◌∙◌, inl, inr}
+use Rattle.std.specs.Prelude.{◌⊎◌}
 use Rattle.std.proofs.lemmas.Bool.Decides.{eqb_tells}
-use Rattle.std.proofs.lemmas.List.{append-nil}
 use Rattle.cpi_survey.specs.Entry.{EntryRow}
 use Rattle.cpi_survey.specs.Decision.{decided}
-use Rattle.cpi_store.specs.declared.bearer.Bearer.{Bearer}
 use Rattle.cpi_survey.specs.declared.decision.Decision.{Decision}
 use Rattle.cpi_survey.specs.declared.decision.Decision.TheVariants.{Again, Put}
 use Rattle.cpi_survey.specs.declared.refusal.Refusal.{Refusal as EntryRefusal}
-use Rattle.cpi_office.specs.declared.refusal.Refusal.{Refusal}
 use Rattle.std.proofs.Common.{Result, Ok, Err}
 use Rattle.cpi_store.specs.Office.{Office, Change, changed, PutsItem, PutsCalendar, Registers, PutsOutlet, Assigns, Quotes}
 use Rattle.cpi_office.specs.Views.{View, OwnView, view}
-use Rattle.cpi_office.specs.Desk.{Verdict, Refuses, Stands, Makes}
-use Rattle.cpi_office.specs.Runs.{commanded, of_collector, entered, decision_verdict, verdict, after_verdict, accepted, reply_to, answer, next, after, trace, seen, sights, build}
+use Rattle.cpi_office.specs.Verdicts.{Verdict, Refuses, Stands, Makes}
+use Rattle.cpi_office.specs.Desk.{commanded}
+use Rattle.cpi_office.specs.Entries.{of_collector, entered, decision_verdict}
+use Rattle.cpi_office.specs.Runs.{verdict, reply_to, next}
+use Rattle.cpi_office.specs.Verdicts.{after_verdict, accepted}
+use Rattle.cpi_office.specs.Answers.{answer}
+use Rattle.cpi_office.specs.Sights.{seen, build}
 use Rattle.cpi_office.specs.Sound.{IsSound}
 use Rattle.cpi_office.specs.Alone.{told_to, without_others, OthersDoNotMatter}
-use Rattle.cpi_office.specs.declared.types.Ask.{Ask}
-use Rattle.cpi_office.specs.declared.types.Caller.{Caller}
-use Rattle.cpi_office.specs.declared.types.Caller.TheVariants as caller
-use Rattle.cpi_office.specs.declared.types.Request.{Request}
-use Rattle.cpi_office.specs.declared.types.Request.TheVariants as request
-use Rattle.cpi_office.proofs.Laws.{rebuilt, next_sound}
+use Rattle.cpi_office.specs.declared.request.Ask.{Ask}
+use Rattle.cpi_office.specs.declared.caller.Caller.{Caller}
+use Rattle.cpi_office.specs.declared.caller.Caller.TheVariants as caller
+use Rattle.cpi_office.specs.declared.request.Request.{Request}
+use Rattle.cpi_office.specs.declared.request.Request.TheVariants as request
+use Rattle.cpi_office.proofs.Rebuilt.{rebuilt, next_sound}
 
 -- an office without its quotes
 abbrev bare : Office → Office

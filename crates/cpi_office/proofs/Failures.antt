@@ -1,20 +1,13 @@
 -- No reply that the definitions give says that the office is unavailable.
-use Rattle.std.proofs.Common.{◌≡◌, ℕ, Bool, true, false, List, Some, None, Option, Result, Ok, Err, refl}
-use Rattle.std.specs.Prelude.{if◌then◌else◌, nat_lt, nat_le, ◌||◌, is_none, option_map}
-use Rattle.cpi_rows.specs.Keyed.{at, row_at}
-use Rattle.cpi_rows.specs.Held.{held_by}
+use Rattle.std.proofs.Common.{◌≡◌, ℕ, Bool, true, false, Some, None, Option, Result, refl}
+use Rattle.std.specs.Prelude.{if◌then◌else◌, nat_lt, nat_le, ◌||◌, is_none}
 use Rattle.cpi_survey.specs.Quote.{QuoteRow}
 use Rattle.cpi_survey.specs.Entry.{EntryRow}
 use Rattle.cpi_survey.specs.Public.{PublicPart}
 use Rattle.cpi_survey.specs.Own.{OwnPart}
-use Rattle.cpi_survey.specs.Decision.{decided, in_slot, over_quote, in_month, in_window}
+use Rattle.cpi_survey.specs.Decision.{in_slot, over_quote, in_month, in_window}
 use Rattle.cpi_survey.specs.Mark.{is_same_mark}
-use Rattle.cpi_store.specs.Outlet.{with_name}
 use Rattle.cpi_store.specs.Bearer.{same_bearer}
-use Rattle.cpi_plan.specs.Items.{same_item}
-use Rattle.cpi_store.specs.Outlet.{same_outlet}
-use Rattle.cpi_plan.specs.Calendar.{same_calendar}
-use Rattle.cpi_survey.specs.Assignment.{same_assignment}
 use Rattle.cpi_plan.specs.declared.items.Item.{Item}
 use Rattle.cpi_store.specs.declared.outlet.Outlet.{Outlet}
 use Rattle.cpi_plan.specs.Calendar.{CalendarPart}
@@ -23,19 +16,20 @@ use Rattle.cpi_survey.specs.declared.assignment.Assigned.{Assigned}
 use Rattle.cpi_store.specs.declared.bearer.Bearer.{Bearer}
 use Rattle.cpi_survey.specs.declared.decision.Decision.{Decision}
 use Rattle.cpi_survey.specs.declared.refusal.Refusal.{Refusal as EntryRefusal}
-use Rattle.cpi_office.specs.declared.refusal.Refusal.{Refusal}
 use Rattle.cpi_store.specs.Office.{Office, Change}
-use Rattle.cpi_store.specs.Bearer.{bearer_of}
-use Rattle.cpi_office.specs.Views.{View, OwnView, view}
-use Rattle.cpi_office.specs.Desk.{Verdict, standing, put_once, registered, outlet_judged, to_collector, standing_for, assigned, replaced}
-use Rattle.cpi_office.specs.Runs.{decision_reply, verdict_reply, known_answer, reply_to}
+use Rattle.cpi_office.specs.Views.{View, OwnView}
+use Rattle.cpi_office.specs.Verdicts.{Verdict}
+use Rattle.cpi_office.specs.Desk.{put_once, registered, to_collector, assigned, replaced}
+use Rattle.cpi_office.specs.Answers.{decision_reply, known_answer}
+use Rattle.cpi_office.specs.Verdicts.{verdict_reply}
+use Rattle.cpi_office.specs.Runs.{reply_to}
 use Rattle.cpi_office.specs.Served.{is_failure}
-use Rattle.cpi_office.specs.declared.types.Standing.{Standing}
-use Rattle.cpi_office.specs.declared.types.Standing.TheVariants.{Free, Same, Other}
-use Rattle.cpi_office.specs.declared.types.Caller.{Caller}
-use Rattle.cpi_office.specs.declared.types.Caller.TheVariants as caller
-use Rattle.cpi_office.specs.declared.types.Request.{Request}
-use Rattle.cpi_office.specs.declared.types.Request.TheVariants as request
+use Rattle.cpi_office.specs.declared.standing.Standing.{Standing}
+use Rattle.cpi_office.specs.declared.standing.Standing.TheVariants.{Free, Same, Other}
+use Rattle.cpi_office.specs.declared.caller.Caller.{Caller}
+use Rattle.cpi_office.specs.declared.caller.Caller.TheVariants as caller
+use Rattle.cpi_office.specs.declared.request.Request.{Request}
+use Rattle.cpi_office.specs.declared.request.Request.TheVariants as request
 
 -- what holds of both branches, each where its test says so
 pub if_holds : {A : Type 0} (P : A → Type 0) (c : Bool) (x y : A) → (c ≡ true → P x) → (c ≡ false → P y) → P (if c then x else y)

@@ -1,9 +1,9 @@
 -- Each change that is made keeps an office sound.
-use Rattle.std.proofs.Common.{map, Some, Option, ◌≡◌, ◌≢◌, ℕ, Bool, true, false, eqb, List, [], ◌∷◌, ◌++◌, None, refl, sym, ap, ◌∙◌, subst, inl, inr}
-use Rattle.std.specs.Prelude.{filter, ◌⊎◌, IsSome, ◌==◌}
+use Rattle.std.proofs.Common.{Some, Option, ◌≡◌, ◌≢◌, ℕ, Bool, true, false, eqb, List, [], ◌∷◌, ◌++◌, None, refl, sym, ap, ◌∙◌, subst, inl, inr}
+use Rattle.std.specs.Prelude.{filter, ◌⊎◌, IsSome}
 use Rattle.std.specs.declared.cmp.Ordering.{Ordering}
-use Rattle.std.specs.declared.cmp.Ordering.TheVariants.{Less, Equal, Greater}
-use Rattle.std.specs.Ordering.{nat_cmp, is_lt, is_gt, ordering_then}
+use Rattle.std.specs.declared.cmp.Ordering.TheVariants.{Less}
+use Rattle.std.specs.Ordering.{nat_cmp, is_lt, is_gt}
 use Rattle.std.specs.List.{AllByRecursion}
 use Rattle.std.specs.List.Sorted.{IsStrictlySortedBy}
 use Rattle.std.proofs.lemmas.Bool.{false≢true}
@@ -23,7 +23,7 @@ use Rattle.cpi_rows.proofs.Held.{puts_own, puts_other}
 use Rattle.cpi_rows.proofs.Places.{put_in_order}
 use Rattle.cpi_rows.proofs.Puts.{at-put_some, at-put_found}
 use Rattle.cpi_office.proofs.Bearers.{keys-put}
-use Rattle.cpi_office.proofs.Standing.{held_total, quote_total}
+use Rattle.cpi_office.proofs.Stood.{held_total, quote_total}
 use Rattle.cpi_office.proofs.Accepted.{Fits}
 
 -- ---- what holds of each row

@@ -1,8 +1,7 @@
 -- What stands in a slot, by the rows with their outlets' names and by the rows alone.
-use Rattle.std.proofs.Common.{◌≡◌, ℕ, Bool, true, false, List, [], ◌∷◌, map, Some, None, Option, refl, sym, ap, ◌∙◌}
+use Rattle.std.proofs.Common.{◌≡◌, ℕ, Bool, true, false, List, [], ◌∷◌, map, Some, None, Option, refl}
 use Rattle.std.specs.Prelude.{IsSome, option_map, is_none}
 use Rattle.std.specs.Ordering.{nat_cmp, is_eq}
-use Rattle.std.specs.declared.cmp.Ordering.TheVariants.{Equal}
 use Rattle.std.proofs.lemmas.Bool.{false≢true}
 use Rattle.cpi_rows.specs.Keyed.{at}
 use Rattle.cpi_store.specs.Outlet.{with_name}
@@ -10,7 +9,7 @@ use Rattle.cpi_survey.specs.Assignment.{same_assignment}
 use Rattle.cpi_store.specs.declared.outlet.Outlet.{Outlet}
 use Rattle.cpi_survey.specs.declared.assignment.Assignment.{Assignment}
 use Rattle.cpi_survey.specs.declared.assignment.Assigned.{Assigned}
-use Rattle.cpi_office.specs.declared.types.Standing.TheVariants.{Free}
+use Rattle.cpi_office.specs.declared.standing.Standing.TheVariants.{Free}
 use Rattle.cpi_rows.proofs.Found.{at_key}
 use Rattle.cpi_office.specs.Desk.{standing}
 use Rattle.cpi_office.specs.Named.{same_assigned, IsNamed}

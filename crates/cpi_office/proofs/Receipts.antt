@@ -5,9 +5,9 @@ use Rattle.cpi_store.specs.declared.bearer.Bearer.{Bearer}
 use Rattle.cpi_survey.specs.declared.decision.Decision.{Decision}
 use Rattle.cpi_survey.specs.declared.decision.Decision.TheVariants.{Again, Put}
 use Rattle.cpi_survey.specs.declared.refusal.Refusal.{Refusal as EntryRefusal}
-use Rattle.cpi_office.specs.declared.refusal.Refusal.{Refusal}
 use Rattle.cpi_store.specs.Office.{Office}
-use Rattle.cpi_office.specs.Runs.{decision_verdict, with_verdict}
+use Rattle.cpi_office.specs.Entries.{decision_verdict}
+use Rattle.cpi_office.specs.Verdicts.{with_verdict}
 use Rattle.cpi_office.specs.Receipts.{stored}
 
 pub stored_is : (b : Bearer) (entry : EntryRow) (d : Result Decision EntryRefusal) (o : Office) → stored b d o ≡ with_verdict (decision_verdict b entry d) o

@@ -6,9 +6,9 @@ use Rattle.cpi_office.specs.Runs.{replies, reply_to, after, next}
 use Rattle.cpi_office.specs.Served.{served, told, all_served, all_told, IsRun, Ran, is_failure}
 use Rattle.cpi_office.specs.Calls.{Serves}
 use Rattle.cpi_office.proofs.Failures.{never_failure}
-use Rattle.cpi_office.specs.declared.types.Ask.{Ask}
-use Rattle.cpi_office.specs.declared.types.Reply.{Reply}
-use Rattle.cpi_office.specs.declared.types.Reply.TheVariants.{Refused}
+use Rattle.cpi_office.specs.declared.request.Ask.{Ask}
+use Rattle.cpi_office.specs.declared.reply.Reply.{Reply}
+use Rattle.cpi_office.specs.declared.reply.Reply.TheVariants.{Refused}
 use Rattle.cpi_office.specs.declared.refusal.Refusal.TheVariants.{Unavailable}
 use Rattle.std.specs.Prelude.{◌⊎◌}
 

@@ -1,22 +1,20 @@
 -- What each accepted change does to each caller's view at each moment.
-use Rattle.std.proofs.Common.{◌≡◌, ◌≢◌, ℕ, Bool, true, false, eqb, List, [], ◌∷◌, map, Some, None, Option, refl, sym, ap, ◌∙◌, inl, inr}
-use Rattle.std.specs.Prelude.{filter, ◌⊎◌, IsSome, option_map}
+use Rattle.std.proofs.Common.{◌≡◌, ◌≢◌, ℕ, true, false, eqb, List, [], ◌∷◌, map, Some, None, Option, refl, sym, ap, ◌∙◌, inl, inr}
+use Rattle.std.specs.Prelude.{◌⊎◌, IsSome, option_map}
 use Rattle.std.specs.Ordering.{nat_cmp}
 use Rattle.std.specs.List.{AllByRecursion}
 use Rattle.std.proofs.lemmas.Bool.Decides.{eqb_tells}
-use Rattle.std.proofs.lemmas.Cmp.{nat_cmp_total}
 use Rattle.cpi_rows.specs.Held.{held_by}
 use Rattle.cpi_rows.specs.Keyed.{at, put_by}
 use Rattle.cpi_store.specs.Office.{put_assignment, put_quote}
 use Rattle.cpi_store.specs.Bearer.{bearer_of}
 use Rattle.cpi_survey.specs.Quote.{quote_key, quote_cmp}
-use Rattle.cpi_store.specs.Office.{Office, own_part, public_part}
-use Rattle.cpi_survey.specs.Own.{OwnPart}
+use Rattle.cpi_store.specs.Office.{Office}
 use Rattle.cpi_store.specs.Outlet.{with_name}
 use Rattle.cpi_survey.specs.declared.assignment.Assigned.{Assigned}
-use Rattle.cpi_office.specs.Views.{View, view, own, OwnView, own_view}
+use Rattle.cpi_office.specs.Views.{View, view, OwnView, own_view}
 use Rattle.cpi_store.specs.Office.{Change, changed, PutsItem, PutsCalendar, Registers, PutsOutlet, Assigns, Quotes}
-use Rattle.cpi_office.specs.Runs.{sights, build, with_assigned, with_quote}
+use Rattle.cpi_office.specs.Sights.{sights, build, with_assigned, with_quote}
 use Rattle.cpi_office.specs.Sound.{IsSound, HasItsRows}
 use Rattle.cpi_plan.specs.declared.items.Item.{Item}
 use Rattle.cpi_plan.specs.Calendar.{CalendarPart}
@@ -24,8 +22,8 @@ use Rattle.cpi_store.specs.declared.bearer.Bearer.{Bearer}
 use Rattle.cpi_store.specs.declared.outlet.Outlet.{Outlet}
 use Rattle.cpi_survey.specs.declared.assignment.Assignment.{Assignment}
 use Rattle.cpi_survey.specs.Quote.{QuoteRow}
-use Rattle.cpi_office.specs.declared.types.Caller.{Caller}
-use Rattle.cpi_office.specs.declared.types.Caller.TheVariants.{Public, Collector, Desk}
+use Rattle.cpi_office.specs.declared.caller.Caller.{Caller}
+use Rattle.cpi_office.specs.declared.caller.Caller.TheVariants.{Public, Collector, Desk}
 use Rattle.cpi_rows.proofs.Held.{puts_own, puts_other}
 use Rattle.cpi_rows.proofs.Puts.{map-put}
 use Rattle.cpi_office.proofs.Bearers.{numbers_apart, bearer-put_own, bearer-put_other, none_held, none_quoted, names_stay}

@@ -1,5 +1,5 @@
 -- What becomes of a request holds of the office: a change that is made fits, and one that stands is there.
-use Rattle.std.proofs.Common.{◌≡◌, ℕ, Bool, true, false, List, Some, None, Option, Result, Ok, Err, refl, sym, ap, ◌∙◌, subst, inl, inr}
+use Rattle.std.proofs.Common.{◌≡◌, ℕ, Bool, true, false, Some, None, Option, Result, refl, sym, ap, ◌∙◌, subst, inl, inr}
 use Rattle.std.specs.Prelude.{◌⊎◌, IsSome, nat_lt, nat_le, ◌||◌, is_none, option_map}
 use Rattle.std.specs.Ordering.{nat_cmp}
 use Rattle.std.proofs.lemmas.Bool.{false≢true}
@@ -12,7 +12,7 @@ use Rattle.cpi_survey.specs.Entry.{EntryRow}
 use Rattle.cpi_survey.specs.Decision.{decided, in_slot, over_quote, in_month, in_window}
 use Rattle.cpi_survey.specs.Mark.{is_same_mark}
 use Rattle.cpi_store.specs.Outlet.{with_name}
-use Rattle.cpi_survey.specs.Quote.{quote_cmp, quote_key, greatest_receipt}
+use Rattle.cpi_survey.specs.Quote.{quote_cmp, quote_key}
 use Rattle.cpi_plan.specs.Items.{same_item}
 use Rattle.cpi_store.specs.Outlet.{same_outlet}
 use Rattle.cpi_plan.specs.Calendar.{same_calendar}
@@ -26,17 +26,19 @@ use Rattle.cpi_survey.specs.declared.assignment.Assignment.{Assignment}
 use Rattle.cpi_survey.specs.declared.assignment.Assigned.{Assigned}
 use Rattle.cpi_survey.specs.declared.decision.Decision.{Decision}
 use Rattle.cpi_survey.specs.declared.refusal.Refusal.{Refusal as EntryRefusal}
-use Rattle.cpi_office.specs.declared.refusal.Refusal.{Refusal}
 use Rattle.cpi_store.specs.Office.{Office, own_part, public_part}
 use Rattle.cpi_store.specs.Bearer.{bearer_of}
 use Rattle.cpi_office.specs.Views.{view, own_view}
-use Rattle.cpi_office.specs.Desk.{Verdict, standing, put_once, item_put, outlet_put, registered, to_collector, standing_for, outlet_judged, assigned, calendar_put}
-use Rattle.cpi_office.specs.Runs.{commanded, of_collector, verdict, decision_verdict, entered, quoted}
+use Rattle.cpi_office.specs.Verdicts.{Verdict}
+use Rattle.cpi_office.specs.Desk.{standing, item_put, outlet_put, registered, to_collector, standing_for, assigned, calendar_put}
+use Rattle.cpi_office.specs.Desk.{commanded}
+use Rattle.cpi_office.specs.Entries.{of_collector, decision_verdict, entered, quoted}
+use Rattle.cpi_office.specs.Runs.{verdict}
 use Rattle.cpi_office.specs.Sound.{IsSound}
-use Rattle.cpi_office.specs.declared.types.Request.{Request}
-use Rattle.cpi_office.specs.declared.types.Request.TheVariants as request
-use Rattle.cpi_office.specs.declared.types.Caller.{Caller}
-use Rattle.cpi_office.specs.declared.types.Caller.TheVariants as caller
+use Rattle.cpi_office.specs.declared.request.Request.{Request}
+use Rattle.cpi_office.specs.declared.request.Request.TheVariants as request
+use Rattle.cpi_office.specs.declared.caller.Caller.{Caller}
+use Rattle.cpi_office.specs.declared.caller.Caller.TheVariants as caller
 use Rattle.cpi_office.proofs.Accepted.{Holds}
 use Rattle.cpi_office.proofs.Failures.{if_holds}
 use Rattle.cpi_office.proofs.Bearers.{bearer_listed}

@@ -3,10 +3,10 @@ use Rattle.std.specs.Prelude.{◌≡◌, ℕ, Bool, false, not, ◌==◌, List, 
 use Rattle.cpi_store.specs.Office.{Office}
 use Rattle.cpi_office.specs.Runs.{reply_to, next}
 use Rattle.cpi_office.specs.Sound.{IsSound}
-use Rattle.cpi_office.specs.declared.types.Ask.{Ask}
-use Rattle.cpi_office.specs.declared.types.Reply.{Reply}
-use Rattle.cpi_office.specs.declared.types.Caller.{Caller}
-use Rattle.cpi_office.specs.declared.types.Caller.TheVariants.{Public, Collector, Desk}
+use Rattle.cpi_office.specs.declared.request.Ask.{Ask}
+use Rattle.cpi_office.specs.declared.reply.Reply.{Reply}
+use Rattle.cpi_office.specs.declared.caller.Caller.{Caller}
+use Rattle.cpi_office.specs.declared.caller.Caller.TheVariants.{Public, Collector, Desk}
 
 abbrev pub is_bearer : ℕ → Caller → Bool
 is_bearer key (Collector k) = k == key

@@ -2,8 +2,8 @@
 use Rattle.std.specs.Prelude.{◌≡◌, ◌⊎◌, ℕ, ◌≤◌}
 use Rattle.cpi_office.specs.declared.refusal.Refusal.TheVariants.{Unavailable}
 use Rattle.cpi_store.specs.Office.{Office}
-use Rattle.cpi_office.specs.declared.types.Reply.{Reply}
-use Rattle.cpi_office.specs.declared.types.Reply.TheVariants as say
+use Rattle.cpi_office.specs.declared.reply.Reply.{Reply}
+use Rattle.cpi_office.specs.declared.reply.Reply.TheVariants as say
 
 module _ {B : Type 0} (is_clean : B → Type 0) (lists : B → Office) (failures : B → ℕ) where
   -- the call gives the reply and leaves the office so, or it is unavailable and changes nothing

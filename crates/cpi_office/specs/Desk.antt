@@ -1,35 +1,28 @@
 -- What each command of the desk does: refused, standing already, or a row that is put.
-use Rattle.std.specs.Prelude.{ℕ, List, Option, Some, None, is_none, if◌then◌else◌, Bool}
+use Rattle.std.specs.Prelude.{Bool, Option, Some, None, if◌then◌else◌, is_none}
 use Rattle.cpi_rows.specs.Keyed.{at}
-use Rattle.cpi_plan.specs.Items.{same_item}
-use Rattle.cpi_store.specs.Outlet.{same_outlet}
-use Rattle.cpi_plan.specs.Calendar.{same_calendar}
-use Rattle.cpi_store.specs.Bearer.{same_bearer}
-use Rattle.cpi_survey.specs.Assignment.{same_assignment}
+use Rattle.cpi_rows.specs.Held.{held_by}
+use Rattle.cpi_store.specs.Outlet.{with_name, same_outlet}
 use Rattle.cpi_plan.specs.declared.items.Item.{Item}
-use Rattle.cpi_store.specs.declared.outlet.Outlet.{Outlet}
-use Rattle.cpi_plan.specs.Calendar.{CalendarPart}
-use Rattle.cpi_survey.specs.declared.assignment.Assignment.{Assignment}
+use Rattle.cpi_plan.specs.Calendar.{CalendarPart, same_calendar}
 use Rattle.cpi_survey.specs.declared.assignment.Assigned.{Assigned}
 use Rattle.cpi_store.specs.declared.bearer.Bearer.{Bearer}
-use Rattle.cpi_office.specs.declared.refusal.Refusal.{Refusal}
-use Rattle.cpi_office.specs.declared.refusal.Refusal.TheVariants.{Taken, UnknownItem, UnknownOutlet, UnknownCollector}
 use Rattle.cpi_store.specs.Office.{Office, Change, PutsItem, PutsCalendar, Registers, PutsOutlet, Assigns}
-use Rattle.cpi_office.specs.declared.types.Standing.{Standing}
-use Rattle.cpi_office.specs.declared.types.Standing.TheVariants.{Free, Same, Other}
-
--- What becomes of a command or an entry. What stands already is accepted, and changes nothing.
-pub data Verdict : Type 0 where
-  Refuses : Refusal → Verdict
-  Stands : Change → Verdict
-  Makes : Change → Verdict
+use Rattle.cpi_store.specs.Bearer.{bearer_of, same_bearer}
+use Rattle.cpi_survey.specs.Assignment.{same_assignment}
+use Rattle.cpi_office.specs.declared.request.Request.{Request}
+use Rattle.cpi_office.specs.declared.request.Request.TheVariants as request
+use Rattle.cpi_plan.specs.Items.{same_item}
+use Rattle.cpi_store.specs.declared.outlet.Outlet.{Outlet}
+use Rattle.cpi_office.specs.declared.refusal.Refusal.TheVariants.{Taken, UnknownItem, UnknownOutlet, UnknownCollector}
+use Rattle.cpi_office.specs.declared.standing.Standing.{Standing}
+use Rattle.cpi_office.specs.declared.standing.Standing.TheVariants.{Free, Same, Other}
+use Rattle.cpi_office.specs.Verdicts.{Verdict, Refuses, Stands, Makes}
 
 -- a row against the one that stands in its place
 abbrev pub standing : {X Y : Type 0} → (Y → X → Bool) → X → Option Y → Standing
 standing same x None = Free
 standing same x (Some old) = if same old x then Same else Other
-
--- ---- rows that are never replaced
 
 abbrev pub put_once : Change → Standing → Verdict
 put_once c Free = Makes c
@@ -66,8 +59,6 @@ assigned a item outlet bearer Other = Refuses Taken
 assigned a item outlet bearer Free =
     if is_none item then Refuses UnknownItem else outlet_judged a outlet bearer
 
--- ---- rows that are replaced
-
 abbrev pub replaced : Change → Standing → Verdict
 replaced c Free = Makes c
 replaced c Same = Stands c
@@ -75,3 +66,14 @@ replaced c Other = Makes c
 
 abbrev pub calendar_put : CalendarPart → Option CalendarPart → Verdict
 calendar_put row old = replaced (PutsCalendar row) (standing same_calendar row old)
+
+-- What becomes of a command; None of a request that is none.
+abbrev pub commanded : Request → Office → Option Verdict
+commanded (request.PutItem i) o = Some (item_put i (at (λ i. i.code) i.code o.items))
+commanded (request.PutCalendar row) o = Some (calendar_put row (at (λ r. r.month) row.month o.calendar))
+commanded (request.Register b) o = Some (registered b (at (λ b. b.number) b.number o.collectors) (bearer_of b.key o.collectors))
+commanded (request.PutOutlet u) o = Some (outlet_put u (at (λ u. u.number) u.number o.outlets))
+commanded (request.Assign number a) o =
+    Some (assigned (with_name o.outlets a) (at (λ i. i.code) a.item o.items) (at (λ u. u.number) a.outlet o.outlets) (at (λ b. b.number) number o.collectors)
+    (standing same_assignment a (at (λ a. a.slot) a.slot (held_by number o.assignments))))
+commanded _ o = None

@@ -1,13 +1,15 @@
 -- The laws of whole runs.
-use Rattle.std.specs.Prelude.{◌≡◌, ◌≢◌, ℕ, List, [], ◌∷◌, ◌++◌, length, Some, slice_get}
+use Rattle.std.specs.Prelude.{◌≡◌, ◌≢◌, ℕ, List, ◌∷◌, ◌++◌, length, Some, slice_get}
 use Rattle.cpi_store.specs.Office.{Office}
 use Rattle.cpi_office.specs.Views.{view}
-use Rattle.cpi_office.specs.Runs.{after, trace, changes, seen, build, answer, replies}
+use Rattle.cpi_office.specs.Runs.{after, trace, changes, replies}
+use Rattle.cpi_office.specs.Sights.{seen, build}
+use Rattle.cpi_office.specs.Answers.{answer}
 use Rattle.cpi_office.specs.Sound.{IsSound}
-use Rattle.cpi_office.specs.declared.types.Ask.{Ask}
-use Rattle.cpi_office.specs.declared.types.Caller.{Caller}
-use Rattle.cpi_office.specs.declared.types.Caller.TheVariants.{Desk}
-use Rattle.cpi_office.specs.declared.types.Request.{Request}
+use Rattle.cpi_office.specs.declared.request.Ask.{Ask}
+use Rattle.cpi_office.specs.declared.caller.Caller.{Caller}
+use Rattle.cpi_office.specs.declared.caller.Caller.TheVariants.{Desk}
+use Rattle.cpi_office.specs.declared.request.Request.{Request}
 
 -- a sound office stays sound
 abbrev pub StaysSound : Type 0

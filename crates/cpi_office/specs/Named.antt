@@ -3,8 +3,8 @@ use Rattle.std.specs.Prelude.{◌≡◌, Bool, List, Option, Some, None, option_
 use Rattle.cpi_rows.specs.Keyed.{at}
 use Rattle.cpi_store.specs.declared.bearer.Bearer.{Bearer}
 use Rattle.cpi_office.specs.declared.refusal.Refusal.TheVariants.{Taken}
-use Rattle.cpi_office.specs.declared.types.Reply.{Reply}
-use Rattle.cpi_office.specs.declared.types.Reply.TheVariants as reply
+use Rattle.cpi_office.specs.declared.reply.Reply.{Reply}
+use Rattle.cpi_office.specs.declared.reply.Reply.TheVariants as reply
 use Rattle.cpi_survey.specs.Assignment.{same_assignment}
 use Rattle.cpi_store.specs.declared.outlet.Outlet.{Outlet}
 use Rattle.cpi_survey.specs.declared.assignment.Assignment.{Assignment}

@@ -4,9 +4,9 @@ use Rattle.cpi_office.specs.declared.refusal.Refusal.{Refusal}
 use Rattle.cpi_office.specs.declared.refusal.Refusal.TheVariants.{Unavailable}
 use Rattle.cpi_store.specs.Office.{Office}
 use Rattle.cpi_office.specs.Runs.{replies, after}
-use Rattle.cpi_office.specs.declared.types.Ask.{Ask}
-use Rattle.cpi_office.specs.declared.types.Reply.{Reply}
-use Rattle.cpi_office.specs.declared.types.Reply.TheVariants.{Refused}
+use Rattle.cpi_office.specs.declared.request.Ask.{Ask}
+use Rattle.cpi_office.specs.declared.reply.Reply.{Reply}
+use Rattle.cpi_office.specs.declared.reply.Reply.TheVariants.{Refused}
 
 abbrev pub is_unavailable : Refusal → Bool
 is_unavailable Unavailable = true

@@ -1,37 +1,26 @@
 //! The office: what each caller sees, is answered and changes.
 #![tactic(auto)]
 
-mod handle;
+mod assign;
+mod calendar;
+mod caller;
+mod callers;
+mod collectors;
+mod items;
+mod laws;
+mod office;
+mod outlets;
+mod quotes;
 mod refusal;
+mod reply;
+mod request;
 mod run;
-mod types;
+mod standing;
+mod submit;
 
-ghost use Rattle.cpi_office.specs.Laws.{StaysSound, ViewsAreRebuilt, ChangesAreEnough, AnswersAreAlike, RepliesAreFromViews};
-
-pub use handle::Office;
+pub use caller::Caller;
+pub use laws::{empty_is_sound, others_do_not_matter, views_are_rebuilt};
+pub use office::Office;
 pub use refusal::Refusal;
-pub use types::{Ask, Caller, Reply, Request};
-
-/// After any list of requests, a caller's view is the view before with the accepted requests that the caller sees.
-pub fn views_are_rebuilt()
-    ensures sound { StaysSound }
-    ensures views { ViewsAreRebuilt }
-    ensures changes { ChangesAreEnough }
-    ensures answers { AnswersAreAlike }
-    ensures replies { RepliesAreFromViews }
-{}
-
-ghost use Rattle.cpi_office.specs.Alone.{OthersDoNotMatter};
-
-/// A collector is told the same, reply by reply, if all requests of all other collectors are left out of the list.
-pub fn others_do_not_matter()
-    ensures { OthersDoNotMatter }
-{}
-
-ghost use Rattle.cpi_store.specs.Office.{empty_office};
-ghost use Rattle.cpi_office.specs.Sound.{IsSound};
-
-/// An empty office is sound.
-pub fn empty_is_sound()
-    ensures { IsSound empty_office }
-{}
+pub use reply::Reply;
+pub use request::{Ask, Request};

@@ -1,10 +1,11 @@
 ghost use Rattle.std.specs.Prelude.{◌≡◌, ◌++◌, List, IfOk, OnErr, length};
 ghost use Rattle.cpi_office.specs.Served.{Ran};
-ghost use Rattle.cpi_office.specs.declared.types.Ask.{Ask as TheAsk};
-ghost use Rattle.cpi_office.specs.declared.types.Reply.{Reply as TheReply};
+ghost use Rattle.cpi_office.specs.declared.request.Ask.{Ask as TheAsk};
+ghost use Rattle.cpi_office.specs.declared.reply.Reply.{Reply as TheReply};
 
-use crate::handle::Office;
-use crate::types::{Ask, Reply};
+use crate::office::Office;
+use crate::reply::Reply;
+use crate::request::Ask;
 use cpi_store::Book;
 use std::alloc::AllocError;
 

@@ -1,21 +1,24 @@
+//! Items.
 ghost use Rattle.std.specs.Prelude.{◌≡◌, IfOk};
 ghost use Rattle.cpi_plan.specs.Items.{same_item};
 
+use crate::tolerances::{HighTolerance, LowTolerance};
 use cpi_codes::{ItemCode, Name};
 use cpi_rows::Keyed;
 use std::alloc::{AllocError, Global};
 
-/// An item that is priced.
+/// An item that is priced: its text, the unit that is priced, and how far a price may lie from the last one.
 #[derive(Debug, Drop)]
 pub struct Item {
     pub code: ItemCode,
     pub text: Name,
     pub unit: Name,
-    pub low: u16,
-    pub high: u16,
+    pub low: LowTolerance,
+    pub high: HighTolerance,
 }
 
 impl Item {
+    /// Whether the two items have one content.
     pub fn is_same(&self, other: &Item) -> bool
         ensures { result ≡ same_item self.now other.now }
     {
@@ -26,6 +29,7 @@ impl Item {
             && self.high == other.high
     }
 
+    /// The same item once more.
     pub fn copy(&self, alloc: Global) -> Result<Item, AllocError>
         ensures { IfOk result (λ i. i ≡ self.now) }
     {

@@ -1,8 +1,10 @@
-//! What the survey is made of: the items that are priced, and the calendar of months.
+//! Items of the survey, and the rows of its calendar.
 #![tactic(auto)]
 
 mod calendar;
 mod items;
+mod tolerances;
 
 pub use calendar::CalendarRow;
 pub use items::Item;
+pub use tolerances::{HighTolerance, LowTolerance};

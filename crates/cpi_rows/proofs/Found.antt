@@ -1,5 +1,5 @@
 -- What is found by a key has it, and what is found among rows that a map keeps in their keys.
-use Rattle.std.proofs.Common.{◌≡◌, ℕ, Bool, true, false, List, [], ◌∷◌, map, Some, None, Option, refl, ap, subst}
+use Rattle.std.proofs.Common.{◌≡◌, ℕ, Bool, true, false, List, [], ◌∷◌, map, Some, None, refl, ap, subst}
 use Rattle.std.specs.Prelude.{option_map}
 use Rattle.std.specs.declared.cmp.Ordering.{Ordering}
 use Rattle.std.specs.declared.cmp.Ordering.TheVariants.{Less, Equal, Greater}
@@ -30,4 +30,3 @@ at-map f key n (r ∷ rows) = by (is_eq (nat_cmp (key (f r)) n)) refl (at-map f 
     by : (s : Bool) → is_eq (nat_cmp (key (f r)) n) ≡ s → at key n (map f rows) ≡ option_map f (at (λ x. key (f x)) n rows) → at key n (map f (r ∷ rows)) ≡ option_map f (at (λ x. key (f x)) n (r ∷ rows))
     by true e rest = rw e refl
     by false e rest = rw e rest
-

@@ -1,12 +1,11 @@
 -- What is found and what is put among the rows of holders in order.
-use Rattle.std.proofs.Common.{◌≡◌, ◌≢◌, ℕ, zero, suc, ◌+◌, ◌<◌, Bool, true, false, cond, eqb, List, [], ◌∷◌, ◌++◌, map, length, get_or, set, Some, None, Option, refl, sym, ap, ◌∙◌, arith, append_assoc, inl, inr, rules}
-use Rattle.std.specs.Prelude.{filter, ◌==◌, ◌⊎◌}
+use Rattle.std.proofs.Common.{◌≡◌, ◌≢◌, ℕ, zero, suc, ◌<◌, Bool, true, false, eqb, List, [], ◌∷◌, ◌++◌, map, length, get_or, set, None, refl, sym, ap, ◌∙◌, arith, append_assoc, inl, inr}
+use Rattle.std.specs.Prelude.{filter, ◌⊎◌}
 use Rattle.std.specs.declared.cmp.Ordering.{Ordering}
 use Rattle.std.specs.declared.cmp.Ordering.TheVariants.{Less, Equal, Greater}
 use Rattle.std.specs.Ordering.{nat_cmp, is_lt, is_gt, is_eq, ordering_then, ordering_reverse}
-use Rattle.std.specs.List.{AllByRecursion, flat_map}
-use Rattle.std.specs.List.Sorted.{IsStrictlySortedBy}
-use Rattle.std.proofs.lemmas.Bool.{eqb-true, eq-eqb}
+use Rattle.std.specs.List.{AllByRecursion}
+use Rattle.std.proofs.lemmas.Bool.{eq-eqb}
 use Rattle.std.proofs.lemmas.Bool.Decides.{eqb_tells}
 use Rattle.std.proofs.lemmas.Cmp.{tied_itself, nat_cmp_total, ranked}
 use Rattle.std.proofs.lemmas.List.Elements.{filter-append}
@@ -55,7 +54,7 @@ module _ {G X K : Type 0} (cmp : K → K → Ordering) (key : X → K) (number :
       held_append cmp key c (named g) (gathered number rows gs) ∙ by (eqb_tells (number g) c) (held_gathered c gs (sorted_tail _ g gs sorted)) (sorted_head _ g gs sorted)
     where
       by : ((eqb (number g) c ≡ true) × (number g ≡ c)) ⊎ ((eqb (number g) c ≡ false) × (number g ≢ c)) → held_by c (gathered number rows gs) ≡ rows_in rows (row_at nat_cmp number c gs) → AllByRecursion (λ h. nat_cmp (number g) (number h) ≡ Less) gs →
-        held_by c (named g) ++ held_by c (gathered number rows gs) ≡ rows_in rows (row_at nat_cmp number c (g ∷ gs))
+          held_by c (named g) ++ held_by c (gathered number rows gs) ≡ rows_in rows (row_at nat_cmp number c (g ∷ gs))
       by (inl same) rest above =
           let none : row_at nat_cmp number c gs ≡ None = missing_above number c gs (rw (sym same.1) above) in
           let here : nat_cmp (number g) c ≡ Equal = rw same.1 (tied_itself nat_cmp_total c) in
@@ -79,7 +78,7 @@ module _ {G X K : Type 0} (cmp : K → K → Ordering) (key : X → K) (number :
     drops s e fixed fails (x ∷ xs) = rw (e, fixed (cmp (key x) k), fails) (drops s e fixed fails xs)
 
     sifted_more : (x : X) (xs : List X) → nat_cmp n c ≡ Equal → (t : Bool) → test (cmp (key x) k) ≡ t → passed (map (λ x. (n, x)) xs) ≡ map (λ x. (n, x)) (filter (λ x. test (cmp (key x) k)) xs) →
-      passed (map (λ x. (n, x)) (x ∷ xs)) ≡ map (λ x. (n, x)) (filter (λ x. test (cmp (key x) k)) (x ∷ xs))
+        passed (map (λ x. (n, x)) (x ∷ xs)) ≡ map (λ x. (n, x)) (filter (λ x. test (cmp (key x) k)) (x ∷ xs))
     sifted_more x xs e true p rest = rw (e, p) (ap (λ ys. (n, x) ∷ ys) rest)
     sifted_more x xs e false p rest = rw (e, p) rest
 
@@ -103,7 +102,7 @@ module _ {G X K : Type 0} (cmp : K → K → Ordering) (key : X → K) (number :
 
   -- a row that is put among its holder's rows is put among everybody's
   pub put_gathered : (x : X) (h : G) (gs : List G) (i : ℕ) (d : G) → Sorted gs → i < length gs → number h ≡ number (get_or gs i d) → rows h ≡ put cmp key x (rows (get_or gs i d)) →
-    gathered number rows (set gs i h) ≡ put (held_cmp cmp) (held_key key) (number (get_or gs i d), x) (gathered number rows gs)
+      gathered number rows (set gs i h) ≡ put (held_cmp cmp) (held_key key) (number (get_or gs i d), x) (gathered number rows gs)
   put_gathered x h [] i d sorted in_range same after = absurd (omega arith)
   put_gathered x h (g ∷ gs) zero d sorted in_range same after =
       let c = number g in

@@ -1,19 +1,15 @@
 -- What one holder sees of a row that is put among the rows of all.
-use Rattle.std.proofs.Common.{◌≡◌, ◌≢◌, ℕ, zero, suc, ◌<◌, Bool, true, false, cond, eqb, List, [], ◌∷◌, ◌++◌, map, length, get_or, set, refl, sym, ap, ◌∙◌, arith, append_assoc, inl, inr, rules}
-use Rattle.std.specs.Prelude.{filter, ◌==◌, ◌⊎◌}
+use Rattle.std.proofs.Common.{◌≡◌, ◌≢◌, ℕ, Bool, true, false, eqb, List, [], ◌∷◌, ◌++◌, map, refl, sym, ap, ◌∙◌, inl, inr}
+use Rattle.std.specs.Prelude.{filter, ◌⊎◌}
 use Rattle.std.specs.declared.cmp.Ordering.{Ordering}
 use Rattle.std.specs.declared.cmp.Ordering.TheVariants.{Less, Equal, Greater}
-use Rattle.std.specs.Ordering.{nat_cmp, is_lt, is_gt, is_eq, ordering_then, ordering_reverse}
-use Rattle.std.specs.Cmp.{IsTotalOrder}
-use Rattle.std.specs.List.{AllByRecursion, flat_map}
-use Rattle.std.specs.List.Sorted.{IsStrictlySortedBy}
-use Rattle.std.proofs.lemmas.Bool.{eqb-true, eq-eqb, false≢true}
-use Rattle.std.proofs.lemmas.Bool.Decides.{eqb_tells, nat_tests}
+use Rattle.std.specs.Ordering.{nat_cmp, is_lt, is_gt}
+use Rattle.std.proofs.lemmas.Bool.{eq-eqb}
+use Rattle.std.proofs.lemmas.Bool.Decides.{eqb_tells}
 use Rattle.std.proofs.lemmas.Cmp.{tied_itself, nat_cmp_total, ranked}
 use Rattle.std.proofs.lemmas.List.Elements.{filter-append}
 use Rattle.std.proofs.lemmas.List.{map-append, append-nil}
-use Rattle.std.proofs.lemmas.Map.Keys.{sorted_head, sorted_tail}
-use Rattle.cpi_rows.specs.Keyed.{put, row_at, IsInOrder}
+use Rattle.cpi_rows.specs.Keyed.{put}
 use Rattle.cpi_rows.specs.Held.{held_cmp, held_key, held_by}
 
 module _ {X K : Type 0} (cmp : K → K → Ordering) (key : X → K) where
@@ -38,7 +34,7 @@ module _ {X K : Type 0} (cmp : K → K → Ordering) (key : X → K) where
 
   -- a test on the order among all rows is, among one holder's, the test on the order of the keys
   tested : (test : Ordering → Bool) (c : ℕ) (k : K) (rows : List (ℕ × X)) →
-    held_by c (filter (λ r. test (held_cmp cmp (held_key key r) (c, k))) rows) ≡ filter (λ x. test (cmp (key x) k)) (held_by c rows)
+      held_by c (filter (λ r. test (held_cmp cmp (held_key key r) (c, k))) rows) ≡ filter (λ x. test (cmp (key x) k)) (held_by c rows)
   tested test c k [] = refl
   tested test c k (r ∷ rows) = tested_more test c k r rows (eqb_tells r.0 c) (tested test c k rows)
 
@@ -51,7 +47,6 @@ module _ {X K : Type 0} (cmp : K → K → Ordering) (key : X → K) where
       ∙ ap (λ ys. held_by c (filter (λ r. is_lt (held_cmp cmp (held_key key r) (c, key row))) rows) ++ ys) (held_head c row (filter (λ r. is_gt (held_cmp cmp (held_key key r) (c, key row))) rows))
       ∙ ap (λ ys. ys ++ row ∷ held_by c (filter (λ r. is_gt (held_cmp cmp (held_key key r) (c, key row))) rows)) (tested is_lt c (key row) rows)
       ∙ ap (λ ys. filter (λ x. is_lt (cmp (key x) (key row))) (held_by c rows) ++ row ∷ ys) (tested is_gt c (key row) rows)
-
 
   module _ (test : Ordering → Bool) (c n : ℕ) (k : K) (r : ℕ × X) (rows : List (ℕ × X)) where
     abbrev Passed : List (ℕ × X) → List (ℕ × X)

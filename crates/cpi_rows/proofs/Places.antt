@@ -1,17 +1,15 @@
 -- What a binary search among rows in order finds, and what an edit there does.
-use Rattle.std.proofs.Common.{◌≡◌, ℕ, zero, suc, ◌+◌, ◌<◌, ◌≤◌, Bool, true, false, cond, List, [], ◌∷◌, ◌++◌, length, get_or, set, take, drop, Some, None, Option, Result, Ok, Err, refl, sym, ap, ◌∙◌, subst, arith, rules, inl, inr}
-use Rattle.std.specs.Prelude.{filter, IsSome, MatchResult}
+use Rattle.std.proofs.Common.{◌≡◌, ℕ, zero, suc, ◌<◌, ◌≤◌, Bool, true, false, List, [], ◌∷◌, ◌++◌, length, get_or, set, take, drop, Some, None, Result, Ok, Err, refl, sym, ap, ◌∙◌, arith, inl, inr}
+use Rattle.std.specs.Prelude.{filter}
 use Rattle.std.specs.declared.cmp.Ordering.{Ordering}
 use Rattle.std.specs.declared.cmp.Ordering.TheVariants.{Less, Equal, Greater}
 use Rattle.std.specs.Ordering.{is_lt, is_gt, is_eq, ordering_index, ordering_reverse}
 use Rattle.std.specs.Cmp.{IsTotalOrder}
 use Rattle.std.specs.List.{AllByRecursion, insert}
 use Rattle.std.specs.List.Sorted.{IsStrictlySortedBy, IsNonDecreasingBy, IsBinarySearchResult, IsSearchInRange}
-use Rattle.std.proofs.lemmas.Cmp.{tied_itself, tied_back, alike_right, upto}
+use Rattle.std.proofs.lemmas.Cmp.{alike_right, upto}
 use Rattle.std.proofs.lemmas.Bool.{cases_lt}
-use Rattle.std.proofs.lemmas.Grind.{common_steps}
 use Rattle.std.proofs.lemmas.Map.Keys.{sorted_head, sorted_tail, Less-from_sorted}
-use Rattle.std.proofs.lemmas.List.Sorted.{IsNonDecreasingBy-from_default}
 use Rattle.std.proofs.lemmas.List.Kept.{IsStrictlySortedBy-filter}
 use Rattle.cpi_rows.specs.Keyed.{put, row_at, IsInOrder, IsPlace}
 
@@ -86,8 +84,8 @@ module _ {X K : Type 0} {R : K → K → Ordering} (o : IsTotalOrder R) (key : X
 
   pub missing_at_gap : (rows : List X) (k : K) (i : ℕ) → IsPlace R key k rows (Err i) → row_at R key k rows ≡ None
   missing_at_gap rows k i place = row_missing o key rows k (λ j d lt. elim (cases_lt j i) [
-      | inl below ↦ ap is_eq (place.1 j d below)
-      | inr above ↦ ap is_eq (place.2 j d above lt)
+    | inl below ↦ ap is_eq (place.1 j d below)
+    | inr above ↦ ap is_eq (place.2 j d above lt)
   ])
 
   -- a write over the row with the key puts the row in its place
@@ -179,7 +177,7 @@ module _ {X K : Type 0} {R : K → K → Ordering} (o : IsTotalOrder R) (key : X
   put_same (y ∷ ys) sorted x found = same_more x y ys (R (key y) (key x)) refl (sorted_head _ y ys sorted) found (λ f. put_same ys (sorted_tail _ y ys sorted) x f)
 
   around_more : (k : K) (y : X) (ys : List X) → (s : Ordering) → R (key y) k ≡ s → AllByRecursion (λ z. R (key y) (key z) ≡ Less) ys → row_at R key k (y ∷ ys) ≡ None → (row_at R key k ys ≡ None → filter (λ z. is_lt (R (key z) k)) ys ++ filter (λ z. is_gt (R (key z) k)) ys ≡ ys) →
-    filter (λ z. is_lt (R (key z) k)) (y ∷ ys) ++ filter (λ z. is_gt (R (key z) k)) (y ∷ ys) ≡ y ∷ ys
+      filter (λ z. is_lt (R (key z) k)) (y ∷ ys) ++ filter (λ z. is_gt (R (key z) k)) (y ∷ ys) ≡ y ∷ ys
   around_more k y ys Less e all missing rest = rw (ap is_lt e, ap is_gt e) (ap (λ zs. y ∷ zs) (rest (rw (ap is_eq e) at missing)))
   around_more k y ys Equal e all missing rest = let wrong : Some y ≡ None = rw (ap is_eq e) at missing in cc
   around_more k y ys Greater e all missing rest =

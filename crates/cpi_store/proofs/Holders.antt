@@ -10,6 +10,8 @@ use Rattle.cpi_rows.specs.Keyed.{put, row_at, IsInOrder}
 use Rattle.cpi_rows.specs.Held.{held_by, held_cmp, held_key}
 use Rattle.cpi_rows.specs.Gathered.{gathered, rows_in}
 use Rattle.cpi_rows.proofs.Places.{row_found, put_at_row, put_in_order}
+use Rattle.cpi_rows.proofs.Puts.{map-put}
+use Rattle.cpi_survey.specs.declared.assignment.Assigned.{Assigned}
 use Rattle.cpi_rows.proofs.Gathered.{held_gathered, put_gathered}
 use Rattle.cpi_survey.specs.Quote.{QuoteRow}
 use Rattle.cpi_survey.specs.Quote.{quote_cmp, quote_key}
@@ -52,6 +54,16 @@ module _ (hs : List Holder) (sorted : IsInOrder nat_cmp (λ h. h.number) hs) (c 
     pub assignments_after : after.own.assignments ≡ h.own.assignments → all_assignments (set hs at after) ≡ all_assignments hs
     assignments_after e = flat_map_set_same (λ g. map (λ x. (g.number, x)) (assignments_of g)) hs at after h
         (ap (λ n. map (λ x. (n, x)) (assignments_of after)) same_at ∙ ap (λ ws. map (λ x. ((get_or hs at h).number, x)) (map (λ a. a.assignment) ws)) (e ∙ ap (λ (g : Holder). g.own.assignments) found))
+
+    pub quotes_same : after.own.quotes ≡ h.own.quotes → all_quotes (set hs at after) ≡ all_quotes hs
+    quotes_same e = flat_map_set_same (λ g. map (λ x. (g.number, x)) (quotes_of g)) hs at after h
+        (ap (λ n. map (λ x. (n, x)) (quotes_of after)) same_at ∙ ap (λ ws. map (λ x. ((get_or hs at h).number, x)) ws) (e ∙ ap (λ (g : Holder). g.own.quotes) found))
+
+    pub assignments_put : (a : Assigned) → after.own.assignments ≡ put nat_cmp (λ x. x.assignment.slot) a h.own.assignments → all_assignments (set hs at after) ≡ put (held_cmp nat_cmp) (held_key (λ x. x.slot)) (c, a.assignment) (all_assignments hs)
+    assignments_put a e =
+        put_gathered nat_cmp (λ (x : Assignment). x.slot) (λ g. g.number) assignments_of a.assignment after hs at h sorted in_range same_at
+        (ap (map (λ (x : Assigned). x.assignment)) e ∙ map-put nat_cmp (λ (x : Assignment). x.slot) (λ (x : Assigned). x.assignment) a h.own.assignments ∙ ap (λ (g : Holder). put nat_cmp (λ (x : Assignment). x.slot) a.assignment (assignments_of g)) found)
+        ∙ ap (λ n. put (held_cmp nat_cmp) (held_key (λ (x : Assignment). x.slot)) (n, a.assignment) (all_assignments hs)) number_is
 
     pub order_after : IsInOrder nat_cmp (λ g. g.number) (set hs at after)
     order_after =

@@ -7,6 +7,7 @@ use Rattle.cpi_survey.specs.Quote.{QuoteRow}
 use Rattle.cpi_survey.specs.declared.assignment.Assignment.{Assignment}
 use Rattle.cpi_survey.specs.declared.assignment.Assigned.{Assigned}
 use Rattle.cpi_survey.specs.Own.{OwnPart}
+use Rattle.cpi_survey.specs.Public.{PublicPart}
 use Rattle.cpi_store.specs.Outlet.{with_name}
 use Rattle.cpi_store.specs.declared.outlet.Outlet.{Outlet}
 use Rattle.cpi_store.specs.declared.bearer.Bearer.{Bearer}
@@ -30,6 +31,17 @@ all_assignments hs = gathered (λ h. h.number) assignments_of hs
 
 abbrev pub all_quotes : List Holder → List (ℕ × QuoteRow)
 all_quotes hs = gathered (λ h. h.number) quotes_of hs
+
+-- the office that a public part, the outlets and the holders make up
+abbrev pub office_of : PublicPart → List Outlet → List Holder → Office
+office_of public outlets holders = record {
+  items = public.items;
+  calendar = public.calendar;
+  collectors = collectors_of holders;
+  outlets = outlets;
+  assignments = all_assignments holders;
+  quotes = all_quotes holders;
+}
 
 -- the office that a book in memory holds, and how often it failed
 pub record Kept : Type 0 where

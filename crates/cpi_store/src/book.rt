@@ -1,4 +1,4 @@
-ghost use Rattle.std.specs.Prelude.{◌≡◌, ◌<◌, ℕ, IsSome, None, Some};
+ghost use Rattle.std.specs.Prelude.{◌≡◌, ◌<◌, ℕ, IsOk, IsSome, None, Some};
 ghost use Rattle.std.specs.Option.{option_copied};
 
 use crate::bearer::Bearer;
@@ -24,7 +24,7 @@ pub trait Book {
     ghost use Rattle.cpi_survey.specs.Quote.{greatest_receipt};
     ghost use Rattle.cpi_store.specs.Outlet.{with_name};
     ghost use Rattle.cpi_store.specs.Office.{Office, public_part, own_part, changed, PutsItem, PutsCalendar, Registers, PutsOutlet, Assigns, Quotes};
-    ghost use Rattle.cpi_store.specs.Bearer.{bearer_of};
+    ghost use Rattle.cpi_store.specs.Bearer.{bearer_of, collector_of, collector_key};
     ghost use Rattle.cpi_store.specs.Calls.{Reads, Writes, EndsAs};
     ghost use Rattle.cpi_rows.specs.Held.{held_by};
     ghost use Rattle.cpi_rows.specs.Keyed.{at};
@@ -38,46 +38,68 @@ pub trait Book {
     /// Whether what is said of the lists holds.
     ghost is_clean: { Self → Type 0 };
 
+    /// Which lists may stand after a crash.
+    ghost may_leave: { Self → Office → Type 0 };
+
+    /// That a look-up of a collector, by key or by number, never fails.
+    ghost finds_always: { Type 0 };
+
     /// The collector who bears the key.
     fn bearer_of(&mut self, key: Key) -> Result<Option<Bearer>, StoreFault>
-        ensures reads { Reads is_clean lists failures self.old self.new result (λ found. found ≡ bearer_of key (lists self.old).collectors) };
+        ensures reads { Reads is_clean lists failures may_leave self.old self.new result (λ found. found ≡ bearer_of key (lists self.old).collectors) }
+        ensures always { finds_always → IsOk result };
 
     /// The collector with the number.
     fn bearer_at(&mut self, number: CollectorId) -> Result<Option<Bearer>, StoreFault>
-        ensures reads { Reads is_clean lists failures self.old self.new result (λ found. found ≡ at (λ b. b.number) number (lists self.old).collectors) };
+        ensures reads { Reads is_clean lists failures may_leave self.old self.new result (λ found. found ≡ at (λ b. b.number) number (lists self.old).collectors) }
+        ensures always { finds_always → IsOk result };
+
+    /// The number of the collector who bears the key.
+    fn collector_of(&mut self, key: Key) -> Result<Option<CollectorId>, StoreFault>
+        ensures reads { Reads is_clean lists failures may_leave self.old self.new result (λ found. found ≡ collector_of key (lists self.old).collectors) }
+        ensures always { finds_always → IsOk result };
+
+    /// The key that the collector with the number bears.
+    fn collector_key(&mut self, number: CollectorId) -> Result<Option<Key>, StoreFault>
+        ensures reads { Reads is_clean lists failures may_leave self.old self.new result (λ found. found ≡ collector_key number (lists self.old).collectors) }
+        ensures always { finds_always → IsOk result };
 
     /// The outlet with the number.
     fn outlet(&mut self, number: OutletId) -> Result<Option<&Outlet>, StoreFault>
-        ensures* reads { sem 𝓛 (EndsAs Self.row self.entry (λ book. Reads is_clean lists failures self.old book result (λ found. option_copied found ≡ at (λ u. u.number) number (lists self.old).outlets))) };
+        ensures* reads { sem 𝓛 (EndsAs Self.row self.entry (λ book. Reads is_clean lists failures may_leave self.old book result (λ found. option_copied found ≡ at (λ u. u.number) number (lists self.old).outlets))) };
 
     /// The public specification.
     fn public_part(&mut self) -> Result<&Public, StoreFault>
-        ensures* reads { sem 𝓛 (EndsAs Self.row self.entry (λ book. Reads is_clean lists failures self.old book result (λ public. public.now ≡ public_part (lists self.old)))) };
+        ensures* reads { sem 𝓛 (EndsAs Self.row self.entry (λ book. Reads is_clean lists failures may_leave self.old book result (λ public. public.now ≡ public_part (lists self.old)))) };
+
+    /// What a collector has; a number that nobody has, has nothing.
+    fn own(&mut self, collector: CollectorId) -> Result<&Own, StoreFault>
+        ensures* reads { sem 𝓛 (EndsAs Self.row self.entry (λ book. Reads is_clean lists failures may_leave self.old book result (λ own. own.now ≡ own_part collector (lists self.old)))) };
 
     /// The public specification, and what a collector has; a number that nobody has, has nothing.
     fn parts(&mut self, collector: CollectorId) -> Result<Parts<'_>, StoreFault>
-        ensures* reads { sem 𝓛 (EndsAs Self.row self.entry (λ book. Reads is_clean lists failures self.old book result (λ parts.
+        ensures* reads { sem 𝓛 (EndsAs Self.row self.entry (λ book. Reads is_clean lists failures may_leave self.old book result (λ parts.
             (parts.public.now ≡ public_part (lists self.old)) × (parts.own.now ≡ own_part collector (lists self.old))))) };
 
     /// Puts a new item.
     fn put_item(&mut self, item: Item) -> Result<(), StoreFault>
         requires new { is_clean self.old → at (λ i. i.code) item.code (lists self.old).items ≡ None }
-        ensures writes { Writes is_clean lists failures self.old self.new result (changed (PutsItem item) (lists self.old)) };
+        ensures writes { Writes is_clean lists failures may_leave self.old self.new result (changed (PutsItem item) (lists self.old)) };
 
     /// Puts a month's row, over the one that stands if there is one.
     fn put_calendar(&mut self, row: CalendarRow) -> Result<(), StoreFault>
-        ensures writes { Writes is_clean lists failures self.old self.new result (changed (PutsCalendar row) (lists self.old)) };
+        ensures writes { Writes is_clean lists failures may_leave self.old self.new result (changed (PutsCalendar row) (lists self.old)) };
 
     /// Puts a new collector with a new key.
     fn put_collector(&mut self, bearer: Bearer) -> Result<(), StoreFault>
         requires number { is_clean self.old → at (λ b. b.number) bearer.number (lists self.old).collectors ≡ None }
         requires key { is_clean self.old → bearer_of bearer.key (lists self.old).collectors ≡ None }
-        ensures writes { Writes is_clean lists failures self.old self.new result (changed (Registers bearer) (lists self.old)) };
+        ensures writes { Writes is_clean lists failures may_leave self.old self.new result (changed (Registers bearer) (lists self.old)) };
 
     /// Puts a new outlet.
     fn put_outlet(&mut self, outlet: Outlet) -> Result<(), StoreFault>
         requires new { is_clean self.old → at (λ u. u.number) outlet.number (lists self.old).outlets ≡ None }
-        ensures writes { Writes is_clean lists failures self.old self.new result (changed (PutsOutlet outlet) (lists self.old)) };
+        ensures writes { Writes is_clean lists failures may_leave self.old self.new result (changed (PutsOutlet outlet) (lists self.old)) };
 
     /// Puts a new assignment of the collector, with the name of its outlet.
     fn put_assignment(&mut self, bearer: Bearer, assigned: Assigned) -> Result<(), StoreFault>
@@ -86,11 +108,11 @@ pub trait Book {
         requires item { is_clean self.old → IsSome (at (λ i. i.code) assigned.assignment.item (lists self.old).items) }
         requires outlet { is_clean self.old → IsSome (at (λ u. u.number) assigned.assignment.outlet (lists self.old).outlets) }
         requires name { is_clean self.old → assigned ≡ with_name (lists self.old).outlets assigned.assignment }
-        ensures writes { Writes is_clean lists failures self.old self.new result (changed (Assigns bearer assigned) (lists self.old)) };
+        ensures writes { Writes is_clean lists failures may_leave self.old self.new result (changed (Assigns bearer assigned) (lists self.old)) };
 
     /// Puts a quote of the collector, over the one of its slot and month if there is one.
     fn put_quote(&mut self, bearer: Bearer, quote: Quote) -> Result<(), StoreFault>
         requires known { is_clean self.old → IsSome (at (λ b. b.number) bearer.number (lists self.old).collectors) }
         requires receipt { is_clean self.old → greatest_receipt (held_by bearer.number (lists self.old).quotes) < quote.receipt }
-        ensures writes { Writes is_clean lists failures self.old self.new result (changed (Quotes bearer quote) (lists self.old)) };
+        ensures writes { Writes is_clean lists failures may_leave self.old self.new result (changed (Quotes bearer quote) (lists self.old)) };
 }

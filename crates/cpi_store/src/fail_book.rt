@@ -4,7 +4,7 @@ use crate::failures::Failures;
 use crate::outlet::Outlet;
 use cpi_codes::{CollectorId, Key, OutletId};
 use cpi_plan::{CalendarRow, Item};
-use cpi_survey::{Assigned, Public, Quote};
+use cpi_survey::{Assigned, Own, Public, Quote};
 
 /// A book that passes each call on but the n-th, which it fails.
 #[derive(Drop)]
@@ -57,6 +57,10 @@ impl<B: Book> Book for FailBook<B> {
 
     ghost is_clean = { λ f. B.is_clean f.inner };
 
+    ghost may_leave = { λ f. B.may_leave f.inner };
+
+    ghost finds_always = { ⊥ };
+
     fn bearer_of(&mut self, key: Key) -> Result<Option<Bearer>, StoreFault> {
         if self.fails() {
             return Err(StoreFault);
@@ -71,6 +75,20 @@ impl<B: Book> Book for FailBook<B> {
         self.inner.bearer_at(number)
     }
 
+    fn collector_of(&mut self, key: Key) -> Result<Option<CollectorId>, StoreFault> {
+        if self.fails() {
+            return Err(StoreFault);
+        }
+        self.inner.collector_of(key)
+    }
+
+    fn collector_key(&mut self, number: CollectorId) -> Result<Option<Key>, StoreFault> {
+        if self.fails() {
+            return Err(StoreFault);
+        }
+        self.inner.collector_key(number)
+    }
+
     fn outlet(&mut self, number: OutletId) -> Result<Option<&Outlet>, StoreFault> {
         if self.fails() {
             return Err(StoreFault);
@@ -83,6 +101,13 @@ impl<B: Book> Book for FailBook<B> {
             return Err(StoreFault);
         }
         self.inner.public_part()
+    }
+
+    fn own(&mut self, collector: CollectorId) -> Result<&Own, StoreFault> {
+        if self.fails() {
+            return Err(StoreFault);
+        }
+        self.inner.own(collector)
     }
 
     fn parts(&mut self, collector: CollectorId) -> Result<Parts<'_>, StoreFault> {

@@ -1,7 +1,7 @@
 use crate::bearer::Bearer;
 use crate::book::{Book, Parts, StoreFault};
 use crate::failures::Failures;
-use crate::holder::{Holder, put_quote_of};
+use crate::holder::{Holder, put_assignment_of, put_holder, put_quote_of};
 use crate::outlet::Outlet;
 use cpi_codes::{CollectorId, Key, OutletId};
 use cpi_plan::{CalendarRow, Item};
@@ -21,6 +21,7 @@ pub struct VecBook {
     // what a number that nobody has, has
     nobody: Own,
     failed: Failures,
+    alloc: Global,
 }
 
 impl Model for VecBook {
@@ -29,21 +30,11 @@ impl Model for VecBook {
     ghost use Rattle.std.specs.BTreeMap.{get};
     ghost use Rattle.cpi_rows.specs.Keyed.{IsInOrder};
     ghost use Rattle.cpi_store.specs.Bearer.{bearer_of};
-    ghost use Rattle.cpi_store.specs.Holders.{Kept, ArePlaced, collectors_of, all_assignments, all_quotes, named_by};
+    ghost use Rattle.cpi_store.specs.Holders.{Kept, ArePlaced, collectors_of, named_by, office_of};
 
     ghost Value = { Kept };
 
-    ghost view = { λ b. record {
-      office = record {
-        items = b.public.items;
-        calendar = b.public.calendar;
-        collectors = collectors_of b.holders.items;
-        outlets = b.outlets.items;
-        assignments = all_assignments b.holders.items;
-        quotes = all_quotes b.holders.items;
-      };
-      failures = b.failed.count;
-    } };
+    ghost view = { λ b. record { office = office_of b.public b.outlets.items b.holders.items; failures = b.failed.count } };
 
     ghost invariant = { λ b. record {
       holders : IsInOrder nat_cmp (λ h. h.number) b.holders.items;
@@ -65,15 +56,18 @@ impl VecBook {
         ensures public { result.public.now ≡ public_part self.now.office }
         ensures own { result.own.now ≡ own_part collector self.now.office }
     {
+        Parts {
+            public: &self.public,
+            own: self.own_of(collector),
+        }
+    }
+
+    fn own_of(&self, collector: CollectorId) -> &Own
+        ensures { result.now ≡ own_part collector self.now.office }
+    {
         match find_row(&self.holders, &collector) {
-            Some(holder) => Parts {
-                public: &self.public,
-                own: &holder.own,
-            },
-            None => Parts {
-                public: &self.public,
-                own: &self.nobody,
-            },
+            Some(holder) => &holder.own,
+            None => &self.nobody,
         }
     }
 }
@@ -94,6 +88,7 @@ impl VecBook {
             bearers: BTreeMap::new(alloc),
             nobody: Own::from_parts(Vec::new(alloc), Vec::new(alloc), 0),
             failed: Failures::none(),
+            alloc,
         }
     }
 
@@ -119,6 +114,10 @@ impl Book for VecBook {
 
     ghost is_clean = { λ _. ⊤ };
 
+    ghost may_leave = { λ _ _. ⊥ };
+
+    ghost finds_always = { ⊤ };
+
     fn bearer_of(&mut self, key: Key) -> Result<Option<Bearer>, StoreFault> {
         Ok(self.bearers.get(&key).copied())
     }
@@ -127,12 +126,24 @@ impl Book for VecBook {
         Ok(self.holder_at(number))
     }
 
+    fn collector_of(&mut self, key: Key) -> Result<Option<CollectorId>, StoreFault> {
+        Ok(self.bearers.get(&key).map(|bearer| bearer.number))
+    }
+
+    fn collector_key(&mut self, number: CollectorId) -> Result<Option<Key>, StoreFault> {
+        Ok(self.holder_at(number).map(|bearer| bearer.key))
+    }
+
     fn outlet(&mut self, number: OutletId) -> Result<Option<&Outlet>, StoreFault> {
         Ok(find_row(&self.outlets, &number))
     }
 
     fn public_part(&mut self) -> Result<&Public, StoreFault> {
         Ok(&self.public)
+    }
+
+    fn own(&mut self, collector: CollectorId) -> Result<&Own, StoreFault> {
+        Ok(self.own_of(collector))
     }
 
     fn parts(&mut self, collector: CollectorId) -> Result<Parts<'_>, StoreFault> {
@@ -161,10 +172,16 @@ impl Book for VecBook {
         }
     }
 
-    fn put_collector(&mut self, _bearer: Bearer) -> Result<(), StoreFault> {
-        let more = self.failed.one_more();
-        self.failed = more;
-        Err(StoreFault)
+    fn put_collector(&mut self, bearer: Bearer) -> Result<(), StoreFault> {
+        let holder = Holder::new(self.alloc, bearer);
+        match put_holder(&mut self.holders, &mut self.bearers, holder) {
+            Ok(()) => Ok(()),
+            Err(_) => {
+                let more = self.failed.one_more();
+                self.failed = more;
+                Err(StoreFault)
+            }
+        }
     }
 
     fn put_outlet(&mut self, outlet: Outlet) -> Result<(), StoreFault> {
@@ -178,10 +195,15 @@ impl Book for VecBook {
         }
     }
 
-    fn put_assignment(&mut self, _bearer: Bearer, _assigned: Assigned) -> Result<(), StoreFault> {
-        let more = self.failed.one_more();
-        self.failed = more;
-        Err(StoreFault)
+    fn put_assignment(&mut self, bearer: Bearer, assigned: Assigned) -> Result<(), StoreFault> {
+        match put_assignment_of(&mut self.holders, bearer.number, assigned) {
+            Ok(()) => Ok(()),
+            Err(_) => {
+                let more = self.failed.one_more();
+                self.failed = more;
+                Err(StoreFault)
+            }
+        }
     }
 
     fn put_quote(&mut self, bearer: Bearer, quote: Quote) -> Result<(), StoreFault> {

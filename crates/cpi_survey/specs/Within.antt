@@ -1,11 +1,15 @@
 -- The quotes of some months.
-use Rattle.std.specs.Prelude.{ℕ, ◌+◌, ◌-◌, Bool, ◌==◌, List, filter}
+use Rattle.std.specs.Prelude.{ℕ, ◌+◌, ◌-◌, Bool, ◌&&◌, ◌==◌, nat_le, List, filter}
 use Rattle.std.specs.List.{flat_map, range_with_len}
 use Rattle.cpi_survey.specs.Quote.{QuoteRow}
 
 -- the quotes of a month
 abbrev pub is_of : ℕ → QuoteRow → Bool
 is_of month q = q.month == month
+
+-- a month from the first to the last
+abbrev pub is_within : ℕ → ℕ → QuoteRow → Bool
+is_within first last q = nat_le first q.month && nat_le q.month last
 
 -- the quotes of some months: those of the first month, then those of the next, and each month's by slot
 abbrev pub quotes_within : ℕ → ℕ → List QuoteRow → List QuoteRow

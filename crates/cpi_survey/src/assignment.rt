@@ -7,16 +7,22 @@ use cpi_rows::Keyed;
 /// What a slot of a collector is for: an item to be priced in an outlet, from the first month to the last.
 #[derive(Clone, Copy, Debug, PartialEq, Eq)]
 pub struct Assignment {
+    /// The slot of the collector, which is given once and never changes.
     pub slot: Slot,
+    /// The outlet in which the item is priced.
     pub outlet: OutletId,
+    /// The item that is priced.
     pub item: ItemCode,
+    /// The first month in which the slot is active.
     pub first_month: Month,
+    /// The last month in which the slot is active.
     pub last_month: Month,
     /// The series that is priced, named by the collector and the slot that it was first given to.
     pub series: SeriesId,
 }
 
 impl Assignment {
+    /// Whether both have the same content, field by field.
     pub fn is_same(&self, other: &Assignment) -> bool
         ensures { result ≡ same_assignment self.now other.now }
     {
@@ -43,7 +49,9 @@ impl Keyed for Assignment {
 /// An assignment with its outlet's name, as its collector sees it.
 #[derive(Debug, Drop)]
 pub struct Assigned {
+    /// What the slot is for.
     pub assignment: Assignment,
+    /// The name of the assignment's outlet.
     pub outlet_name: Name,
 }
 

@@ -11,7 +11,7 @@ use cpi_rows::{find_row, put_row};
 use std::alloc::AllocError;
 use std::marker::Model;
 
-/// What a collector has in the office.
+/// What a collector has in the office: the assignments by slot, and the stored quotes by slot and then by month.
 #[derive(Drop)]
 pub struct Own {
     assignments: Vec<Assigned>,
@@ -38,7 +38,8 @@ impl Model for Own {
 }
 
 impl Own {
-    /// The assignments by slot, the quotes by slot and month, and the greatest receipt.
+    /// A collector's part from its rows. The caller owes one assignment a slot, in the order of slots, one quote a slot and month,
+    /// in the order of slots and then of months, and the greatest receipt among the quotes, or 0 where there is none.
     pub fn from_parts(assignments: Vec<Assigned>, quotes: Vec<Quote>, greatest: u32) -> Own
         requires assignments_in_order { IsInOrder nat_cmp (λ a. a.assignment.slot) assignments.items }
         requires quotes_in_order { IsInOrder quote_cmp quote_key quotes.items }
@@ -52,7 +53,8 @@ impl Own {
         }
     }
 
-    /// Puts a quote with a new receipt. A quote of its slot and month is replaced, which takes no memory.
+    /// Puts a quote in its place, over that of its slot and month if there is one, which takes no memory. The caller owes a receipt above
+    /// all others. An `Err` says that memory was refused; nothing has changed then.
     pub fn put_quote(&mut self, quote: Quote) -> Result<(), AllocError>
         requires { greatest_receipt self.old.quotes < quote.receipt }
         ensures ok { OnOk result (self.new ≡ record self.old { quotes = put quote_cmp quote_key quote self.old.quotes }) }
@@ -66,30 +68,40 @@ impl Own {
         Ok(())
     }
 
-    /// The assignment of the slot.
+    /// Puts an assignment, over the one of its slot if there is one, which takes no memory.
+    pub fn put_assignment(&mut self, assigned: Assigned) -> Result<(), AllocError>
+        ensures ok { OnOk result (self.new ≡ record self.old { assignments = put nat_cmp (λ a. a.assignment.slot) assigned self.old.assignments }) }
+        ensures err { OnErr result (self.new ≡ self.old) }
+        ensures quotes { self.new.quotes ≡ self.old.quotes }
+    {
+        put_row(&mut self.assignments, assigned)
+    }
+
+    /// The assignment of the slot with its outlet's name, if the slot was given.
     pub fn assigned(&self, slot: Slot) -> Option<&Assigned>
         ensures { option_copied result ≡ at (λ a. a.assignment.slot) slot self.now.assignments }
     {
         find_row(&self.assignments, &slot)
     }
 
-    /// The stored quote of the slot and the month.
+    /// The stored quote of the slot and the month, if there is one.
     pub fn quote(&self, slot: Slot, month: Month) -> Option<&Quote>
         ensures { option_copied result ≡ row_at quote_cmp quote_key (slot, month) self.now.quotes }
     {
         find_row(&self.quotes, &(slot, month))
     }
 
-    /// The greatest receipt, or 0 where there is no quote.
+    /// The greatest receipt of the quotes, at most 1,000,000 where each has one of those that are given, or 0 where there is no quote.
     pub fn greatest_receipt(&self) -> u32
         ensures { result ≡ greatest_receipt self.now.quotes }
     {
         self.greatest
     }
 
-    /// The quotes by slot and month.
-    pub fn quotes(&self) -> &[Quote]
-        ensures { result.now ≡ self.now.quotes }
+    /// All quotes, by slot and then by month.
+    pub fn all_quotes(&self) -> &[Quote]
+        ensures quotes { result.now ≡ self.now.quotes }
+        ensures order { IsInOrder quote_cmp quote_key result.now }
     {
         &self.quotes
     }

@@ -9,7 +9,7 @@ use cpi_rows::{find_row, put_row};
 use std::alloc::{AllocError, Global};
 use std::marker::Model;
 
-/// The public specification.
+/// What everybody may see of the survey: the items by code and the calendar rows by month.
 #[derive(Drop)]
 pub struct Public {
     items: Vec<Item>,
@@ -32,6 +32,7 @@ impl Model for Public {
 }
 
 impl Public {
+    /// The public part from its rows. The caller owes one item a code, in the order of codes, and one row a month, in the order of months.
     pub fn from_parts(items: Vec<Item>, calendar: Vec<CalendarRow>) -> Public
         requires items { IsInOrder nat_cmp (λ i. i.code) items.items }
         requires calendar { IsInOrder nat_cmp (λ r. r.month) calendar.items }
@@ -40,14 +41,14 @@ impl Public {
         Public { items, calendar }
     }
 
-    /// The item with the code.
+    /// The item with the code, if there is one.
     pub fn item(&self, code: ItemCode) -> Option<&Item>
         ensures { option_copied result ≡ at (λ i. i.code) code self.now.items }
     {
         find_row(&self.items, &code)
     }
 
-    /// The row of the month.
+    /// The calendar row of the month, if there is one.
     pub fn calendar_row(&self, month: Month) -> Option<&CalendarRow>
         ensures { option_copied result ≡ at (λ r. r.month) month self.now.calendar }
     {
@@ -61,22 +62,25 @@ impl Public {
         &self.items
     }
 
-    /// The items once more.
+    /// All items once more, in the order of their codes.
     pub fn copy_items(&self, alloc: Global) -> Result<Vec<Item>, AllocError>
         ensures { IfOk result (λ items. items.items ≡ self.now.items) }
     {
         copy_items(alloc, &self.items)
     }
 
-    /// Puts an item, over the one that stands if there is one, which takes no memory.
+    /// Puts an item in its place, over the one with its code if there is one, which takes no memory. An `Err` says that memory was refused;
+    /// nothing has changed then.
     pub fn put_item(&mut self, item: Item) -> Result<(), AllocError>
         ensures ok { OnOk result (self.new ≡ record self.old { items = put nat_cmp (λ i. i.code) item self.old.items }) }
         ensures err { OnErr result (self.new ≡ self.old) }
+        ensures replaced { IsSome (row_at nat_cmp (λ i. i.code) item.code self.old.items) → IsOk result }
     {
         put_row(&mut self.items, item)
     }
 
-    /// Puts a month's row, over the one that stands if there is one, which takes no memory.
+    /// Puts a calendar row in its place, over the one of its month if there is one, which takes no memory. An `Err` says that memory was
+    /// refused; nothing has changed then.
     pub fn put_calendar(&mut self, row: CalendarRow) -> Result<(), AllocError>
         ensures ok { OnOk result (self.new ≡ record self.old { calendar = put nat_cmp (λ r. r.month) row self.old.calendar }) }
         ensures err { OnErr result (self.new ≡ self.old) }
@@ -86,6 +90,7 @@ impl Public {
     }
 }
 
+/// A copy of each item, in the same order.
 fn copy_items(alloc: Global, items: &[Item]) -> Result<Vec<Item>, AllocError>
     ensures { IfOk result (λ copies. copies.items ≡ items.now) }
 {

@@ -5,12 +5,16 @@ use cpi_codes::{Month, Slot};
 use cpi_rows::Keyed;
 use std::marker::Model;
 
-/// A stored quote: what was found in a month, with the receipt that was given for it, 1 to 1,000,000.
+/// A stored quote: what a collector found for a slot in a month, with the receipt that was given for it.
 #[derive(Clone, Copy, Debug, PartialEq, Eq)]
 pub struct Quote {
+    /// The slot that was priced.
     pub slot: Slot,
+    /// The month for which it was priced.
     pub month: Month,
+    /// What was found.
     pub mark: Mark,
+    /// The number of the entry among all that were stored for the collector, 1 to 1,000,000.
     pub receipt: u32,
 }
 
@@ -25,6 +29,7 @@ impl Model for Quote {
 }
 
 impl Quote {
+    /// The receipt, 1 to 1,000,000.
     pub fn receipt(&self) -> u32
         ensures { result ≡ self.now.receipt }
     {

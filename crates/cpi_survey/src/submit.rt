@@ -12,8 +12,16 @@ use crate::refusal::Refusal;
 use cpi_codes::Moment;
 use cpi_plan::CalendarRow;
 
+/// The greatest receipt that a collector can be given.
+const LAST_RECEIPT: u32 = 1_000_000;
+
 impl Own {
-    /// Decides an entry at a moment, by the public part and the own part alone. It changes nothing and takes no memory.
+    /// Decides an entry at a moment, by the public part and the collector's own part alone. It changes nothing and takes no memory.
+    ///
+    /// A slot that the collector doesn't have is refused. Then an entry that equals the stored quote of its slot and month, in the mark with
+    /// its value, is answered with the stored receipt, at any moment. Any other entry is refused where the calendar has no row of the month,
+    /// where the month is outside the assignment, before the window opens, from the moment at which it closes, and where all receipts are
+    /// used up, in this order; else it is to be stored with the next receipt.
     pub fn submit(&self, public: &Public, now: Moment, entry: Entry) -> Result<Decision, Refusal>
         ensures { result ≡ decided now entry public.now self.now }
     {
@@ -33,6 +41,7 @@ impl Own {
     }
 }
 
+/// Decides an entry of a known slot: one that equals the stored quote is answered with its receipt.
 fn over_quote(
     now: Moment,
     entry: Entry,
@@ -52,6 +61,7 @@ fn over_quote(
     }
 }
 
+/// Decides an entry of a month with a calendar row: the months of the assignment, the window, the receipts.
 fn in_window(
     now: Moment,
     entry: Entry,
@@ -67,7 +77,7 @@ fn in_window(
         Err(Refusal::NotOpen)
     } else if row.closes() <= now {
         Err(Refusal::Closed)
-    } else if 1_000_000 <= greatest {
+    } else if LAST_RECEIPT <= greatest {
         Err(Refusal::ReceiptsUsedUp)
     } else {
         Ok(Decision::Put(Quote {

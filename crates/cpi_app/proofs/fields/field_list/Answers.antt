@@ -2,7 +2,7 @@ use Rattle.std.proofs.Common.{◌≡◌, ◌∙◌, sym, refl, ap, ◌++◌, [],
 use Rattle.std.proofs.lemmas.List.{map-append}
 use Rattle.csv.specs.Records.{fields_of}
 use Rattle.csv.proofs.RecordFacts.{field-there}
-use Rattle.cpi_app.proofs.Fields.{field-more}
+use Rattle.cpi_app.proofs.Places.{field-more}
 use Rattle.cpi_app.proofs.fields.field_list.Goals as goal
 use Rattle.cpi_app.proofs.fields.field_list.Goals.{in-Some+in_ok-push, in_default}
 

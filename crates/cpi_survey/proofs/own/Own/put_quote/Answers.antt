@@ -1,4 +1,4 @@
-use Rattle.std.proofs.Common.{sym, ap, ◌∙◌}
+use Rattle.std.proofs.Common.{ap}
 use Rattle.cpi_survey.proofs.Receipts.{greatest_put}
 use Rattle.cpi_survey.specs.Quote.{greatest_receipt}
 use Rattle.cpi_survey.proofs.own.Own.put_quote.Goals as goal

@@ -1,8 +1,11 @@
-use Rattle.std.proofs.Common.{◌≡◌, List, ap}
+use Rattle.std.proofs.Common.{List, ap}
 use Rattle.std.proofs.lemmas.Result.{on_ok_weaker}
 use Rattle.cpi_survey.specs.Public.{PublicPart}
 use Rattle.cpi_plan.specs.declared.items.Item.{Item}
 use Rattle.cpi_survey.proofs.public.Public.put_item.Goals as goal
+
+pub returns-clause-replaced : goal.returns-clause-replaced
+returns-clause-replaced c = rw (← c.self.view_is) c.put_row.ensures.replaced
 
 pub returns-clause-ok : goal.returns-clause-ok
 returns-clause-ok c =

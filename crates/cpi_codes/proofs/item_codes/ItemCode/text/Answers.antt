@@ -1,0 +1,22 @@
+use Rattle.std.proofs.Common.{◌≡◌, ◌∙◌, sym, ap, true, filter, Some, string_bytes}
+use Rattle.std.specs.List.{list_all}
+use Rattle.std.specs.Char.{is_ascii}
+use Rattle.std.proofs.lemmas.Result.{IfOk-weaker}
+use Rattle.cpi_codes.specs.ItemCode.{filled, item_code_of, is_no_zero}
+use Rattle.cpi_codes.proofs.Bytes.{text-of-code, ascii-filled, kept-filled}
+use Rattle.cpi_codes.proofs.item_codes.ItemCode.text.Goals as goal
+
+pub text_of-requires : goal.text_of-requires
+text_of-requires c =
+    let text = c.self.invariant.0 in
+    let code = c.self.invariant.1 in
+    let bytes = c.bytes_of.ensures text code in
+    rw bytes (ascii-filled text (text-of-code text c.self.inside.value code).0)
+
+pub returns : goal.returns
+returns c =
+    let text = c.self.invariant.0 in
+    let code = c.self.invariant.1 in
+    let bytes = c.bytes_of.ensures text code in
+    let kept = kept-filled text (text-of-code text c.self.inside.value code).0 in
+    IfOk-weaker c.text_of.result _ _ (λ s e. ap item_code_of (e ∙ ap (filter is_no_zero) bytes ∙ kept) ∙ code ∙ ap Some c.self.view_is) c.text_of.ensures

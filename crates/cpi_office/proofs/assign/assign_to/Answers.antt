@@ -1,0 +1,22 @@
+use Rattle.std.proofs.Common.{◌≡◌, Some, sym, ap, ◌∙◌}
+use Rattle.cpi_rows.specs.Keyed.{at}
+use Rattle.cpi_rows.specs.Held.{held_by}
+use Rattle.cpi_rows.proofs.Found.{at_key}
+use Rattle.cpi_store.specs.declared.bearer.Bearer.{Bearer}
+use Rattle.cpi_office.proofs.assign.assign_to.Goals as goal
+
+pub put_assignment-requires-clause-known : goal.put_assignment-requires-clause-known
+put_assignment-requires-clause-known g c = λ clean.
+    let reads = c.in-Ok-Some.ensures.reads in
+    let o = g.B.Book.lists c.args.book.now in
+    let b = c.in-Ok-Some.bearer in
+    let found : at (λ (b : Bearer). b.number) c.args.collector o.collectors ≡ Some b = sym (reads.shown clean) ∙ c.in-Ok-Some.field-0-is in
+    rw (reads.kept clean) (ap (λ n. at (λ (b : Bearer). b.number) n o.collectors) (at_key (λ (b : Bearer). b.number) c.args.collector b o.collectors found) ∙ found)
+
+pub put_assignment-requires-clause-new : goal.put_assignment-requires-clause-new
+put_assignment-requires-clause-new g c = λ clean.
+    let reads = c.in-Ok-Some.ensures.reads in
+    let o = g.B.Book.lists c.args.book.now in
+    let b = c.in-Ok-Some.bearer in
+    let found : at (λ (b : Bearer). b.number) c.args.collector o.collectors ≡ Some b = sym (reads.shown clean) ∙ c.in-Ok-Some.field-0-is in
+    rw (reads.kept clean) (ap (λ n. at (λ a. a.slot) c.args.assigned.assignment.slot (held_by n o.assignments)) (at_key (λ (b : Bearer). b.number) c.args.collector b o.collectors found) ∙ c.requires.free (reads.was_clean clean))

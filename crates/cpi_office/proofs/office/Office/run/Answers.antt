@@ -1,0 +1,38 @@
+use Rattle.std.proofs.Common.{◌≡◌, ◌++◌, List, [], ◌∷◌, ℕ, length, ◌+◌, ap, sym, ◌∙◌, append_assoc, Result, Ok, Err, OnErr}
+use Rattle.std.proofs.lemmas.List.{length-append}
+use Rattle.std.specs.Vec.Iter.{into_iter_items}
+use Rattle.cpi_store.specs.Office.{Office}
+use Rattle.cpi_office.specs.Runs.{reply_to, next}
+use Rattle.cpi_office.specs.Calls.{Serves}
+use Rattle.cpi_office.specs.Served.{Ran}
+use Rattle.cpi_office.specs.declared.request.Ask.{Ask}
+use Rattle.cpi_office.specs.declared.reply.Reply.{Reply}
+use Rattle.cpi_office.proofs.Served.{ran_more}
+use Rattle.cpi_office.proofs.office.Office.run.Goals as goal
+
+-- one request more is carried out
+module _ {B : Type 0} (is_clean : B → Type 0) (lists : B → Office) (failures : B → ℕ) (o u w : B) (all front rest later : List Ask) (rs : List Reply) (a : Ask) (r : Reply) where
+  one_more : all ≡ front ++ rest → rest ≡ a ∷ later → length rs ≡ length front → Ran is_clean lists o u front rs → Serves is_clean lists failures u w r (reply_to a.now a.caller a.request (lists u)) (next a (lists u)) →
+      (all ≡ (front ++ a ∷ []) ++ later) × (length (rs ++ r ∷ []) ≡ length (front ++ a ∷ [])) × Ran is_clean lists o w (front ++ a ∷ []) (rs ++ r ∷ [])
+  one_more split head same so_far serves =
+      (split ∙ ap (λ ys. front ++ ys) head ∙ sym (append_assoc front (a ∷ []) later), length-append rs (r ∷ []) ∙ ap (λ n. n + 1) same ∙ sym (length-append front (a ∷ [])), ran_more is_clean lists failures o u w front rs a r same so_far serves)
+
+err_any : {A E P : Type 0} (r : Result A E) → P → OnErr r P
+err_any (Ok x) p = tt
+err_any (Err e) p = p
+
+pub loop-ask-preserved : goal.loop-ask-preserved
+loop-ask-preserved g c =
+    let n = c.loop-ask.invariant in
+    let more = one_more g.B.Book.is_clean g.B.Book.lists g.B.Book.failures c.args.self.now.book c.loop-ask.self.book c.handle-reply.new.self.book
+    c.args.asks.items n.0 (into_iter_items c.loop-ask.rest) (into_iter_items c.next.new.self) c.loop-ask.told.items c.in-Some.ask c.handle-reply.result
+    n.1 c.in-Some.ensures.items n.2 n.3 c.handle-reply.ensures in
+    rw c.in_ok-push.ensures.items (n.0 ++ c.in-Some.ask ∷ [], more.0, more.1, more.2)
+
+pub returns-in_err-push-clause-err : goal.returns-in_err-push-clause-err
+returns-in_err-push-clause-err g c =
+    let n = c.loop-ask.invariant in
+    let more = one_more g.B.Book.is_clean g.B.Book.lists g.B.Book.failures c.args.self.now.book c.loop-ask.self.book c.handle-reply.new.self.book
+    c.args.asks.items n.0 (into_iter_items c.loop-ask.rest) (into_iter_items c.next.new.self) c.loop-ask.told.items c.in-Some.ask c.handle-reply.result
+    n.1 c.in-Some.ensures.items n.2 n.3 c.handle-reply.ensures in
+    err_any c.from_residual.result (n.0 ++ c.in-Some.ask ∷ [], into_iter_items c.next.new.self, c.loop-ask.told.items ++ c.handle-reply.result ∷ [], more.0, more.2)

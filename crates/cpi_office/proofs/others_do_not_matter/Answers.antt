@@ -1,5 +1,0 @@
-use Rattle.cpi_office.proofs.Alone.{others_do_not_matter}
-use Rattle.cpi_office.proofs.others_do_not_matter.Goals as goal
-
-pub returns : goal.returns
-returns c = others_do_not_matter

@@ -1,0 +1,9 @@
+use Rattle.cpi_survey.specs.Decision.{decided}
+use Rattle.cpi_store.specs.Office.{public_part, own_part}
+use Rattle.cpi_office.proofs.Receipts.{stored_is}
+use Rattle.cpi_office.proofs.submit.enter.Goals as goal
+
+pub returns : goal.returns
+returns g c =
+    let o = g.B.Book.lists c.args.book.now in
+    rw (← stored_is c.args.bearer c.args.entry (decided c.args.now c.args.entry (public_part o) (own_part c.args.bearer.number o)) o) c.submit.ensures

@@ -1,0 +1,43 @@
+-- What a request that changes nothing is answered, and what an entry is told: by the caller's view alone.
+use Rattle.std.specs.Prelude.{ℕ, Option, Some, None, Result, Ok, Err}
+use Rattle.cpi_survey.specs.Own.{OwnPart}
+use Rattle.cpi_survey.specs.Decision.{decided}
+use Rattle.cpi_survey.specs.Within.{quotes_within}
+use Rattle.cpi_survey.specs.declared.decision.Decision.{Decision}
+use Rattle.cpi_survey.specs.declared.decision.Decision.TheVariants.{Again, Put}
+use Rattle.cpi_survey.specs.declared.refusal.Refusal.{Refusal as EntryRefusal}
+use Rattle.cpi_office.specs.declared.refusal.Refusal.TheVariants as refusal
+use Rattle.cpi_office.specs.Refusal.{of_survey}
+use Rattle.cpi_office.specs.Views.{View, OwnView}
+use Rattle.cpi_office.specs.declared.caller.Caller.{Caller}
+use Rattle.cpi_office.specs.declared.caller.Caller.TheVariants as caller
+use Rattle.cpi_office.specs.declared.request.Request.{Request}
+use Rattle.cpi_office.specs.declared.request.Request.TheVariants as request
+use Rattle.cpi_office.specs.declared.reply.Reply.{Reply}
+use Rattle.cpi_office.specs.declared.reply.Reply.TheVariants as reply
+
+-- what every caller may ask
+abbrev pub read : Request → View → Reply
+read request.Items v = reply.Items v.public.items
+read _ v = reply.Refused refusal.NotForCaller
+
+abbrev pub decision_reply : Result Decision EntryRefusal → Reply
+decision_reply (Err f) = reply.Refused (of_survey f)
+decision_reply (Ok (Again receipt)) = reply.Receipt receipt
+decision_reply (Ok (Put q)) = reply.Receipt q.receipt
+
+-- what a collector is answered whose own part is this
+abbrev pub collector_answer : ℕ → Request → View → OwnPart → Reply
+collector_answer now (request.Quotes first last) v own = reply.Quotes (quotes_within first last own.quotes)
+collector_answer now (request.Submit entry) v own = decision_reply (decided now entry v.public own)
+collector_answer now r v own = read r v
+
+abbrev pub known_answer : ℕ → Request → View → Option OwnView → Reply
+known_answer now r v None = reply.Refused refusal.UnknownKey
+known_answer now r v (Some own) = collector_answer now r v own.part
+
+-- What a caller is answered: by the caller's view alone. The desk is answered here as the public is.
+abbrev pub answer : ℕ → Caller → Request → View → Reply
+answer now caller.Public r v = read r v
+answer now caller.Desk r v = read r v
+answer now (caller.Collector key) r v = known_answer now r v v.own

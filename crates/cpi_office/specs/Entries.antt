@@ -1,0 +1,34 @@
+-- What becomes of an entry of a collector.
+use Rattle.std.specs.Prelude.{ℕ, Option, Some, None, Result, Ok, Err}
+use Rattle.cpi_survey.specs.Quote.{QuoteRow}
+use Rattle.cpi_survey.specs.Entry.{EntryRow}
+use Rattle.cpi_survey.specs.Decision.{decided}
+use Rattle.cpi_store.specs.declared.bearer.Bearer.{Bearer}
+use Rattle.cpi_survey.specs.declared.decision.Decision.{Decision}
+use Rattle.cpi_survey.specs.declared.decision.Decision.TheVariants.{Again, Put}
+use Rattle.cpi_survey.specs.declared.refusal.Refusal.{Refusal as EntryRefusal}
+use Rattle.cpi_store.specs.Office.{Quotes}
+use Rattle.cpi_office.specs.Refusal.{of_survey}
+use Rattle.cpi_office.specs.Views.{View, OwnView}
+use Rattle.cpi_office.specs.declared.request.Request.{Request}
+use Rattle.cpi_office.specs.declared.request.Request.TheVariants as request
+use Rattle.cpi_office.specs.Verdicts.{Verdict, Refuses, Stands, Makes}
+
+-- the quote that an entry makes
+abbrev pub quoted : EntryRow → ℕ → QuoteRow
+quoted entry receipt = record { slot = entry.slot; month = entry.month; mark = entry.mark; receipt = receipt }
+
+-- what becomes of an entry, decided for this collector
+abbrev pub decision_verdict : Bearer → EntryRow → Result Decision EntryRefusal → Verdict
+decision_verdict b entry (Err f) = Refuses (of_survey f)
+decision_verdict b entry (Ok (Again receipt)) = Stands (Quotes b (quoted entry receipt))
+decision_verdict b entry (Ok (Put q)) = Makes (Quotes b q)
+
+abbrev pub entered : ℕ → ℕ → EntryRow → View → Option OwnView → Option Verdict
+entered key now entry v None = None
+entered key now entry v (Some own) = Some (decision_verdict (record { number = own.number; key = key }) entry (decided now entry v.public own.part))
+
+-- a collector changes something by an entry alone
+abbrev pub of_collector : ℕ → ℕ → Request → View → Option Verdict
+of_collector key now (request.Submit entry) v = entered key now entry v v.own
+of_collector key now _ v = None

@@ -1,0 +1,64 @@
+-- What a caller sees of what was accepted, and the view with it.
+use Rattle.std.specs.Prelude.{[], ℕ, Bool, false, ◌==◌, List, ◌∷◌, Option, Some, None, option_map, if◌then◌else◌}
+use Rattle.std.specs.List.{flat_map}
+use Rattle.cpi_rows.specs.Keyed.{put, put_by}
+use Rattle.cpi_survey.specs.Quote.{QuoteRow, quote_cmp, quote_key}
+use Rattle.cpi_plan.specs.declared.items.Item.{Item}
+use Rattle.cpi_plan.specs.Calendar.{CalendarPart}
+use Rattle.cpi_survey.specs.declared.assignment.Assigned.{Assigned}
+use Rattle.cpi_store.specs.declared.bearer.Bearer.{Bearer}
+use Rattle.cpi_store.specs.Office.{Change, PutsItem, PutsCalendar, Registers, PutsOutlet, Assigns, Quotes}
+use Rattle.cpi_office.specs.Views.{View, OwnView}
+use Rattle.cpi_office.specs.declared.caller.Caller.{Caller}
+use Rattle.cpi_office.specs.declared.caller.Caller.TheVariants as caller
+use Rattle.cpi_office.specs.Runs.{changes}
+
+-- A row of a caller's own view.
+pub data Sight : Type 0 where
+  SeesItem : Item → Sight
+  SeesCalendar : CalendarPart → Sight
+  IsRegistered : ℕ → Sight
+  IsAssigned : Assigned → Sight
+  HasQuoted : QuoteRow → Sight
+
+abbrev pub is_borne : Caller → Bearer → Bool
+is_borne (caller.Collector key) b = b.key == key
+is_borne caller.Public b = false
+is_borne caller.Desk b = false
+
+abbrev pub seen_if : Bool → Sight → List Sight
+seen_if sees s = if sees then s ∷ [] else []
+
+-- Of what was accepted, a caller sees the public specification, and what was accepted from or for that caller.
+abbrev pub sights : Caller → Change → List Sight
+sights k (PutsItem i) = SeesItem i ∷ []
+sights k (PutsCalendar r) = SeesCalendar r ∷ []
+sights k (PutsOutlet u) = []
+sights k (Registers b) = seen_if (is_borne k b) (IsRegistered b.number)
+sights k (Assigns b a) = seen_if (is_borne k b) (IsAssigned a)
+sights k (Quotes b q) = seen_if (is_borne k b) (HasQuoted q)
+
+abbrev pub seen : Caller → List Change → List Sight
+seen k changes = flat_map (sights k) changes
+
+abbrev pub with_number : ℕ → Option OwnView → OwnView
+with_number n None = record { number = n; part = record { assignments = []; quotes = [] } }
+with_number n (Some own) = record { number = n; part = own.part }
+
+abbrev pub with_assigned : Assigned → OwnView → OwnView
+with_assigned a own = record { number = own.number; part = record { assignments = put_by (λ a. a.assignment.slot) a own.part.assignments; quotes = own.part.quotes } }
+
+abbrev pub with_quote : QuoteRow → OwnView → OwnView
+with_quote q own = record { number = own.number; part = record { assignments = own.part.assignments; quotes = put quote_cmp quote_key q own.part.quotes } }
+
+-- the view with one more row in its place
+abbrev pub shown : Sight → View → View
+shown (SeesItem i) v = record v { public = record v.public { items = put_by (λ i. i.code) i v.public.items } }
+shown (SeesCalendar r) v = record v { public = record v.public { calendar = put_by (λ r. r.month) r v.public.calendar } }
+shown (IsRegistered n) v = record v { own = Some (with_number n v.own) }
+shown (IsAssigned a) v = record v { own = option_map (with_assigned a) v.own }
+shown (HasQuoted q) v = record v { own = option_map (with_quote q) v.own }
+
+abbrev pub build : View → List Sight → View
+build v [] = v
+build v (s ∷ sights) = build (shown s v) sights

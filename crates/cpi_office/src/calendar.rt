@@ -1,0 +1,53 @@
+ghost use Rattle.std.specs.Prelude.{◌≡◌, Some, None};
+ghost use Rattle.std.specs.Option.{option_copied};
+ghost use Rattle.cpi_rows.specs.Keyed.{at};
+ghost use Rattle.cpi_store.specs.Calls.{Reads};
+ghost use Rattle.cpi_store.specs.Office.{public_part};
+ghost use Rattle.cpi_plan.specs.Calendar.{same_calendar};
+ghost use Rattle.cpi_office.specs.Desk.{standing, calendar_put};
+ghost use Rattle.cpi_office.specs.Verdicts.{with_verdict, verdict_reply};
+ghost use Rattle.cpi_office.specs.Calls.{Serves};
+
+use crate::refusal::Refusal;
+use crate::reply::Reply;
+use crate::standing::Standing;
+use cpi_plan::CalendarRow;
+use cpi_store::{Book, StoreFault};
+
+/// Puts a month's row, over the one that stands if there is one.
+pub fn put_calendar<B: Book>(book: &mut B, row: CalendarRow) -> Reply
+    ensures { let o = B.lists book.old in let v = calendar_put row (at (λ r. r.month) row.month o.calendar) in
+        Serves B.is_clean B.lists B.failures book.old book.new result (verdict_reply v) (with_verdict v o) }
+{
+    match find_calendar(book, &row) {
+        Err(StoreFault) => Reply::Refused(Refusal::Unavailable),
+        Ok(Standing::Same) => Reply::Done,
+        Ok(_) => match book.put_calendar(row) {
+            Ok(()) => Reply::Done,
+            Err(StoreFault) => Reply::Refused(Refusal::Unavailable),
+        },
+    }
+}
+
+/// What stands at the month of the row.
+fn find_calendar<B: Book>(book: &mut B, row: &CalendarRow) -> Result<Standing, StoreFault>
+    ensures { Reads B.is_clean B.lists B.failures B.may_leave book.old book.new result (λ found. found ≡ standing same_calendar row.now (at (λ r. r.month) row.now.month (B.lists book.old).calendar)) }
+{
+    let public = book.public_part()?;
+    Ok(standing_calendar(row, public.calendar_row(row.month())))
+}
+
+fn standing_calendar(row: &CalendarRow, old: Option<&CalendarRow>) -> Standing
+    ensures { result ≡ standing same_calendar row.now (option_copied old.entry) }
+{
+    match old {
+        None => Standing::Free,
+        Some(old) => {
+            if old.is_same(row) {
+                Standing::Same
+            } else {
+                Standing::Other
+            }
+        }
+    }
+}

@@ -1,0 +1,87 @@
+ghost use Rattle.std.specs.Prelude.{Some, None, IsSome};
+ghost use Rattle.cpi_rows.specs.Keyed.{at};
+ghost use Rattle.cpi_store.specs.Office.{Quotes};
+ghost use Rattle.cpi_store.specs.Bearer.{bearer_of};
+ghost use Rattle.cpi_office.specs.Known.{collector_reply, collector_after};
+ghost use Rattle.cpi_office.specs.Runs.{reply_to, after_one};
+ghost use Rattle.cpi_office.specs.declared.caller.Caller.{Caller};
+ghost use Rattle.cpi_office.specs.Calls.{Serves};
+
+use crate::assign::assign;
+use crate::calendar::put_calendar;
+use crate::collectors::register;
+use crate::items::{items, put_item};
+use crate::outlets::put_outlet;
+use crate::quotes::quotes;
+use crate::refusal::Refusal;
+use crate::reply::Reply;
+use crate::request::Request;
+use crate::submit::enter;
+use cpi_codes::{Key, Moment};
+use cpi_store::{Bearer, Book, StoreFault};
+use std::alloc::Global;
+
+/// Answers the public.
+pub fn serve_public<B: Book>(alloc: Global, book: &mut B, now: Moment, request: Request) -> Reply
+    ensures { let o = B.lists book.old in
+        Serves B.is_clean B.lists B.failures book.old book.new result (reply_to now Caller.Public request o) (after_one now Caller.Public request o) }
+{
+    match request {
+        Request::Items => items(alloc, book),
+        _ => Reply::Refused(Refusal::NotForCaller),
+    }
+}
+
+/// Answers whoever sends the key.
+pub fn serve_collector<B: Book>(
+    alloc: Global,
+    book: &mut B,
+    now: Moment,
+    key: Key,
+    request: Request,
+) -> Reply
+    ensures { let o = B.lists book.old in
+        Serves B.is_clean B.lists B.failures book.old book.new result (reply_to now (Caller.Collector key) request o) (after_one now (Caller.Collector key) request o) }
+{
+    match book.bearer_of(key) {
+        Err(StoreFault) => Reply::Refused(Refusal::Unavailable),
+        Ok(None) => Reply::Refused(Refusal::UnknownKey),
+        Ok(Some(bearer)) => serve_known(alloc, book, now, bearer, request),
+    }
+}
+
+/// Answers a collector who bears the key.
+fn serve_known<B: Book>(
+    alloc: Global,
+    book: &mut B,
+    now: Moment,
+    bearer: Bearer,
+    request: Request,
+) -> Reply
+    requires known { B.is_clean book.old → IsSome (at (λ b. b.number) bearer.number (B.lists book.old).collectors) }
+    ensures { let o = B.lists book.old in
+        Serves B.is_clean B.lists B.failures book.old book.new result (collector_reply now request o (Some bearer)) (collector_after bearer.key now request o (Some bearer)) }
+{
+    match request {
+        Request::Items => items(alloc, book),
+        Request::Submit(entry) => enter(book, now, bearer, entry),
+        Request::Quotes(first, last) => quotes(alloc, book, bearer.number, first, last),
+        _ => Reply::Refused(Refusal::NotForCaller),
+    }
+}
+
+/// Answers the desk.
+pub fn serve_desk<B: Book>(alloc: Global, book: &mut B, now: Moment, request: Request) -> Reply
+    ensures { let o = B.lists book.old in
+        Serves B.is_clean B.lists B.failures book.old book.new result (reply_to now Caller.Desk request o) (after_one now Caller.Desk request o) }
+{
+    match request {
+        Request::Items => items(alloc, book),
+        Request::PutItem(item) => put_item(book, item),
+        Request::PutCalendar(row) => put_calendar(book, row),
+        Request::Register(bearer) => register(book, bearer),
+        Request::PutOutlet(outlet) => put_outlet(book, outlet),
+        Request::Assign(collector, assignment) => assign(alloc, book, collector, assignment),
+        Request::Quotes(_, _) | Request::Submit(_) => Reply::Refused(Refusal::NotForCaller),
+    }
+}

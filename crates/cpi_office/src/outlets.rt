@@ -1,0 +1,52 @@
+ghost use Rattle.std.specs.Prelude.{◌≡◌, Some, None};
+ghost use Rattle.std.specs.Option.{option_copied};
+ghost use Rattle.cpi_rows.specs.Keyed.{at};
+ghost use Rattle.cpi_store.specs.Calls.{Reads};
+ghost use Rattle.cpi_store.specs.Outlet.{same_outlet};
+ghost use Rattle.cpi_office.specs.Desk.{standing, outlet_put};
+ghost use Rattle.cpi_office.specs.Verdicts.{with_verdict, verdict_reply};
+ghost use Rattle.cpi_office.specs.Calls.{Serves};
+
+use crate::refusal::Refusal;
+use crate::reply::Reply;
+use crate::standing::Standing;
+use cpi_store::{Book, Outlet, StoreFault};
+
+/// Puts an outlet, unless its number stands with other content.
+pub fn put_outlet<B: Book>(book: &mut B, outlet: Outlet) -> Reply
+    ensures { let o = B.lists book.old in let v = outlet_put outlet (at (λ u. u.number) outlet.number o.outlets) in
+        Serves B.is_clean B.lists B.failures book.old book.new result (verdict_reply v) (with_verdict v o) }
+{
+    match find_outlet(book, &outlet) {
+        Err(StoreFault) => Reply::Refused(Refusal::Unavailable),
+        Ok(Standing::Same) => Reply::Done,
+        Ok(Standing::Other) => Reply::Refused(Refusal::Taken),
+        Ok(Standing::Free) => match book.put_outlet(outlet) {
+            Ok(()) => Reply::Done,
+            Err(StoreFault) => Reply::Refused(Refusal::Unavailable),
+        },
+    }
+}
+
+/// What stands at the number of the outlet.
+fn find_outlet<B: Book>(book: &mut B, outlet: &Outlet) -> Result<Standing, StoreFault>
+    ensures { Reads B.is_clean B.lists B.failures B.may_leave book.old book.new result (λ found. found ≡ standing same_outlet outlet.now (at (λ u. u.number) outlet.now.number (B.lists book.old).outlets)) }
+{
+    let old = book.outlet(outlet.number)?;
+    Ok(standing_outlet(outlet, old))
+}
+
+fn standing_outlet(outlet: &Outlet, old: Option<&Outlet>) -> Standing
+    ensures { result ≡ standing same_outlet outlet.now (option_copied old.entry) }
+{
+    match old {
+        None => Standing::Free,
+        Some(old) => {
+            if old.is_same(outlet) {
+                Standing::Same
+            } else {
+                Standing::Other
+            }
+        }
+    }
+}

@@ -1,0 +1,43 @@
+ghost use Rattle.std.specs.Prelude.{◌≡◌, IfOk};
+ghost use Rattle.cpi_rows.specs.Held.{held_by};
+ghost use Rattle.cpi_store.specs.Calls.{Reads};
+ghost use Rattle.cpi_store.specs.Office.{Quotes};
+ghost use Rattle.cpi_survey.specs.Within.{quotes_within};
+ghost use Rattle.cpi_office.specs.Calls.{Serves};
+
+use crate::refusal::Refusal;
+use crate::reply::Reply;
+use cpi_codes::{CollectorId, Month};
+use cpi_rows::Rows;
+use cpi_store::{Book, StoreFault};
+use cpi_survey::Quote;
+use std::alloc::{AllocError, Global};
+
+/// Lists the collector's quotes of the months from the first to the last, by month, and then by slot.
+pub fn quotes<B: Book>(
+    alloc: Global,
+    book: &mut B,
+    collector: CollectorId,
+    first: Month,
+    last: Month,
+) -> Reply
+    ensures { Serves B.is_clean B.lists B.failures book.old book.new result (Reply.Quotes (quotes_within first last (held_by collector (B.lists book.old).quotes))) (B.lists book.old) }
+{
+    match read_quotes(alloc, book, collector, first, last) {
+        Ok(Ok(quotes)) => Reply::Quotes(Rows::of(quotes)),
+        _ => Reply::Refused(Refusal::Unavailable),
+    }
+}
+
+fn read_quotes<B: Book>(
+    alloc: Global,
+    book: &mut B,
+    collector: CollectorId,
+    first: Month,
+    last: Month,
+) -> Result<Result<Vec<Quote>, AllocError>, StoreFault>
+    ensures { Reads B.is_clean B.lists B.failures B.may_leave book.old book.new result (λ found. IfOk found (λ quotes. quotes.items ≡ quotes_within first last (held_by collector (B.lists book.old).quotes))) }
+{
+    let parts = book.parts(collector)?;
+    Ok(parts.own.quotes(alloc, first, last))
+}

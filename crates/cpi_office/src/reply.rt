@@ -1,0 +1,19 @@
+use crate::refusal::Refusal;
+use cpi_plan::Item;
+use cpi_rows::Rows;
+use cpi_survey::Quote;
+
+/// What a request is answered.
+#[derive(Debug, Drop)]
+pub enum Reply {
+    /// The entry is stored under this receipt, 1 to 1,000,000.
+    Receipt(u32),
+    /// The command is carried out, or its content stood already.
+    Done,
+    /// Quotes by month, and then by slot.
+    Quotes(Rows<Quote>),
+    /// Items in the order of their codes.
+    Items(Rows<Item>),
+    /// Nothing was changed.
+    Refused(Refusal),
+}

@@ -1,0 +1,7 @@
+/// Whether the place of a row is free, or taken by a row with the same content or with other content.
+#[derive(Clone, Copy, Debug, PartialEq, Eq)]
+pub enum Standing {
+    Free,
+    Same,
+    Other,
+}

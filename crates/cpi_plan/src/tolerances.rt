@@ -1,0 +1,108 @@
+//! How far a price may lie from the last one, in per mille of the last price.
+ghost use Rattle.std.specs.Prelude.{◌≡◌, ◌≤◌, SomeIff};
+ghost use Rattle.cpi_codes.specs.Number.{number_of as number_in};
+
+use cpi_codes::number_of;
+use std::marker::Model;
+
+const LOWEST_LOW: u64 = 1;
+
+const HIGHEST_LOW: u64 = 1000;
+
+const LOWEST_HIGH: u64 = 1000;
+
+const HIGHEST_HIGH: u64 = 10_000;
+
+/// The lower bound of a price, 1 to 1000 per mille of the last price.
+#[derive(Clone, Copy, Debug, PartialEq, Eq, PartialOrd, Ord)]
+pub struct LowTolerance {
+    per_mille: u16,
+}
+
+impl Model for LowTolerance {
+    ghost use Rattle.std.specs.Prelude.{ℕ, ◌≤◌};
+
+    ghost Value = { ℕ };
+
+    ghost view = { λ x. x.per_mille };
+
+    ghost invariant = { λ x. (1 ≤ x.per_mille) × (x.per_mille ≤ 1000) };
+
+    ghost inverse = { λ n. record { per_mille = n } };
+}
+
+impl LowTolerance {
+    /// The tolerance of so many per mille; none outside 1 to 1000.
+    pub fn new(per_mille: u64) -> Option<LowTolerance>
+        ensures { SomeIff result ((1 ≤ per_mille) × (per_mille ≤ 1000)) per_mille }
+    {
+        if per_mille < LOWEST_LOW || HIGHEST_LOW < per_mille {
+            return None;
+        }
+        Some(LowTolerance {
+            per_mille: per_mille as u16,
+        })
+    }
+
+    /// Reads a number from 1 to 1000, in its one spelling.
+    pub fn parse(text: &[u8]) -> Option<LowTolerance>
+        ensures { result ≡ number_in 1 1000 text.now }
+    {
+        LowTolerance::new(number_of(text, LOWEST_LOW, HIGHEST_LOW)?)
+    }
+
+    /// The per mille of the last price, 1 to 1000.
+    pub fn per_mille(self) -> u16
+        ensures value { result ≡ self }
+        ensures range { (1 ≤ result) × (result ≤ 1000) }
+    {
+        self.per_mille
+    }
+}
+
+/// The upper bound of a price, 1000 to 10000 per mille of the last price.
+#[derive(Clone, Copy, Debug, PartialEq, Eq, PartialOrd, Ord)]
+pub struct HighTolerance {
+    per_mille: u16,
+}
+
+impl Model for HighTolerance {
+    ghost use Rattle.std.specs.Prelude.{ℕ, ◌≤◌};
+
+    ghost Value = { ℕ };
+
+    ghost view = { λ x. x.per_mille };
+
+    ghost invariant = { λ x. (1000 ≤ x.per_mille) × (x.per_mille ≤ 10000) };
+
+    ghost inverse = { λ n. record { per_mille = n } };
+}
+
+impl HighTolerance {
+    /// The tolerance of so many per mille; none outside 1000 to 10000.
+    pub fn new(per_mille: u64) -> Option<HighTolerance>
+        ensures { SomeIff result ((1000 ≤ per_mille) × (per_mille ≤ 10000)) per_mille }
+    {
+        if per_mille < LOWEST_HIGH || HIGHEST_HIGH < per_mille {
+            return None;
+        }
+        Some(HighTolerance {
+            per_mille: per_mille as u16,
+        })
+    }
+
+    /// Reads a number from 1000 to 10000, in its one spelling.
+    pub fn parse(text: &[u8]) -> Option<HighTolerance>
+        ensures { result ≡ number_in 1000 10000 text.now }
+    {
+        HighTolerance::new(number_of(text, LOWEST_HIGH, HIGHEST_HIGH)?)
+    }
+
+    /// The per mille of the last price, 1000 to 10000.
+    pub fn per_mille(self) -> u16
+        ensures value { result ≡ self }
+        ensures range { (1000 ≤ result) × (result ≤ 10000) }
+    {
+        self.per_mille
+    }
+}

@@ -1,5 +1,0 @@
-use Rattle.cpi_rows.proofs.Held.{puts_other}
-use Rattle.cpi_rows.proofs.puts_other.Goals as goal
-
-pub returns : goal.returns
-returns g c = puts_other g.T.Key.Ord.cmp g.T.Keyed.key

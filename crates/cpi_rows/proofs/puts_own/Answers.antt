@@ -1,5 +1,0 @@
-use Rattle.cpi_rows.proofs.Held.{puts_own}
-use Rattle.cpi_rows.proofs.puts_own.Goals as goal
-
-pub returns : goal.returns
-returns g c = puts_own g.T.Key.Ord.cmp g.T.Keyed.key

@@ -1,0 +1,72 @@
+ghost use Rattle.std.specs.Prelude.{◌≡◌, ◌↔◌, List, [], ◌∷◌, ◌++◌, length, IsTrue, IfErr, OnErr, OnOk};
+
+use std::alloc::{AllocFailed, Global};
+use std::marker::Model;
+
+/// A list of rows, in the order in which they were pushed. Contracts see the rows alone.
+#[derive(Debug, Drop)]
+pub struct Rows<T> {
+    rows: Vec<T>,
+}
+
+impl<T> Model for Rows<T> {
+    ghost Value = { List T };
+
+    ghost view = { λ r. r.rows.items };
+}
+
+impl<T> Rows<T> {
+    /// No rows. Takes no memory until the first is pushed.
+    pub fn new(alloc: Global) -> Rows<T>
+        ensures { result ≡ [] }
+    {
+        Rows {
+            rows: Vec::new(alloc),
+        }
+    }
+
+    /// The rows of a vector, which is taken over as it is: nothing is copied, no memory is taken.
+    pub fn of(rows: Vec<T>) -> Rows<T>
+        ensures { result ≡ rows.items }
+    {
+        Rows { rows }
+    }
+
+    /// The vector of the rows, given back as it is: nothing is copied, no memory is taken.
+    pub fn into_vec(self) -> Vec<T>
+        ensures { result.items ≡ self }
+    {
+        self.rows
+    }
+
+    /// Puts a row behind the others. Without memory the rows stay as they are, and the error gives
+    /// the row back.
+    pub fn push(&mut self, row: T) -> Result<(), AllocFailed<T>>
+        ensures ok { OnOk result (self.new ≡ self.old ++ row ∷ []) }
+        ensures err { OnErr result (self.new ≡ self.old) }
+        ensures given_back { IfErr result (λ failed. failed.value ≡ row) }
+    {
+        self.rows.push(row)
+    }
+
+    /// The rows as a slice.
+    pub fn as_slice(&self) -> &[T]
+        ensures { result.now ≡ self.now }
+    {
+        &self.rows
+    }
+
+    /// How many rows there are.
+    pub fn len(&self) -> usize
+        ensures { result ≡ length self.now }
+    {
+        self.rows.len()
+    }
+
+    /// Whether there are no rows.
+    pub fn is_empty(&self) -> bool
+        ensures { IsTrue result ↔ (self.now ≡ []) }
+    {
+        self.rows.is_empty()
+    }
+}

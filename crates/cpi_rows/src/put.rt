@@ -1,0 +1,27 @@
+ghost use Rattle.std.specs.Prelude.{◌≡◌, OnErr, OnOk, IsSome, IsOk};
+ghost use Rattle.cpi_rows.specs.Keyed.{put, row_at, IsInOrder};
+
+use crate::keyed_row::Keyed;
+use crate::lookup::place_of;
+use std::alloc::AllocError;
+
+/// Puts the row in its place among the rows.
+///
+/// A row with its key is replaced where it stands, which takes no memory and never fails. Else the
+/// row goes in between: its place is found in O(log n), and each row behind it moves up by one.
+/// Without memory for one more row the rows stay as they are.
+pub fn put_row<T: Keyed + Drop>(rows: &mut Vec<T>, row: T) -> Result<(), AllocError>
+    requires { IsInOrder T.Key.cmp T.key rows.old.items }
+    ensures ok { OnOk result (rows.new.items ≡ put T.Key.cmp T.key row rows.old.items) }
+    ensures err { OnErr result (rows.new.items ≡ rows.old.items) }
+    ensures order { IsInOrder T.Key.cmp T.key rows.new.items }
+    ensures replaced { IsSome (row_at T.Key.cmp T.key (T.key row) rows.old.items) → IsOk result }
+{
+    match place_of(rows, &row.key()) {
+        Ok(at) => {
+            rows[at] = row;
+            Ok(())
+        }
+        Err(at) => Ok(rows.insert(at, row)?),
+    }
+}
