@@ -1,10 +1,11 @@
 -- The line of a reply: one JSON text, and a line feed.
-use Rattle.std.specs.Prelude.{ℕ, List, [], ◌∷◌, ◌++◌, true, map, codes}
+use Rattle.std.specs.Prelude.{ℕ, List, [], ◌∷◌, ◌++◌, true, map, filter, codes}
+use Rattle.std.specs.Int.Digits.{digits_of}
 use Rattle.serde_json.specs.Data.{Data, boolean, number, unsigned, string, array, object, no_members, member}
 use Rattle.serde_json.specs.View.{items_of}
 use Rattle.serde_json.specs.Written.{compact_text}
+use Rattle.cpi_codes.specs.ItemCode.{is_no_zero}
 use Rattle.cpi_codes.specs.Month.{month_text}
-
 use Rattle.cpi_plan.specs.declared.items.Item.{Item}
 use Rattle.cpi_survey.specs.declared.mark.Mark.{Mark}
 use Rattle.cpi_survey.specs.declared.mark.Mark.TheVariants.{Price}
@@ -34,9 +35,13 @@ quote_row slot month receipt (Price p) = list (int slot ∷ text (month_text mon
 abbrev pub quote_data : QuoteRow → Data
 quote_data q = quote_row q.slot q.month q.receipt q.mark
 
+-- the text that writes an item code: its bytes, which are its digits in base 256, without the zeros that fill them up
+abbrev pub item_text : ℕ → List ℕ
+item_text code = filter is_no_zero (digits_of 256 code)
+
 -- code, text, unit, low, high
 abbrev pub item_data : Item → Data
-item_data i = list (text [] ∷ text i.text ∷ text i.unit ∷ int i.low ∷ int i.high ∷ [])
+item_data i = list (text (item_text i.code) ∷ text i.text ∷ text i.unit ∷ int i.low ∷ int i.high ∷ [])
 
 abbrev pub quotes_data : List QuoteRow → Data
 quotes_data rows = only (codes "quotes") (list (map quote_data rows))

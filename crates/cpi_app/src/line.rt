@@ -1,8 +1,10 @@
 //! From a reply to its line.
 ghost use Rattle.std.specs.Prelude.{◌≡◌, IfOk};
+ghost use Rattle.std.specs.String.{string_bytes};
 ghost use Rattle.serde_json.specs.View.{view};
-ghost use Rattle.cpi_app.specs.Line.{data_of, line_of, quote_data, item_data, refusal_data, quotes_data, items_data};
+ghost use Rattle.cpi_app.specs.Line.{data_of, line_of, quote_data, item_data, item_text, refusal_data, quotes_data, items_data};
 
+use cpi_codes::ItemCode;
 use cpi_office::{Refusal, Reply};
 use cpi_plan::Item;
 use cpi_survey::{Mark, Quote};
@@ -21,10 +23,18 @@ fn quote_value(alloc: Global, quote: &Quote) -> Result<Value, AllocError>
     }
 }
 
+// The text of an item code.
+#[tactic(auto, using(crate::proofs::Coded::text_is))]
+fn code_text(alloc: Global, code: ItemCode) -> Result<String, AllocError>
+    ensures { IfOk result (λ s. string_bytes s ≡ item_text code) }
+{
+    code.text(alloc)
+}
+
 fn item_value(alloc: Global, item: &Item) -> Result<Value, AllocError>
     ensures { IfOk result (λ v. view v ≡ item_data item.now) }
 {
-    let code = item.code.text(alloc)?;
+    let code = code_text(alloc, item.code)?;
     let low = item.low.per_mille();
     let high = item.high.per_mille();
     json!(in alloc; [code, item.text.as_str(), item.unit.as_str(), low, high])
