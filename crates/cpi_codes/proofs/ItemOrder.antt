@@ -12,7 +12,8 @@ use Rattle.std.specs.Cmp.{nat_cmp_is}
 use Rattle.std.specs.Cmp.Lexicographic.{slice_cmp}
 use Rattle.std.proofs.lemmas.Bool.{cases_order}
 use Rattle.cpi_codes.specs.ItemCode.{is_item_character, item_code_of}
-use Rattle.cpi_codes.proofs.Bytes.{text-of-code, text-parts, character-range, both}
+use Rattle.cpi_codes.proofs.Bytes.{text-of-code, text-parts, character-range}
+use Rattle.cpi_codes.proofs.Choices.{both}
 
 -- the first of the bytes counts most
 after-head : (n : ℕ) (xs : List ℕ) → number_from_digits_after 256 n xs ≡ n * 256 ^ length xs + number_from_digits_after 256 0 xs

@@ -10,7 +10,7 @@ use Rattle.std.specs.Str.Parse.{digits_value}
 use Rattle.cpi_codes.specs.declared.months.MonthFault.{MonthFault}
 use Rattle.cpi_codes.specs.declared.months.MonthFault.TheVariants.{Shape, Range}
 use Rattle.cpi_codes.specs.Month.{two_digits, year_of, month_of_year, month_text, month_in, month_of, is_in_calendar, is_month_shape, months_since_2000}
-use Rattle.cpi_codes.proofs.Bytes.{both}
+use Rattle.cpi_codes.proofs.Choices.{both}
 use Rattle.cpi_codes.proofs.Digits.{digit-range}
 use Rattle.cpi_codes.proofs.NumberTexts.{model, all-same}
 
