@@ -1,8 +1,9 @@
-pub mod Digits
 pub mod Bytes
+pub mod Choices
+pub mod Digits
+pub mod ItemOrder
+pub mod KeyTexts
+pub mod MonthSpelling
 pub mod MonthTexts
 pub mod NameTests
-pub mod ItemOrder
 pub mod NumberTexts
-pub mod MonthSpelling
-pub mod KeyTexts

@@ -8,3 +8,6 @@ mod tolerances;
 pub use calendar::CalendarRow;
 pub use items::Item;
 pub use tolerances::{HighTolerance, LowTolerance};
+
+#[cfg(test)]
+mod tests;
