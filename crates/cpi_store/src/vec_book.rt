@@ -1,7 +1,8 @@
 use crate::bearer::Bearer;
 use crate::book::{Book, Parts, StoreFault};
 use crate::failures::Failures;
-use crate::holder::{Holder, put_assignment_of, put_holder, put_quote_of};
+use crate::holder::Holder;
+use crate::holders::{put_assignment_of, put_holder, put_quote_of};
 use crate::outlet::Outlet;
 use cpi_codes::{CollectorId, Key, OutletId};
 use cpi_plan::{CalendarRow, Item};
