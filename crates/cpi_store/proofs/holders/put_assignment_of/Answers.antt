@@ -8,8 +8,8 @@ use Rattle.cpi_rows.proofs.Places.{missing_at_gap}
 use Rattle.cpi_survey.specs.Own.{OwnPart}
 use Rattle.cpi_store.specs.declared.holder.Holder.{Holder}
 use Rattle.cpi_store.proofs.Assigned.{either, placed_put, placed_same, names_put, names_same}
-use Rattle.cpi_store.proofs.Holders.{assignments_put, quotes_same, order_after, collectors_after}
-use Rattle.cpi_store.proofs.holder.put_assignment_of.Goals as goal
+use Rattle.cpi_store.proofs.Found.{assignments_put, quotes_same, order_after, collectors_after}
+use Rattle.cpi_store.proofs.holders.put_assignment_of.Goals as goal
 
 pub unreachable-requires : goal.unreachable-requires
 unreachable-requires c =

@@ -8,8 +8,8 @@ use Rattle.cpi_rows.proofs.Places.{missing_at_gap}
 use Rattle.std.proofs.lemmas.Result.{on_ok_weaker}
 use Rattle.cpi_survey.specs.Own.{OwnPart}
 use Rattle.cpi_store.specs.declared.holder.Holder.{Holder}
-use Rattle.cpi_store.proofs.Holders.{own_quotes, quotes_after, assignments_after, order_after, collectors_after, own_assignments_after}
-use Rattle.cpi_store.proofs.holder.put_quote_of.Goals as goal
+use Rattle.cpi_store.proofs.Found.{own_quotes, quotes_after, assignments_after, order_after, collectors_after, own_assignments_after}
+use Rattle.cpi_store.proofs.holders.put_quote_of.Goals as goal
 
 pub put_quote-requires : goal.put_quote-requires
 put_quote-requires c =

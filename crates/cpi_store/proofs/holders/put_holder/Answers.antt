@@ -4,7 +4,7 @@ use Rattle.std.proofs.lemmas.Cmp.{nat_cmp_total}
 use Rattle.cpi_rows.specs.Keyed.{IsPlace}
 use Rattle.cpi_rows.proofs.Places.{row_found, put_at_gap}
 use Rattle.cpi_store.specs.declared.holder.Holder.{Holder}
-use Rattle.cpi_store.proofs.holder.put_holder.Goals as goal
+use Rattle.cpi_store.proofs.holders.put_holder.Goals as goal
 
 pub unreachable-requires : goal.unreachable-requires
 unreachable-requires c =
