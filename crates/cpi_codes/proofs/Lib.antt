@@ -2,3 +2,8 @@ pub mod Digits
 pub mod Bytes
 pub mod MonthTexts
 pub mod NameTests
+pub mod CodeBytes
+pub mod CodeSpelling
+pub mod CodeBelow
+pub mod CodePath
+pub mod CodeIs
