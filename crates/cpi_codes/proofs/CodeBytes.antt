@@ -50,14 +50,17 @@ subclass_rest x y h e = rw (e, h e) refl
 pub class_rest : (x y z : Option ℕ) → (x ≡ None → y ≡ None) → (y ≡ None → z ≡ None) → x ≡ None → dotted x ++ (dotted y ++ dashed z) ≡ []
 class_rest x y z h k e = rw (e, h e, k (h e)) refl
 
+-- texts of parts compare part by part as they compare byte by byte, where nothing stands below an absent part
+pub parts-cmp : (d : ℕ) (g c s a : Option ℕ) (e : ℕ) (h k t b : Option ℕ) → (g ≡ None → c ≡ None) × (c ≡ None → s ≡ None) × (s ≡ None → a ≡ None) → (h ≡ None → k ≡ None) × (k ≡ None → t ≡ None) × (t ≡ None → b ≡ None)
+  → slice_cmp nat_cmp (two_digits d ++ (dotted g ++ (dotted c ++ (dotted s ++ dashed a)))) (two_digits e ++ (dotted h ++ (dotted k ++ (dotted t ++ dashed b)))) ≡ ordering_then (nat_cmp d e) (ordering_then (option_cmp nat_cmp g h) (ordering_then (option_cmp nat_cmp c k) (ordering_then (option_cmp nat_cmp s t) (option_cmp nat_cmp a b))))
+parts-cmp d g c s a e h k t b below_c below_d =
+    let dashed_c : s ≡ None → dashed a ≡ [] = λ e. ap dashed (below_c.2 e) in
+    let dashed_d : t ≡ None → dashed b ≡ [] = λ e. ap dashed (below_d.2 e) in
+    let fourth = dotted-cmp s t _ _ dashed_c dashed_d ∙ ap (ordering_then (option_cmp nat_cmp s t)) (dashed-cmp a b) in
+    let third = dotted-cmp c k _ _ (λ e. subclass_rest _ _ below_c.2 (below_c.1 e)) (λ e. subclass_rest _ _ below_d.2 (below_d.1 e)) ∙ ap (ordering_then (option_cmp nat_cmp c k)) fourth in
+    let second = dotted-cmp g h _ _ (λ e. class_rest _ _ _ below_c.1 below_c.2 (below_c.0 e)) (λ e. class_rest _ _ _ below_d.1 below_d.2 (below_d.0 e)) ∙ ap (ordering_then (option_cmp nat_cmp g h)) third in
+    two_digits-cmp d e _ ∙ ap (ordering_then (nat_cmp d e)) second
+
 -- codes compare part by part as their texts compare byte by byte
 pub text-cmp : (c d : Code) → slice_cmp nat_cmp (text c) (text d) ≡ ordering_then (nat_cmp c.division d.division) (ordering_then (option_cmp nat_cmp c.group d.group) (ordering_then (option_cmp nat_cmp c.class d.class) (ordering_then (option_cmp nat_cmp c.subclass d.subclass) (option_cmp nat_cmp c.aggregate d.aggregate))))
-text-cmp c d =
-    let below_c = absent_below c.division _ _ _ _ c.valid in
-    let below_d = absent_below d.division _ _ _ _ d.valid in
-    let dashed_c : c.subclass ≡ None → dashed c.aggregate ≡ [] = λ e. ap dashed (below_c.2 e) in
-    let dashed_d : d.subclass ≡ None → dashed d.aggregate ≡ [] = λ e. ap dashed (below_d.2 e) in
-    let fourth = dotted-cmp c.subclass d.subclass _ _ dashed_c dashed_d ∙ ap (ordering_then (option_cmp nat_cmp c.subclass d.subclass)) (dashed-cmp c.aggregate d.aggregate) in
-    let third = dotted-cmp c.class d.class _ _ (λ e. subclass_rest _ _ below_c.2 (below_c.1 e)) (λ e. subclass_rest _ _ below_d.2 (below_d.1 e)) ∙ ap (ordering_then (option_cmp nat_cmp c.class d.class)) fourth in
-    let second = dotted-cmp c.group d.group _ _ (λ e. class_rest _ _ _ below_c.1 below_c.2 (below_c.0 e)) (λ e. class_rest _ _ _ below_d.1 below_d.2 (below_d.0 e)) ∙ ap (ordering_then (option_cmp nat_cmp c.group d.group)) third in
-    two_digits-cmp c.division d.division _ ∙ ap (ordering_then (nat_cmp c.division d.division)) second
+text-cmp c d = parts-cmp c.division c.group c.class c.subclass c.aggregate d.division d.group d.class d.subclass d.aggregate (absent_below c.division _ _ _ _ c.valid) (absent_below d.division _ _ _ _ d.valid)

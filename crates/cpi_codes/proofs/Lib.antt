@@ -7,3 +7,4 @@ pub mod CodeSpelling
 pub mod CodeBelow
 pub mod CodePath
 pub mod CodeIs
+pub mod CodeRead

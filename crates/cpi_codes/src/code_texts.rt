@@ -2,6 +2,7 @@
 ghost use Rattle.std.specs.Prelude.{◌≡◌, IfOk, IfErr, take, length};
 ghost use Rattle.cpi_codes.specs.CodeText.{text};
 ghost use Rattle.cpi_codes.specs.CodeSpelling.{IsFault};
+ghost use Rattle.cpi_codes.specs.declared.codes.Code.{Code};
 
 use crate::codes::Code;
 use crate::spelling::read;
@@ -23,6 +24,7 @@ impl Code {
     /// Reads the one spelling of a code.
     pub fn parse(bytes: &[u8]) -> Result<Code, CodeFault>
         ensures code { IfOk result (λ c. text c ≡ bytes.now) }
+        ensures every_code { (c : Code) → text c ≡ bytes.now → result ≡ Ok c }
         ensures fault { IfErr result (λ f. IsFault f bytes.now) }
     {
         let Some(parts) = read(bytes) else {
