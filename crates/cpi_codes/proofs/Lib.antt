@@ -7,3 +7,9 @@ pub mod MonthSpelling
 pub mod MonthTexts
 pub mod NameTests
 pub mod NumberTexts
+pub mod CodeBytes
+pub mod CodeSpelling
+pub mod CodeBelow
+pub mod CodePath
+pub mod CodeIs
+pub mod CodeRead

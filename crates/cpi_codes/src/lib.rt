@@ -1,6 +1,10 @@
 //! Numbers, codes and texts of the survey, each within its limits.
 #![tactic(auto)]
 
+mod code_below;
+mod code_order;
+mod code_texts;
+mod codes;
 mod collectors;
 mod item_codes;
 mod keys;
@@ -13,7 +17,10 @@ mod outlets;
 mod prices;
 mod series;
 mod slots;
+mod spelling;
 
+pub use code_texts::CodeFault;
+pub use codes::Code;
 pub use collectors::CollectorId;
 pub use item_codes::ItemCode;
 pub use keys::Key;
