@@ -1,6 +1,7 @@
 //! Numbers, codes and texts of the survey, each within its limits.
 #![tactic(auto)]
 
+mod civil;
 mod collectors;
 mod item_codes;
 mod keys;
@@ -10,6 +11,7 @@ mod names;
 mod number;
 mod outlets;
 mod prices;
+mod rounding;
 mod series;
 mod slots;
 
@@ -22,5 +24,6 @@ pub use names::{Name, NameFault};
 pub use number::number_of;
 pub use outlets::OutletId;
 pub use prices::Price;
+pub use rounding::round_div;
 pub use series::SeriesId;
 pub use slots::Slot;
