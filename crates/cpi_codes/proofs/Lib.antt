@@ -2,4 +2,8 @@ pub mod Bytes
 pub mod Digits
 pub mod MonthTexts
 pub mod NameTests
+pub mod OfficeYears
+pub mod OneAnswer
 pub mod OneTime
+pub mod Picked
+pub mod Seconds

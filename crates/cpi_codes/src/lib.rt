@@ -14,6 +14,7 @@ mod prices;
 mod rounding;
 mod series;
 mod slots;
+mod zone;
 
 pub use collectors::CollectorId;
 pub use item_codes::ItemCode;
@@ -27,3 +28,7 @@ pub use prices::Price;
 pub use rounding::round_div;
 pub use series::SeriesId;
 pub use slots::Slot;
+pub use zone::{MomentFault, Zone, moment_at, one_answer, picks_as_stated, zone_of};
+
+#[cfg(test)]
+mod zone_tests;
