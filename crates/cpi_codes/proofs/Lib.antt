@@ -13,3 +13,8 @@ pub mod CodeBelow
 pub mod CodePath
 pub mod CodeIs
 pub mod CodeRead
+pub mod OfficeYears
+pub mod OneAnswer
+pub mod OneTime
+pub mod Picked
+pub mod Seconds

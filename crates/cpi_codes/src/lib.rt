@@ -5,6 +5,7 @@ mod code_below;
 mod code_order;
 mod code_texts;
 mod codes;
+mod civil;
 mod collectors;
 mod item_codes;
 mod keys;
@@ -15,9 +16,11 @@ mod names;
 mod number;
 mod outlets;
 mod prices;
+mod rounding;
 mod series;
 mod slots;
 mod spelling;
+mod zone;
 
 pub use code_texts::CodeFault;
 pub use codes::Code;
@@ -35,8 +38,12 @@ pub use names::{Name, NameFault};
 pub use number::number_of;
 pub use outlets::OutletId;
 pub use prices::Price;
+pub use rounding::round_div;
 pub use series::SeriesId;
 pub use slots::Slot;
+pub use zone::{MomentFault, Zone, moment_at, one_answer, picks_as_stated, zone_of};
 
 #[cfg(test)]
 mod tests;
+#[cfg(test)]
+mod zone_tests;
