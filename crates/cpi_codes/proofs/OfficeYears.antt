@@ -1,5 +1,5 @@
 -- A civil time of the years that the office knows is a moment, by every clock.
-use Rattle.std.proofs.Common.{◌≡◌, ◌<◌, ◌≤◌, ◌+◌, ℕ, ℤ, List, pos, ◌+ℤ◌, ◌-ℤ◌, ◌≤ℤ◌, refl, arith}
+use Rattle.std.proofs.Common.{◌≡◌, ℕ, List, pos, ◌≤ℤ◌, refl, arith}
 use Rattle.jiff.proofs.SpanFacts.{signed_arith}
 use Rattle.jiff.specs.Words.{ambiguous_at, civil_seconds, compatible_offset}
 use Rattle.jiff_core.specs.Calendar.{IsCivilDate, day_count}
