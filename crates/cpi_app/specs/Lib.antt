@@ -3,4 +3,5 @@ pub mod Command
 pub mod Fault
 pub mod Line
 pub mod Record
+pub mod Records
 pub mod Words
