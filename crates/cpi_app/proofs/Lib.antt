@@ -5,3 +5,4 @@ pub mod Counted
 pub mod Floats
 pub mod Places
 pub mod Reading
+pub mod Runs
