@@ -18,9 +18,7 @@ pub(crate) fn two<'a>(arguments: &[&'a [u8]]) -> Option<(&'a [u8], &'a [u8])>
     }
 }
 
-pub(crate) fn four<'a>(
-    arguments: &[&'a [u8]],
-) -> Option<(&'a [u8], &'a [u8], &'a [u8], &'a [u8])>
+pub(crate) fn four<'a>(arguments: &[&'a [u8]]) -> Option<(&'a [u8], &'a [u8], &'a [u8], &'a [u8])>
     ensures { option_map (λ a. (a.0.now, a.1.now, a.2.now, a.3.now)) result ≡ exactly_four (map (λ a. a.now) arguments.now) }
 {
     if arguments.len() == 4 {

@@ -4,7 +4,9 @@ ghost use Rattle.cpi_app.specs.declared.words.Word.TheVariants as word;
 ghost use Rattle.cpi_app.specs.Words.{word_of as spelled_word, month as spelled_month, name as spelled_name, mark_of as spelled_mark, request_of as spelled_request};
 
 use crate::arguments::{five, four, no_more, six, two};
-use cpi_codes::{CollectorId, ItemCode, Key, Moment, Month, Name, NameFault, OutletId, Price, SeriesId, Slot};
+use cpi_codes::{
+    CollectorId, ItemCode, Key, Moment, Month, Name, NameFault, OutletId, Price, SeriesId, Slot,
+};
 use cpi_office::Request;
 use cpi_plan::{CalendarRow, HighTolerance, Item, LowTolerance};
 use cpi_store::{Bearer, Outlet};
