@@ -33,7 +33,7 @@ struct Places {
     slot: Slot,
 }
 
-fn places() -> Result<Places, Fail> {
+fn sample_places() -> Result<Places, Fail> {
     Ok(Places {
         item: ItemCode::parse(b"RICE").ok_or("no code")?,
         month: Month::new(2026, 1)?,
@@ -67,7 +67,7 @@ fn rice(alloc: Global, code: ItemCode) -> Result<Item, Fail>
     })
 }
 
-fn sample(alloc: Global, places: Places) -> Result<Sample, Fail>
+fn sample_rows(alloc: Global, places: Places) -> Result<Sample, Fail>
     ensures item { IfOk result (λ s. s.assigned.assignment.item ≡ s.item.code) }
     ensures outlet { IfOk result (λ s. s.assigned.assignment.outlet ≡ s.outlet.number) }
     ensures name { IfOk result (λ s. s.assigned.outlet_name ≡ s.outlet.name) }
@@ -149,10 +149,10 @@ fn standing<B: Book>(book: &mut B, places: Places) -> Result<[bool; CALLS], Stor
 
 #[test]
 fn a_call_that_fails_leaves_the_rows_before_it(rt: HostRuntime) -> Result<(), Fail> {
-    let places = places()?;
+    let places = sample_places()?;
     for nth in 1..=CALLS {
         let mut book = FailBook::new(VecBook::new(rt.alloc()), nth as u64);
-        let filled = fill(&mut book, sample(rt.alloc(), places)?);
+        let filled = fill(&mut book, sample_rows(rt.alloc(), places)?);
         assert_eq!(rt; filled, Err(StoreFault), "at {nth}");
         for (call, stands) in standing(&mut book, places)?.iter().enumerate() {
             assert_eq!(rt; *stands, call + 1 < nth, "row {call} at {nth}");
@@ -161,11 +161,26 @@ fn a_call_that_fails_leaves_the_rows_before_it(rt: HostRuntime) -> Result<(), Fa
     Ok(())
 }
 
+// Memory may be refused anywhere, as where the run is told to refuse the n-th.
+#[test]
+fn rows_stand_up_to_the_one_that_was_refused(rt: HostRuntime) -> Result<(), Fail> {
+    let places = sample_places()?;
+    let mut book = VecBook::new(rt.alloc());
+    let filled = fill(&mut book, sample_rows(rt.alloc(), places)?);
+    let mut all = true;
+    for stands in standing(&mut book, places)? {
+        assert!(rt; all || !stands);
+        all = stands;
+    }
+    assert_eq!(rt; filled.is_ok(), all);
+    Ok(())
+}
+
 #[test]
 fn a_book_in_memory_shows_what_was_put(rt: HostRuntime) -> Result<(), Fail> {
-    let places = places()?;
+    let places = sample_places()?;
     let mut book = VecBook::new(rt.alloc());
-    fill(&mut book, sample(rt.alloc(), places)?)?;
+    fill(&mut book, sample_rows(rt.alloc(), places)?)?;
     assert_eq!(rt; standing(&mut book, places)?, [true; CALLS]);
     let bearer = Bearer {
         number: places.collector,
