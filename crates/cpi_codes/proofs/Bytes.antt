@@ -104,7 +104,7 @@ ascii-zeros : (k : ℕ) → list_all is_ascii (replicate k 0) ≡ true
 ascii-zeros zero = refl
 ascii-zeros (suc k) = ascii-zeros k
 
-both : (a b : Bool) → (a && b) ≡ true → (a ≡ true) × (b ≡ true)
+pub both : (a b : Bool) → (a && b) ≡ true → (a ≡ true) × (b ≡ true)
 both true b h = (refl, h)
 both false b h = absurd cc
 

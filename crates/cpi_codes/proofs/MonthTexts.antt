@@ -1,9 +1,17 @@
 -- Months as they are printed and read.
-use Rattle.std.proofs.Common.{◌≡◌, ◌∙◌, refl, sym, ap, ℕ, ◌+◌, ◌-◌, ◌*◌, ◌/◌, ◌%◌, ◌^◌, ◌<◌, ◌≤◌, inl, inr, List, [], ◌∷◌, ◌++◌, length, replicate, false, append_assoc, arith}
+use Rattle.std.proofs.Common.{◌≡◌, ◌∙◌, refl, sym, ap, ℕ, ◌+◌, ◌-◌, ◌*◌, ◌/◌, ◌%◌, ◌^◌, ◌<◌, ◌≤◌, inl, inr, List, [], ◌∷◌, ◌++◌, length, replicate, true, false, Bool, ◌&&◌, ◌==◌, nat_le, cond, take, drop, slice_index, Result, Ok, Err, append_assoc, zero, suc, get_or, arith, lit<, codes}
 use Rattle.std.proofs.lemmas.Bool.{cases_lt}
 use Rattle.std.specs.Fmt.{decimal, styled_decimal, format_spec, padded_integral, char_count}
 use Rattle.std.proofs.lemmas.Fmt.{decimal_digit, decimal_step}
-use Rattle.cpi_codes.specs.Month.{two_digits, year_of, month_of_year, month_text}
+use Rattle.std.proofs.lemmas.Bool.Decides.{nat_tests}
+use Rattle.std.proofs.lemmas.Str.{digit_value_digit}
+use Rattle.std.proofs.lemmas.Fmt.{decimal-digits_value}
+use Rattle.std.specs.List.{list_all}
+use Rattle.std.specs.Char.{is_ascii_digit, digit_value}
+use Rattle.std.specs.Str.Parse.{digits_value}
+use Rattle.cpi_codes.specs.declared.months.MonthFault.{MonthFault}
+use Rattle.cpi_codes.specs.declared.months.MonthFault.TheVariants.{Shape, Range}
+use Rattle.cpi_codes.specs.Month.{two_digits, year_of, month_of_year, month_text, month_in, month_of, is_in_calendar, is_month_shape, months_since_2000}
 
 -- a number below 100 that is printed with at least two digits, filled up with a zero in front
 padded-below-10 : (n : ℕ) → n < 10 → padded_integral (format_spec 32 0 4 2 (2 ^ 64 - 1)) false [] (decimal n) ≡ two_digits n
@@ -26,3 +34,64 @@ pub month-written : (month year number : ℕ) → year ≡ year_of month → num
 month-written month year number y n =
     let small : month_of_year month < 100 = omega arith in
     rw (y, n, padded-two (month_of_year month) small) (simp append_assoc)
+
+digit-true : (d : ℕ) → d < 10 → is_ascii_digit (48 + d) ≡ true
+digit-true d h = grind (arith, nat_tests)
+
+digit-worth : (d : ℕ) → d < 10 → digit_value (48 + d) ≡ d
+digit-worth d h = let worth = digit_value_digit (48 + d) (omega arith, omega arith) in omega arith
+
+-- the bytes of four digits, a dash and two digits
+pub spelled : ℕ → ℕ → ℕ → ℕ → ℕ → ℕ → List ℕ
+spelled a b c d e f = (48 + a) ∷ (48 + b) ∷ (48 + c) ∷ (48 + d) ∷ 45 ∷ (48 + e) ∷ (48 + f) ∷ []
+
+month-of-digits : (a b c d e f : ℕ) → a < 10 → b < 10 → c < 10 → d < 10 → e < 10 → f < 10 →
+    month_of (spelled a b c d e f) ≡ month_in ((((0 * 10 + a) * 10 + b) * 10 + c) * 10 + d) ((0 * 10 + e) * 10 + f)
+unfolding spelled
+month-of-digits a b c d e f ha hb hc hd he hf =
+    rw (
+      digit-true a ha,
+      digit-true b hb,
+      digit-true c hc,
+      digit-true d hd,
+      digit-true e he,
+      digit-true f hf,
+      digit-worth a ha,
+      digit-worth b hb,
+      digit-worth c hc,
+      digit-worth d hd,
+      digit-worth e he,
+      digit-worth f hf,
+    ) refl
+
+in-calendar : (month : ℕ) → month < 2400 → month_in (year_of month) (month_of_year month) ≡ Ok month
+in-calendar month h =
+    let first : nat_le 2000 (year_of month) ≡ true = grind (arith, nat_tests) in
+    let last : nat_le (year_of month) 2199 ≡ true = grind (arith, nat_tests) in
+    let low : nat_le 1 (month_of_year month) ≡ true = grind (arith, nat_tests) in
+    let high : nat_le (month_of_year month) 12 ≡ true = grind (arith, nat_tests) in
+    let back : months_since_2000 (year_of month) (month_of_year month) ≡ month = omega arith in
+    rw (first, last, low, high, back) refl
+
+four-digits : (y : ℕ) → 1000 ≤ y → y < 10000 → decimal y ≡ (48 + y / 10 / 10 / 10) ∷ (48 + y / 10 / 10 % 10) ∷ (48 + y / 10 % 10) ∷ (48 + y % 10) ∷ []
+four-digits y low high =
+    rw (decimal_step y (omega arith) (omega arith), decimal_step (y / 10) (omega arith) (omega arith), decimal_step (y / 10 / 10) (omega arith) (omega arith), decimal_digit (y / 10 / 10 / 10) (omega arith)) refl
+
+month-spelled : (month : ℕ) → month < 2400 →
+    let y = year_of month in let n = month_of_year month in
+    month_text month ≡ spelled (y / 10 / 10 / 10) (y / 10 / 10 % 10) (y / 10 % 10) (y % 10) (n / 10) (n % 10)
+unfolding spelled
+month-spelled month h =
+    let y = year_of month in
+    let n = month_of_year month in
+    rw (four-digits y (omega arith) (omega arith), decimal_digit (n / 10) (omega arith), decimal_digit (n % 10) (omega arith)) refl
+
+pub read-again : (month : ℕ) → month < 2400 → month_of (month_text month) ≡ Ok month
+read-again month h =
+    let y = year_of month in
+    let n = month_of_year month in
+    let year : (((0 * 10 + y / 10 / 10 / 10) * 10 + y / 10 / 10 % 10) * 10 + y / 10 % 10) * 10 + y % 10 ≡ y = omega arith in
+    let number : (0 * 10 + n / 10) * 10 + n % 10 ≡ n = omega arith in
+    ap month_of (month-spelled month h)
+    ∙ month-of-digits (y / 10 / 10 / 10) (y / 10 / 10 % 10) (y / 10 % 10) (y % 10) (n / 10) (n % 10) (omega arith) (omega arith) (omega arith) (omega arith) (omega arith) (omega arith)
+    ∙ rw (year, number) (in-calendar month h)

@@ -4,6 +4,7 @@
 mod collectors;
 mod item_codes;
 mod keys;
+mod laws;
 mod moments;
 mod months;
 mod names;
@@ -16,6 +17,11 @@ mod slots;
 pub use collectors::CollectorId;
 pub use item_codes::ItemCode;
 pub use keys::Key;
+pub use laws::{
+    item_codes_are_in_byte_order, item_codes_have_one_spelling, keys_have_one_spelling,
+    months_are_read_again, months_have_one_spelling, numbers_are_read_again,
+    numbers_have_one_spelling,
+};
 pub use moments::Moment;
 pub use months::{Month, MonthFault};
 pub use names::{Name, NameFault};
@@ -24,3 +30,6 @@ pub use outlets::OutletId;
 pub use prices::Price;
 pub use series::SeriesId;
 pub use slots::Slot;
+
+#[cfg(test)]
+mod tests;

@@ -30,3 +30,9 @@ told_to key (a ∷ asks) o = (if is_bearer key a.caller then reply_to a.now a.ca
 -- A collector is told the same if all requests of all other collectors are left out.
 abbrev pub OthersDoNotMatter : Type 0
 OthersDoNotMatter = (key : ℕ) (asks : List Ask) (o : Office) → IsSound o → told_to key asks o ≡ told_to key (without_others key asks) o
+
+-- A collector is told the same by two lists of requests that differ in the requests of other collectors alone.
+abbrev pub OthersMayDiffer : Type 0
+OthersMayDiffer =
+    (key : ℕ) (asks others : List Ask) (o : Office) → IsSound o → without_others key asks ≡ without_others key others →
+    told_to key asks o ≡ told_to key others o

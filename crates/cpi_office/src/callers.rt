@@ -1,4 +1,4 @@
-ghost use Rattle.std.specs.Prelude.{Some, None, IsSome};
+ghost use Rattle.std.specs.Prelude.{◌≡◌, IsTrue, Some, None, IsSome};
 ghost use Rattle.cpi_rows.specs.Keyed.{at};
 ghost use Rattle.cpi_store.specs.Office.{Quotes};
 ghost use Rattle.cpi_store.specs.Bearer.{bearer_of};
@@ -6,6 +6,7 @@ ghost use Rattle.cpi_office.specs.Known.{collector_reply, collector_after};
 ghost use Rattle.cpi_office.specs.Runs.{reply_to, after_one};
 ghost use Rattle.cpi_office.specs.declared.caller.Caller.{Caller};
 ghost use Rattle.cpi_office.specs.Calls.{Serves};
+ghost use Rattle.cpi_office.specs.Turned.{TurnsAway, is_turned_away};
 
 use crate::assign::assign;
 use crate::calendar::put_calendar;
@@ -23,8 +24,9 @@ use std::alloc::Global;
 
 /// Answers the public.
 pub fn serve_public<B: Book>(alloc: Global, book: &mut B, now: Moment, request: Request) -> Reply
-    ensures { let o = B.lists book.old in
+    ensures serves { let o = B.lists book.old in
         Serves B.is_clean B.lists B.failures book.old book.new result (reply_to now Caller.Public request o) (after_one now Caller.Public request o) }
+    ensures turns { TurnsAway B.is_clean B.failures B.finds_always book.old book.new Caller.Public result (reply_to now Caller.Public request (B.lists book.old)) }
 {
     match request {
         Request::Items => items(alloc, book),
@@ -40,8 +42,9 @@ pub fn serve_collector<B: Book>(
     key: Key,
     request: Request,
 ) -> Reply
-    ensures { let o = B.lists book.old in
+    ensures serves { let o = B.lists book.old in
         Serves B.is_clean B.lists B.failures book.old book.new result (reply_to now (Caller.Collector key) request o) (after_one now (Caller.Collector key) request o) }
+    ensures turns { TurnsAway B.is_clean B.failures B.finds_always book.old book.new (Caller.Collector key) result (reply_to now (Caller.Collector key) request (B.lists book.old)) }
 {
     match book.bearer_of(key) {
         Err(StoreFault) => Reply::Refused(Refusal::Unavailable),
@@ -59,8 +62,9 @@ fn serve_known<B: Book>(
     request: Request,
 ) -> Reply
     requires known { B.is_clean book.old → IsSome (at (λ b. b.number) bearer.number (B.lists book.old).collectors) }
-    ensures { let o = B.lists book.old in
+    ensures serves { let o = B.lists book.old in
         Serves B.is_clean B.lists B.failures book.old book.new result (collector_reply now request o (Some bearer)) (collector_after bearer.key now request o (Some bearer)) }
+    ensures turns { B.is_clean book.new → IsTrue (is_turned_away (collector_reply now request (B.lists book.old) (Some bearer))) → result ≡ collector_reply now request (B.lists book.old) (Some bearer) }
 {
     match request {
         Request::Items => items(alloc, book),
@@ -72,8 +76,9 @@ fn serve_known<B: Book>(
 
 /// Answers the desk.
 pub fn serve_desk<B: Book>(alloc: Global, book: &mut B, now: Moment, request: Request) -> Reply
-    ensures { let o = B.lists book.old in
+    ensures serves { let o = B.lists book.old in
         Serves B.is_clean B.lists B.failures book.old book.new result (reply_to now Caller.Desk request o) (after_one now Caller.Desk request o) }
+    ensures turns { TurnsAway B.is_clean B.failures B.finds_always book.old book.new Caller.Desk result (reply_to now Caller.Desk request (B.lists book.old)) }
 {
     match request {
         Request::Items => items(alloc, book),

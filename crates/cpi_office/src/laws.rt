@@ -1,7 +1,10 @@
 ghost use Rattle.cpi_store.specs.Office.{empty_office};
 ghost use Rattle.cpi_office.specs.Sound.{IsSound};
 ghost use Rattle.cpi_office.specs.Laws.{StaysSound, ViewsAreRebuilt, ChangesAreEnough, AnswersAreAlike, RepliesAreFromViews};
-ghost use Rattle.cpi_office.specs.Alone.{OthersDoNotMatter};
+ghost use Rattle.cpi_office.specs.Alone.{OthersDoNotMatter, OthersMayDiffer};
+ghost use Rattle.cpi_office.specs.Told.{RunsTellAlike};
+
+use cpi_store::Book;
 
 /// An empty office is sound.
 pub fn empty_is_sound()
@@ -17,7 +20,21 @@ pub fn views_are_rebuilt()
     ensures replies { RepliesAreFromViews }
 {}
 
-/// A collector is told the same, reply by reply, if all requests of all other collectors are left out of the list.
+/// What a collector is told doesn't hang on what other collectors ask.
+///
+/// From a sound office a collector is told the same, reply by reply, if all requests of all other collectors are left out of the list. So it is told the same by two lists that differ in other collectors' requests alone, whether these are added, dropped, changed or moved.
+///
+/// It isn't said that a collector can't notice another: by the time that an answer takes, or where a request is answered that the office is unavailable, since another has taken the memory.
 pub fn others_do_not_matter()
-    ensures { OthersDoNotMatter }
+    ensures alone { OthersDoNotMatter }
+    ensures differ { OthersMayDiffer }
+{}
+
+/// What `Office::run` tells a collector doesn't hang on what other collectors ask.
+///
+/// Take two runs, over books of any two kinds that hold the same sound lists, with two lists of requests that differ in other collectors' requests alone. Where no reply of either run says that the office is unavailable, and both stores are clean at the end, the replies to the collector are the same in both, one by one.
+///
+/// Nothing is said of time, nor of runs in which memory or a store fails a request.
+pub fn runs_tell_alike<B: Book, C: Book>()
+    ensures { RunsTellAlike B.is_clean B.lists C.is_clean C.lists }
 {}

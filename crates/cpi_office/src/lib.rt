@@ -6,6 +6,7 @@ mod calendar;
 mod caller;
 mod callers;
 mod collectors;
+mod examples;
 mod items;
 mod laws;
 mod office;
@@ -19,7 +20,8 @@ mod standing;
 mod submit;
 
 pub use caller::Caller;
-pub use laws::{empty_is_sound, others_do_not_matter, views_are_rebuilt};
+pub use examples::worked_runs;
+pub use laws::{empty_is_sound, others_do_not_matter, runs_tell_alike, views_are_rebuilt};
 pub use office::Office;
 pub use refusal::Refusal;
 pub use reply::Reply;

@@ -1,6 +1,8 @@
 ghost use Rattle.std.specs.Prelude.{◌≡◌};
 ghost use Rattle.cpi_office.specs.Runs.{reply_to, after_one};
 ghost use Rattle.cpi_office.specs.Calls.{Serves};
+ghost use Rattle.cpi_office.specs.Sound.{IsSound};
+ghost use Rattle.cpi_office.specs.Turned.{TurnsAway};
 
 use crate::caller::Caller;
 use crate::callers::{serve_collector, serve_desk, serve_public};
@@ -36,8 +38,10 @@ impl<B: Book> Office<B> {
 
     /// Answers a request.
     pub fn handle(&mut self, now: Moment, caller: Caller, request: Request) -> Reply
-        ensures { let o = B.lists self.old.book in
+        ensures serves { let o = B.lists self.old.book in
             Serves B.is_clean B.lists B.failures self.old.book self.new.book result (reply_to now caller request o) (after_one now caller request o) }
+        ensures turns { TurnsAway B.is_clean B.failures B.finds_always self.old.book self.new.book caller result (reply_to now caller request (B.lists self.old.book)) }
+        ensures sound { B.is_clean self.new.book → IsSound (B.lists self.old.book) → IsSound (B.lists self.new.book) }
     {
         match caller {
             Caller::Public => serve_public(self.alloc, &mut self.book, now, request),

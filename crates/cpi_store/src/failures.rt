@@ -2,6 +2,7 @@
 
 ghost use Rattle.std.specs.Prelude.{◌≡◌, ℕ, ◌+◌};
 
+use crate::book::StoreFault;
 use std::marker::Model;
 
 /// How often a store has failed.
@@ -28,5 +29,14 @@ impl Failures {
         ensures { result.count ≡ self.now.count + 1 }
     {
         Failures {}
+    }
+
+    /// Counts one failure more, and answers the fault of a call that failed.
+    pub fn fault(&mut self) -> StoreFault
+        ensures { self.new.count ≡ self.old.count + 1 }
+    {
+        let more = self.one_more();
+        *self = more;
+        StoreFault
     }
 }

@@ -1,4 +1,4 @@
-ghost use Rattle.std.specs.Prelude.{◌≡◌, ◌<◌, ℕ, List, [], map, OnOk, OnErr, IsSome, None, Some};
+ghost use Rattle.std.specs.Prelude.{◌≡◌, ◌<◌, ℕ, List, [], map, OnOk, OnErr, IsOk, IsSome, None, Some};
 ghost use Rattle.std.specs.BTreeMap.{IsUnchanged, Updates};
 ghost use Rattle.std.specs.Ordering.{nat_cmp};
 ghost use Rattle.cpi_rows.specs.Keyed.{put, row_at, at, put_by, IsInOrder};
@@ -57,6 +57,7 @@ pub fn put_quote_of(
     requires receipt { greatest_receipt (held_by collector (all_quotes holders.old.items)) < quote.receipt }
     ensures ok { OnOk result (all_quotes holders.new.items ≡ put (held_cmp quote_cmp) (held_key quote_key) (collector, quote) (all_quotes holders.old.items)) }
     ensures err { OnErr result (holders.new.items ≡ holders.old.items) }
+    ensures replaced { IsSome (row_at quote_cmp quote_key (quote.slot, quote.month) (held_by collector (all_quotes holders.old.items))) → IsOk result }
     ensures collectors { collectors_of holders.new.items ≡ collectors_of holders.old.items }
     ensures assignments { all_assignments holders.new.items ≡ all_assignments holders.old.items }
     ensures order { IsInOrder nat_cmp (λ h. h.number) holders.new.items }

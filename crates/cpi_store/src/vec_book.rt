@@ -79,7 +79,7 @@ impl VecBook {
 
     /// An empty office.
     pub fn new(alloc: Global) -> VecBook
-        ensures { result.office ≡ empty_office }
+        ensures { result ≡ record { office = empty_office; failures = 0 } }
     {
         VecBook {
             public: Public::from_parts(Vec::new(alloc), Vec::new(alloc)),
@@ -106,7 +106,13 @@ impl VecBook {
 }
 
 impl Book for VecBook {
-    ghost use Rattle.std.specs.Prelude.{⊤};
+    ghost use Rattle.std.specs.Prelude.{◌≡◌, ◌<◌, ⊤, IsOk, IsSome};
+    ghost use Rattle.cpi_rows.specs.Keyed.{row_at, at};
+    ghost use Rattle.cpi_rows.specs.Held.{held_by};
+    ghost use Rattle.cpi_survey.specs.Quote.{greatest_receipt, quote_cmp, quote_key};
+    ghost use Rattle.cpi_store.specs.Office.{changed, PutsCalendar, Quotes};
+    ghost use Rattle.cpi_store.specs.Bearer.{bearer_of, collector_of, collector_key};
+    ghost use Rattle.cpi_store.specs.Holders.{KeptReads, KeptWrites};
 
     ghost lists = { λ b. b.office };
 
@@ -118,19 +124,31 @@ impl Book for VecBook {
 
     ghost finds_always = { ⊤ };
 
-    fn bearer_of(&mut self, key: Key) -> Result<Option<Bearer>, StoreFault> {
+    fn bearer_of(&mut self, key: Key) -> Result<Option<Bearer>, StoreFault>
+        ensures reads { KeptReads self.old self.new result (λ found. found ≡ bearer_of key self.old.office.collectors) }
+        ensures always { IsOk result }
+    {
         Ok(self.bearers.get(&key).copied())
     }
 
-    fn bearer_at(&mut self, number: CollectorId) -> Result<Option<Bearer>, StoreFault> {
+    fn bearer_at(&mut self, number: CollectorId) -> Result<Option<Bearer>, StoreFault>
+        ensures reads { KeptReads self.old self.new result (λ found. found ≡ at (λ b. b.number) number self.old.office.collectors) }
+        ensures always { IsOk result }
+    {
         Ok(self.holder_at(number))
     }
 
-    fn collector_of(&mut self, key: Key) -> Result<Option<CollectorId>, StoreFault> {
+    fn collector_of(&mut self, key: Key) -> Result<Option<CollectorId>, StoreFault>
+        ensures reads { KeptReads self.old self.new result (λ found. found ≡ collector_of key self.old.office.collectors) }
+        ensures always { IsOk result }
+    {
         Ok(self.bearers.get(&key).map(|bearer| bearer.number))
     }
 
-    fn collector_key(&mut self, number: CollectorId) -> Result<Option<Key>, StoreFault> {
+    fn collector_key(&mut self, number: CollectorId) -> Result<Option<Key>, StoreFault>
+        ensures reads { KeptReads self.old self.new result (λ found. found ≡ collector_key number self.old.office.collectors) }
+        ensures always { IsOk result }
+    {
         Ok(self.holder_at(number).map(|bearer| bearer.key))
     }
 
@@ -153,22 +171,17 @@ impl Book for VecBook {
     fn put_item(&mut self, item: Item) -> Result<(), StoreFault> {
         match self.public.put_item(item) {
             Ok(()) => Ok(()),
-            Err(_) => {
-                let more = self.failed.one_more();
-                self.failed = more;
-                Err(StoreFault)
-            }
+            Err(_) => Err(self.failed.fault()),
         }
     }
 
-    fn put_calendar(&mut self, row: CalendarRow) -> Result<(), StoreFault> {
+    fn put_calendar(&mut self, row: CalendarRow) -> Result<(), StoreFault>
+        ensures writes { KeptWrites self.old self.new result (changed (PutsCalendar row) self.old.office) }
+        ensures replaced { IsSome (at (λ r. r.month) row.month self.old.office.calendar) → IsOk result }
+    {
         match self.public.put_calendar(row) {
             Ok(()) => Ok(()),
-            Err(_) => {
-                let more = self.failed.one_more();
-                self.failed = more;
-                Err(StoreFault)
-            }
+            Err(_) => Err(self.failed.fault()),
         }
     }
 
@@ -176,44 +189,33 @@ impl Book for VecBook {
         let holder = Holder::new(self.alloc, bearer);
         match put_holder(&mut self.holders, &mut self.bearers, holder) {
             Ok(()) => Ok(()),
-            Err(_) => {
-                let more = self.failed.one_more();
-                self.failed = more;
-                Err(StoreFault)
-            }
+            Err(_) => Err(self.failed.fault()),
         }
     }
 
     fn put_outlet(&mut self, outlet: Outlet) -> Result<(), StoreFault> {
         match put_row(&mut self.outlets, outlet) {
             Ok(()) => Ok(()),
-            Err(_) => {
-                let more = self.failed.one_more();
-                self.failed = more;
-                Err(StoreFault)
-            }
+            Err(_) => Err(self.failed.fault()),
         }
     }
 
     fn put_assignment(&mut self, bearer: Bearer, assigned: Assigned) -> Result<(), StoreFault> {
         match put_assignment_of(&mut self.holders, bearer.number, assigned) {
             Ok(()) => Ok(()),
-            Err(_) => {
-                let more = self.failed.one_more();
-                self.failed = more;
-                Err(StoreFault)
-            }
+            Err(_) => Err(self.failed.fault()),
         }
     }
 
-    fn put_quote(&mut self, bearer: Bearer, quote: Quote) -> Result<(), StoreFault> {
+    fn put_quote(&mut self, bearer: Bearer, quote: Quote) -> Result<(), StoreFault>
+        requires known { IsSome (at (λ b. b.number) bearer.number self.old.office.collectors) }
+        requires receipt { greatest_receipt (held_by bearer.number self.old.office.quotes) < quote.receipt }
+        ensures writes { KeptWrites self.old self.new result (changed (Quotes bearer quote) self.old.office) }
+        ensures replaced { IsSome (row_at quote_cmp quote_key (quote.slot, quote.month) (held_by bearer.number self.old.office.quotes)) → IsOk result }
+    {
         match put_quote_of(&mut self.holders, bearer.number, quote) {
             Ok(()) => Ok(()),
-            Err(_) => {
-                let more = self.failed.one_more();
-                self.failed = more;
-                Err(StoreFault)
-            }
+            Err(_) => Err(self.failed.fault()),
         }
     }
 }

@@ -12,8 +12,8 @@ serve_known-requires g c = record {
       rw (reads.kept clean) (bearer_some c.args.key c.in-Ok-Some.bearer _ (sym (reads.shown clean) ∙ c.in-Ok-Some.field-0-is));
 }
 
-pub returns-in-Ok-Some : goal.returns-in-Ok-Some
-returns-in-Ok-Some g c =
+pub returns-in-Ok-Some-clause-serves : goal.returns-in-Ok-Some-clause-serves
+returns-in-Ok-Some-clause-serves g c =
     let reads = c.in-Ok-Some.ensures.reads in
     let o = g.B.Book.lists c.args.book.now in
     let key = c.args.key in
@@ -24,7 +24,7 @@ returns-in-Ok-Some g c =
     serves_after g.B.Book.is_clean g.B.Book.lists g.B.Book.failures c.args.book.now mid c.serve_known.new.book _ _ c.serve_known.result
     (collector_reply now r (g.B.Book.lists mid) (Some b)) (collector_reply now r o (bearer_of key o.collectors))
     (collector_after b.key now r (g.B.Book.lists mid) (Some b)) (collector_after key now r o (bearer_of key o.collectors))
-    reads c.serve_known.ensures
+    reads c.serve_known.ensures.serves
     (λ clean.
     let found : bearer_of key o.collectors ≡ Some b = sym (reads.shown clean) ∙ c.in-Ok-Some.field-0-is in (
       ap (λ u. collector_reply now r u (Some b)) (reads.kept clean) ∙ ap (collector_reply now r o) (sym found),

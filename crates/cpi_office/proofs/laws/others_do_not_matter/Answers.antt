@@ -1,5 +1,9 @@
 use Rattle.cpi_office.proofs.Alone.{others_do_not_matter}
+use Rattle.cpi_office.proofs.Told.{others_may_differ}
 use Rattle.cpi_office.proofs.laws.others_do_not_matter.Goals as goal
 
-pub returns : goal.returns
-returns c = others_do_not_matter
+pub returns-clause-alone : goal.returns-clause-alone
+returns-clause-alone c = others_do_not_matter
+
+pub returns-clause-differ : goal.returns-clause-differ
+returns-clause-differ c = others_may_differ

@@ -45,3 +45,8 @@ pub returns-clause-own_assignments : goal.returns-clause-own_assignments
 returns-clause-own_assignments c =
     let place : IsPlace nat_cmp (λ (h : Holder). h.number) c.args.collector c.args.holders.now.items (Ok c.in-Ok.at) = rw (← c.deref.ensures.value) c.in-Ok.ensures in
     own_assignments_after c.args.holders.now.items c.requires.order c.args.collector c.in-Ok.at place.0 place.1 c.index_mut-holder.result.now c.index_mut-holder.ensures.value _ refl c.put_quote.ensures.assignments
+
+pub returns-clause-replaced : goal.returns-clause-replaced
+returns-clause-replaced c =
+    let place : IsPlace nat_cmp (λ (h : Holder). h.number) c.args.collector c.args.holders.now.items (Ok c.in-Ok.at) = rw (← c.deref.ensures.value) c.in-Ok.ensures in
+    rw (own_quotes c.args.holders.now.items c.requires.order c.args.collector c.in-Ok.at place.0 place.1 c.index_mut-holder.result.now c.index_mut-holder.ensures.value) c.put_quote.ensures.replaced

@@ -1,4 +1,4 @@
-use Rattle.std.proofs.Common.{◌≡◌, ◌++◌, List, [], ◌∷◌, ℕ, length, ◌+◌, ap, sym, ◌∙◌, append_assoc, Result, Ok, Err, OnErr}
+use Rattle.std.proofs.Common.{subst, ◌≡◌, ◌++◌, List, [], ◌∷◌, ℕ, length, ◌+◌, ap, sym, ◌∙◌, append_assoc, Result, Ok, Err, OnErr}
 use Rattle.std.proofs.lemmas.List.{length-append}
 use Rattle.std.specs.Vec.Iter.{into_iter_items}
 use Rattle.cpi_store.specs.Office.{Office}
@@ -8,6 +8,9 @@ use Rattle.cpi_office.specs.Served.{Ran}
 use Rattle.cpi_office.specs.declared.request.Ask.{Ask}
 use Rattle.cpi_office.specs.declared.reply.Reply.{Reply}
 use Rattle.cpi_office.proofs.Served.{ran_more}
+use Rattle.cpi_office.proofs.Told.{told_alone, run_sound}
+use Rattle.cpi_office.specs.Told.{AreToldAlone}
+use Rattle.std.proofs.lemmas.List.{append-nil, nil_from_length}
 use Rattle.cpi_office.proofs.office.Office.run.Goals as goal
 
 -- one request more is carried out
@@ -26,7 +29,7 @@ loop-ask-preserved g c =
     let n = c.loop-ask.invariant in
     let more = one_more g.B.Book.is_clean g.B.Book.lists g.B.Book.failures c.args.self.now.book c.loop-ask.self.book c.handle-reply.new.self.book
     c.args.asks.items n.0 (into_iter_items c.loop-ask.rest) (into_iter_items c.next.new.self) c.loop-ask.told.items c.in-Some.ask c.handle-reply.result
-    n.1 c.in-Some.ensures.items n.2 n.3 c.handle-reply.ensures in
+    n.1 c.in-Some.ensures.items n.2 n.3 c.handle-reply.ensures.serves in
     rw c.in_ok-push.ensures.items (n.0 ++ c.in-Some.ask ∷ [], more.0, more.1, more.2)
 
 pub returns-in_err-push-clause-err : goal.returns-in_err-push-clause-err
@@ -34,5 +37,25 @@ returns-in_err-push-clause-err g c =
     let n = c.loop-ask.invariant in
     let more = one_more g.B.Book.is_clean g.B.Book.lists g.B.Book.failures c.args.self.now.book c.loop-ask.self.book c.handle-reply.new.self.book
     c.args.asks.items n.0 (into_iter_items c.loop-ask.rest) (into_iter_items c.next.new.self) c.loop-ask.told.items c.in-Some.ask c.handle-reply.result
-    n.1 c.in-Some.ensures.items n.2 n.3 c.handle-reply.ensures in
+    n.1 c.in-Some.ensures.items n.2 n.3 c.handle-reply.ensures.serves in
     err_any c.from_residual.result (n.0 ++ c.in-Some.ask ∷ [], into_iter_items c.next.new.self, c.loop-ask.told.items ++ c.handle-reply.result ∷ [], more.0, more.2)
+
+pub returns-in_err-push-clause-sound : goal.returns-in_err-push-clause-sound
+returns-in_err-push-clause-sound g c = λ clean s.
+    let n = c.loop-ask.invariant in
+    let lists = g.B.Book.lists in
+    c.handle-reply.ensures.sound clean (run_sound (lists c.args.self.now.book) (lists c.loop-ask.self.book) n.0 c.loop-ask.told.items (n.3.run (c.handle-reply.ensures.serves.was_clean clean)) s)
+
+pub returns-clause-told : goal.returns-clause-told
+returns-clause-told g c = λ clean s.
+    let n = c.loop-ask.invariant in
+    let lists = g.B.Book.lists in
+    let none_left : into_iter_items c.next.new.self ≡ [] = nil_from_length (into_iter_items c.next.new.self) (sym c.next.new.self.rest.ok.0 ∙ c.in_default.ensures.cases.1) in
+    let whole : c.args.asks.items ≡ n.0 = n.1 ∙ ap (λ ys. n.0 ++ ys) (c.in_default.ensures.items ∙ none_left) ∙ append-nil n.0 in
+    subst (λ asks. AreToldAlone (lists c.args.self.now.book) asks c.loop-ask.told.items) (sym whole) (told_alone (lists c.args.self.now.book) (lists c.loop-ask.self.book) n.0 c.loop-ask.told.items s (n.3.run clean))
+
+pub returns-clause-sound : goal.returns-clause-sound
+returns-clause-sound g c = λ clean s.
+    let n = c.loop-ask.invariant in
+    let lists = g.B.Book.lists in
+    run_sound (lists c.args.self.now.book) (lists c.loop-ask.self.book) n.0 c.loop-ask.told.items (n.3.run clean) s

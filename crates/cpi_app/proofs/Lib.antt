@@ -1,0 +1,5 @@
+pub mod Asked
+pub mod Coded
+pub mod Counted
+pub mod Floats
+pub mod Places
