@@ -86,6 +86,13 @@ impl Own {
         put_row(&mut self.assignments, assigned)
     }
 
+    /// All assignments with their outlets' names, by slot.
+    pub fn assignments(&self) -> &[Assigned]
+        ensures { result.now ≡ self.now.assignments }
+    {
+        &self.assignments
+    }
+
     /// The assignment of the slot with its outlet's name, if the slot was given.
     pub fn assigned(&self, slot: Slot) -> Option<&Assigned>
         ensures { option_copied result ≡ at (λ a. a.assignment.slot) slot self.now.assignments }

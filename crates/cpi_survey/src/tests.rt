@@ -1,4 +1,6 @@
-use crate::{Assigned, Assignment, Decision, Entry, Mark, Own, Public, Quote, Refusal};
+use crate::{
+    Assigned, Assignment, Decision, Entry, Mark, Own, Public, Quote, Reason, Refusal, Verdict, check,
+};
 use cpi_codes::{CollectorId, ItemCode, Moment, Month, Name, OutletId, Price, SeriesId, Slot};
 use cpi_plan::{CalendarRow, HighTolerance, Item, LowTolerance};
 use std::alloc::Global;
@@ -215,5 +217,84 @@ fn items_and_assignments(rt: HostRuntime) -> Result<(), Fail> {
     assert!(rt; first.assignment.is_same(&first.assignment));
     assert!(rt; !first.assignment.is_same(&second.assignment));
     assert!(rt; own.assigned(slot(3)?).is_none());
+    Ok(())
+}
+
+fn price(units: u64) -> Result<Price, Fail> {
+    Ok(Price::new(units).ok_or("price")?)
+}
+
+#[test]
+fn marks_and_the_last_price(rt: HostRuntime) -> Result<(), Fail> {
+    let mut own = own(rt.alloc())?;
+    let mut public = public(rt.alloc())?;
+    public.put_item(item(rt.alloc(), "RICE")?)?;
+    store(&rt, &mut own, quote(1, month(2025, 12)?, 1000, 1)?)?;
+    let outside = Refusal::OutOfTolerance {
+        last: price(1000)?,
+        low: 700,
+        high: 1500,
+    };
+    let rows = [
+        (1, Mark::Price(price(699)?), false, Err(outside)),
+        (1, Mark::Price(price(700)?), false, Ok(2)),
+        (1, Mark::Price(price(1500)?), false, Ok(3)),
+        (1, Mark::Price(price(699)?), true, Ok(4)),
+        (1, Mark::Comparable(price(699)?), false, Err(outside)),
+        (1, Mark::Other(price(5)?), false, Ok(5)),
+        (1, Mark::Missing(Reason::Stock), false, Ok(6)),
+        (1, Mark::Missing(Reason::Stock), true, Ok(6)),
+        (2, Mark::Comparable(price(300)?), true, Err(Refusal::NoLastPrice)),
+        (2, Mark::Missing(Reason::Gone), false, Ok(7)),
+    ];
+    for (number, mark, confirm, want) in rows {
+        let entry = Entry {
+            slot: slot(number)?,
+            month: month(2026, 1)?,
+            mark,
+            confirm,
+        };
+        let answer = sent(&rt, &mut own, &public, 1500, entry)?;
+        assert_eq!(rt; answer, want, "{mark:?} of slot {number}");
+    }
+    Ok(())
+}
+
+#[test]
+fn bounds_are_rounded_inwards(rt: HostRuntime) -> Result<(), Fail> {
+    let rice = item(rt.alloc(), "RICE")?;
+    let outside = Verdict::Outside {
+        low: 701,
+        high: 1501,
+    };
+    assert_eq!(rt; check(&rice, price(1001)?, price(700)?), outside);
+    assert_eq!(rt; check(&rice, price(1001)?, price(701)?), Verdict::Inside);
+    assert_eq!(rt; check(&rice, price(1001)?, price(1501)?), Verdict::Inside);
+    assert_eq!(rt; check(&rice, price(1001)?, price(1502)?), outside);
+    Ok(())
+}
+
+#[test]
+fn work_of_a_month(rt: HostRuntime) -> Result<(), Fail> {
+    let mut own = own(rt.alloc())?;
+    let mut public = public(rt.alloc())?;
+    public.put_item(item(rt.alloc(), "RICE")?)?;
+    let january = month(2026, 1)?;
+    store(&rt, &mut own, quote(1, month(2025, 12)?, 200, 1)?)?;
+    store(&rt, &mut own, quote(1, january, 210, 2)?)?;
+    let rows = own.work(rt.alloc(), &public, january)?;
+    let rows = rows.ok().ok_or("work")?;
+    assert_eq!(rt; rows.len(), 2);
+    let first = &rows.as_slice()[0];
+    assert_eq!(rt; first.outlet_name.as_str(), "Corner shop");
+    assert_eq!(rt; first.text.as_str(), "Rice, white");
+    assert_eq!(rt; first.unit.as_str(), "1 kg");
+    assert_eq!(rt; first.last, Price::new(200));
+    assert_eq!(rt; first.quote, Some(quote(1, january, 210, 2)?));
+    let second = &rows.as_slice()[1];
+    assert_eq!(rt; second.slot, slot(2)?);
+    assert_eq!(rt; second.last, None);
+    assert_eq!(rt; second.quote, None);
+    assert!(rt; own.work(rt.alloc(), &public, month(2026, 2)?)?.is_err());
     Ok(())
 }
