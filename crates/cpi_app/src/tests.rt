@@ -114,7 +114,7 @@ fn a_writer_that_fails_stops_before_the_next_record(rt: HostRuntime) -> Result<(
     let mut written: Vec<u8> = Vec::new(alloc);
     let rest = replay(alloc, COLLECTOR, &mut written, &mut office);
     assert_eq!(rt; rest, Ok(()));
-    assert_eq!(rt; &written[..15], b"{\"refused\":20}\n".as_slice());
+    assert!(rt; written.starts_with(b"{\"refused\":20}\n".as_slice()));
     Ok(())
 }
 
