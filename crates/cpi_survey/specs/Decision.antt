@@ -50,9 +50,9 @@ once_checked entry (Err refusal) greatest = Err refusal
 abbrev pub in_window : ℕ → EntryRow → CalendarPart → Assignment → Result (Unit {0}) Refusal → ℕ → Result Decision Refusal
 in_window now entry row a check greatest =
     if is_active entry.month a then
-      if nat_lt now row.opens then Err NotOpen
-      else if nat_le row.closes now then Err Closed
-      else once_checked entry check greatest
+    if nat_lt now row.opens then Err NotOpen
+    else if nat_le row.closes now then Err Closed
+    else once_checked entry check greatest
     else Err NotActive
 
 -- a month without a calendar row is unknown

@@ -1,5 +1,6 @@
 use crate::{
-    Assigned, Assignment, Decision, Entry, Mark, Own, Public, Quote, Reason, Refusal, Verdict, check,
+    Assigned, Assignment, Decision, Entry, Mark, Own, Public, Quote, Reason, Refusal, Verdict,
+    check,
 };
 use cpi_codes::{CollectorId, ItemCode, Moment, Month, Name, OutletId, Price, SeriesId, Slot};
 use cpi_plan::{CalendarRow, HighTolerance, Item, LowTolerance};
@@ -244,7 +245,12 @@ fn marks_and_the_last_price(rt: HostRuntime) -> Result<(), Fail> {
         (1, Mark::Other(price(5)?), false, Ok(5)),
         (1, Mark::Missing(Reason::Stock), false, Ok(6)),
         (1, Mark::Missing(Reason::Stock), true, Ok(6)),
-        (2, Mark::Comparable(price(300)?), true, Err(Refusal::NoLastPrice)),
+        (
+            2,
+            Mark::Comparable(price(300)?),
+            true,
+            Err(Refusal::NoLastPrice),
+        ),
         (2, Mark::Missing(Reason::Gone), false, Ok(7)),
     ];
     for (number, mark, confirm, want) in rows {
