@@ -1,19 +1,19 @@
 -- The order of item codes.
-use Rattle.std.proofs.Common.{◌≡◌, ◌∙◌, sym, refl, ap, ℕ, zero, suc, ◌+◌, ◌*◌, ◌-◌, ◌^◌, ◌<◌, ◌≤◌, ◌&&◌, List, ◌++◌, [], ◌∷◌, length, replicate, Bool, true, false, Some, inl, inr, arith, lit<, length-append}
+use Rattle.std.proofs.Common.{◌≡◌, ◌∙◌, sym, refl, ap, ℕ, zero, suc, ◌+◌, ◌*◌, ◌-◌, ◌^◌, ◌<◌, ◌≤◌, List, ◌++◌, [], ◌∷◌, length, replicate, true, Some, inl, inr, arith, lit<, length-append}
 use Rattle.std.proofs.lemmas.List.{length-replicate}
 use Rattle.std.proofs.Math.Nat.{pow-succ', mul-le-mul_right, suc-mul, add-mul, mul_assoc, pow-le-pow_right}
 use Rattle.std.proofs.lemmas.Slice.Eq.{bytes_eq-Decides}
 use Rattle.std.proofs.lemmas.Map.Text.{is_eq-slice_cmp}
 use Rattle.std.specs.Int.Digits.{number_from_digits, number_from_digits_after}
 use Rattle.std.specs.List.{list_all}
-use Rattle.std.specs.declared.cmp.Ordering.{Ordering}
 use Rattle.std.specs.declared.cmp.Ordering.TheVariants.{Less, Equal, Greater}
 use Rattle.std.specs.Ordering.{nat_cmp, ordering_then, is_eq}
 use Rattle.std.specs.Cmp.{nat_cmp_is}
 use Rattle.std.specs.Cmp.Lexicographic.{slice_cmp}
-use Rattle.std.proofs.lemmas.Bool.{cases_lt, cases_order}
-use Rattle.cpi_codes.specs.ItemCode.{is_item_character, is_item_text, item_code_of, item_number, filled}
-use Rattle.cpi_codes.proofs.Bytes.{text-of-code, text-parts, character-range, both}
+use Rattle.std.proofs.lemmas.Bool.{cases_order}
+use Rattle.cpi_codes.specs.ItemCode.{is_item_character, item_code_of}
+use Rattle.cpi_codes.proofs.Bytes.{text-of-code, text-parts, character-range}
+use Rattle.cpi_codes.proofs.Choices.{both}
 
 -- the first of the bytes counts most
 after-head : (n : ℕ) (xs : List ℕ) → number_from_digits_after 256 n xs ≡ n * 256 ^ length xs + number_from_digits_after 256 0 xs
@@ -98,17 +98,21 @@ more-first p x y u v small h =
 
 same-first : (p x u v : ℕ) → nat_cmp (x * p + u) (x * p + v) ≡ nat_cmp u v
 same-first p x u v = elim (cases_order u v) [
-    inl same ↦ equal (x * p + u) (x * p + v) (omega arith) ∙ sym (equal u v same)
-    | inr differ ↦ elim differ [
-        inl below ↦ less (x * p + u) (x * p + v) (omega arith) ∙ sym (less u v below)
-        | inr above ↦ greater (x * p + u) (x * p + v) (omega arith) ∙ sym (greater u v above) ] ]
+  | inl same ↦ equal (x * p + u) (x * p + v) (omega arith) ∙ sym (equal u v same)
+  | inr differ ↦ elim differ [
+    | inl below ↦ less (x * p + u) (x * p + v) (omega arith) ∙ sym (less u v below)
+    | inr above ↦ greater (x * p + u) (x * p + v) (omega arith) ∙ sym (greater u v above)
+  ]
+]
 
 by-digits : (p x y u v : ℕ) → u < p → v < p → nat_cmp (x * p + u) (y * p + v) ≡ ordering_then (nat_cmp x y) (nat_cmp u v)
 by-digits p x y u v small tiny = elim (cases_order x y) [
-    inl same ↦ rw (equal x y same) (rw same (same-first p y u v))
-    | inr differ ↦ elim differ [
-        inl below ↦ rw (less x y below) (less (x * p + u) (y * p + v) (more-first p x y u v small below))
-        | inr above ↦ rw (greater x y above) (greater (x * p + u) (y * p + v) (more-first p y x v u tiny above)) ] ]
+  | inl same ↦ rw (equal x y same) (rw same (same-first p y u v))
+  | inr differ ↦ elim differ [
+    | inl below ↦ rw (less x y below) (less (x * p + u) (y * p + v) (more-first p x y u v small below))
+    | inr above ↦ rw (greater x y above) (greater (x * p + u) (y * p + v) (more-first p y x v u tiny above))
+  ]
+]
 
 -- the numbers stand in the order of the texts
 pub weighed-order : (k : ℕ) (a b : List ℕ) → length a ≤ k → length b ≤ k → list_all is_item_character a ≡ true → list_all is_item_character b ≡ true → nat_cmp (weighed k a) (weighed k b) ≡ slice_cmp nat_cmp a b

@@ -1,17 +1,12 @@
 -- Months as they are printed and read.
-use Rattle.std.proofs.Common.{◌≡◌, ◌∙◌, refl, sym, ap, ℕ, ◌+◌, ◌-◌, ◌*◌, ◌/◌, ◌%◌, ◌^◌, ◌<◌, ◌≤◌, inl, inr, List, [], ◌∷◌, ◌++◌, length, replicate, true, false, Bool, ◌&&◌, ◌==◌, nat_le, cond, take, drop, slice_index, Result, Ok, Err, append_assoc, zero, suc, get_or, arith, lit<, codes}
+use Rattle.std.proofs.Common.{◌≡◌, ◌∙◌, refl, ap, ℕ, ◌+◌, ◌-◌, ◌*◌, ◌/◌, ◌%◌, ◌^◌, ◌<◌, ◌≤◌, inl, inr, List, [], ◌∷◌, ◌++◌, true, false, nat_le, Ok, append_assoc, arith}
 use Rattle.std.proofs.lemmas.Bool.{cases_lt}
 use Rattle.std.specs.Fmt.{decimal, styled_decimal, format_spec, padded_integral, char_count}
 use Rattle.std.proofs.lemmas.Fmt.{decimal_digit, decimal_step}
 use Rattle.std.proofs.lemmas.Bool.Decides.{nat_tests}
 use Rattle.std.proofs.lemmas.Str.{digit_value_digit}
-use Rattle.std.proofs.lemmas.Fmt.{decimal-digits_value}
-use Rattle.std.specs.List.{list_all}
 use Rattle.std.specs.Char.{is_ascii_digit, digit_value}
-use Rattle.std.specs.Str.Parse.{digits_value}
-use Rattle.cpi_codes.specs.declared.months.MonthFault.{MonthFault}
-use Rattle.cpi_codes.specs.declared.months.MonthFault.TheVariants.{Shape, Range}
-use Rattle.cpi_codes.specs.Month.{two_digits, year_of, month_of_year, month_text, month_in, month_of, is_in_calendar, is_month_shape, months_since_2000}
+use Rattle.cpi_codes.specs.Month.{two_digits, year_of, month_of_year, month_text, month_in, month_of, months_since_2000}
 
 -- a number below 100 that is printed with at least two digits, filled up with a zero in front
 padded-below-10 : (n : ℕ) → n < 10 → padded_integral (format_spec 32 0 4 2 (2 ^ 64 - 1)) false [] (decimal n) ≡ two_digits n
@@ -49,8 +44,20 @@ month-of-digits : (a b c d e f : ℕ) → a < 10 → b < 10 → c < 10 → d < 1
     month_of (spelled a b c d e f) ≡ month_in ((((0 * 10 + a) * 10 + b) * 10 + c) * 10 + d) ((0 * 10 + e) * 10 + f)
 unfolding spelled
 month-of-digits a b c d e f ha hb hc hd he hf =
-    rw (digit-true a ha, digit-true b hb, digit-true c hc, digit-true d hd, digit-true e he, digit-true f hf,
-        digit-worth a ha, digit-worth b hb, digit-worth c hc, digit-worth d hd, digit-worth e he, digit-worth f hf) refl
+    rw (
+      digit-true a ha,
+      digit-true b hb,
+      digit-true c hc,
+      digit-true d hd,
+      digit-true e he,
+      digit-true f hf,
+      digit-worth a ha,
+      digit-worth b hb,
+      digit-worth c hc,
+      digit-worth d hd,
+      digit-worth e he,
+      digit-worth f hf,
+    ) refl
 
 in-calendar : (month : ℕ) → month < 2400 → month_in (year_of month) (month_of_year month) ≡ Ok month
 in-calendar month h =

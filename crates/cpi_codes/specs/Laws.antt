@@ -1,10 +1,11 @@
--- What holds of all numbers, months and item codes.
+-- What holds of all numbers, months, keys and item codes.
 use Rattle.std.specs.Prelude.{◌≡◌, ℕ, ◌<◌, ◌≤◌, ◌^◌, List, Some, Ok}
 use Rattle.std.specs.Fmt.{decimal}
 use Rattle.std.specs.Ordering.{nat_cmp}
 use Rattle.std.specs.Cmp.Lexicographic.{slice_cmp}
 use Rattle.cpi_codes.specs.Number.{number_of}
 use Rattle.cpi_codes.specs.Month.{month_of, month_text}
+use Rattle.cpi_codes.specs.Key.{key_of}
 use Rattle.cpi_codes.specs.ItemCode.{item_code_of}
 
 -- the decimal text of a number in range is read as that number
@@ -22,6 +23,10 @@ MonthsAreReadAgain = (month : ℕ) → month < 2400 → month_of (month_text mon
 -- a text that is read as a month is the month's text
 abbrev pub MonthsHaveOneSpelling : Type 0
 MonthsHaveOneSpelling = (month : ℕ) (text : List ℕ) → month_of text ≡ Ok month → text ≡ month_text month
+
+-- two texts of one key are one text
+abbrev pub KeysHaveOneSpelling : Type 0
+KeysHaveOneSpelling = (key : ℕ) (a b : List ℕ) → key_of a ≡ Some key → key_of b ≡ Some key → a ≡ b
 
 -- two texts of one item code are one text
 abbrev pub ItemCodesHaveOneSpelling : Type 0

@@ -1,6 +1,11 @@
 //! Numbers, codes and texts of the survey, each within its limits.
 #![tactic(auto)]
 
+mod code_below;
+mod code_order;
+mod code_texts;
+mod codes;
+mod civil;
 mod collectors;
 mod item_codes;
 mod keys;
@@ -11,14 +16,21 @@ mod names;
 mod number;
 mod outlets;
 mod prices;
+mod rounding;
 mod series;
 mod slots;
+mod spelling;
+mod zone;
 
+pub use code_texts::CodeFault;
+pub use codes::Code;
 pub use collectors::CollectorId;
 pub use item_codes::ItemCode;
 pub use keys::Key;
 pub use laws::{
-    item_codes_are_in_byte_order, item_codes_have_one_spelling, months_are_read_again, months_have_one_spelling, numbers_are_read_again, numbers_have_one_spelling,
+    item_codes_are_in_byte_order, item_codes_have_one_spelling, keys_have_one_spelling,
+    months_are_read_again, months_have_one_spelling, numbers_are_read_again,
+    numbers_have_one_spelling,
 };
 pub use moments::Moment;
 pub use months::{Month, MonthFault};
@@ -26,5 +38,12 @@ pub use names::{Name, NameFault};
 pub use number::number_of;
 pub use outlets::OutletId;
 pub use prices::Price;
+pub use rounding::round_div;
 pub use series::SeriesId;
 pub use slots::Slot;
+pub use zone::{MomentFault, Zone, moment_at, one_answer, picks_as_stated, zone_of};
+
+#[cfg(test)]
+mod tests;
+#[cfg(test)]
+mod zone_tests;

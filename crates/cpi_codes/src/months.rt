@@ -12,6 +12,13 @@ const FIRST_YEAR: u16 = 2000;
 
 const LAST_YEAR: u16 = 2199;
 
+const JANUARY: u8 = 1;
+
+const DECEMBER: u8 = 12;
+
+// How many bytes `YYYY-MM` has.
+const TEXT_LEN: usize = 7;
+
 // How many months there are.
 const MONTHS: u16 = 2400;
 
@@ -47,11 +54,11 @@ impl Month {
     pub fn new(year: u16, month: u8) -> Result<Month, MonthFault>
         ensures { result ≡ month_in year month }
     {
-        if year < FIRST_YEAR || LAST_YEAR < year || month < 1 || 12 < month {
+        if year < FIRST_YEAR || LAST_YEAR < year || month < JANUARY || DECEMBER < month {
             return Err(MonthFault::Range);
         }
         Ok(Month {
-            index: 12 * (year - FIRST_YEAR) + u16::from(month - 1),
+            index: 12 * (year - FIRST_YEAR) + u16::from(month - JANUARY),
         })
     }
 
@@ -63,7 +70,7 @@ impl Month {
             return Err(MonthFault::Shape);
         }
         let year = value_of(&text[..4], u64::from(LAST_YEAR));
-        let month = value_of(&text[5..], 12);
+        let month = value_of(&text[5..], u64::from(DECEMBER));
         match (year, month) {
             (Some(year), Some(month)) => Month::new(year as u16, month as u8),
             _ => Err(MonthFault::Range),
@@ -91,7 +98,7 @@ impl Month {
         ensures value { result ≡ month_of_year self }
         ensures range { (1 ≤ result) × (result ≤ 12) }
     {
-        1 + (self.index % 12) as u8
+        JANUARY + (self.index % 12) as u8
     }
 
     /// The month before; none before 2000-01.
@@ -154,7 +161,7 @@ impl fmt::Display for Month {
 fn is_month_shape(text: &[u8]) -> bool
     ensures { result ≡ is_shape_of_month text.now }
 {
-    if text.len() != 7 || !are_digits(&text[..4]) || text[4] != b'-' {
+    if text.len() != TEXT_LEN || !are_digits(&text[..4]) || text[4] != b'-' {
         return false;
     }
     are_digits(&text[5..])

@@ -33,6 +33,7 @@ bare o = record o { quotes = [] }
 -- the desk's commands do not look at quotes
 commanded_bare : (r : Request) (o : Office) → commanded r (bare o) ≡ commanded r o
 commanded_bare request.Items o = refl
+commanded_bare (request.Work month) o = refl
 commanded_bare (request.Quotes first last) o = refl
 commanded_bare (request.Submit entry) o = refl
 commanded_bare (request.PutItem i) o = refl
@@ -99,6 +100,7 @@ module _ (key : ℕ) where
 
     other_unseen : (now : ℕ) (r : Request) (v : View) → Unseen (of_collector other now r v)
     other_unseen now request.Items v = (refl, λ o. refl)
+    other_unseen now (request.Work month) v = (refl, λ o. refl)
     other_unseen now (request.Quotes first last) v = (refl, λ o. refl)
     other_unseen now (request.Submit entry) v = entered_unseen now entry v v.own
     other_unseen now (request.PutItem i) v = (refl, λ o. refl)

@@ -2,6 +2,10 @@
 use Rattle.std.proofs.Common.{◌≡◌, ℕ, Bool, true, false, Some, None, Option, Result, Ok, Err, refl}
 use Rattle.std.specs.Prelude.{if◌then◌else◌, is_none}
 use Rattle.cpi_survey.specs.Decision.{decided}
+use Rattle.cpi_plan.specs.Calendar.{CalendarPart}
+use Rattle.cpi_survey.specs.Public.{PublicPart, calendar_of}
+use Rattle.cpi_survey.specs.Own.{OwnPart}
+use Rattle.cpi_survey.specs.Work.{work, work_rows, in_calendar}
 use Rattle.cpi_store.specs.Bearer.{same_bearer}
 use Rattle.cpi_plan.specs.declared.items.Item.{Item}
 use Rattle.cpi_store.specs.declared.outlet.Outlet.{Outlet}
@@ -15,7 +19,7 @@ use Rattle.cpi_store.specs.Office.{Office, Change}
 use Rattle.cpi_office.specs.Views.{View, OwnView}
 use Rattle.cpi_office.specs.Verdicts.{Verdict}
 use Rattle.cpi_office.specs.Desk.{put_once, registered, to_collector, assigned, replaced}
-use Rattle.cpi_office.specs.Answers.{decision_reply, known_answer}
+use Rattle.cpi_office.specs.Answers.{decision_reply, known_answer, work_reply}
 use Rattle.cpi_office.specs.Verdicts.{verdict_reply}
 use Rattle.cpi_office.specs.Runs.{reply_to}
 use Rattle.cpi_office.specs.Served.{is_failure}
@@ -46,9 +50,18 @@ decision_own (Err entry.UnknownMonth) = (refl, refl)
 decision_own (Err entry.NotActive) = (refl, refl)
 decision_own (Err entry.NotOpen) = (refl, refl)
 decision_own (Err entry.Closed) = (refl, refl)
+decision_own (Err entry.NoLastPrice) = (refl, refl)
+decision_own (Err (entry.OutOfTolerance last low high)) = (refl, refl)
 decision_own (Err entry.ReceiptsUsedUp) = (refl, refl)
 decision_own (Ok (Again receipt)) = (refl, refl)
 decision_own (Ok (Put quote)) = (refl, refl)
+
+pub work_own : (month : ℕ) (p : PublicPart) (own : OwnPart) → IsOwn (work_reply (work month p own))
+work_own month p own = by (calendar_of month p)
+  where
+    by : (row : Option CalendarPart) → IsOwn (work_reply (in_calendar row (work_rows month p own)))
+    by None = (refl, refl)
+    by (Some row) = (refl, refl)
 
 pub once_judges : (c : Change) (s : Standing) → Judges (put_once c s)
 once_judges c Free = (refl, refl)
@@ -80,6 +93,7 @@ assigned_judges a i u b Free =
 known_told : (now : ℕ) (r : Request) (v : View) (own : Option OwnView) → is_failure (known_answer now r v own) ≡ false
 known_told now r v None = refl
 known_told now request.Items v (Some own) = refl
+known_told now (request.Work month) v (Some own) = (work_own month v.public own.part).0
 known_told now (request.Quotes first last) v (Some own) = refl
 known_told now (request.Submit entry) v (Some own) = (decision_own (decided now entry v.public own.part)).0
 known_told now (request.PutItem i) v (Some own) = refl
@@ -90,6 +104,7 @@ known_told now (request.PutCalendar row) v (Some own) = refl
 
 desk_told : (now : ℕ) (r : Request) (o : Office) → is_failure (reply_to now caller.Desk r o) ≡ false
 desk_told now request.Items o = refl
+desk_told now (request.Work month) o = refl
 desk_told now (request.Quotes first last) o = refl
 desk_told now (request.Submit entry) o = refl
 desk_told now (request.PutItem i) o = (once_judges _ _).0
@@ -100,6 +115,7 @@ desk_told now (request.PutCalendar row) o = (replaced_judges _ _).0
 
 public_told : (now : ℕ) (r : Request) (o : Office) → is_failure (reply_to now caller.Public r o) ≡ false
 public_told now request.Items o = refl
+public_told now (request.Work month) o = refl
 public_told now (request.Quotes first last) o = refl
 public_told now (request.Submit entry) o = refl
 public_told now (request.PutItem i) o = refl

@@ -1,6 +1,16 @@
--- What is stored is what the verdict on a decision changes.
-use Rattle.std.proofs.Common.{◌≡◌, Result, Ok, Err, refl}
+-- What is stored is what the verdict on a decision changes, and its receipt is above the greatest.
+use Rattle.std.proofs.Common.{◌≡◌, ℕ, Option, Some, None, Result, Ok, Err, refl, arith}
+use Rattle.std.specs.Prelude.{nat_lt, nat_le}
+use Rattle.cpi_plan.specs.Calendar.{CalendarPart}
 use Rattle.cpi_survey.specs.Entry.{EntryRow}
+use Rattle.cpi_survey.specs.Quote.{QuoteRow, greatest_receipt}
+use Rattle.cpi_survey.specs.Mark.{is_same_mark}
+use Rattle.cpi_survey.specs.Assignment.{is_active}
+use Rattle.cpi_survey.specs.Public.{PublicPart}
+use Rattle.cpi_survey.specs.Own.{OwnPart, assignment_of}
+use Rattle.cpi_survey.specs.Decision.{decided, in_slot, over_quote, in_month, in_window, once_checked, with_receipt}
+use Rattle.cpi_survey.specs.declared.assignment.Assignment.{Assignment}
+use Rattle.cpi_survey.specs.declared.assignment.Assigned.{Assigned}
 use Rattle.cpi_store.specs.declared.bearer.Bearer.{Bearer}
 use Rattle.cpi_survey.specs.declared.decision.Decision.{Decision}
 use Rattle.cpi_survey.specs.declared.decision.Decision.TheVariants.{Again, Put}
@@ -8,9 +18,43 @@ use Rattle.cpi_survey.specs.declared.refusal.Refusal.{Refusal as EntryRefusal}
 use Rattle.cpi_store.specs.Office.{Office}
 use Rattle.cpi_office.specs.Entries.{decision_verdict}
 use Rattle.cpi_office.specs.Verdicts.{with_verdict}
-use Rattle.cpi_office.specs.Receipts.{stored}
+use Rattle.cpi_office.specs.Receipts.{IsNew, stored}
+use Rattle.cpi_office.proofs.Failures.{if_holds}
 
 pub stored_is : (b : Bearer) (entry : EntryRow) (d : Result Decision EntryRefusal) (o : Office) → stored b d o ≡ with_verdict (decision_verdict b entry d) o
 stored_is b entry (Err f) o = refl
 stored_is b entry (Ok (Again receipt)) o = refl
 stored_is b entry (Ok (Put q)) o = refl
+
+module _ (entry : EntryRow) (greatest : ℕ) where
+  abbrev New : Result Decision EntryRefusal → Type 0
+  New d = IsNew d greatest
+
+  receipt_new : New (with_receipt entry greatest)
+  receipt_new = if_holds New (nat_le 1000000 greatest) _ _ (λ e. tt) (λ e. omega arith)
+
+  checked_new : (check : Result (Unit {0}) EntryRefusal) → New (once_checked entry check greatest)
+  checked_new (Ok _) = receipt_new
+  checked_new (Err f) = tt
+
+  window_new : (now : ℕ) (row : CalendarPart) (a : Assignment) (check : Result (Unit {0}) EntryRefusal) → New (in_window now entry row a check greatest)
+  window_new now row a check =
+      if_holds New (is_active entry.month a) _ _ (λ e.
+      if_holds New (nat_lt now row.opens) _ _ (λ e. tt) (λ e.
+      if_holds New (nat_le row.closes now) _ _ (λ e. tt) (λ e. checked_new check))) (λ e. tt)
+
+  month_new : (now : ℕ) (row : Option CalendarPart) (a : Assignment) (check : Result (Unit {0}) EntryRefusal) → New (in_month now entry row a check greatest)
+  month_new now None a check = tt
+  month_new now (Some row) a check = window_new now row a check
+
+  over_new : (now : ℕ) (row : Option CalendarPart) (a : Assignment) (q : Option QuoteRow) (check : Result (Unit {0}) EntryRefusal) → New (over_quote now entry row a q check greatest)
+  over_new now row a None check = month_new now row a check
+  over_new now row a (Some q) check = if_holds New (is_same_mark q.mark entry.mark) _ _ (λ same. tt) (λ other. month_new now row a check)
+
+-- a new quote has a receipt above all of its collector's
+pub decided_new : (now : ℕ) (entry : EntryRow) (public : PublicPart) (own : OwnPart) → IsNew (decided now entry public own) (greatest_receipt own.quotes)
+decided_new now entry public own = by (assignment_of entry.slot own)
+  where
+    by : (a : Option Assigned) → IsNew (in_slot now entry public a own) (greatest_receipt own.quotes)
+    by None = tt
+    by (Some a) = over_new entry (greatest_receipt own.quotes) now _ a.assignment _ _

@@ -9,20 +9,55 @@ use Rattle.cpi_store.specs.Outlet.{same_outlet}
 use Rattle.cpi_plan.specs.Calendar.{same_calendar}
 use Rattle.cpi_store.specs.Bearer.{same_bearer}
 use Rattle.cpi_survey.specs.Assignment.{same_assignment}
-use Rattle.cpi_survey.specs.Mark.{is_same_mark}
+use Rattle.cpi_survey.specs.Mark.{is_same_mark, is_same_reason}
 use Rattle.cpi_plan.specs.declared.items.Item.{Item}
 use Rattle.cpi_plan.specs.Calendar.{CalendarPart}
 use Rattle.cpi_store.specs.declared.bearer.Bearer.{Bearer}
 use Rattle.cpi_store.specs.declared.outlet.Outlet.{Outlet}
 use Rattle.cpi_survey.specs.declared.assignment.Assignment.{Assignment}
 use Rattle.cpi_survey.specs.declared.mark.Mark.{Mark}
-use Rattle.cpi_survey.specs.declared.mark.Mark.TheVariants.{Price}
+use Rattle.cpi_survey.specs.declared.mark.Mark.TheVariants.{Price, Missing, Comparable, Other}
+use Rattle.cpi_survey.specs.declared.mark.Reason.{Reason}
+use Rattle.cpi_survey.specs.declared.mark.Reason.TheVariants.{Stock, Closed, Gone, Refused}
 
 text_equal : (a b : List ℕ) → same_text a b ≡ true → a ≡ b
 text_equal a b e = (bytes_decides a b).0 e
 
+reason_equal : (r s : Reason) → is_same_reason r s ≡ true → r ≡ s
+reason_equal Stock Stock e = refl
+reason_equal Stock Closed e = absurd (false≢true e)
+reason_equal Stock Gone e = absurd (false≢true e)
+reason_equal Stock Refused e = absurd (false≢true e)
+reason_equal Closed Stock e = absurd (false≢true e)
+reason_equal Closed Closed e = refl
+reason_equal Closed Gone e = absurd (false≢true e)
+reason_equal Closed Refused e = absurd (false≢true e)
+reason_equal Gone Stock e = absurd (false≢true e)
+reason_equal Gone Closed e = absurd (false≢true e)
+reason_equal Gone Gone e = refl
+reason_equal Gone Refused e = absurd (false≢true e)
+reason_equal Refused Stock e = absurd (false≢true e)
+reason_equal Refused Closed e = absurd (false≢true e)
+reason_equal Refused Gone e = absurd (false≢true e)
+reason_equal Refused Refused e = refl
+
 pub mark_equal : (a b : Mark) → is_same_mark a b ≡ true → a ≡ b
 mark_equal (Price p) (Price q) e = ap Price (eqb-true p q e)
+mark_equal (Price p) (Missing s) e = absurd (false≢true e)
+mark_equal (Price p) (Comparable q) e = absurd (false≢true e)
+mark_equal (Price p) (Other q) e = absurd (false≢true e)
+mark_equal (Missing r) (Price q) e = absurd (false≢true e)
+mark_equal (Missing r) (Missing s) e = ap Missing (reason_equal r s e)
+mark_equal (Missing r) (Comparable q) e = absurd (false≢true e)
+mark_equal (Missing r) (Other q) e = absurd (false≢true e)
+mark_equal (Comparable p) (Price q) e = absurd (false≢true e)
+mark_equal (Comparable p) (Missing s) e = absurd (false≢true e)
+mark_equal (Comparable p) (Comparable q) e = ap Comparable (eqb-true p q e)
+mark_equal (Comparable p) (Other q) e = absurd (false≢true e)
+mark_equal (Other p) (Price q) e = absurd (false≢true e)
+mark_equal (Other p) (Missing s) e = absurd (false≢true e)
+mark_equal (Other p) (Comparable q) e = absurd (false≢true e)
+mark_equal (Other p) (Other q) e = ap Other (eqb-true p q e)
 
 both : (s t : Bool) → (s && t) ≡ true → (s ≡ true) × (t ≡ true)
 both true true e = (refl, refl)

@@ -1,6 +1,6 @@
 -- What becomes of a request holds of the office: a change that is made fits, and one that stands is there.
-use Rattle.std.proofs.Common.{◌≡◌, ℕ, Bool, true, false, Some, None, Option, Result, refl, sym, ap, ◌∙◌, subst, inl, inr}
-use Rattle.std.specs.Prelude.{◌⊎◌, IsSome, nat_lt, nat_le, ◌||◌, is_none, option_map}
+use Rattle.std.proofs.Common.{◌≡◌, ℕ, Bool, true, false, Some, None, Option, Result, Ok, Err, refl, sym, ap, ◌∙◌, subst, inl, inr}
+use Rattle.std.specs.Prelude.{◌⊎◌, IsSome, nat_lt, nat_le, is_none, option_map}
 use Rattle.std.specs.Ordering.{nat_cmp}
 use Rattle.std.proofs.lemmas.Bool.{false≢true}
 use Rattle.std.proofs.lemmas.Map.Lookups.{exact_pairs, exact_unsigned}
@@ -9,7 +9,8 @@ use Rattle.cpi_rows.specs.Held.{held_by}
 use Rattle.cpi_rows.proofs.Found.{row_key, at_key, at-map}
 use Rattle.cpi_survey.specs.Quote.{QuoteRow}
 use Rattle.cpi_survey.specs.Entry.{EntryRow}
-use Rattle.cpi_survey.specs.Decision.{decided, in_slot, over_quote, in_month, in_window}
+use Rattle.cpi_survey.specs.Assignment.{is_active}
+use Rattle.cpi_survey.specs.Decision.{decided, in_slot, over_quote, in_month, in_window, once_checked, with_receipt}
 use Rattle.cpi_survey.specs.Mark.{is_same_mark}
 use Rattle.cpi_store.specs.Outlet.{with_name}
 use Rattle.cpi_survey.specs.Quote.{quote_cmp, quote_key}
@@ -115,16 +116,22 @@ module _ (o : Office) where
     abbrev Meets : Result Decision EntryRefusal → Type 0
     Meets d = Holds (Some (decision_verdict b entry d)) o
 
-    window_meets : (now : ℕ) (row : CalendarPart) (a : Assignment) (greatest : ℕ) → Meets (in_window now entry row a greatest)
-    window_meets now row a greatest =
-        if_holds Meets (nat_lt entry.month a.first_month || nat_lt a.last_month entry.month) _ _ (λ e. tt) (λ e.
-        if_holds Meets (nat_lt now row.opens) _ _ (λ e. tt) (λ e.
-        if_holds Meets (nat_le row.closes now) _ _ (λ e. tt) (λ e.
-        if_holds Meets (nat_le 1000000 greatest) _ _ (λ e. tt) (λ e. (found, has)))))
+    receipt_meets : (greatest : ℕ) → Meets (with_receipt entry greatest)
+    receipt_meets greatest = if_holds Meets (nat_le 1000000 greatest) _ _ (λ e. tt) (λ e. (found, has))
 
-    month_meets : (now : ℕ) (row : Option CalendarPart) (a : Assignment) (greatest : ℕ) → Meets (in_month now entry row a greatest)
-    month_meets now None a greatest = tt
-    month_meets now (Some row) a greatest = window_meets now row a greatest
+    checked_meets : (check : Result (Unit {0}) EntryRefusal) (greatest : ℕ) → Meets (once_checked entry check greatest)
+    checked_meets (Ok _) greatest = receipt_meets greatest
+    checked_meets (Err f) greatest = tt
+
+    window_meets : (now : ℕ) (row : CalendarPart) (a : Assignment) (check : Result (Unit {0}) EntryRefusal) (greatest : ℕ) → Meets (in_window now entry row a check greatest)
+    window_meets now row a check greatest =
+        if_holds Meets (is_active entry.month a) _ _ (λ e.
+        if_holds Meets (nat_lt now row.opens) _ _ (λ e. tt) (λ e.
+        if_holds Meets (nat_le row.closes now) _ _ (λ e. tt) (λ e. checked_meets check greatest))) (λ e. tt)
+
+    month_meets : (now : ℕ) (row : Option CalendarPart) (a : Assignment) (check : Result (Unit {0}) EntryRefusal) (greatest : ℕ) → Meets (in_month now entry row a check greatest)
+    month_meets now None a check greatest = tt
+    month_meets now (Some row) a check greatest = window_meets now row a check greatest
 
     -- the stored quote is the entry with its receipt
     again_is : (q : QuoteRow) → row_at quote_cmp quote_key (entry.slot, entry.month) (held_by b.number o.quotes) ≡ Some q → is_same_mark q.mark entry.mark ≡ true →
@@ -135,15 +142,17 @@ module _ (o : Office) where
         let is : q ≡ quoted entry q.receipt = λ n. record { slot = (keys n).0; month = (keys n).1; mark = marks n; receipt = q.receipt } in
         stored ∙ ap Some is
 
-    over_meets : (now : ℕ) (row : Option CalendarPart) (a : Assignment) (q : Option QuoteRow) (greatest : ℕ) → row_at quote_cmp quote_key (entry.slot, entry.month) (held_by b.number o.quotes) ≡ q → Meets (over_quote now entry row a q greatest)
-    over_meets now row a None greatest stored = month_meets now row a greatest
-    over_meets now row a (Some q) greatest stored = if_holds Meets (is_same_mark q.mark entry.mark) _ _ (λ same. (found, again_is q stored same)) (λ other. month_meets now row a greatest)
+    over_meets : (now : ℕ) (row : Option CalendarPart) (a : Assignment) (q : Option QuoteRow) (check : Result (Unit {0}) EntryRefusal) (greatest : ℕ) →
+        row_at quote_cmp quote_key (entry.slot, entry.month) (held_by b.number o.quotes) ≡ q → Meets (over_quote now entry row a q check greatest)
+    over_meets now row a None check greatest stored = month_meets now row a check greatest
+    over_meets now row a (Some q) check greatest stored =
+        if_holds Meets (is_same_mark q.mark entry.mark) _ _ (λ same. (found, again_is q stored same)) (λ other. month_meets now row a check greatest)
 
   module _ (b : Bearer) (found : at (λ b. b.number) b.number o.collectors ≡ Some b) (now : ℕ) (entry : EntryRow) where
     slot_meets : (a : Option Assigned) → (a ≡ None) ⊎ IsSome (at (λ a. a.slot) entry.slot (held_by b.number o.assignments)) → Holds (Some (decision_verdict b entry (in_slot now entry (public_part o) a (own_part b.number o)))) o
     slot_meets None has = tt
     slot_meets (Some a) (inl none) = cc
-    slot_meets (Some a) (inr has) = over_meets b found entry has now _ a.assignment _ _ refl
+    slot_meets (Some a) (inr has) = over_meets b found entry has now _ a.assignment _ _ _ refl
 
     decided_meets : Holds (Some (decision_verdict b entry (decided now entry (public_part o) (own_part b.number o)))) o
     decided_meets = by (at (λ a. a.slot) entry.slot (held_by b.number o.assignments)) refl
@@ -172,6 +181,7 @@ module _ (now : ℕ) (o : Office) where
   command_holds (request.PutOutlet u) = outlet_fair o u (at (λ u. u.number) u.number o.outlets) refl
   command_holds (request.Assign n a) = assigned_fair o n a (at (λ b. b.number) n o.collectors) (at (λ a. a.slot) a.slot (held_by n o.assignments)) refl refl
   command_holds request.Items = tt
+  command_holds (request.Work month) = tt
   command_holds (request.Quotes first last) = tt
   command_holds (request.Submit entry) = tt
 
@@ -183,6 +193,7 @@ module _ (now : ℕ) (o : Office) where
   collector_holds s key (request.PutOutlet u) = tt
   collector_holds s key (request.Assign n a) = tt
   collector_holds s key request.Items = tt
+  collector_holds s key (request.Work month) = tt
   collector_holds s key (request.Quotes first last) = tt
 
   pub verdict_holds : IsSound o → (k : Caller) (r : Request) → Holds (verdict now k r o) o

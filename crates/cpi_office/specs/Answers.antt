@@ -1,8 +1,10 @@
 -- What a request that changes nothing is answered, and what an entry is told: by the caller's view alone.
-use Rattle.std.specs.Prelude.{ℕ, Option, Some, None, Result, Ok, Err}
+use Rattle.std.specs.Prelude.{ℕ, List, Option, Some, None, Result, Ok, Err}
 use Rattle.cpi_survey.specs.Own.{OwnPart}
 use Rattle.cpi_survey.specs.Decision.{decided}
 use Rattle.cpi_survey.specs.Within.{quotes_within}
+use Rattle.cpi_survey.specs.WorkPart.{WorkPart}
+use Rattle.cpi_survey.specs.Work.{work}
 use Rattle.cpi_survey.specs.declared.decision.Decision.{Decision}
 use Rattle.cpi_survey.specs.declared.decision.Decision.TheVariants.{Again, Put}
 use Rattle.cpi_survey.specs.declared.refusal.Refusal.{Refusal as EntryRefusal}
@@ -26,8 +28,13 @@ decision_reply (Err f) = reply.Refused (of_survey f)
 decision_reply (Ok (Again receipt)) = reply.Receipt receipt
 decision_reply (Ok (Put q)) = reply.Receipt q.receipt
 
+abbrev pub work_reply : Result (List WorkPart) EntryRefusal → Reply
+work_reply (Err f) = reply.Refused (of_survey f)
+work_reply (Ok rows) = reply.Work rows
+
 -- what a collector is answered whose own part is this
 abbrev pub collector_answer : ℕ → Request → View → OwnPart → Reply
+collector_answer now (request.Work month) v own = work_reply (work month v.public own)
 collector_answer now (request.Quotes first last) v own = reply.Quotes (quotes_within first last own.quotes)
 collector_answer now (request.Submit entry) v own = decision_reply (decided now entry v.public own)
 collector_answer now r v own = read r v

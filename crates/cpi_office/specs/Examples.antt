@@ -1,9 +1,12 @@
 -- Small runs, computed: what each refusal and each reply looks like, and which comes first.
-use Rattle.std.specs.Prelude.{◌≡◌, ℕ, false, List, [], ◌∷◌, ◌++◌}
+use Rattle.std.specs.Prelude.{◌≡◌, ℕ, Bool, true, false, List, [], ◌∷◌, ◌++◌, Some, None}
 use Rattle.cpi_plan.specs.declared.items.Item.{Item}
-use Rattle.cpi_survey.specs.declared.mark.Mark.TheVariants.{Price}
+use Rattle.cpi_survey.specs.declared.mark.Mark.{Mark}
+use Rattle.cpi_survey.specs.declared.mark.Mark.TheVariants.{Price, Missing, Comparable, Other}
+use Rattle.cpi_survey.specs.declared.mark.Reason.TheVariants.{Stock}
 use Rattle.cpi_survey.specs.declared.assignment.Assignment.{Assignment}
 use Rattle.cpi_survey.specs.Quote.{QuoteRow}
+use Rattle.cpi_survey.specs.WorkPart.{WorkPart}
 use Rattle.cpi_store.specs.Office.{Office, empty_office}
 use Rattle.cpi_office.specs.Runs.{replies}
 use Rattle.cpi_office.specs.Alone.{told_to}
@@ -12,7 +15,7 @@ use Rattle.cpi_office.specs.declared.request.Request.{Request}
 use Rattle.cpi_office.specs.declared.request.Request.TheVariants as request
 use Rattle.cpi_office.specs.declared.request.Ask.{Ask}
 use Rattle.cpi_office.specs.declared.reply.Reply.{Reply}
-use Rattle.cpi_office.specs.declared.reply.Reply.TheVariants.{Receipt, Done, Quotes, Items, Refused}
+use Rattle.cpi_office.specs.declared.reply.Reply.TheVariants.{Receipt, Done, Work, Quotes, Items, Refused}
 use Rattle.cpi_office.specs.declared.refusal.Refusal.TheVariants as refusal
 
 -- the keys of 32 letters a, b and c
@@ -174,6 +177,50 @@ ByMonth = Answers
     ∷ by_key 1500 key_a (quote 1 312 1) ∷ by_key 1500 key_a (quote 1 311 2) ∷ by_key 1500 key_a (quote 2 312 3) ∷ by_key 1500 key_a (quote 2 311 4) ∷ by_key 1500 key_a (request.Quotes 311 312) ∷ [])
     (Done ∷ Done ∷ Receipt 1 ∷ Receipt 2 ∷ Receipt 3 ∷ Receipt 4
     ∷ Quotes (stored 1 311 2 2 ∷ stored 2 311 4 4 ∷ stored 1 312 1 1 ∷ stored 2 312 3 3 ∷ []) ∷ [])
+
+-- ---- marks and work lists
+
+-- a mark for slot 1 in 2026-01, confirmed or not
+abbrev pub mark : Mark → Bool → Request
+mark m confirm = request.Submit (record { slot = 1; month = 312; mark = m; confirm = confirm })
+
+abbrev pub marked : Mark → ℕ → QuoteRow
+marked m receipt = record { slot = 1; month = 312; mark = m; receipt = receipt }
+
+-- A price is taken at the bounds round the last one, and outside them if it is confirmed. A comparable replacement is checked as a price is, any other isn't.
+abbrev pub Tolerance : Type 0
+Tolerance = Answers
+    (by_desk (put_month 311 1000 2000 3000) ∷ by_key 1500 key_a (quote 1 311 1000)
+    ∷ by_key 1500 key_a (quote 1 312 699) ∷ by_key 1500 key_a (quote 1 312 700) ∷ by_key 1500 key_a (quote 1 312 1500) ∷ by_key 1500 key_a (mark (Price 699) true)
+    ∷ by_key 1500 key_a (mark (Comparable 1501) false) ∷ by_key 1500 key_a (mark (Other 5) false) ∷ [])
+    (Done ∷ Receipt 1
+    ∷ Refused (refusal.OutOfTolerance 1000 700 1500) ∷ Receipt 2 ∷ Receipt 3 ∷ Receipt 4
+    ∷ Refused (refusal.OutOfTolerance 1000 700 1500) ∷ Receipt 5 ∷ [])
+
+-- a replacement needs a last price, also if it is confirmed; a missing price is none, and its reason is stored
+abbrev pub Replacements : Type 0
+Replacements = Answers
+    (by_key 1500 key_a (mark (Comparable 300) false) ∷ by_key 1500 key_a (mark (Other 300) true)
+    ∷ by_key 1500 key_a (mark (Missing Stock) false) ∷ by_key 1500 key_a (mark (Missing Stock) true) ∷ by_key 1500 key_a (request.Quotes 312 312) ∷ [])
+    (Refused refusal.NoLastPrice ∷ Refused refusal.NoLastPrice
+    ∷ Receipt 1 ∷ Receipt 1 ∷ Quotes (marked (Missing Stock) 1 ∷ []) ∷ [])
+
+-- a row of slot 1, and one of slot 2
+abbrev pub working : WorkPart
+working = record { slot = 1; outlet = 10; outlet_name = shop_name; item = rice_code; text = rice.text; unit = rice.unit; last = None; quote = Some (stored 1 312 210 1) }
+
+abbrev pub waiting : WorkPart
+waiting = record working { slot = 2; quote = None }
+
+-- a work list has the collector's own slots and quotes alone, and is no other caller's to ask for
+abbrev pub WorkLists : Type 0
+WorkLists = Answers
+    (two_collectors ++ by_key 1500 key_a (quote 1 312 210) ∷ by_key 1500 key_b (quote 1 312 305)
+    ∷ by_key 1500 key_a (request.Work 312) ∷ by_key 1500 key_b (request.Work 312)
+    ∷ by_key 1500 key_a (request.Work 313) ∷ by_public 1500 (request.Work 313) ∷ by_desk (request.Work 313) ∷ by_key 1500 key_c (request.Work 313) ∷ [])
+    (Done ∷ Done ∷ Done ∷ Receipt 1 ∷ Receipt 1
+    ∷ Work (working ∷ waiting ∷ []) ∷ Work (record working { quote = Some (stored 1 312 305 1) } ∷ [])
+    ∷ Refused refusal.UnknownMonth ∷ Refused refusal.NotForCaller ∷ Refused refusal.NotForCaller ∷ Refused refusal.UnknownKey ∷ [])
 
 -- ---- callers
 

@@ -11,6 +11,8 @@ of_survey entry.UnknownMonth = refusal.UnknownMonth
 of_survey entry.NotActive = refusal.NotActive
 of_survey entry.NotOpen = refusal.NotOpen
 of_survey entry.Closed = refusal.Closed
+of_survey entry.NoLastPrice = refusal.NoLastPrice
+of_survey (entry.OutOfTolerance last low high) = refusal.OutOfTolerance last low high
 of_survey entry.ReceiptsUsedUp = refusal.ReceiptsUsedUp
 
 abbrev pub number_of : Refusal → ℕ
@@ -22,6 +24,8 @@ number_of refusal.UnknownMonth = 21
 number_of refusal.NotActive = 22
 number_of refusal.NotOpen = 23
 number_of refusal.Closed = 24
+number_of refusal.NoLastPrice = 25
+number_of (refusal.OutOfTolerance last low high) = 26
 number_of refusal.ReceiptsUsedUp = 27
 number_of refusal.Taken = 40
 number_of refusal.UnknownItem = 41

@@ -18,6 +18,7 @@ use crate::refusal::Refusal;
 use crate::reply::Reply;
 use crate::request::Request;
 use crate::submit::enter;
+use crate::work::work;
 use cpi_codes::{Key, Moment};
 use cpi_store::{Bearer, Book, StoreFault};
 use std::alloc::Global;
@@ -69,6 +70,7 @@ fn serve_known<B: Book>(
     match request {
         Request::Items => items(alloc, book),
         Request::Submit(entry) => enter(book, now, bearer, entry),
+        Request::Work(month) => work(alloc, book, bearer.number, month),
         Request::Quotes(first, last) => quotes(alloc, book, bearer.number, first, last),
         _ => Reply::Refused(Refusal::NotForCaller),
     }
@@ -87,6 +89,8 @@ pub fn serve_desk<B: Book>(alloc: Global, book: &mut B, now: Moment, request: Re
         Request::Register(bearer) => register(book, bearer),
         Request::PutOutlet(outlet) => put_outlet(book, outlet),
         Request::Assign(collector, assignment) => assign(alloc, book, collector, assignment),
-        Request::Quotes(_, _) | Request::Submit(_) => Reply::Refused(Refusal::NotForCaller),
+        Request::Work(_) | Request::Quotes(_, _) | Request::Submit(_) => {
+            Reply::Refused(Refusal::NotForCaller)
+        }
     }
 }

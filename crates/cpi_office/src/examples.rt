@@ -1,4 +1,4 @@
-ghost use Rattle.cpi_office.specs.Examples.{OneQuote, TwoCollectors, TenOfAnother, Again, Window, EntryRefusals, LastReceipt, ByMonth, ItemsOfAll, NotForCallers, StandsAlready, TakenPlaces, AssignRefusals, NewWindow};
+ghost use Rattle.cpi_office.specs.Examples.{OneQuote, TwoCollectors, TenOfAnother, Again, Window, EntryRefusals, LastReceipt, ByMonth, Tolerance, Replacements, WorkLists, ItemsOfAll, NotForCallers, StandsAlready, TakenPlaces, AssignRefusals, NewWindow};
 
 /// Small runs from an empty office, computed by the definitions: each reply and each refusal, in its place among the others.
 pub fn worked_runs()
@@ -10,6 +10,9 @@ pub fn worked_runs()
     ensures entry_refusals { EntryRefusals }
     ensures last_receipt { LastReceipt }
     ensures by_month { ByMonth }
+    ensures tolerance { Tolerance }
+    ensures replacements { Replacements }
+    ensures work_lists { WorkLists }
     ensures items_of_all { ItemsOfAll }
     ensures not_for_callers { NotForCallers }
     ensures stands_already { StandsAlready }

@@ -18,6 +18,7 @@ mod request;
 mod run;
 mod standing;
 mod submit;
+mod work;
 
 pub use caller::Caller;
 pub use examples::worked_runs;

@@ -1,6 +1,8 @@
 ghost use Rattle.std.specs.Prelude.{◌≡◌};
 ghost use Rattle.cpi_office.specs.Refusal.{of_survey, number_of};
 
+use cpi_codes::Price;
+
 /// Why a request is refused. Each refusal has a number, by which it is told.
 #[derive(Clone, Copy, Debug, PartialEq, Eq)]
 pub enum Refusal {
@@ -20,6 +22,18 @@ pub enum Refusal {
     NotOpen,
     /// The window of the month has closed.
     Closed,
+    /// A replacement's price without a last price of its slot.
+    NoLastPrice,
+    /// A price that isn't confirmed, below `low` or above `high`, the bounds that the item sets round the last price of the slot. All three
+    /// are in minor units; the bounds are at most 1,000,000,000.
+    OutOfTolerance {
+        /// The last price.
+        last: Price,
+        /// The least price that is taken unconfirmed.
+        low: u64,
+        /// The greatest price that is taken unconfirmed.
+        high: u64,
+    },
     /// The collector's greatest receipt is 1,000,000.
     ReceiptsUsedUp,
     /// The code, number, key or slot stands with other content.
@@ -48,6 +62,8 @@ impl Refusal {
             Refusal::NotActive => 22,
             Refusal::NotOpen => 23,
             Refusal::Closed => 24,
+            Refusal::NoLastPrice => 25,
+            Refusal::OutOfTolerance { .. } => 26,
             Refusal::ReceiptsUsedUp => 27,
             Refusal::Taken => 40,
             Refusal::UnknownItem => 41,
@@ -58,8 +74,8 @@ impl Refusal {
     }
 
     /// The refusal of an entry, among all refusals.
-    pub fn of_survey(refusal: cpi_survey::Refusal) -> Refusal
-        ensures { result ≡ of_survey refusal }
+    pub fn of_survey(refusal: &cpi_survey::Refusal) -> Refusal
+        ensures { result ≡ of_survey refusal.now }
     {
         match refusal {
             cpi_survey::Refusal::UnknownSlot => Refusal::UnknownSlot,
@@ -67,6 +83,12 @@ impl Refusal {
             cpi_survey::Refusal::NotActive => Refusal::NotActive,
             cpi_survey::Refusal::NotOpen => Refusal::NotOpen,
             cpi_survey::Refusal::Closed => Refusal::Closed,
+            cpi_survey::Refusal::NoLastPrice => Refusal::NoLastPrice,
+            cpi_survey::Refusal::OutOfTolerance { last, low, high } => Refusal::OutOfTolerance {
+                last: *last,
+                low: *low,
+                high: *high,
+            },
             cpi_survey::Refusal::ReceiptsUsedUp => Refusal::ReceiptsUsedUp,
         }
     }

@@ -1,7 +1,7 @@
 use crate::refusal::Refusal;
 use cpi_plan::Item;
 use cpi_rows::Rows;
-use cpi_survey::Quote;
+use cpi_survey::{Quote, WorkRow};
 
 /// What a request is answered.
 #[derive(Debug, Drop)]
@@ -10,6 +10,8 @@ pub enum Reply {
     Receipt(u32),
     /// The command is carried out, or its content stood already.
     Done,
+    /// What there is to be priced in a month, by slot.
+    Work(Rows<WorkRow>),
     /// Quotes by month, and then by slot.
     Quotes(Rows<Quote>),
     /// Items in the order of their codes.

@@ -11,6 +11,8 @@ pub enum Request {
     Items,
     /// The caller's own quotes from the first month to the last, none where the first is after the last; of collectors.
     Quotes(Month, Month),
+    /// The caller's own work list of a month; of collectors.
+    Work(Month),
     /// An entry of a quote; of collectors.
     Submit(Entry),
     /// A new item; of the desk, as are all further ones.

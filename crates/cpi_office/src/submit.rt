@@ -62,7 +62,7 @@ fn carry_out<B: Book>(
     ensures { Serves B.is_clean B.lists B.failures book.old book.new result (decision_reply decision.now) (stored bearer decision.now (B.lists book.old)) }
 {
     match decision {
-        Err(refusal) => Reply::Refused(Refusal::of_survey(*refusal)),
+        Err(refusal) => Reply::Refused(Refusal::of_survey(refusal)),
         Ok(Decision::Again(receipt)) => Reply::Receipt(*receipt),
         Ok(Decision::Put(quote)) => store_quote(book, bearer, *quote),
     }

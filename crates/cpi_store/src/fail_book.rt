@@ -6,17 +6,20 @@ use cpi_codes::{CollectorId, Key, OutletId};
 use cpi_plan::{CalendarRow, Item};
 use cpi_survey::{Assigned, Own, Public, Quote};
 
-/// A book that passes each call on but the n-th, which it fails.
+/// A book that passes each call on to another book, but for the n-th, which it fails without passing it on. It shows how those
+/// above a book take a failing store.
 #[derive(Drop)]
 pub struct FailBook<B: Book> {
     inner: B,
+    // the calls up to the one that fails, that one included; 0 where none will
     left: u64,
     own_failures: Failures,
 }
 
 impl<B: Book> FailBook<B> {
-    ghost use Rattle.std.specs.Prelude.{◌≡◌, ◌==◌, ◌-◌, ◌+◌, if◌then◌else◌};
+    ghost use Rattle.std.specs.Prelude.{◌≡◌, ◌-◌, ◌+◌, ◌↔◌, IsErr, is_err, if◌then◌else◌};
 
+    /// A book that fails the n-th of its calls, reads and writes alike, counted from 1; none at 0.
     pub fn new(inner: B, nth: u64) -> FailBook<B>
         ensures inner { result.inner ≡ inner }
         ensures left { result.left ≡ nth }
@@ -29,23 +32,23 @@ impl<B: Book> FailBook<B> {
         }
     }
 
-    // Whether this call fails.
-    fn fails(&mut self) -> bool
-        ensures nth { result ≡ (self.old.left == 1) }
+    // Counts a call, and fails the n-th.
+    fn count(&mut self) -> Result<(), StoreFault>
+        ensures nth { IsErr result ↔ (self.old.left ≡ 1) }
         ensures left { self.new.left ≡ self.old.left - 1 }
         ensures inner { self.new.inner ≡ self.old.inner }
-        ensures count { self.new.own_failures.count ≡ self.old.own_failures.count + (if result then 1 else 0) }
+        ensures failed { self.new.own_failures.count ≡ self.old.own_failures.count + (if is_err result then 1 else 0) }
     {
-        if self.left == 0 {
-            return false;
-        }
-        self.left -= 1;
-        if self.left == 0 {
-            let more = self.own_failures.one_more();
-            self.own_failures = more;
-            true
-        } else {
-            false
+        match self.left {
+            0 => Ok(()),
+            1 => {
+                self.left = 0;
+                Err(self.own_failures.fault())
+            }
+            left => {
+                self.left = left - 1;
+                Ok(())
+            }
         }
     }
 }
@@ -64,100 +67,72 @@ impl<B: Book> Book for FailBook<B> {
     ghost finds_always = { ⊥ };
 
     fn bearer_of(&mut self, key: Key) -> Result<Option<Bearer>, StoreFault> {
-        if self.fails() {
-            return Err(StoreFault);
-        }
+        self.count()?;
         self.inner.bearer_of(key)
     }
 
     fn bearer_at(&mut self, number: CollectorId) -> Result<Option<Bearer>, StoreFault> {
-        if self.fails() {
-            return Err(StoreFault);
-        }
+        self.count()?;
         self.inner.bearer_at(number)
     }
 
     fn collector_of(&mut self, key: Key) -> Result<Option<CollectorId>, StoreFault> {
-        if self.fails() {
-            return Err(StoreFault);
-        }
+        self.count()?;
         self.inner.collector_of(key)
     }
 
     fn collector_key(&mut self, number: CollectorId) -> Result<Option<Key>, StoreFault> {
-        if self.fails() {
-            return Err(StoreFault);
-        }
+        self.count()?;
         self.inner.collector_key(number)
     }
 
     fn outlet(&mut self, number: OutletId) -> Result<Option<&Outlet>, StoreFault> {
-        if self.fails() {
-            return Err(StoreFault);
-        }
+        self.count()?;
         self.inner.outlet(number)
     }
 
     fn public_part(&mut self) -> Result<&Public, StoreFault> {
-        if self.fails() {
-            return Err(StoreFault);
-        }
+        self.count()?;
         self.inner.public_part()
     }
 
     fn own(&mut self, collector: CollectorId) -> Result<&Own, StoreFault> {
-        if self.fails() {
-            return Err(StoreFault);
-        }
+        self.count()?;
         self.inner.own(collector)
     }
 
     fn parts(&mut self, collector: CollectorId) -> Result<Parts<'_>, StoreFault> {
-        if self.fails() {
-            return Err(StoreFault);
-        }
+        self.count()?;
         self.inner.parts(collector)
     }
 
     fn put_item(&mut self, item: Item) -> Result<(), StoreFault> {
-        if self.fails() {
-            return Err(StoreFault);
-        }
+        self.count()?;
         self.inner.put_item(item)
     }
 
     fn put_calendar(&mut self, row: CalendarRow) -> Result<(), StoreFault> {
-        if self.fails() {
-            return Err(StoreFault);
-        }
+        self.count()?;
         self.inner.put_calendar(row)
     }
 
     fn put_collector(&mut self, bearer: Bearer) -> Result<(), StoreFault> {
-        if self.fails() {
-            return Err(StoreFault);
-        }
+        self.count()?;
         self.inner.put_collector(bearer)
     }
 
     fn put_outlet(&mut self, outlet: Outlet) -> Result<(), StoreFault> {
-        if self.fails() {
-            return Err(StoreFault);
-        }
+        self.count()?;
         self.inner.put_outlet(outlet)
     }
 
     fn put_assignment(&mut self, bearer: Bearer, assigned: Assigned) -> Result<(), StoreFault> {
-        if self.fails() {
-            return Err(StoreFault);
-        }
+        self.count()?;
         self.inner.put_assignment(bearer, assigned)
     }
 
     fn put_quote(&mut self, bearer: Bearer, quote: Quote) -> Result<(), StoreFault> {
-        if self.fails() {
-            return Err(StoreFault);
-        }
+        self.count()?;
         self.inner.put_quote(bearer, quote)
     }
 }

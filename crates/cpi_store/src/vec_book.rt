@@ -1,7 +1,8 @@
 use crate::bearer::Bearer;
 use crate::book::{Book, Parts, StoreFault};
 use crate::failures::Failures;
-use crate::holder::{Holder, put_assignment_of, put_holder, put_quote_of};
+use crate::holder::Holder;
+use crate::holders::{put_assignment_of, put_holder, put_quote_of};
 use crate::outlet::Outlet;
 use cpi_codes::{CollectorId, Key, OutletId};
 use cpi_plan::{CalendarRow, Item};
@@ -11,12 +12,17 @@ use std::alloc::Global;
 use std::collections::BTreeMap;
 use std::marker::Model;
 
-/// An office in memory.
+/// An office in memory. A call fails only where memory was refused; a read, and a write over a row that stands, takes none.
+/// Collectors, their rows, items, months and outlets are found in a number of steps that grows with the logarithm of how many there
+/// are, and a write shifts the rows of one list, of quotes and assignments those of one collector alone.
 #[derive(Drop)]
 pub struct VecBook {
     public: Public,
+    // by number
     holders: Vec<Holder>,
+    // by number
     outlets: Vec<Outlet>,
+    // the holders, by the key that each bears
     bearers: BTreeMap<Key, Bearer>,
     // what a number that nobody has, has
     nobody: Own,
@@ -47,39 +53,13 @@ impl Model for VecBook {
 }
 
 impl VecBook {
-    ghost use Rattle.std.specs.Prelude.{◌≡◌, IsSome, option_map};
-    ghost use Rattle.std.specs.Ordering.{nat_cmp};
-    ghost use Rattle.cpi_rows.specs.Keyed.{row_at, at};
-    ghost use Rattle.cpi_store.specs.Office.{public_part, own_part};
-
-    fn parts_of(&self, collector: CollectorId) -> Parts<'_>
-        ensures public { result.public.now ≡ public_part self.now.office }
-        ensures own { result.own.now ≡ own_part collector self.now.office }
-    {
-        Parts {
-            public: &self.public,
-            own: self.own_of(collector),
-        }
-    }
-
-    fn own_of(&self, collector: CollectorId) -> &Own
-        ensures { result.now ≡ own_part collector self.now.office }
-    {
-        match find_row(&self.holders, &collector) {
-            Some(holder) => &holder.own,
-            None => &self.nobody,
-        }
-    }
-}
-
-impl VecBook {
     ghost use Rattle.std.specs.Prelude.{◌≡◌};
     ghost use Rattle.cpi_rows.specs.Keyed.{at};
-    ghost use Rattle.cpi_store.specs.Office.{empty_office};
+    ghost use Rattle.cpi_store.specs.Office.{empty_office, public_part, own_part};
 
-    /// An empty office.
+    /// An empty office, which takes no memory yet. Its calls take their memory from this allocator.
     pub fn new(alloc: Global) -> VecBook
-        ensures { result.office ≡ empty_office }
+        ensures { result ≡ record { office = empty_office; failures = 0 } }
     {
         VecBook {
             public: Public::from_parts(Vec::new(alloc), Vec::new(alloc)),
@@ -103,13 +83,35 @@ impl VecBook {
             None => None,
         }
     }
+
+    fn own_of(&self, collector: CollectorId) -> &Own
+        ensures { result.now ≡ own_part collector self.now.office }
+    {
+        match find_row(&self.holders, &collector) {
+            Some(holder) => &holder.own,
+            None => &self.nobody,
+        }
+    }
+
+    fn parts_of(&self, collector: CollectorId) -> Parts<'_>
+        ensures public { result.public.now ≡ public_part self.now.office }
+        ensures own { result.own.now ≡ own_part collector self.now.office }
+    {
+        Parts {
+            public: &self.public,
+            own: self.own_of(collector),
+        }
+    }
 }
 
 impl Book for VecBook {
-    ghost use Rattle.std.specs.Prelude.{⊤, IsOk, IsSome};
-    ghost use Rattle.cpi_rows.specs.Keyed.{at};
-    ghost use Rattle.cpi_store.specs.Office.{changed, PutsCalendar};
-    ghost use Rattle.cpi_store.specs.Calls.{Writes};
+    ghost use Rattle.std.specs.Prelude.{◌≡◌, ◌<◌, ⊤, IsOk, IsSome};
+    ghost use Rattle.cpi_rows.specs.Keyed.{row_at, at};
+    ghost use Rattle.cpi_rows.specs.Held.{held_by};
+    ghost use Rattle.cpi_survey.specs.Quote.{greatest_receipt, quote_cmp, quote_key};
+    ghost use Rattle.cpi_store.specs.Office.{changed, PutsCalendar, Quotes};
+    ghost use Rattle.cpi_store.specs.Bearer.{bearer_of, collector_of, collector_key};
+    ghost use Rattle.cpi_store.specs.Holders.{KeptReads, KeptWrites};
 
     ghost lists = { λ b. b.office };
 
@@ -121,19 +123,31 @@ impl Book for VecBook {
 
     ghost finds_always = { ⊤ };
 
-    fn bearer_of(&mut self, key: Key) -> Result<Option<Bearer>, StoreFault> {
+    fn bearer_of(&mut self, key: Key) -> Result<Option<Bearer>, StoreFault>
+        ensures reads { KeptReads self.old self.new result (λ found. found ≡ bearer_of key self.old.office.collectors) }
+        ensures always { IsOk result }
+    {
         Ok(self.bearers.get(&key).copied())
     }
 
-    fn bearer_at(&mut self, number: CollectorId) -> Result<Option<Bearer>, StoreFault> {
+    fn bearer_at(&mut self, number: CollectorId) -> Result<Option<Bearer>, StoreFault>
+        ensures reads { KeptReads self.old self.new result (λ found. found ≡ at (λ b. b.number) number self.old.office.collectors) }
+        ensures always { IsOk result }
+    {
         Ok(self.holder_at(number))
     }
 
-    fn collector_of(&mut self, key: Key) -> Result<Option<CollectorId>, StoreFault> {
+    fn collector_of(&mut self, key: Key) -> Result<Option<CollectorId>, StoreFault>
+        ensures reads { KeptReads self.old self.new result (λ found. found ≡ collector_of key self.old.office.collectors) }
+        ensures always { IsOk result }
+    {
         Ok(self.bearers.get(&key).map(|bearer| bearer.number))
     }
 
-    fn collector_key(&mut self, number: CollectorId) -> Result<Option<Key>, StoreFault> {
+    fn collector_key(&mut self, number: CollectorId) -> Result<Option<Key>, StoreFault>
+        ensures reads { KeptReads self.old self.new result (λ found. found ≡ collector_key number self.old.office.collectors) }
+        ensures always { IsOk result }
+    {
         Ok(self.holder_at(number).map(|bearer| bearer.key))
     }
 
@@ -161,7 +175,7 @@ impl Book for VecBook {
     }
 
     fn put_calendar(&mut self, row: CalendarRow) -> Result<(), StoreFault>
-        ensures writes { Writes ⟦<VecBook as Book>⟧.is_clean ⟦<VecBook as Book>⟧.lists ⟦<VecBook as Book>⟧.failures ⟦<VecBook as Book>⟧.may_leave self.old self.new result (changed (PutsCalendar row) self.old.office) }
+        ensures writes { KeptWrites self.old self.new result (changed (PutsCalendar row) self.old.office) }
         ensures replaced { IsSome (at (λ r. r.month) row.month self.old.office.calendar) → IsOk result }
     {
         match self.public.put_calendar(row) {
@@ -192,7 +206,12 @@ impl Book for VecBook {
         }
     }
 
-    fn put_quote(&mut self, bearer: Bearer, quote: Quote) -> Result<(), StoreFault> {
+    fn put_quote(&mut self, bearer: Bearer, quote: Quote) -> Result<(), StoreFault>
+        requires known { IsSome (at (λ b. b.number) bearer.number self.old.office.collectors) }
+        requires receipt { greatest_receipt (held_by bearer.number self.old.office.quotes) < quote.receipt }
+        ensures writes { KeptWrites self.old self.new result (changed (Quotes bearer quote) self.old.office) }
+        ensures replaced { IsSome (row_at quote_cmp quote_key (quote.slot, quote.month) (held_by bearer.number self.old.office.quotes)) → IsOk result }
+    {
         match put_quote_of(&mut self.holders, bearer.number, quote) {
             Ok(()) => Ok(()),
             Err(_) => Err(self.failed.fault()),

@@ -1,18 +1,23 @@
--- Small cases, computed: what entries are answered through a window and after it, in which order they are refused, and which price is the last.
+-- Small cases, computed: what entries are answered through a window and after it, in which order they are refused, which price is the last,
+-- which prices lie outside the bounds round it, and what a work list tells.
 use Rattle.std.proofs.Common.{◌≡◌, ℕ, true, false, List, [], ◌∷◌, Some, None, Ok, Err, refl}
 use Rattle.std.specs.Prelude.{Result}
 use Rattle.cpi_survey.specs.declared.assignment.Assigned.{Assigned}
-use Rattle.cpi_survey.specs.declared.mark.Mark.TheVariants.{Price}
+use Rattle.cpi_survey.specs.declared.mark.Mark.{Mark}
+use Rattle.cpi_survey.specs.declared.mark.Mark.TheVariants.{Price, Missing, Comparable, Other}
+use Rattle.cpi_survey.specs.declared.mark.Reason.TheVariants.{Stock, Closed as OutletClosed}
 use Rattle.cpi_survey.specs.declared.decision.Decision.{Decision}
 use Rattle.cpi_survey.specs.declared.decision.Decision.TheVariants.{Again, Put}
 use Rattle.cpi_survey.specs.declared.refusal.Refusal.{Refusal}
-use Rattle.cpi_survey.specs.declared.refusal.Refusal.TheVariants.{UnknownSlot, UnknownMonth, NotActive, NotOpen, Closed, ReceiptsUsedUp}
+use Rattle.cpi_survey.specs.declared.refusal.Refusal.TheVariants.{UnknownSlot, UnknownMonth, NotActive, NotOpen, Closed, NoLastPrice, OutOfTolerance, ReceiptsUsedUp}
 use Rattle.cpi_survey.specs.Quote.{QuoteRow}
 use Rattle.cpi_survey.specs.Public.{PublicPart}
 use Rattle.cpi_survey.specs.Own.{OwnPart}
 use Rattle.cpi_survey.specs.Decision.{decided}
 use Rattle.cpi_survey.specs.LastPrice.{last_price}
 use Rattle.cpi_survey.specs.Within.{quotes_within}
+use Rattle.cpi_survey.specs.WorkPart.{WorkPart}
+use Rattle.cpi_survey.specs.Work.{work}
 
 -- months are numbers since 2000-01: 311 is 2025-12, 312 is 2026-01, 323 is 2026-12, 324 is 2027-01
 abbrev public : PublicPart
@@ -117,3 +122,100 @@ of_one_month = refl
 
 of_months_turned_round : quotes_within 312 311 quotes ≡ []
 of_months_turned_round = refl
+
+-- an item with bounds of 700 and 1500 per mille
+abbrev open_public : PublicPart
+open_public = record {
+  items = record { code = 1; text = 82 ∷ []; unit = 107 ∷ []; low = 700; high = 1500 } ∷ [];
+  calendar = record { month = 312; opens = 1000; closes = 2000; publishes = 3000 } ∷ [];
+}
+
+abbrev marked : ℕ → Mark → ℕ → QuoteRow
+marked month mark receipt = record { slot = 1; month = month; mark = mark; receipt = receipt }
+
+-- a mark for slot 1 and the month 312 while its window is open
+abbrev marks : Mark → List QuoteRow → Result Decision Refusal
+marks mark quotes = decided 1500 (record { slot = 1; month = 312; mark = mark; confirm = false }) open_public (with_quotes quotes)
+
+abbrev confirms : Mark → List QuoteRow → Result Decision Refusal
+confirms mark quotes = decided 1500 (record { slot = 1; month = 312; mark = mark; confirm = true }) open_public (with_quotes quotes)
+
+abbrev december : List QuoteRow
+december = marked 311 (Price 1000) 1 ∷ []
+
+-- the bounds belong to what is taken
+below_the_low_bound : marks (Price 699) december ≡ Err (OutOfTolerance 1000 700 1500)
+below_the_low_bound = refl
+
+at_the_low_bound : marks (Price 700) december ≡ Ok (Put (marked 312 (Price 700) 2))
+at_the_low_bound = refl
+
+at_the_high_bound : marks (Price 1500) (marked 311 (Price 1000) 1 ∷ marked 312 (Price 700) 2 ∷ []) ≡ Ok (Put (marked 312 (Price 1500) 3))
+at_the_high_bound = refl
+
+above_the_high_bound : marks (Price 1501) december ≡ Err (OutOfTolerance 1000 700 1500)
+above_the_high_bound = refl
+
+confirmed : confirms (Price 699) (marked 311 (Price 1000) 1 ∷ marked 312 (Price 1500) 3 ∷ []) ≡ Ok (Put (marked 312 (Price 699) 4))
+confirmed = refl
+
+-- the low bound is rounded up, and the high one down
+bounds_rounded_inwards : marks (Price 700) (marked 311 (Price 1001) 1 ∷ []) ≡ Err (OutOfTolerance 1001 701 1501)
+bounds_rounded_inwards = refl
+
+-- a comparable replacement is checked as a price is, and any other replacement isn't
+comparable_outside : marks (Comparable 699) december ≡ Err (OutOfTolerance 1000 700 1500)
+comparable_outside = refl
+
+other_unchecked : marks (Other 5) december ≡ Ok (Put (marked 312 (Other 5) 2))
+other_unchecked = refl
+
+missing_unchecked : marks (Missing Stock) [] ≡ Ok (Put (marked 312 (Missing Stock) 1))
+missing_unchecked = refl
+
+-- a replacement needs a last price, even if it is confirmed, and a price doesn't
+comparable_without_last : marks (Comparable 300) [] ≡ Err NoLastPrice
+comparable_without_last = refl
+
+other_without_last : confirms (Other 300) (marked 311 (Missing Stock) 1 ∷ []) ≡ Err NoLastPrice
+other_without_last = refl
+
+price_without_last : marks (Price 100000000) [] ≡ Ok (Put (marked 312 (Price 100000000) 1))
+price_without_last = refl
+
+-- the price is looked at before the receipts
+price_before_the_receipts : marks (Price 699) (marked 311 (Price 1000) 1000000 ∷ []) ≡ Err (OutOfTolerance 1000 700 1500)
+price_before_the_receipts = refl
+
+-- the same mark has the same kind and the same value
+again_missing : marks (Missing Stock) (marked 312 (Missing Stock) 1 ∷ []) ≡ Ok (Again 1)
+again_missing = refl
+
+another_reason : marks (Missing OutletClosed) (marked 312 (Missing Stock) 1 ∷ []) ≡ Ok (Put (marked 312 (Missing OutletClosed) 2))
+another_reason = refl
+
+another_kind : marks (Other 1000) (marked 311 (Price 1000) 1 ∷ marked 312 (Price 1000) 2 ∷ []) ≡ Ok (Put (marked 312 (Other 1000) 3))
+another_kind = refl
+
+-- the last price passes over missing ones, and is that of a replacement too
+last_over_missing : last_price 1 313 (marked 310 (Price 900) 1 ∷ marked 311 (Other 400) 2 ∷ marked 312 (Missing Stock) 3 ∷ []) ≡ Some 400
+last_over_missing = refl
+
+last_of_none_observed : last_price 1 313 (marked 312 (Missing Stock) 1 ∷ []) ≡ None
+last_of_none_observed = refl
+
+-- a row of slot 1 in the month 312
+abbrev working : WorkPart
+working = record { slot = 1; outlet = 10; outlet_name = []; item = 1; text = 82 ∷ []; unit = 107 ∷ []; last = None; quote = Some (priced 1 312 210 1) }
+
+work_of_the_month : work 312 open_public (with_quotes (priced 1 312 210 1 ∷ [])) ≡ Ok (working ∷ [])
+work_of_the_month = refl
+
+work_with_a_last_price : work 312 open_public (with_quotes december) ≡ Ok (record working { last = Some 1000; quote = None } ∷ [])
+work_with_a_last_price = refl
+
+work_of_an_unknown_month : work 313 open_public (with_quotes december) ≡ Err UnknownMonth
+work_of_an_unknown_month = refl
+
+work_of_no_active_slot : work 324 public (with_quotes december) ≡ Ok []
+work_of_no_active_slot = refl

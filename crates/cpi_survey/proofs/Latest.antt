@@ -9,6 +9,7 @@ use Rattle.std.specs.Cmp.{IsTotalOrder}
 use Rattle.std.proofs.lemmas.Cmp.{then_total, on_total, nat_cmp_total, ranked, alike_right}
 use Rattle.std.proofs.lemmas.Bool.{le-ltb, lt-ltb, ltb-true, eqb-true, eq-eqb, ne_eqb, and_parts, and_from, false_from_ne_true, cases_lt, both_ways}
 use Rattle.std.proofs.lemmas.Bool.Decides.{nat_tests}
+use Rattle.std.specs.List.Sorted.{IsStrictlySortedBy}
 use Rattle.std.proofs.lemmas.List.Kept.{IsStrictlySortedBy-filter}
 use Rattle.std.proofs.lemmas.Map.Keys.{sorted_head, sorted_tail, Less-from_sorted}
 use Rattle.cpi_rows.specs.Keyed.{IsInOrder, IsPlace}
@@ -126,6 +127,33 @@ below_last (x ∷ qs) q sorted = (head qs (sorted_head _ x (qs ++ q ∷ []) sort
 at_last : (P : QuoteRow → Type 0) (qs : List QuoteRow) (q : QuoteRow) → AllByRecursion P (qs ++ q ∷ []) → P q
 at_last P [] q all = all.0
 at_last P (x ∷ qs) q all = at_last P qs q all.1
+
+front_all : {X : Type 0} (P : X → Type 0) (xs : List X) (x : X) → AllByRecursion P (xs ++ x ∷ []) → AllByRecursion P xs
+front_all P [] x all = tt
+front_all P (y ∷ xs) x all = (all.0, front_all P xs x all.1)
+
+sorted_front : {X : Type 0} (c : X → X → Ordering) (xs : List X) (x : X) → IsStrictlySortedBy c (xs ++ x ∷ []) → IsStrictlySortedBy c xs
+unfolding IsStrictlySortedBy
+sorted_front c [] x sorted = tt
+sorted_front c (y ∷ xs) x sorted = (front_all (λ z. c y z ≡ Less) xs x sorted.0, sorted_front c xs x sorted.1)
+
+latest_front : (passes : QuoteRow → Bool) (qs : List QuoteRow) (q : QuoteRow) → passes q ≡ false → latest passes (qs ++ q ∷ []) ≡ latest passes qs
+latest_front passes [] q e = rw e refl
+latest_front passes (x ∷ qs) q e = rw (latest_front passes qs q e) refl
+
+-- a last row in which no price was observed may be left out
+pub without_last : (slot month : ℕ) (qs : List QuoteRow) (q : QuoteRow) → observed_price q.mark ≡ None → latest (is_earlier slot month) (qs ++ q ∷ []) ≡ latest (is_earlier slot month) qs
+without_last slot month qs q none = latest_front (is_earlier slot month) qs q (by (q.slot == slot && nat_lt q.month month))
+  where
+    by : (earlier : Bool) → (earlier && is_some (observed_price q.mark)) ≡ false
+    by true = ap is_some none
+    by false = refl
+
+pub front_in_order : (qs : List QuoteRow) (q : QuoteRow) → IsInOrder quote_cmp quote_key (qs ++ q ∷ []) → IsInOrder quote_cmp quote_key qs
+front_in_order qs q sorted = sorted_front (λ a b. quote_cmp (quote_key a) (quote_key b)) qs q sorted
+
+pub front_below : (k : ℕ × ℕ) (qs : List QuoteRow) (q : QuoteRow) → AllByRecursion (λ q. quote_cmp (quote_key q) k ≡ Less) (qs ++ q ∷ []) → AllByRecursion (λ q. quote_cmp (quote_key q) k ≡ Less) qs
+front_below k qs q all = front_all (λ q. quote_cmp (quote_key q) k ≡ Less) qs q all
 
 -- a last row of another slot: the slot has none
 pub latest_other : (slot month : ℕ) (qs : List QuoteRow) (q : QuoteRow) → IsInOrder quote_cmp quote_key (qs ++ q ∷ []) → AllByRecursion (λ q. quote_cmp (quote_key q) (slot, month) ≡ Less) (qs ++ q ∷ []) → q.slot ≢ slot → latest (is_earlier slot month) (qs ++ q ∷ []) ≡ None

@@ -1,44 +1,80 @@
 -- How an entry of a quote is decided.
-use Rattle.std.specs.Prelude.{ℕ, ◌+◌, ◌||◌, nat_lt, nat_le, Option, Some, None, Result, Ok, Err, if◌then◌else◌}
-use Rattle.std.specs.Ordering.{nat_cmp}
-use Rattle.cpi_rows.specs.Keyed.{row_at}
+use Rattle.std.specs.Prelude.{ℕ, ◌+◌, nat_lt, nat_le, Option, Some, None, Result, Ok, Err, if◌then◌else◌}
+use Rattle.cpi_plan.specs.declared.items.Item.{Item}
 use Rattle.cpi_plan.specs.Calendar.{CalendarPart}
 use Rattle.cpi_survey.specs.declared.assignment.Assignment.{Assignment}
 use Rattle.cpi_survey.specs.declared.assignment.Assigned.{Assigned}
 use Rattle.cpi_survey.specs.declared.decision.Decision.{Decision}
 use Rattle.cpi_survey.specs.declared.decision.Decision.TheVariants.{Again, Put}
 use Rattle.cpi_survey.specs.declared.refusal.Refusal.{Refusal}
-use Rattle.cpi_survey.specs.declared.refusal.Refusal.TheVariants.{UnknownSlot, UnknownMonth, NotActive, NotOpen, Closed, ReceiptsUsedUp}
-use Rattle.cpi_survey.specs.Mark.{is_same_mark}
+use Rattle.cpi_survey.specs.declared.refusal.Refusal.TheVariants.{UnknownSlot, UnknownMonth, NotActive, NotOpen, Closed, NoLastPrice, OutOfTolerance, ReceiptsUsedUp}
+use Rattle.cpi_survey.specs.declared.tolerance.Verdict.{Verdict}
+use Rattle.cpi_survey.specs.declared.tolerance.Verdict.TheVariants.{Inside, Outside}
+use Rattle.cpi_survey.specs.Assignment.{is_active}
+use Rattle.cpi_survey.specs.Mark.{is_same_mark, is_replacement, checked_price}
+use Rattle.cpi_survey.specs.Tolerance.{verdict}
+use Rattle.cpi_survey.specs.LastPrice.{last_price}
 use Rattle.cpi_survey.specs.Quote.{QuoteRow, greatest_receipt}
 use Rattle.cpi_survey.specs.Entry.{EntryRow}
-use Rattle.cpi_survey.specs.Public.{PublicPart}
+use Rattle.cpi_survey.specs.Public.{PublicPart, item_of, calendar_of}
 use Rattle.cpi_survey.specs.Own.{OwnPart, assignment_of, quote_of}
 
--- the assignment's months, the window of the month, and the next receipt
-abbrev pub in_window : ℕ → EntryRow → CalendarPart → Assignment → ℕ → Result Decision Refusal
-in_window now entry row a greatest =
-    if nat_lt entry.month a.first_month || nat_lt a.last_month entry.month then Err NotActive
-    else if nat_lt now row.opens then Err NotOpen
-    else if nat_le row.closes now then Err Closed
-    else if nat_le 1000000 greatest then Err ReceiptsUsedUp
+-- a price outside the bounds is refused, with the last price and the bounds
+abbrev pub by_verdict : ℕ → Verdict → Result (Unit {0}) Refusal
+by_verdict last Inside = Ok tt
+by_verdict last (Outside low high) = Err (OutOfTolerance last low high)
+
+-- a price against the last one; where there is no price to check, or no such item, nothing is refused
+abbrev pub against_last : Option Item → ℕ → Option ℕ → Result (Unit {0}) Refusal
+against_last None last price = Ok tt
+against_last (Some item) last None = Ok tt
+against_last (Some item) last (Some price) = by_verdict last (verdict item last price)
+
+-- a replacement needs a last price; a price that isn't confirmed is checked against the last one, if there is one
+abbrev pub checked : EntryRow → Option Item → Option ℕ → Result (Unit {0}) Refusal
+checked entry item None = if is_replacement entry.mark then Err NoLastPrice else Ok tt
+checked entry item (Some last) = if entry.confirm then Ok tt else against_last item last (checked_price entry.mark)
+
+-- the next receipt
+abbrev pub with_receipt : EntryRow → ℕ → Result Decision Refusal
+with_receipt entry greatest =
+    if nat_le 1000000 greatest then Err ReceiptsUsedUp
     else Ok (Put (record { slot = entry.slot; month = entry.month; mark = entry.mark; receipt = greatest + 1 }))
 
+-- what the check refuses is refused, before the receipts
+abbrev pub once_checked : EntryRow → Result (Unit {0}) Refusal → ℕ → Result Decision Refusal
+once_checked entry (Ok _) greatest = with_receipt entry greatest
+once_checked entry (Err refusal) greatest = Err refusal
+
+-- the assignment's months, the window of the month, the check of the price, and the next receipt
+abbrev pub in_window : ℕ → EntryRow → CalendarPart → Assignment → Result (Unit {0}) Refusal → ℕ → Result Decision Refusal
+in_window now entry row a check greatest =
+    if is_active entry.month a then
+      if nat_lt now row.opens then Err NotOpen
+      else if nat_le row.closes now then Err Closed
+      else once_checked entry check greatest
+    else Err NotActive
+
 -- a month without a calendar row is unknown
-abbrev pub in_month : ℕ → EntryRow → Option CalendarPart → Assignment → ℕ → Result Decision Refusal
-in_month now entry None a greatest = Err UnknownMonth
-in_month now entry (Some row) a greatest = in_window now entry row a greatest
+abbrev pub in_month : ℕ → EntryRow → Option CalendarPart → Assignment → Result (Unit {0}) Refusal → ℕ → Result Decision Refusal
+in_month now entry None a check greatest = Err UnknownMonth
+in_month now entry (Some row) a check greatest = in_window now entry row a check greatest
 
 -- an entry that equals the stored quote is answered with its receipt, at any moment
-abbrev pub over_quote : ℕ → EntryRow → Option CalendarPart → Assignment → Option QuoteRow → ℕ → Result Decision Refusal
-over_quote now entry row a None greatest = in_month now entry row a greatest
-over_quote now entry row a (Some quote) greatest =
-    if is_same_mark quote.mark entry.mark then Ok (Again quote.receipt) else in_month now entry row a greatest
+abbrev pub over_quote : ℕ → EntryRow → Option CalendarPart → Assignment → Option QuoteRow → Result (Unit {0}) Refusal → ℕ → Result Decision Refusal
+over_quote now entry row a None check greatest = in_month now entry row a check greatest
+over_quote now entry row a (Some quote) check greatest =
+    if is_same_mark quote.mark entry.mark then Ok (Again quote.receipt) else in_month now entry row a check greatest
+
+-- what speaks against the price of an entry: the item is that of the assignment, the last price that of the slot before the month
+abbrev pub check_of : EntryRow → PublicPart → OwnPart → Assignment → Result (Unit {0}) Refusal
+check_of entry public own a = checked entry (item_of a.item public) (last_price entry.slot entry.month own.quotes)
 
 abbrev pub in_slot : ℕ → EntryRow → PublicPart → Option Assigned → OwnPart → Result Decision Refusal
 in_slot now entry public None own = Err UnknownSlot
 in_slot now entry public (Some a) own =
-    over_quote now entry (row_at nat_cmp (λ r. r.month) entry.month public.calendar) a.assignment (quote_of entry.slot entry.month own) (greatest_receipt own.quotes)
+    over_quote now entry (calendar_of entry.month public) a.assignment (quote_of entry.slot entry.month own)
+    (check_of entry public own a.assignment) (greatest_receipt own.quotes)
 
 -- how an entry is decided: the stored receipt of an equal quote, a refusal, or a new quote
 abbrev pub decided : ℕ → EntryRow → PublicPart → OwnPart → Result Decision Refusal

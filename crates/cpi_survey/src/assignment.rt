@@ -1,5 +1,5 @@
 ghost use Rattle.std.specs.Prelude.{◌≡◌};
-ghost use Rattle.cpi_survey.specs.Assignment.{same_assignment};
+ghost use Rattle.cpi_survey.specs.Assignment.{is_active, same_assignment};
 
 use cpi_codes::{ItemCode, Month, Name, OutletId, SeriesId, Slot};
 use cpi_rows::Keyed;
@@ -33,6 +33,13 @@ impl Assignment {
             && self.last_month == other.last_month
             && self.series.collector == other.series.collector
             && self.series.slot == other.series.slot
+    }
+
+    /// Whether the slot is active in the month: from the first month to the last, both included.
+    pub fn is_active(&self, month: Month) -> bool
+        ensures { result ≡ is_active month self.now }
+    {
+        self.first_month <= month && month <= self.last_month
     }
 }
 

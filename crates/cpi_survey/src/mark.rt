@@ -1,13 +1,32 @@
 ghost use Rattle.std.specs.Prelude.{◌≡◌};
-ghost use Rattle.cpi_survey.specs.Mark.{is_same_mark, observed_price};
+ghost use Rattle.cpi_survey.specs.Mark.{checked_price, is_replacement, is_same_mark, observed_price};
 
 use cpi_codes::Price;
 
-/// What a collector found for a slot in a month.
+/// Why no price was found.
+#[derive(Clone, Copy, Debug, PartialEq, Eq)]
+pub enum Reason {
+    /// The item was out of stock.
+    Stock,
+    /// The outlet was closed.
+    Closed,
+    /// The outlet or the item is gone for good.
+    Gone,
+    /// The outlet refused to tell the price.
+    Refused,
+}
+
+/// What a collector found for a slot in a month. Prices are in minor units.
 #[derive(Clone, Copy, Debug, PartialEq, Eq)]
 pub enum Mark {
-    /// The price of the item, in minor units.
+    /// The price of the item itself.
     Price(Price),
+    /// No price, and why.
+    Missing(Reason),
+    /// The price of a replacement that can be compared with the item.
+    Comparable(Price),
+    /// The price of a replacement that can't be compared with the item.
+    Other(Price),
 }
 
 impl Mark {
@@ -15,17 +34,33 @@ impl Mark {
     pub fn is_same(self, other: Mark) -> bool
         ensures { result ≡ is_same_mark self other }
     {
-        match (self, other) {
-            (Mark::Price(price), Mark::Price(other)) => price == other,
-        }
+        self == other
     }
 
-    /// The price that was observed, in minor units, if one was.
+    /// The price that was observed, in minor units: of the item or of a replacement, none where it is missing.
     pub fn observed_price(self) -> Option<Price>
         ensures { result ≡ observed_price self }
     {
         match self {
-            Mark::Price(price) => Some(price),
+            Mark::Price(price) | Mark::Comparable(price) | Mark::Other(price) => Some(price),
+            Mark::Missing(_) => None,
         }
+    }
+
+    /// The price that is checked against the last one, in minor units: of the item or of a comparable replacement.
+    pub fn checked_price(self) -> Option<Price>
+        ensures { result ≡ checked_price self }
+    {
+        match self {
+            Mark::Price(price) | Mark::Comparable(price) => Some(price),
+            Mark::Missing(_) | Mark::Other(_) => None,
+        }
+    }
+
+    /// Whether the price is that of a replacement.
+    pub fn is_replacement(self) -> bool
+        ensures { result ≡ is_replacement self }
+    {
+        matches!(self, Mark::Comparable(_) | Mark::Other(_))
     }
 }

@@ -1,4 +1,4 @@
-ghost use Rattle.std.specs.Prelude.{◌≡◌, ◌<◌, OnOk, OnErr, IsSome, IsOk};
+ghost use Rattle.std.specs.Prelude.{◌≡◌, ◌<◌, [], OnOk, OnErr, IsSome, IsOk};
 ghost use Rattle.std.specs.Ordering.{nat_cmp};
 ghost use Rattle.std.specs.Option.{option_copied};
 ghost use Rattle.cpi_rows.specs.Keyed.{IsInOrder, put, row_at, at};
@@ -8,7 +8,7 @@ use crate::assignment::Assigned;
 use crate::quote::Quote;
 use cpi_codes::{Month, Slot};
 use cpi_rows::{find_row, put_row};
-use std::alloc::AllocError;
+use std::alloc::{AllocError, Global};
 use std::marker::Model;
 
 /// What a collector has in the office: the assignments by slot, and the stored quotes by slot and then by month.
@@ -38,6 +38,13 @@ impl Model for Own {
 }
 
 impl Own {
+    /// The part of a collector who has nothing yet.
+    pub fn new(alloc: Global) -> Own
+        ensures { result ≡ record { assignments = []; quotes = [] } }
+    {
+        Own::from_parts(Vec::new(alloc), Vec::new(alloc), 0)
+    }
+
     /// A collector's part from its rows. The caller owes one assignment a slot, in the order of slots, one quote a slot and month,
     /// in the order of slots and then of months, and the greatest receipt among the quotes, or 0 where there is none.
     pub fn from_parts(assignments: Vec<Assigned>, quotes: Vec<Quote>, greatest: u32) -> Own
@@ -68,13 +75,22 @@ impl Own {
         Ok(())
     }
 
-    /// Puts an assignment, over the one of its slot if there is one, which takes no memory.
+    /// Puts an assignment in its place, over that of its slot if there is one, which takes no memory. An `Err` says that memory was
+    /// refused; nothing has changed then.
     pub fn put_assignment(&mut self, assigned: Assigned) -> Result<(), AllocError>
         ensures ok { OnOk result (self.new ≡ record self.old { assignments = put nat_cmp (λ a. a.assignment.slot) assigned self.old.assignments }) }
         ensures err { OnErr result (self.new ≡ self.old) }
+        ensures replaced { IsSome (at (λ a. a.assignment.slot) assigned.assignment.slot self.old.assignments) → IsOk result }
         ensures quotes { self.new.quotes ≡ self.old.quotes }
     {
         put_row(&mut self.assignments, assigned)
+    }
+
+    /// All assignments with their outlets' names, by slot.
+    pub fn assignments(&self) -> &[Assigned]
+        ensures { result.now ≡ self.now.assignments }
+    {
+        &self.assignments
     }
 
     /// The assignment of the slot with its outlet's name, if the slot was given.

@@ -1,4 +1,4 @@
-ghost use Rattle.std.specs.Prelude.{◌≡◌, IfOk, OnOk, OnErr, IsSome, IsOk};
+ghost use Rattle.std.specs.Prelude.{◌≡◌, IfOk, [], OnOk, OnErr, IsSome, IsOk};
 ghost use Rattle.std.specs.Ordering.{nat_cmp};
 ghost use Rattle.std.specs.Option.{option_copied};
 ghost use Rattle.cpi_rows.specs.Keyed.{IsInOrder, put, row_at, at};
@@ -32,6 +32,13 @@ impl Model for Public {
 }
 
 impl Public {
+    /// The public part of a survey without items and months.
+    pub fn new(alloc: Global) -> Public
+        ensures { result ≡ record { items = []; calendar = [] } }
+    {
+        Public::from_parts(Vec::new(alloc), Vec::new(alloc))
+    }
+
     /// The public part from its rows. The caller owes one item a code, in the order of codes, and one row a month, in the order of months.
     pub fn from_parts(items: Vec<Item>, calendar: Vec<CalendarRow>) -> Public
         requires items { IsInOrder nat_cmp (λ i. i.code) items.items }

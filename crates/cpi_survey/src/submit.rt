@@ -1,16 +1,21 @@
 ghost use Rattle.std.specs.Prelude.{◌≡◌};
 ghost use Rattle.std.specs.Option.{option_copied};
-ghost use Rattle.cpi_survey.specs.Decision.{decided, over_quote, in_window};
+ghost use Rattle.cpi_survey.specs.Own.{quote_of};
+ghost use Rattle.cpi_survey.specs.Public.{calendar_of};
+ghost use Rattle.cpi_survey.specs.Quote.{greatest_receipt};
+ghost use Rattle.cpi_survey.specs.Decision.{against_last, check_of, checked, decided, in_window, over_quote, with_receipt};
 
 use crate::assignment::Assignment;
 use crate::decision::Decision;
 use crate::entry::Entry;
+use crate::mark::Mark;
 use crate::own::Own;
 use crate::public::Public;
 use crate::quote::Quote;
 use crate::refusal::Refusal;
-use cpi_codes::Moment;
-use cpi_plan::CalendarRow;
+use crate::tolerance::{Verdict, check};
+use cpi_codes::{Moment, Price};
+use cpi_plan::{CalendarRow, Item};
 
 /// The greatest receipt that a collector can be given.
 const LAST_RECEIPT: u32 = 1_000_000;
@@ -20,71 +25,121 @@ impl Own {
     ///
     /// A slot that the collector doesn't have is refused. Then an entry that equals the stored quote of its slot and month, in the mark with
     /// its value, is answered with the stored receipt, at any moment. Any other entry is refused where the calendar has no row of the month,
-    /// where the month is outside the assignment, before the window opens, from the moment at which it closes, and where all receipts are
-    /// used up, in this order; else it is to be stored with the next receipt.
+    /// where the month is outside the assignment, before the window opens, from the moment at which it closes, where a replacement has no
+    /// last price, where a price or a comparable replacement's price that isn't confirmed lies outside the bounds round the last price, and
+    /// where all receipts are used up, in this order; else it is to be stored with the next receipt.
     pub fn submit(&self, public: &Public, now: Moment, entry: Entry) -> Result<Decision, Refusal>
         ensures { result ≡ decided now entry public.now self.now }
     {
+        match self.assigned(entry.slot) {
+            None => Err(Refusal::UnknownSlot),
+            Some(assigned) => self.over_quote(public, now, entry, &assigned.assignment),
+        }
+    }
+
+    /// Decides an entry of a known slot: one that equals the stored quote is answered with its receipt.
+    fn over_quote(
+        &self,
+        public: &Public,
+        now: Moment,
+        entry: Entry,
+        assignment: &Assignment,
+    ) -> Result<Decision, Refusal>
+        ensures { result ≡ over_quote now entry (calendar_of entry.month public.now) assignment.now (quote_of entry.slot entry.month self.now)
+            (check_of entry public.now self.now assignment.now) (greatest_receipt self.now.quotes) }
+    {
         let slot = entry.slot;
         let month = entry.month;
-        match self.assigned(slot) {
-            None => Err(Refusal::UnknownSlot),
-            Some(assigned) => over_quote(
-                now,
+        match self.quote(slot, month) {
+            Some(quote) if quote.mark.is_same(entry.mark) => Ok(Decision::Again(quote.receipt)),
+            _ => match public.calendar_row(month) {
+                None => Err(Refusal::UnknownMonth),
+                Some(row) => self.in_window(public, now, entry, row, assignment),
+            },
+        }
+    }
+
+    /// Decides an entry of a month with a calendar row: the months of the assignment, the window, the price, the receipts.
+    fn in_window(
+        &self,
+        public: &Public,
+        now: Moment,
+        entry: Entry,
+        row: &CalendarRow,
+        assignment: &Assignment,
+    ) -> Result<Decision, Refusal>
+        ensures { result ≡ in_window now entry row.now assignment.now (check_of entry public.now self.now assignment.now) (greatest_receipt self.now.quotes) }
+    {
+        if !assignment.is_active(entry.month) {
+            Err(Refusal::NotActive)
+        } else if now < row.opens() {
+            Err(Refusal::NotOpen)
+        } else if row.closes() <= now {
+            Err(Refusal::Closed)
+        } else {
+            self.check_price(public, entry, assignment)?;
+            with_receipt(entry, self.greatest_receipt())
+        }
+    }
+
+    /// Checks the price of an entry against the last price of its slot, which is looked up only where there is a price.
+    fn check_price(
+        &self,
+        public: &Public,
+        entry: Entry,
+        assignment: &Assignment,
+    ) -> Result<(), Refusal>
+        ensures { result ≡ check_of entry public.now self.now assignment.now }
+    {
+        let slot = entry.slot;
+        let month = entry.month;
+        match entry.mark {
+            Mark::Missing(_) => Ok(()),
+            _ => checked(
                 entry,
-                public.calendar_row(month),
-                &assigned.assignment,
-                self.quote(slot, month),
-                self.greatest_receipt(),
+                public.item(assignment.item),
+                self.last_price(slot, month),
             ),
         }
     }
 }
 
-/// Decides an entry of a known slot: one that equals the stored quote is answered with its receipt.
-fn over_quote(
-    now: Moment,
-    entry: Entry,
-    row: Option<&CalendarRow>,
-    assignment: &Assignment,
-    quote: Option<&Quote>,
-    greatest: u32,
-) -> Result<Decision, Refusal>
-    ensures { result ≡ over_quote now entry (option_copied row.entry) assignment.now (option_copied quote.entry) greatest }
+/// Checks the price of an entry: a replacement needs a last price, and a price that isn't confirmed is checked against the last one.
+fn checked(entry: Entry, item: Option<&Item>, last: Option<Price>) -> Result<(), Refusal>
+    ensures { result ≡ checked entry (option_copied item.entry) last }
 {
-    match quote {
-        Some(quote) if quote.mark.is_same(entry.mark) => Ok(Decision::Again(quote.receipt)),
-        _ => match row {
-            None => Err(Refusal::UnknownMonth),
-            Some(row) => in_window(now, entry, row, assignment, greatest),
-        },
+    match last {
+        None if entry.mark.is_replacement() => Err(Refusal::NoLastPrice),
+        None => Ok(()),
+        Some(_) if entry.confirm => Ok(()),
+        Some(last) => against_last(item, last, entry.mark.checked_price()),
     }
 }
 
-/// Decides an entry of a month with a calendar row: the months of the assignment, the window, the receipts.
-fn in_window(
-    now: Moment,
-    entry: Entry,
-    row: &CalendarRow,
-    assignment: &Assignment,
-    greatest: u32,
-) -> Result<Decision, Refusal>
-    ensures { result ≡ in_window now entry row.now assignment.now greatest }
+/// Checks a price, if there is one to be checked, against the bounds that the item sets round the last price.
+fn against_last(item: Option<&Item>, last: Price, price: Option<Price>) -> Result<(), Refusal>
+    ensures { result ≡ against_last (option_copied item.entry) last price }
 {
-    if entry.month < assignment.first_month || assignment.last_month < entry.month {
-        Err(Refusal::NotActive)
-    } else if now < row.opens() {
-        Err(Refusal::NotOpen)
-    } else if row.closes() <= now {
-        Err(Refusal::Closed)
-    } else if LAST_RECEIPT <= greatest {
-        Err(Refusal::ReceiptsUsedUp)
-    } else {
-        Ok(Decision::Put(Quote {
-            slot: entry.slot,
-            month: entry.month,
-            mark: entry.mark,
-            receipt: greatest + 1,
-        }))
+    let (Some(item), Some(price)) = (item, price) else {
+        return Ok(());
+    };
+    match check(item, last, price) {
+        Verdict::Inside => Ok(()),
+        Verdict::Outside { low, high } => Err(Refusal::OutOfTolerance { last, low, high }),
     }
+}
+
+/// The quote of an entry with the next receipt, if there is one left.
+fn with_receipt(entry: Entry, greatest: u32) -> Result<Decision, Refusal>
+    ensures { result ≡ with_receipt entry greatest }
+{
+    if LAST_RECEIPT <= greatest {
+        return Err(Refusal::ReceiptsUsedUp);
+    }
+    Ok(Decision::Put(Quote {
+        slot: entry.slot,
+        month: entry.month,
+        mark: entry.mark,
+        receipt: greatest + 1,
+    }))
 }

@@ -25,6 +25,15 @@ returns-clause-last_receipt c = refl
 pub returns-clause-by_month : goal.returns-clause-by_month
 returns-clause-by_month c = refl
 
+pub returns-clause-tolerance : goal.returns-clause-tolerance
+returns-clause-tolerance c = refl
+
+pub returns-clause-replacements : goal.returns-clause-replacements
+returns-clause-replacements c = refl
+
+pub returns-clause-work_lists : goal.returns-clause-work_lists
+returns-clause-work_lists c = refl
+
 pub returns-clause-items_of_all : goal.returns-clause-items_of_all
 returns-clause-items_of_all c = refl
 

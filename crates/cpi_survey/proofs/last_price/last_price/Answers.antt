@@ -1,9 +1,9 @@
-use Rattle.std.proofs.Common.{◌≡◌, ◌≢◌, ℕ, Some, sym, ap, ◌∙◌, inl, inr}
+use Rattle.std.proofs.Common.{◌≡◌, ◌≢◌, ℕ, Some, None, sym, ap, ◌∙◌, inl, inr}
 use Rattle.std.proofs.lemmas.Bool.{eqb-true, eqb-false, not-true, not-false}
 use Rattle.std.specs.Prelude.{is_some}
 use Rattle.cpi_survey.specs.Mark.{observed_price}
 use Rattle.cpi_survey.specs.LastPrice.{latest, is_earlier, price_in}
-use Rattle.cpi_survey.proofs.Latest.{before_gap, before_row, starts, latest_other, latest_own}
+use Rattle.cpi_survey.proofs.Latest.{before_gap, before_row, front_below, front_in_order, latest_other, latest_own, starts, without_last}
 use Rattle.cpi_survey.proofs.last_price.last_price.Goals as goal
 
 pub loop-quote-init : goal.loop-quote-init
@@ -31,3 +31,15 @@ returns-in-Some-observed_price c =
     let price : observed_price c.in-Some.quote.now.mark ≡ Some c.in-Some-observed_price.price = rw (← c.quote.view_is) (sym c.observed_price.ensures ∙ c.in-Some-observed_price.is) in
     let found = latest_own c.args.slot c.args.month _ _ (rw split at kept.order) (rw split at kept.below) same (ap is_some price) in
     sym (ap price_in (kept.latest ∙ ap (latest (is_earlier c.args.slot c.args.month)) split ∙ found) ∙ price)
+
+pub loop-quote-preserved : goal.loop-quote-preserved
+loop-quote-preserved c =
+    let k : ℕ × ℕ = (c.args.slot, c.args.month) in
+    let kept = c.loop-quote.invariant in
+    let split = c.in-Some.ensures.cases.0 in
+    let none : observed_price c.in-Some.quote.now.mark ≡ None = rw (← c.quote.view_is) (sym c.observed_price.ensures ∙ c.in_default-observed_price.is) in
+    record {
+      order = front_in_order _ _ (rw split at kept.order);
+      below = front_below k _ _ (rw split at kept.below);
+      latest = kept.latest ∙ ap (latest (is_earlier c.args.slot c.args.month)) split ∙ without_last c.args.slot c.args.month _ _ none;
+    }

@@ -1,11 +1,11 @@
 use Rattle.std.proofs.Common.{sym, ap, ◌∙◌}
-use Rattle.cpi_store.proofs.Holders.{known_holder}
+use Rattle.cpi_store.proofs.Found.{known_holder}
 use Rattle.cpi_store.specs.Bearer.{bearer_of}
 use Rattle.cpi_store.specs.Holders.{Kept}
 use Rattle.cpi_store.proofs.vec_book.VecBookBook.put_quote.Goals as goal
 
 pub put_quote_of-requires-clause-known : goal.put_quote_of-requires-clause-known
-put_quote_of-requires-clause-known c = known_holder c.args.bearer.number c.self.inside.holders.items (rw (ap (λ (k : Kept). k.office.collectors) c.self.view_is) (c.requires.known tt))
+put_quote_of-requires-clause-known c = known_holder c.args.bearer.number c.self.inside.holders.items (rw (ap (λ (k : Kept). k.office.collectors) c.self.view_is) c.requires.known)
 
 pub invariant_of-self : goal.invariant_of-self
 invariant_of-self c = record {

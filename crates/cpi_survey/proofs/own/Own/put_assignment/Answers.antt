@@ -8,3 +8,6 @@ pub returns-clause-ok : goal.returns-clause-ok
 returns-clause-ok c =
     rw (← c.self.view_is)
     (on_ok_weaker c.put_row.result (λ done. ap (λ (xs : List Assigned). record { assignments = xs; quotes = c.self.inside.quotes.items }) done) c.put_row.ensures.ok)
+
+pub returns-clause-replaced : goal.returns-clause-replaced
+returns-clause-replaced c = rw (← c.self.view_is) c.put_row.ensures.replaced

@@ -1,0 +1,72 @@
+//! The program `cpi`: it reads the words, does the job and tells one line of what failed.
+#![tactic(auto)]
+
+use cpi_app::{Job, WireFault, job_of_words, replay};
+use cpi_office::Office;
+use cpi_store::VecBook;
+use std::io::BufReader;
+use std::process::ExitCode;
+use std::{env, io};
+
+// The words after the program's name; none where one of them isn't UTF-8.
+fn words_of(rt: &HostRuntime) -> Result<Option<Vec<String>>, WireFault> {
+    let Ok(all) = env::args(rt) else {
+        return Ok(None);
+    };
+    let mut words = Vec::new(rt.alloc());
+    for word in all.skip(1) {
+        words.push(word)?;
+    }
+    Ok(Some(words))
+}
+
+// Records from standard input, each answered before the next one is carried out.
+fn run_replay(rt: &HostRuntime) -> Result<(), WireFault> {
+    let alloc = rt.alloc();
+    let Ok(reader) = BufReader::new(alloc, rt.reader()) else {
+        return Err(WireFault::NoMemory);
+    };
+    let mut writer = io::writer(rt);
+    let mut office = Office::new(alloc, VecBook::new(alloc));
+    replay(alloc, reader, &mut writer, &mut office)
+}
+
+fn run_job(rt: &HostRuntime, job: Job) -> Result<(), WireFault> {
+    match job {
+        Job::Replay => run_replay(rt),
+    }
+}
+
+// Does the job of the words, and answers the exit status: 0 at its end, or after help that was asked for, and 2
+// where the words are refused.
+fn run(rt: &HostRuntime) -> Result<u8, WireFault> {
+    let Some(owned) = words_of(rt)? else {
+        let _ = eprintln!(rt; "cpi: a word isn't UTF-8");
+        return Ok(2);
+    };
+    let mut words: Vec<&str> = Vec::new(rt.alloc());
+    for word in &owned {
+        words.push(word.as_str())?;
+    }
+    match job_of_words(rt.alloc(), words.as_slice()) {
+        Ok(job) => {
+            run_job(rt, job)?;
+            Ok(0)
+        }
+        Err(error) => match error.print(rt) {
+            Ok(()) if error.use_stderr() => Ok(2),
+            Ok(()) => Ok(0),
+            Err(_) => Err(WireFault::Write),
+        },
+    }
+}
+
+fn main(rt: HostRuntime) -> ExitCode {
+    match run(&rt) {
+        Ok(status) => ExitCode::from(status),
+        Err(fault) => {
+            let _ = eprintln!(rt; "cpi: {fault}");
+            ExitCode::from(1)
+        }
+    }
+}

@@ -1,0 +1,25 @@
+-- The fields of a record, by their places.
+use Rattle.std.proofs.Common.{◌≡◌, refl, ◌≤◌, ◌<◌, ◌-◌, List, [], ◌∷◌, length, get_or, take, drop, map, Option, Bor, arith}
+use Rattle.std.specs.Option.{unwrap_or}
+use Rattle.std.proofs.lemmas.List.{take_rest}
+use Rattle.cpi_app.specs.declared.asks.Ask.{Ask}
+use Rattle.cpi_app.specs.declared.asks.Ask.TheVariants as ask
+use Rattle.cpi_app.specs.Arguments.{Text}
+use Rattle.cpi_app.specs.Record.{ask_of, parts}
+use Rattle.cpi_app.proofs.Counted.{texts}
+
+pub ask-short : (xs : List (Bor Text)) → length xs < 3 → ask.Bad ≡ ask_of (texts xs)
+unfolding ask_of
+ask-short [] h = refl
+ask-short (a ∷ []) h = refl
+ask-short (a ∷ b ∷ []) h = refl
+ask-short (a ∷ b ∷ c ∷ xs) h = absurd (omega arith)
+
+pub ask-parts : (xs : List (Bor Text)) (d : Bor Text) (r : Option Ask) → 3 ≤ length xs
+    → r ≡ parts (get_or xs 0 d).now (get_or xs 1 d).now (get_or xs 2 d).now (texts (take (length xs - 3) (drop 3 xs)))
+    → unwrap_or r ask.Bad ≡ ask_of (texts xs)
+unfolding ask_of
+ask-parts [] d r h e = absurd (omega arith)
+ask-parts (a ∷ []) d r h e = absurd (omega arith)
+ask-parts (a ∷ b ∷ []) d r h e = absurd (omega arith)
+ask-parts (a ∷ b ∷ c ∷ xs) d r h e = rw (rw (take_rest (a ∷ b ∷ c ∷ xs) 3) at e) refl

@@ -1,0 +1,12 @@
+//! What a record asks.
+use cpi_codes::Moment;
+use cpi_office::{Caller, Request};
+
+/// What a record asks.
+#[derive(Debug, Drop)]
+pub enum Ask {
+    /// The record is none of the forms, or outside the limits.
+    Bad,
+    /// A request, with when it comes and who makes it.
+    One(Moment, Caller, Request),
+}

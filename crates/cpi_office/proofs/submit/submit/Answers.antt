@@ -1,0 +1,9 @@
+use Rattle.cpi_store.specs.Office.{public_part, own_part}
+use Rattle.cpi_office.proofs.Receipts.{decided_new}
+use Rattle.cpi_office.proofs.submit.submit.Goals as goal
+
+pub carry_out-requires-clause-new : goal.carry_out-requires-clause-new
+carry_out-requires-clause-new g c = λ clean.
+    let reads = c.in-Ok.ensures in
+    let o = g.B.Book.lists c.args.book.now in
+    rw (reads.kept clean, reads.shown clean) (decided_new c.args.now c.args.entry (public_part o) (own_part c.args.bearer.number o))

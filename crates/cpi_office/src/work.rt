@@ -1,0 +1,47 @@
+ghost use Rattle.std.specs.Prelude.{◌≡◌, IfOk};
+ghost use Rattle.cpi_store.specs.Calls.{Reads};
+ghost use Rattle.cpi_store.specs.Office.{own_part, public_part};
+ghost use Rattle.cpi_survey.specs.Work.{work};
+ghost use Rattle.cpi_office.specs.Answers.{work_reply};
+ghost use Rattle.cpi_office.specs.Calls.{Serves};
+
+use crate::refusal::Refusal;
+use crate::reply::Reply;
+use cpi_codes::{CollectorId, Month};
+use cpi_rows::Rows;
+use cpi_store::{Book, StoreFault};
+use cpi_survey::WorkRow;
+use std::alloc::{AllocError, Global};
+
+/// Lists what the collector has to price in the month, by slot.
+pub fn work<B: Book>(alloc: Global, book: &mut B, collector: CollectorId, month: Month) -> Reply
+    ensures { let o = B.lists book.old in
+        Serves B.is_clean B.lists B.failures book.old book.new result (work_reply (work month (public_part o) (own_part collector o))) o }
+{
+    match read_work(alloc, book, collector, month) {
+        Ok(Ok(answer)) => work_reply(answer),
+        _ => Reply::Refused(Refusal::Unavailable),
+    }
+}
+
+fn read_work<B: Book>(
+    alloc: Global,
+    book: &mut B,
+    collector: CollectorId,
+    month: Month,
+) -> Result<Result<Result<Rows<WorkRow>, cpi_survey::Refusal>, AllocError>, StoreFault>
+    ensures { Reads B.is_clean B.lists B.failures B.may_leave book.old book.new result (λ found. IfOk found (λ answer. answer ≡ work month (public_part (B.lists book.old)) (own_part collector (B.lists book.old)))) }
+{
+    let parts = book.parts(collector)?;
+    Ok(parts.own.work(alloc, parts.public, month))
+}
+
+/// The reply with a work list, or with its refusal.
+fn work_reply(answer: Result<Rows<WorkRow>, cpi_survey::Refusal>) -> Reply
+    ensures { result ≡ work_reply answer }
+{
+    match answer {
+        Ok(rows) => Reply::Work(rows),
+        Err(refusal) => Reply::Refused(Refusal::of_survey(&refusal)),
+    }
+}
