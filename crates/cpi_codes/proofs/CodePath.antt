@@ -73,7 +73,7 @@ alone n None h e = refl
 alone n (Some x) h e = absurd (grind (arith, nat_tests))
 
 -- `00` has no further part
-no_group : (q : Code) → q.division ≡ 0 → q.group ≡ None
+pub no_group : (q : Code) → q.division ≡ 0 → q.group ≡ None
 no_group q e = alone q.division q.group (valid_alone q.division q.group q.class q.subclass q.aggregate q.valid) e where
   valid_alone : (d : ℕ) (g c s a : Option ℕ) → IsTrue (are_parts d g c s a) → (nat_le 1 d || is_none g) ≡ true
   valid_alone d g c s a h = grind (arith, nat_tests)

@@ -8,3 +8,4 @@ pub mod CodeBelow
 pub mod CodePath
 pub mod CodeIs
 pub mod CodeRead
+pub mod CodesAbove
