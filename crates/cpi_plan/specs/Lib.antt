@@ -4,3 +4,4 @@ pub mod Once
 pub mod Plan
 pub mod Steps
 pub mod Sums
+pub mod Planned

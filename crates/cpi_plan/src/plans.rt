@@ -1,11 +1,13 @@
 //! Yearly plans.
-ghost use Rattle.std.specs.Prelude.{◌≡◌, ℕ, ◌≤◌, IsTrue, SomeIff, option_map};
+ghost use Rattle.std.specs.Prelude.{◌≡◌, ◌≢◌, ℕ, ◌≤◌, IsTrue, SomeIff, option_map};
 ghost use Rattle.std.specs.Option.{option_copied};
 ghost use Rattle.std.specs.Ordering.{nat_cmp};
 ghost use Rattle.cpi_codes.specs.CodeOrder.{code_cmp};
 ghost use Rattle.cpi_rows.specs.Keyed.{row_at, IsInOrder};
 ghost use Rattle.cpi_plan.specs.Plan.{Body, IsBuilt, IsOneFault, IsOnePlan};
+ghost use Rattle.cpi_plan.specs.Planned.{planned};
 ghost use Rattle.cpi_plan.specs.Sums.{weight_under, is_node};
+ghost use Rattle.cpi_plan.specs.declared.plan_faults.PlanFault.TheVariants.{NoMemory};
 
 use crate::checks::{are_elementary, first_untitled, has_unknown, has_unplaced, has_zero, nodes_of, total, weight_sums};
 use crate::items::Item;
@@ -94,7 +96,8 @@ impl YearPlan {
         places: Vec<Place>,
     ) -> Result<YearPlan, PlanFault>
         requires known_in_order { IsInOrder nat_cmp (λ i. i.code) known_items.now }
-        ensures { IsBuilt year (record { known = known_items.now; titles = titles.items; weights = weights.items; places = places.items }) result }
+        ensures built { IsBuilt year (record { known = known_items.now; titles = titles.items; weights = weights.items; places = places.items }) result }
+        ensures planned { result ≢ Err NoMemory → result ≡ planned year (record { known = known_items.now; titles = titles.items; weights = weights.items; places = places.items }) }
     {
         let titles_once = put_in_order(&mut titles).map_err(|_| PlanFault::NoMemory)?;
         let weights_once = put_in_order(&mut weights).map_err(|_| PlanFault::NoMemory)?;
