@@ -5,3 +5,4 @@ pub mod Plan
 pub mod Steps
 pub mod Sums
 pub mod Planned
+pub mod SamePlan
