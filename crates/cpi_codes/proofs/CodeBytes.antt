@@ -52,7 +52,7 @@ class_rest x y z h k e = rw (e, h e, k (h e)) refl
 
 -- texts of parts compare part by part as they compare byte by byte, where nothing stands below an absent part
 pub parts-cmp : (d : ℕ) (g c s a : Option ℕ) (e : ℕ) (h k t b : Option ℕ) → (g ≡ None → c ≡ None) × (c ≡ None → s ≡ None) × (s ≡ None → a ≡ None) → (h ≡ None → k ≡ None) × (k ≡ None → t ≡ None) × (t ≡ None → b ≡ None)
-  → slice_cmp nat_cmp (two_digits d ++ (dotted g ++ (dotted c ++ (dotted s ++ dashed a)))) (two_digits e ++ (dotted h ++ (dotted k ++ (dotted t ++ dashed b)))) ≡ ordering_then (nat_cmp d e) (ordering_then (option_cmp nat_cmp g h) (ordering_then (option_cmp nat_cmp c k) (ordering_then (option_cmp nat_cmp s t) (option_cmp nat_cmp a b))))
+    → slice_cmp nat_cmp (two_digits d ++ (dotted g ++ (dotted c ++ (dotted s ++ dashed a)))) (two_digits e ++ (dotted h ++ (dotted k ++ (dotted t ++ dashed b)))) ≡ ordering_then (nat_cmp d e) (ordering_then (option_cmp nat_cmp g h) (ordering_then (option_cmp nat_cmp c k) (ordering_then (option_cmp nat_cmp s t) (option_cmp nat_cmp a b))))
 parts-cmp d g c s a e h k t b below_c below_d =
     let dashed_c : s ≡ None → dashed a ≡ [] = λ e. ap dashed (below_c.2 e) in
     let dashed_d : t ≡ None → dashed b ≡ [] = λ e. ap dashed (below_d.2 e) in

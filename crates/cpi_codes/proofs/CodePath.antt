@@ -56,8 +56,8 @@ pub is_eq-parts : (n q : Code) → is_eq (code_cmp n q) ≡ ((q.division == n.di
 is_eq-parts n q =
     is_eq-then n.division q.division _ ∙ ap (λ b. (q.division == n.division) && b)
     (is_eq-part n.group q.group _ ∙ ap (λ b. same_part q.group n.group && b)
-      (is_eq-part n.class q.class _ ∙ ap (λ b. same_part q.class n.class && b)
-        (is_eq-part n.subclass q.subclass _ ∙ ap (λ b. same_part q.subclass n.subclass && b) (is_eq-last n.aggregate q.aggregate))))
+    (is_eq-part n.class q.class _ ∙ ap (λ b. same_part q.class n.class && b)
+    (is_eq-part n.subclass q.subclass _ ∙ ap (λ b. same_part q.subclass n.subclass && b) (is_eq-last n.aggregate q.aggregate))))
 
 zero_test : (n : ℕ) (b : Bool) → (n ≡ 0 → b ≡ true) → (((n == 0) && true) && ((0 == n) && b)) ≡ (n == 0)
 zero_test n b h = grind (arith, nat_tests)
@@ -73,7 +73,7 @@ alone n None h e = refl
 alone n (Some x) h e = absurd (grind (arith, nat_tests))
 
 -- `00` has no further part
-no_group : (q : Code) → q.division ≡ 0 → q.group ≡ None
+pub no_group : (q : Code) → q.division ≡ 0 → q.group ≡ None
 no_group q e = alone q.division q.group (valid_alone q.division q.group q.class q.subclass q.aggregate q.valid) e where
   valid_alone : (d : ℕ) (g c s a : Option ℕ) → IsTrue (are_parts d g c s a) → (nat_le 1 d || is_none g) ≡ true
   valid_alone d g c s a h = grind (arith, nat_tests)
@@ -99,9 +99,9 @@ amount_at-parts : (v : ℕ) (q : Code) (d : ℕ) (g c s a : Option ℕ) → amou
 amount_at-parts v q d g c s a =
     ap (λ b. cond b v 0)
     (is_eq-then d q.division _ ∙ ap (λ b. (q.division == d) && b)
-      (is_eq-part g q.group _ ∙ ap (λ b. same_part q.group g && b)
-        (is_eq-part c q.class _ ∙ ap (λ b. same_part q.class c && b)
-          (is_eq-part s q.subclass _ ∙ ap (λ b. same_part q.subclass s && b) (is_eq-last a q.aggregate)))))
+    (is_eq-part g q.group _ ∙ ap (λ b. same_part q.group g && b)
+    (is_eq-part c q.class _ ∙ ap (λ b. same_part q.class c && b)
+    (is_eq-part s q.subclass _ ∙ ap (λ b. same_part q.subclass s && b) (is_eq-last a q.aggregate)))))
 
 positive_below : (n : ℕ) (g : Option ℕ) → (nat_le 1 n || is_none g) ≡ true → is_some g ≡ true → 1 ≤ n
 positive_below n None h k = cc

@@ -18,3 +18,4 @@ pub mod OneAnswer
 pub mod OneTime
 pub mod Picked
 pub mod Seconds
+pub mod CodesAbove

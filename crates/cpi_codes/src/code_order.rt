@@ -4,7 +4,7 @@ ghost use Rattle.std.specs.Ordering.{nat_cmp};
 ghost use Rattle.std.specs.Cmp.Lexicographic.{slice_cmp};
 ghost use Rattle.cpi_codes.specs.CodeText.{text};
 ghost use Rattle.cpi_codes.specs.CodeLevel.{level as level_of, parent_text};
-ghost use Rattle.cpi_codes.specs.CodeOrder.{is_elementary as is_code_elementary};
+ghost use Rattle.cpi_codes.specs.CodeOrder.{is_elementary as is_code_elementary, is_same as is_same_code};
 
 use crate::codes::Code;
 use std::cmp::Ordering;
@@ -15,6 +15,13 @@ impl Code {
         ensures { result ≡ slice_cmp nat_cmp (text self) (text other) }
     {
         self.cmp(&other)
+    }
+
+    /// Whether the two codes are one.
+    pub fn is_same(self, other: Code) -> bool
+        ensures { result ≡ is_same_code self other }
+    {
+        self.cmp(&other).is_eq()
     }
 
     /// 0 for `00`, 1 for a division, up to 5 for an elementary aggregate.

@@ -1,11 +1,12 @@
 //! Numbers, codes and texts of the survey, each within its limits.
 #![tactic(auto)]
 
+mod civil;
 mod code_below;
+mod code_laws;
 mod code_order;
 mod code_texts;
 mod codes;
-mod civil;
 mod collectors;
 mod item_codes;
 mod keys;
@@ -22,6 +23,7 @@ mod slots;
 mod spelling;
 mod zone;
 
+pub use code_laws::{nodes_are_on_the_path, one_text_one_code};
 pub use code_texts::CodeFault;
 pub use codes::Code;
 pub use collectors::CollectorId;

@@ -110,7 +110,7 @@ module _ (year : ℕ) (known : List Item) (titles moved : List Title) (weights p
 parts_are : (y z : ℕ) (ws vs : List Weight) (ps qs : List Place) (ns ms : List Node) → y ≡ z → ws ≡ vs → ps ≡ qs → ns ≡ ms → plan_with y ws ps ns ≡ plan_with z vs qs ms
 parts_are y z ws vs ps qs ns ms a b c d = rw (a, b, c, d) refl
 
-plan_is : (p q : Plan) → p.year ≡ q.year → p.nodes ≡ q.nodes → p.weights ≡ q.weights → p.places ≡ q.places → p ≡ q
+pub plan_is : (p q : Plan) → p.year ≡ q.year → p.nodes ≡ q.nodes → p.weights ≡ q.weights → p.places ≡ q.places → p ≡ q
 plan_is p q a b c d = parts_are p.year q.year p.weights q.weights p.places q.places p.nodes q.nodes a c d b
 
 pub one_plan : (year : ℕ) (b : Body) → IsOnePlan year b

@@ -22,7 +22,7 @@ equal_is n q h =
     let fourth = and_second (same_part q.class n.class) _ third in
     sym (same_code_is q n (number_is q.division n.division (and_first (q.division == n.division) _ parts)) (part_is q.group n.group (and_first (same_part q.group n.group) _ rest)) (part_is q.class n.class (and_first (same_part q.class n.class) _ third)) (part_is q.subclass n.subclass (and_first (same_part q.subclass n.subclass) _ fourth)) (part_is q.aggregate n.aggregate (and_second (same_part q.subclass n.subclass) _ fourth)))
 
-level : (s t : Ordering) → s ≡ ordering_reverse t → is_gt s ≡ false → is_gt t ≡ false → is_eq s ≡ true
+pub level : (s t : Ordering) → s ≡ ordering_reverse t → is_gt s ≡ false → is_gt t ≡ false → is_eq s ≡ true
 level Equal t e f g = refl
 level Greater t e f g = cc
 level Less Less e f g = cc

@@ -1,5 +1,5 @@
 -- The nodes of a plan, made of the titles in order and the sums that are kept.
-use Rattle.std.proofs.Common.{◌≡◌, ℕ, zero, suc, ◌<◌, ◌^◌, Bool, true, false, cond, List, [], ◌∷◌, map, filter, Option, Some, None, refl, sym, ap, ◌∙◌, arith, ◌&&◌, not, ◌==◌}
+use Rattle.std.proofs.Common.{◌≡◌, ◌≤◌, ℕ, zero, suc, ◌<◌, ◌^◌, Bool, true, false, cond, List, [], ◌∷◌, map, filter, Option, Some, None, refl, sym, ap, ◌∙◌, arith, ◌&&◌, not, ◌==◌}
 use Rattle.std.proofs.lemmas.Bool.Decides.{nat_tests}
 use Rattle.std.specs.Prelude.{nat_lt, is_some, option_map}
 use Rattle.std.specs.declared.cmp.Ordering.{Ordering}
@@ -114,10 +114,11 @@ module _ (sums : BTreeMap Code ℕ) (weights : List Weight) (kept : (q : Code) �
   pub few : total weights ≡ 1000000 → (q : Code) → sum_at sums q < 2 ^ 32
   few whole q = omega (arith, kept q, under_total q weights, whole)
 
-  pub is_plan : (year : ℕ) (titles : List Title) (places : List Place) → IsInOrder code_cmp (λ t. t.code) titles → IsInOrder code_cmp (λ w. w.code) weights → IsInOrder nat_cmp (λ p. p.item) places
+  pub is_plan : (year : ℕ) (titles : List Title) (places : List Place) → (2000 ≤ year) × (year ≤ 2199) → IsInOrder code_cmp (λ t. t.code) titles → IsInOrder code_cmp (λ w. w.code) weights → IsInOrder nat_cmp (λ p. p.item) places
     → are_elementary weights places ≡ true → total weights ≡ 1000000 → ((q : Code) → is_untitled titles weights q ≡ false) → has_unplaced weights places ≡ false
     → IsPlan (plan_with year weights places (nodes_with (sum_at sums) titles))
-  is_plan year titles places s t u elementary whole titled placed = record {
+  is_plan year titles places y s t u elementary whole titled placed = record {
+      in_calendar = y;
       nodes_in_order = nodes_in_order titles s;
       weights_in_order = t;
       places_in_order = u;

@@ -4,3 +4,5 @@ pub mod Once
 pub mod Plan
 pub mod Steps
 pub mod Sums
+pub mod Planned
+pub mod SamePlan

@@ -1,5 +1,5 @@
 -- A year's plan: what the desk sends for it, its faults, and the plan that is made of it.
-use Rattle.std.specs.Prelude.{ℕ, ◌≡◌, ◌==◌, ◌≢◌, ◌&&◌, ⊤, Bool, true, false, not, List, sum_by, Result, MatchResult, Option, None, option_map, is_none, if◌then◌else◌}
+use Rattle.std.specs.Prelude.{ℕ, ◌≤◌, ◌≡◌, ◌==◌, ◌≢◌, ◌&&◌, ⊤, Bool, true, false, not, List, sum_by, Result, MatchResult, Option, None, option_map, is_none, if◌then◌else◌}
 use Rattle.std.specs.Ordering.{nat_cmp, is_eq}
 use Rattle.std.specs.List.{list_any, list_all, IsDistinct}
 use Rattle.std.specs.List.Sorted.{IsPermutation}
@@ -121,6 +121,7 @@ pub record IsPlanOf (year : ℕ) (b : Body) (plan : Plan) : Type 0 where
 
 -- what every plan keeps
 pub record IsPlan (plan : Plan) : Type 0 where
+    pub in_calendar : (2000 ≤ plan.year) × (plan.year ≤ 2199)
     pub nodes_in_order : IsInOrder code_cmp (λ n. n.code) plan.nodes
     pub weights_in_order : IsInOrder code_cmp (λ w. w.code) plan.weights
     pub places_in_order : IsInOrder nat_cmp (λ p. p.item) plan.places

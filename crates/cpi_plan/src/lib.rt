@@ -8,6 +8,7 @@ mod once;
 mod plan_faults;
 mod plan_rows;
 mod plans;
+mod same_rows;
 mod sums;
 mod tolerances;
 

@@ -1,17 +1,21 @@
 //! Yearly plans.
-ghost use Rattle.std.specs.Prelude.{◌≡◌, ℕ, ◌≤◌, IsTrue, SomeIff, option_map};
+ghost use Rattle.std.specs.Prelude.{◌≡◌, ◌≢◌, ℕ, ◌≤◌, IsTrue, SomeIff, option_map};
 ghost use Rattle.std.specs.Option.{option_copied};
 ghost use Rattle.std.specs.Ordering.{nat_cmp};
 ghost use Rattle.cpi_codes.specs.CodeOrder.{code_cmp};
 ghost use Rattle.cpi_rows.specs.Keyed.{row_at, IsInOrder};
 ghost use Rattle.cpi_plan.specs.Plan.{Body, IsBuilt, IsOneFault, IsOnePlan};
+ghost use Rattle.cpi_plan.specs.Planned.{planned};
+ghost use Rattle.cpi_plan.specs.SamePlan.{same_plan};
 ghost use Rattle.cpi_plan.specs.Sums.{weight_under, is_node};
+ghost use Rattle.cpi_plan.specs.declared.plan_faults.PlanFault.TheVariants.{NoMemory};
 
 use crate::checks::{are_elementary, first_untitled, has_unknown, has_unplaced, has_zero, nodes_of, total, weight_sums};
 use crate::items::Item;
 use crate::once::put_in_order;
 use crate::plan_faults::PlanFault;
 use crate::plan_rows::{Node, Place, Title, Weight};
+use crate::same_rows::are_same;
 use cpi_codes::{Code, ItemCode, Name};
 use cpi_rows::{find_row, Keyed};
 use std::alloc::Global;
@@ -20,7 +24,7 @@ use std::marker::Model;
 const WHOLE: u128 = 1_000_000;
 
 /// The plan of a year.
-#[derive(Drop)]
+#[derive(Debug, Drop)]
 pub struct YearPlan {
     year: u16,
     nodes: Vec<Node>,
@@ -46,6 +50,7 @@ fn of_ordered(
     weights: Vec<Weight>,
     mut places: Vec<Place>,
 ) -> Result<YearPlan, PlanFault>
+    requires year_in_calendar { (2000 ≤ year) × (year ≤ 2199) }
     requires known_in_order { IsInOrder nat_cmp (λ i. i.code) known_items.now }
     requires titles_in_order { IsInOrder code_cmp (λ t. t.code) titles.items }
     requires weights_in_order { IsInOrder code_cmp (λ w. w.code) weights.items }
@@ -84,7 +89,9 @@ fn of_ordered(
 }
 
 impl YearPlan {
-    /// The plan of a year, or the first fault of what was sent.
+    /// The plan of a year, 2000 to 2199, or the first fault of what was sent, over all of it. Rows may come in any order;
+    /// titles of codes that are no nodes are dropped. `known_items` are the items that are known, in the order of codes.
+    /// O(n log n) for n rows.
     pub fn build(
         alloc: Global,
         year: u16,
@@ -93,8 +100,10 @@ impl YearPlan {
         mut weights: Vec<Weight>,
         places: Vec<Place>,
     ) -> Result<YearPlan, PlanFault>
+        requires year_in_calendar { (2000 ≤ year) × (year ≤ 2199) }
         requires known_in_order { IsInOrder nat_cmp (λ i. i.code) known_items.now }
-        ensures { IsBuilt year (record { known = known_items.now; titles = titles.items; weights = weights.items; places = places.items }) result }
+        ensures built { IsBuilt year (record { known = known_items.now; titles = titles.items; weights = weights.items; places = places.items }) result }
+        ensures planned { result ≢ Err NoMemory → result ≡ planned year (record { known = known_items.now; titles = titles.items; weights = weights.items; places = places.items }) }
     {
         let titles_once = put_in_order(&mut titles).map_err(|_| PlanFault::NoMemory)?;
         let weights_once = put_in_order(&mut weights).map_err(|_| PlanFault::NoMemory)?;
@@ -104,8 +113,10 @@ impl YearPlan {
         of_ordered(alloc, year, known_items, titles, weights, places)
     }
 
+    /// The year, 2000 to 2199.
     pub fn year(&self) -> u16
-        ensures { result ≡ self.now.year }
+        ensures value { result ≡ self.now.year }
+        ensures range { (2000 ≤ result) × (result ≤ 2199) }
     {
         self.year
     }
@@ -131,6 +142,16 @@ impl YearPlan {
         &self.places
     }
 
+    /// Whether the two plans are one: the year, the nodes with their titles, the weights and the places.
+    pub fn is_same(&self, other: &YearPlan) -> bool
+        ensures { result ≡ same_plan self.now other.now }
+    {
+        self.year == other.year
+            && are_same(&self.nodes, &other.nodes)
+            && are_same(&self.weights, &other.weights)
+            && are_same(&self.places, &other.places)
+    }
+
     /// The sum of the weights of the aggregates that are the code or below it; none of a code that is no node.
     pub fn weight(&self, code: &Code) -> Option<u32>
         ensures { SomeIff result (IsTrue (is_node self.now.weights code.now)) (weight_under code.now self.now.weights) }
@@ -150,6 +171,16 @@ impl YearPlan {
         ensures { result ≡ option_map (λ p. p.aggregate) (row_at nat_cmp (λ p. p.item) item.now self.now.places) }
     {
         Some(find_row(&self.places, item)?.aggregate)
+    }
+}
+
+impl Keyed for YearPlan {
+    type Key = u16;
+
+    ghost key = { λ p. p.year };
+
+    fn key(&self) -> u16 {
+        self.year
     }
 }
 

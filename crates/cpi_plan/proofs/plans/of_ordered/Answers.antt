@@ -119,7 +119,7 @@ invariant_of-result c =
     let placed : has_unplaced weights c.put_in_order.new.rows.items ≡ false = search rules in
     let made : c.in_ok-nodes.nodes.items ≡ nodes_with (sum_at sums) titles = search rules in
     let elementary_moved : are_elementary weights c.put_in_order.new.rows.items ≡ true = ap (λ b. list_all (λ w. is_elementary w.code) weights && b) (sym (all_moved (λ p. is_elementary p.aggregate) c.args.places.items c.put_in_order.new.rows.items moved)) ∙ elementary in
-    subst (λ ns. IsPlan (plan_with c.args.year weights c.put_in_order.new.rows.items ns)) (sym made) (is_plan sums weights kept positive c.args.year titles c.put_in_order.new.rows.items c.requires.titles_in_order c.requires.weights_in_order sorted elementary_moved whole titled placed)
+    subst (λ ns. IsPlan (plan_with c.args.year weights c.put_in_order.new.rows.items ns)) (sym made) (is_plan sums weights kept positive c.args.year titles c.put_in_order.new.rows.items c.requires.year_in_calendar c.requires.titles_in_order c.requires.weights_in_order sorted elementary_moved whole titled placed)
 
 pub returns : goal.returns
 returns c =
