@@ -21,7 +21,8 @@ impl Code {
     pub fn is_same(self, other: Code) -> bool
         ensures { result ≡ is_same_code self other }
     {
-        self.cmp(&other).is_eq()
+        let order = self.cmp(&other);
+        order.is_eq()
     }
 
     /// 0 for `00`, 1 for a division, up to 5 for an elementary aggregate.

@@ -99,12 +99,15 @@ module _ (year : ℕ) (known : List Item) (titles moved : List Title) (weights p
   fault_moved NoMemory h = tt
 
   pub built_moved : (r : Result Plan PlanFault) → IsBuilt year ordered r → IsBuilt year given r
-  built_moved (Ok plan) h = (pass8 h.0, record {
+  built_moved (Ok plan) h = (
+    pass8 h.0,
+    record {
       of_year = h.1.of_year;
       has_nodes = λ q. h.1.has_nodes q ∙ row_agree q;
       has_weights = IsPermutation-trans weights placed plan.weights n h.1.has_weights;
       has_places = h.1.has_places;
-    })
+    },
+  )
   built_moved (Err f) h = fault_moved f h
 
 parts_are : (y z : ℕ) (ws vs : List Weight) (ps qs : List Place) (ns ms : List Node) → y ≡ z → ws ≡ vs → ps ≡ qs → ns ≡ ms → plan_with y ws ps ns ≡ plan_with z vs qs ms
@@ -116,6 +119,6 @@ plan_is p q a b c d = parts_are p.year q.year p.weights q.weights p.places q.pla
 pub one_plan : (year : ℕ) (b : Body) → IsOnePlan year b
 one_plan year b p q v w f g =
     plan_is p q (f.of_year ∙ sym g.of_year)
-      (same_rows total-law (λ n. n.code) p.nodes q.nodes v.nodes_in_order w.nodes_in_order (λ k. f.has_nodes k ∙ sym (g.has_nodes k)))
-      (same_rows total-law (λ x. x.code) p.weights q.weights v.weights_in_order w.weights_in_order (λ k. row_moved total-law (λ x. x.code) k b.weights p.weights f.has_weights v.weights_in_order ∙ sym (row_moved total-law (λ x. x.code) k b.weights q.weights g.has_weights w.weights_in_order)))
-      (same_rows item-law (λ x. x.item) p.places q.places v.places_in_order w.places_in_order (λ k. row_moved item-law (λ x. x.item) k b.places p.places f.has_places v.places_in_order ∙ sym (row_moved item-law (λ x. x.item) k b.places q.places g.has_places w.places_in_order)))
+    (same_rows total-law (λ n. n.code) p.nodes q.nodes v.nodes_in_order w.nodes_in_order (λ k. f.has_nodes k ∙ sym (g.has_nodes k)))
+    (same_rows total-law (λ x. x.code) p.weights q.weights v.weights_in_order w.weights_in_order (λ k. row_moved total-law (λ x. x.code) k b.weights p.weights f.has_weights v.weights_in_order ∙ sym (row_moved total-law (λ x. x.code) k b.weights q.weights g.has_weights w.weights_in_order)))
+    (same_rows item-law (λ x. x.item) p.places q.places v.places_in_order w.places_in_order (λ k. row_moved item-law (λ x. x.item) k b.places p.places f.has_places v.places_in_order ∙ sym (row_moved item-law (λ x. x.item) k b.places q.places g.has_places w.places_in_order)))

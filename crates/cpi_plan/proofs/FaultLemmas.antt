@@ -35,16 +35,22 @@ true_false e = cc
 module _ (b : Body) where
   clash1 : IsFirstFault DuplicateCode b → CodesOnce b.titles b.weights → ⊥
   clash1 h p = h p
+
   clash2 : IsFirstFault NotElementary b → Passes2 b → ⊥
   clash2 h p = true_false (sym p.1 ∙ h.1)
+
   clash3 : IsFirstFault ZeroWeight b → Passes3 b → ⊥
   clash3 h p = true_false (sym h.1 ∙ p.1)
+
   clash4 : (n : ℕ) → IsFirstFault (WeightSum n) b → Passes4 b → ⊥
   clash4 n h p = h.2 (h.1 ∙ p.1)
+
   clash5 : (c : Code) → IsFirstFault (TitleMissing c) b → Passes5 b → ⊥
   clash5 c h p = true_false (sym h.1.0 ∙ p.1 c)
+
   clash6 : IsFirstFault UnknownItem b → Passes6 b → ⊥
   clash6 h p = true_false (sym h.1 ∙ p.1)
+
   clash7 : IsFirstFault ItemTwice b → Passes7 b → ⊥
   clash7 h p = h.1 p.1
 

@@ -80,6 +80,7 @@ not_later k (c ∷ cs) h = by (is_same k c) refl (λ t. not_later k cs t) h
         least : (d : Code) (b : Bool) → is_gt (code_cmp c d) ≡ b → is_gt (code_cmp (cond b d c) c) ≡ false
         least d true g = not_after c d g
         least d false g = gt_self c
+
     there : (o : Option Code) → NotAfter k o → is_gt (code_cmp (lesser c o) k) ≡ false
     there None n = absurd n
     there (Some d) n = least d n (is_gt (code_cmp c d)) refl
@@ -87,6 +88,7 @@ not_later k (c ∷ cs) h = by (is_same k c) refl (λ t. not_later k cs t) h
         least : (d : Code) → is_gt (code_cmp d k) ≡ false → (b : Bool) → is_gt (code_cmp c d) ≡ b → is_gt (code_cmp (cond b d c) k) ≡ false
         least d n true g = n
         least d n false g = not_after_trans c d k g n
+
     by : (b : Bool) → is_same k c ≡ b → (list_any (is_same k) cs ≡ true → NotAfter k (first_of cs)) → (b || list_any (is_same k) cs) ≡ true → NotAfter k (first_of (c ∷ cs))
     by true e rest h = here (first_of cs) (equal_is k c e)
     by false e rest h = there (first_of cs) (rest h)

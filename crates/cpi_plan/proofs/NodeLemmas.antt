@@ -64,8 +64,8 @@ module _ (sums : BTreeMap Code ℕ) (weights : List Weight) (kept : (q : Code) �
   same_row (Some t) = ap (λ n. Some (record { code = t.code; title = t.title; weight = n })) (kept t.code)
 
   rows_step : (q : Code) (t : Title) (ts : List Title) (s : Ordering) (b : Bool) → code_cmp t.code q ≡ s → nat_lt 0 (sum_at sums t.code) ≡ b
-    → row_at code_cmp (λ n. n.code) q (nodes_with (sum_at sums) ts) ≡ cond (nat_lt 0 (sum_at sums q)) (option_map (node_with (sum_at sums)) (row_at code_cmp (λ x. x.code) q ts)) None
-    → row_at code_cmp (λ n. n.code) q (map (node_with (sum_at sums)) (cond b (t ∷ filter (λ x. nat_lt 0 (sum_at sums x.code)) ts) (filter (λ x. nat_lt 0 (sum_at sums x.code)) ts))) ≡ cond (nat_lt 0 (sum_at sums q)) (option_map (node_with (sum_at sums)) (cond (is_eq s) (Some t) (row_at code_cmp (λ x. x.code) q ts))) None
+      → row_at code_cmp (λ n. n.code) q (nodes_with (sum_at sums) ts) ≡ cond (nat_lt 0 (sum_at sums q)) (option_map (node_with (sum_at sums)) (row_at code_cmp (λ x. x.code) q ts)) None
+      → row_at code_cmp (λ n. n.code) q (map (node_with (sum_at sums)) (cond b (t ∷ filter (λ x. nat_lt 0 (sum_at sums x.code)) ts) (filter (λ x. nat_lt 0 (sum_at sums x.code)) ts))) ≡ cond (nat_lt 0 (sum_at sums q)) (option_map (node_with (sum_at sums)) (cond (is_eq s) (Some t) (row_at code_cmp (λ x. x.code) q ts))) None
   rows_step q t ts Equal true e p h = let same : nat_lt 0 (sum_at sums q) ≡ true = ap (nat_lt 0) (sym (same_sum sums t.code q e)) ∙ p in rw (e, same) refl
   rows_step q t ts Equal false e p h = let same : nat_lt 0 (sum_at sums q) ≡ false = ap (nat_lt 0) (sym (same_sum sums t.code q e)) ∙ p in h ∙ (rw same refl)
   rows_step q t ts Less true e p h = rw e h
@@ -115,20 +115,20 @@ module _ (sums : BTreeMap Code ℕ) (weights : List Weight) (kept : (q : Code) �
   few whole q = omega (arith, kept q, under_total q weights, whole)
 
   pub is_plan : (year : ℕ) (titles : List Title) (places : List Place) → (2000 ≤ year) × (year ≤ 2199) → IsInOrder code_cmp (λ t. t.code) titles → IsInOrder code_cmp (λ w. w.code) weights → IsInOrder nat_cmp (λ p. p.item) places
-    → are_elementary weights places ≡ true → total weights ≡ 1000000 → ((q : Code) → is_untitled titles weights q ≡ false) → has_unplaced weights places ≡ false
-    → IsPlan (plan_with year weights places (nodes_with (sum_at sums) titles))
+      → are_elementary weights places ≡ true → total weights ≡ 1000000 → ((q : Code) → is_untitled titles weights q ≡ false) → has_unplaced weights places ≡ false
+      → IsPlan (plan_with year weights places (nodes_with (sum_at sums) titles))
   is_plan year titles places y s t u elementary whole titled placed = record {
-      in_calendar = y;
-      nodes_in_order = nodes_in_order titles s;
-      weights_in_order = t;
-      places_in_order = u;
-      elementary = and_left (list_all (λ w. is_elementary w.code) weights) (list_all (λ p. is_elementary p.aggregate) places) elementary;
-      positive = positive;
-      whole = whole;
-      complete = λ q. nodes_complete titles titled q;
-      weighed = all_weighed (filter (λ t. nat_lt 0 (sum_at sums t.code)) titles);
-      placed = placed;
-    }
+    in_calendar = y;
+    nodes_in_order = nodes_in_order titles s;
+    weights_in_order = t;
+    places_in_order = u;
+    elementary = and_left (list_all (λ w. is_elementary w.code) weights) (list_all (λ p. is_elementary p.aggregate) places) elementary;
+    positive = positive;
+    whole = whole;
+    complete = λ q. nodes_complete titles titled q;
+    weighed = all_weighed (filter (λ t. nat_lt 0 (sum_at sums t.code)) titles);
+    placed = placed;
+  }
 
 -- ---- a look-up finds the same row after rows were put in order
 module _ {X K : Type 0} {R : K → K → Ordering} (o : IsTotalOrder R) (key : X → K) (k : K) where
@@ -143,6 +143,7 @@ module _ {X K : Type 0} {R : K → K → Ordering} (o : IsTotalOrder R) (key : X
     where
       later : Contains ys x → Contains (y ∷ ys) x
       later c = (suc c.0, omega (arith, c.1), c.2)
+
       by : (s : Ordering) → R (key y) k ≡ s → cond (is_eq s) (Some y) (row_at R key k ys) ≡ Some x → (row_at R key k ys ≡ Some x → Contains ys x × (R (key x) k ≡ Equal)) → Contains (y ∷ ys) x × (R (key x) k ≡ Equal)
       by Equal p e rest = let same : y ≡ x = cc in ((0, omega arith, same), ap (λ z. R (key z) k) (sym same) ∙ p)
       by Less p e rest = let r = rest e in (later r.0, r.1)
@@ -154,9 +155,10 @@ module _ {X K : Type 0} {R : K → K → Ordering} (o : IsTotalOrder R) (key : X
       nothing : (r : Option X) → is_some r ≡ false → r ≡ None
       nothing None h = refl
       nothing (Some x) h = cc
+
       by : (r : Option X) → row_at R key k xs ≡ r → row_at R key k ys ≡ r
       by None e = nothing (row_at R key k ys) (found R key k ys ∙ sym (list_any-IsPermutation (λ x. is_eq (R (key x) k)) xs ys m) ∙ sym (found R key k xs) ∙ ap is_some e)
       by (Some x) e =
-        let has = contained xs x e in
-        let there = Contains-permutation xs ys x m has.0 in
-        row_found o key ys sorted k there.0 x there.1 (ap (λ z. R (key z) k) there.2 ∙ has.1) ∙ ap (λ z. Some z) there.2
+          let has = contained xs x e in
+          let there = Contains-permutation xs ys x m has.0 in
+          row_found o key ys sorted k there.0 x there.1 (ap (λ z. R (key z) k) there.2 ∙ has.1) ∙ ap (λ z. Some z) there.2

@@ -106,8 +106,8 @@ module _ (year : ℕ) (b : Body) where
 -- ---- the nodes
 module _ (weights : List Weight) where
   nodes_step : (q : Code) (t : Title) (ts : List Title) (s : Ordering) (b : Bool) → code_cmp t.code q ≡ s → is_node weights t.code ≡ b
-    → row_at code_cmp (λ n. n.code) q (nodes_of ts weights) ≡ row_of ts weights q
-    → row_at code_cmp (λ n. n.code) q (map (node weights) (cond b (t ∷ filter (λ x. is_node weights x.code) ts) (filter (λ x. is_node weights x.code) ts))) ≡ cond (is_node weights q) (option_map (node weights) (cond (is_eq s) (Some t) (row_at code_cmp (λ x. x.code) q ts))) None
+      → row_at code_cmp (λ n. n.code) q (nodes_of ts weights) ≡ row_of ts weights q
+      → row_at code_cmp (λ n. n.code) q (map (node weights) (cond b (t ∷ filter (λ x. is_node weights x.code) ts) (filter (λ x. is_node weights x.code) ts))) ≡ cond (is_node weights q) (option_map (node weights) (cond (is_eq s) (Some t) (row_at code_cmp (λ x. x.code) q ts))) None
   nodes_step q t ts Equal true e p h = let same : is_node weights q ≡ true = sym (same_node t.code q (ap is_eq e) weights) ∙ p in rw (e, same) refl
   nodes_step q t ts Equal false e p h = let same : is_node weights q ≡ false = sym (same_node t.code q (ap is_eq e) weights) ∙ p in h ∙ (rw same refl)
   nodes_step q t ts Less true e p h = rw e h
@@ -127,12 +127,12 @@ module _ (weights : List Weight) where
 plan_planned : (year : ℕ) (b : Body) (plan : Plan) → IsPlan plan → IsPlanOf year b plan → plan ≡ plan_of year b
 plan_planned year b plan v f =
     plan_is plan (plan_of year b) f.of_year
-      (same_rows total-law (λ n. n.code) plan.nodes (in_order code_cmp (λ n. n.code) (nodes_of b.titles b.weights)) v.nodes_in_order (is_in_order total-law (λ n. n.code) (nodes_of b.titles b.weights))
-        (λ k. f.has_nodes k ∙ sym (node_row b.weights k b.titles) ∙ sym (row_in_order total-law (λ n. n.code) k (nodes_of b.titles b.weights))))
-      (same_rows total-law (λ w. w.code) plan.weights (in_order code_cmp (λ w. w.code) b.weights) v.weights_in_order (is_in_order total-law (λ w. w.code) b.weights)
-        (λ k. row_moved total-law (λ w. w.code) k b.weights plan.weights f.has_weights v.weights_in_order ∙ sym (row_in_order total-law (λ w. w.code) k b.weights)))
-      (same_rows item-law (λ p. p.item) plan.places (in_order nat_cmp (λ p. p.item) b.places) v.places_in_order (is_in_order item-law (λ p. p.item) b.places)
-        (λ k. row_moved item-law (λ p. p.item) k b.places plan.places f.has_places v.places_in_order ∙ sym (row_in_order item-law (λ p. p.item) k b.places)))
+    (same_rows total-law (λ n. n.code) plan.nodes (in_order code_cmp (λ n. n.code) (nodes_of b.titles b.weights)) v.nodes_in_order (is_in_order total-law (λ n. n.code) (nodes_of b.titles b.weights))
+    (λ k. f.has_nodes k ∙ sym (node_row b.weights k b.titles) ∙ sym (row_in_order total-law (λ n. n.code) k (nodes_of b.titles b.weights))))
+    (same_rows total-law (λ w. w.code) plan.weights (in_order code_cmp (λ w. w.code) b.weights) v.weights_in_order (is_in_order total-law (λ w. w.code) b.weights)
+    (λ k. row_moved total-law (λ w. w.code) k b.weights plan.weights f.has_weights v.weights_in_order ∙ sym (row_in_order total-law (λ w. w.code) k b.weights)))
+    (same_rows item-law (λ p. p.item) plan.places (in_order nat_cmp (λ p. p.item) b.places) v.places_in_order (is_in_order item-law (λ p. p.item) b.places)
+    (λ k. row_moved item-law (λ p. p.item) k b.places plan.places f.has_places v.places_in_order ∙ sym (row_in_order item-law (λ p. p.item) k b.places)))
 
 -- what is built, unless memory was refused, is what is planned
 pub built_planned : (year : ℕ) (b : Body) (r : Result Plan PlanFault) → IsBuilt year b r → ((plan : Plan) → r ≡ Ok plan → IsPlan plan) → r ≢ Err NoMemory → r ≡ planned year b

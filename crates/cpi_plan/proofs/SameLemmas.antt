@@ -20,7 +20,6 @@ module _ {X K : Type 0} {R : K → K → Ordering} (o : IsTotalOrder R) (key : X
       by Greater p h = h
       by Equal p h = let clash : Less ≡ Equal = sym above.0 ∙ o.congr j k (key y) e ∙ tied_back o (key y) k p in cc
 
-
   above_trans : (j k : K) (ys : List X) → R j k ≡ Less → AllByRecursion (λ y. R k (key y) ≡ Less) ys → AllByRecursion (λ y. R j (key y) ≡ Less) ys
   above_trans j k [] p above = tt
   above_trans j k (y ∷ ys) p above = (o.trans j k (key y) p above.0, above_trans j k ys p above.1)

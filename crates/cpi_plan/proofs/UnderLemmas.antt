@@ -64,7 +64,7 @@ same_below n q h c =
     let third = and_second (same_part q.group n.group) _ rest in
     let fourth = and_second (same_part q.class n.class) _ third in
     at_or_below-parts n c ∙ sym (below_parts_agree c n.division q.division n.group q.group n.class q.class n.subclass q.subclass n.aggregate q.aggregate
-      (number_is q.division n.division (and_first (q.division == n.division) _ parts)) (part_is q.group n.group (and_first (same_part q.group n.group) _ rest)) (part_is q.class n.class (and_first (same_part q.class n.class) _ third)) (part_is q.subclass n.subclass (and_first (same_part q.subclass n.subclass) _ fourth)) (part_is q.aggregate n.aggregate (and_second (same_part q.subclass n.subclass) _ fourth)))
+    (number_is q.division n.division (and_first (q.division == n.division) _ parts)) (part_is q.group n.group (and_first (same_part q.group n.group) _ rest)) (part_is q.class n.class (and_first (same_part q.class n.class) _ third)) (part_is q.subclass n.subclass (and_first (same_part q.subclass n.subclass) _ fourth)) (part_is q.aggregate n.aggregate (and_second (same_part q.subclass n.subclass) _ fourth)))
     ∙ sym (at_or_below-parts q c)
 
 filter_agree : {X : Type 0} (p q : X → Bool) → ((x : X) → p x ≡ q x) → (xs : List X) → filter p xs ≡ filter q xs
@@ -97,12 +97,13 @@ weighs q (x ∷ xs) z =
     let here = has_more (is_at_or_below q x.code) x.parts (weight_under q xs) (is_node xs q) (or_first (x.parts == 0) (has_zero xs) z) rest.0 rest.1 in
     let sum = under_cons q x xs (is_at_or_below q x.code) refl in
     (λ h. here.0 (omega (arith, sum, h)), λ h. omega (arith, sum, here.1 h)) where
-  or_first : (a b : Bool) → (a || b) ≡ false → a ≡ false
-  or_first false b h = refl
-  or_first true b h = cc
-  or_second : (a b : Bool) → (a || b) ≡ false → b ≡ false
-  or_second false b h = h
-  or_second true b h = cc
+      or_first : (a b : Bool) → (a || b) ≡ false → a ≡ false
+      or_first false b h = refl
+      or_first true b h = cc
+
+      or_second : (a b : Bool) → (a || b) ≡ false → b ≡ false
+      or_second false b h = h
+      or_second true b h = cc
 
 -- no code has more than all
 pub under_total : (q : Code) (ws : List Weight) → weight_under q ws ≤ total ws

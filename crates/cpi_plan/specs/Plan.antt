@@ -18,17 +18,17 @@ use Rattle.cpi_plan.specs.declared.plan_faults.PlanFault.TheVariants.{DuplicateC
 
 -- what the desk sends, in any order, with the items that are known
 pub record Body : Type 0 where
-    pub known : List Item
-    pub titles : List Title
-    pub weights : List Weight
-    pub places : List Place
+  pub known : List Item
+  pub titles : List Title
+  pub weights : List Weight
+  pub places : List Place
 
 -- a plan: nodes and weights by code, places by item
 pub record Plan : Type 0 where
-    pub year : ℕ
-    pub nodes : List Node
-    pub weights : List Weight
-    pub places : List Place
+  pub year : ℕ
+  pub nodes : List Node
+  pub weights : List Weight
+  pub places : List Place
 
 abbrev pub is_same_item : ℕ → ℕ → Bool
 is_same_item a b = is_eq (nat_cmp a b)
@@ -114,24 +114,24 @@ row_of titles weights code = if is_node weights code then option_map (node weigh
 
 -- the plan has the nodes, the weights and the places that were sent. That it has them in order is kept by the type.
 pub record IsPlanOf (year : ℕ) (b : Body) (plan : Plan) : Type 0 where
-    pub of_year : plan.year ≡ year
-    pub has_nodes : (code : Code) → row_at code_cmp (λ n. n.code) code plan.nodes ≡ row_of b.titles b.weights code
-    pub has_weights : IsPermutation b.weights plan.weights
-    pub has_places : IsPermutation b.places plan.places
+  pub of_year : plan.year ≡ year
+  pub has_nodes : (code : Code) → row_at code_cmp (λ n. n.code) code plan.nodes ≡ row_of b.titles b.weights code
+  pub has_weights : IsPermutation b.weights plan.weights
+  pub has_places : IsPermutation b.places plan.places
 
 -- what every plan keeps
 pub record IsPlan (plan : Plan) : Type 0 where
-    pub in_calendar : (2000 ≤ plan.year) × (plan.year ≤ 2199)
-    pub nodes_in_order : IsInOrder code_cmp (λ n. n.code) plan.nodes
-    pub weights_in_order : IsInOrder code_cmp (λ w. w.code) plan.weights
-    pub places_in_order : IsInOrder nat_cmp (λ p. p.item) plan.places
-    pub elementary : list_all (λ w. is_elementary w.code) plan.weights ≡ true
-    pub positive : has_zero plan.weights ≡ false
-    pub whole : total plan.weights ≡ 1000000
-    -- each node has its title and weight, and each row is a node
-    pub complete : (code : Code) → is_node plan.weights code ≡ list_any (λ n. is_same n.code code) plan.nodes
-    pub weighed : list_all (λ n. n.weight == weight_under n.code plan.weights) plan.nodes ≡ true
-    pub placed : has_unplaced plan.weights plan.places ≡ false
+  pub in_calendar : (2000 ≤ plan.year) × (plan.year ≤ 2199)
+  pub nodes_in_order : IsInOrder code_cmp (λ n. n.code) plan.nodes
+  pub weights_in_order : IsInOrder code_cmp (λ w. w.code) plan.weights
+  pub places_in_order : IsInOrder nat_cmp (λ p. p.item) plan.places
+  pub elementary : list_all (λ w. is_elementary w.code) plan.weights ≡ true
+  pub positive : has_zero plan.weights ≡ false
+  pub whole : total plan.weights ≡ 1000000
+  -- each node has its title and weight, and each row is a node
+  pub complete : (code : Code) → is_node plan.weights code ≡ list_any (λ n. is_same n.code code) plan.nodes
+  pub weighed : list_all (λ n. n.weight == weight_under n.code plan.weights) plan.nodes ≡ true
+  pub placed : has_unplaced plan.weights plan.places ≡ false
 
 -- what is built of a body: a plan exactly where no test fails, else the first fault
 abbrev pub IsBuilt : ℕ → Body → Result Plan PlanFault → Type 0

@@ -54,11 +54,11 @@ nodes_of titles weights = map (node weights) (filter (λ t. is_node weights t.co
 -- the plan of what was sent: titles of codes that are no nodes are dropped
 abbrev pub plan_of : ℕ → Body → Plan
 plan_of year b = record {
-    year = year;
-    nodes = in_order code_cmp (λ n. n.code) (nodes_of b.titles b.weights);
-    weights = in_order code_cmp (λ w. w.code) b.weights;
-    places = in_order nat_cmp (λ p. p.item) b.places;
-  }
+  year = year;
+  nodes = in_order code_cmp (λ n. n.code) (nodes_of b.titles b.weights);
+  weights = in_order code_cmp (λ w. w.code) b.weights;
+  places = in_order nat_cmp (λ p. p.item) b.places;
+}
 
 -- the tests of the places, the last ones
 abbrev pub placed : ℕ → Body → Result Plan PlanFault

@@ -52,7 +52,10 @@ pub(crate) fn total(weights: &[Weight]) -> u128
 }
 
 // The sum of the weights at and below each code.
-pub(crate) fn weight_sums(alloc: Global, weights: &[Weight]) -> Result<BTreeMap<Code, u128>, AllocError>
+pub(crate) fn weight_sums(
+    alloc: Global,
+    weights: &[Weight],
+) -> Result<BTreeMap<Code, u128>, AllocError>
     requires { list_all (λ w. is_elementary w.code) weights.now ≡ true }
     ensures { IfOk result (λ sums. (q : Code) → sum_at sums q ≡ weight_under q weights.now) }
 {
@@ -116,7 +119,11 @@ pub(crate) fn has_unplaced(weights: &[Weight], places: &[Place]) -> bool
 }
 
 // The titles of nodes, with their weights.
-pub(crate) fn nodes_of(alloc: Global, titles: Vec<Title>, sums: &BTreeMap<Code, u128>) -> Result<Vec<Node>, AllocError>
+pub(crate) fn nodes_of(
+    alloc: Global,
+    titles: Vec<Title>,
+    sums: &BTreeMap<Code, u128>,
+) -> Result<Vec<Node>, AllocError>
     requires { (q : Code) → sum_at sums.now q < 2 ^ 32 }
     ensures { IfOk result (λ v. v.items ≡ nodes_with (sum_at sums.now) titles.items) }
 {

@@ -10,14 +10,17 @@ ghost use Rattle.cpi_plan.specs.SamePlan.{same_plan};
 ghost use Rattle.cpi_plan.specs.Sums.{weight_under, is_node};
 ghost use Rattle.cpi_plan.specs.declared.plan_faults.PlanFault.TheVariants.{NoMemory};
 
-use crate::checks::{are_elementary, first_untitled, has_unknown, has_unplaced, has_zero, nodes_of, total, weight_sums};
+use crate::checks::{
+    are_elementary, first_untitled, has_unknown, has_unplaced, has_zero, nodes_of, total,
+    weight_sums,
+};
 use crate::items::Item;
 use crate::once::put_in_order;
 use crate::plan_faults::PlanFault;
 use crate::plan_rows::{Node, Place, Title, Weight};
 use crate::same_rows::are_same;
 use cpi_codes::{Code, ItemCode, Name};
-use cpi_rows::{find_row, Keyed};
+use cpi_rows::{Keyed, find_row};
 use std::alloc::Global;
 use std::marker::Model;
 
@@ -187,11 +190,9 @@ impl Keyed for YearPlan {
 /// A law: what is sent for a year makes one plan.
 pub fn makes_one_plan()
     ensures { (year : ℕ) (b : Body) → IsOnePlan year b }
-{
-}
+{}
 
 /// A law: what is sent has one first fault.
 pub fn has_one_fault()
     ensures { (b : Body) → IsOneFault b }
-{
-}
+{}

@@ -11,6 +11,6 @@ returns-then-is_confirm c = confirm-five c.args.arguments.now _ c.if-arguments-e
 
 pub returns-else-arguments-eq5 : goal.returns-else-arguments-eq5
 returns-else-arguments-eq5 c = elim c.else-arguments-eq5.branch [
-    else-arguments-eq5-via-then-arguments-eq5+else-is_confirm w ↦ confirm-other c.args.arguments.now _ w.if-arguments-eq5.true (sym w.is_confirm.ensures ∙ w.if-is_confirm.false)
+  | else-arguments-eq5-via-then-arguments-eq5+else-is_confirm w ↦ confirm-other c.args.arguments.now _ w.if-arguments-eq5.true (sym w.is_confirm.ensures ∙ w.if-is_confirm.false)
   | else-arguments-eq5-via-else-arguments-eq5 w ↦ confirm-not c.args.arguments.now c.if-arguments-eq4.false w.if-arguments-eq5.false
-  ]
+]

@@ -139,10 +139,12 @@ returns c =
     let items_once = once_from_order item-law (λ p. p.item) c.args.places.items c.put_in_order.new.rows.items moved sorted in
     let place_moved = list_any-IsPermutation (λ p. not (list_any (λ w. is_same w.code p.aggregate) weights)) c.args.places.items c.put_in_order.new.rows.items moved in
     let placed : has_unplaced weights c.put_in_order.new.rows.items ≡ false = search rules in
-    let made : c.in_ok-nodes.nodes.items ≡ nodes_with (sum_at sums) titles = search rules in
-    ((((((((once, elementary), positive), whole), titled), known), items_once), place_moved ∙ placed), record {
+    let made : c.in_ok-nodes.nodes.items ≡ nodes_with (sum_at sums) titles = search rules in (
+      (((((((once, elementary), positive), whole), titled), known), items_once), place_moved ∙ placed),
+      record {
         of_year = refl;
         has_nodes = λ q. ap (λ ns. row_at code_cmp (λ n. n.code) q ns) made ∙ node_rows sums weights kept positive titles q;
         has_weights = IsPermutation-refl weights;
         has_places = moved;
-      })
+      },
+    )

@@ -23,6 +23,7 @@ returns c =
     let code = c.args.code.now in
     let node = c.in_ok-find_row.field-0.now in
     let some : row_at code_cmp (λ n. n.code) code plan.nodes ≡ Some node = search rules in
-    let has = found_has code_cmp (λ n. n.code) code (λ n. n.weight == weight_under n.code plan.weights) plan.nodes node some valid.weighed in
-    (valid.complete code ∙ sym (found code_cmp (λ n. n.code) code plan.nodes) ∙ ap is_some some,
-      number_is node.weight (weight_under node.code plan.weights) has.1 ∙ same_weight node.code code has.0 plan.weights)
+    let has = found_has code_cmp (λ n. n.code) code (λ n. n.weight == weight_under n.code plan.weights) plan.nodes node some valid.weighed in (
+      valid.complete code ∙ sym (found code_cmp (λ n. n.code) code plan.nodes) ∙ ap is_some some,
+      number_is node.weight (weight_under node.code plan.weights) has.1 ∙ same_weight node.code code has.0 plan.weights,
+    )
