@@ -107,6 +107,7 @@ fn one_of_each(alloc: Global) -> Result<Vec<Ask>, Fail> {
     asks.push(by_desk(assign(7, 1, 12)?)?)?;
     asks.push(by_desk(calendar(1, 2000)?)?)?;
     asks.push(by_key(7, price(1, 1, 210)?)?)?;
+    asks.push(by_key(7, Request::Work(Month::new(2026, 1)?))?)?;
     asks.push(by_key(7, quotes(1, 1)?)?)?;
     asks.push(by_key(7, Request::Items)?)?;
     Ok(asks)
@@ -121,6 +122,7 @@ fn another_of_each(alloc: Global) -> Result<Vec<Ask>, Fail> {
     asks.push(by_desk(assign(7, 1, 11)?)?)?;
     asks.push(by_desk(calendar(1, 3000)?)?)?;
     asks.push(by_key(7, price(1, 1, 220)?)?)?;
+    asks.push(by_key(7, Request::Work(Month::new(2026, 1)?))?)?;
     asks.push(by_key(7, quotes(1, 1)?)?)?;
     asks.push(by_key(7, Request::Items)?)?;
     Ok(asks)
@@ -138,6 +140,17 @@ fn refusal_of(reply: &Reply) -> u16 {
     }
 }
 
+// Whether the reply is that of an office without a quote, or with one.
+fn is_fresh(reply: &Reply) -> bool {
+    match reply {
+        Reply::Receipt(receipt) => *receipt == 1,
+        Reply::Done | Reply::Items(_) => true,
+        Reply::Work(rows) => rows.len() == 1,
+        Reply::Quotes(rows) => rows.len() == 1,
+        Reply::Refused(_) => false,
+    }
+}
+
 // Whether the book's n-th call was made and failed. It is answered 90 and changes nothing: other content is accepted in its place.
 fn fails_without_a_change(alloc: Global, nth: u64) -> Result<bool, Fail> {
     let mut office = Office::new(alloc, FailBook::new(VecBook::new(alloc), nth));
@@ -148,13 +161,7 @@ fn fails_without_a_change(alloc: Global, nth: u64) -> Result<bool, Fail> {
         if number == 0 {
             continue;
         }
-        let again = answer(&mut office, other);
-        let fresh = match again {
-            Reply::Receipt(receipt) => receipt == 1,
-            Reply::Done | Reply::Items(_) => true,
-            Reply::Quotes(quotes) => quotes.len() == 1,
-            Reply::Refused(_) => false,
-        };
+        let fresh = is_fresh(&answer(&mut office, other));
         (number == 90 && fresh)
             .then_some(())
             .ok_or("a change was made")?;
@@ -165,10 +172,10 @@ fn fails_without_a_change(alloc: Global, nth: u64) -> Result<bool, Fail> {
 
 #[test]
 fn each_call_of_the_book_fails_in_turn(rt: HostRuntime) -> Result<(), Fail> {
-    for nth in 1..=20 {
+    for nth in 1..=22 {
         assert!(rt; fails_without_a_change(rt.alloc(), nth)?, "call {nth}");
     }
-    assert!(rt; !fails_without_a_change(rt.alloc(), 21)?);
+    assert!(rt; !fails_without_a_change(rt.alloc(), 23)?);
     Ok(())
 }
 
@@ -176,11 +183,12 @@ fn each_call_of_the_book_fails_in_turn(rt: HostRuntime) -> Result<(), Fail> {
 fn a_run_answers_in_order(rt: HostRuntime) -> Result<(), Fail> {
     let mut office = Office::new(rt.alloc(), VecBook::new(rt.alloc()));
     let replies = office.run(one_of_each(rt.alloc())?)?;
-    let [_, _, _, _, done, receipt, quotes, items] = replies.as_slice() else {
-        return Ok(Err("eight replies")?);
+    let [_, _, _, _, done, receipt, work, quotes, items] = replies.as_slice() else {
+        return Ok(Err("nine replies")?);
     };
     assert!(rt; matches!(done, Reply::Done));
     assert!(rt; matches!(receipt, Reply::Receipt(1)));
+    assert!(rt; matches!(work, Reply::Work(rows) if rows.len() == 1));
     assert!(rt; matches!(quotes, Reply::Quotes(rows) if rows.len() == 1));
     assert!(rt; matches!(items, Reply::Items(rows) if rows.len() == 1));
     let mut later = Office::new(rt.alloc(), office.into_book());
