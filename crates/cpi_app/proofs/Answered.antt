@@ -11,7 +11,7 @@ use Rattle.cpi_app.specs.declared.fault.WireFault.{WireFault}
 use Rattle.cpi_app.specs.declared.fault.WireFault.TheVariants as fault
 use Rattle.cpi_app.specs.Line.{line_of}
 use Rattle.cpi_app.specs.Record.{ask_of}
-use Rattle.cpi_app.specs.Records.{Record, AreFirst, Told, CutOff, ToldUntil, Answers, AnswersAll, AnsweredInput, GaveUp}
+use Rattle.cpi_app.specs.Records.{Record, AreFirst, Told, CutOff, ToldUntil, LineUntil, Answers, AnswersAll, AnsweredInput, GaveUp}
 
 concat-more : (lines : List (List ℕ)) (line : List ℕ) → concat (lines ++ line ∷ []) ≡ concat lines ++ line
 concat-more [] line = append-nil line
@@ -25,26 +25,29 @@ pub told-more : (replies : List Reply) (reply : Reply) (old mid new : Option (Li
 told-more replies reply old mid new told line =
     rw (map-append line_of replies (reply ∷ []), concat-more) (Appends-trans old mid new (concat (map line_of replies)) (line_of reply) told line)
 
--- a part of one line more
-pub told-part : (replies : List Reply) (reply : Reply) (n : ℕ) (old mid new : Option (List ℕ)) → Told replies old mid → Appends mid new (take n (line_of reply)) → CutOff (replies ++ reply ∷ []) old new
-told-part replies reply n old mid new told line = record {
+-- whole lines are what a fault between two records leaves
+pub told-whole : (e : WireFault) (replies : List Reply) (old new : Option (List ℕ)) → e ≢ fault.Write → Told replies old new → ToldUntil e replies old new
+told-whole fault.Read replies old new other told = told
+told-whole fault.Write replies old new other told = absurd (other refl)
+told-whole fault.NoMemory replies old new other told = inl told
+
+-- what a fault at one line more leaves
+pub told-until : (e : WireFault) (replies : List Reply) (reply : Reply) (old mid new : Option (List ℕ)) → Told replies old mid → LineUntil e reply mid new → ToldUntil e (replies ++ reply ∷ []) old new
+told-until fault.Read replies reply old mid new told line = absurd line
+told-until fault.Write replies reply old mid new told line = record {
   front = replies;
   last = reply;
-  count = n;
+  count = line.0;
   split = refl;
-  written = Appends-trans old mid new (concat (map line_of replies)) (take n (line_of reply)) told line;
+  short = line.1;
+  written = Appends-trans old mid new (concat (map line_of replies)) (take line.0 (line_of reply)) told line.2;
 }
-
--- whole lines are what any fault leaves
-pub told-whole : (e : WireFault) (replies : List Reply) (old new : Option (List ℕ)) → Told replies old new → ToldUntil e replies old new
-told-whole fault.Read replies old new told = told
-told-whole fault.Write replies old new told = inl told
-told-whole fault.NoMemory replies old new told = inl told
-
-pub told-cut : (e : WireFault) (replies : List Reply) (old new : Option (List ℕ)) → e ≢ fault.Read → CutOff replies old new → ToldUntil e replies old new
-told-cut fault.Read replies old new other cut = absurd (other refl)
-told-cut fault.Write replies old new other cut = inr cut
-told-cut fault.NoMemory replies old new other cut = inr cut
+told-until fault.NoMemory replies reply old mid new told line = inr (record {
+  front = replies;
+  last = reply;
+  split = refl;
+  written = rw line told;
+})
 
 module _ {B : Type 0} (is_clean : B → Type 0) (lists : B → Office) (failures : B → ℕ) where
   pub answers-more : (old mid new : B) (rows : List Record) (replies : List Reply) (row : Record) (reply : Reply)
@@ -57,27 +60,27 @@ module _ {B : Type 0} (is_clean : B → Type 0) (lists : B → Office) (failures
 
   -- given up where the lines of all that was carried out stand whole
   pub gave-up-between : (input : Option (List ℕ)) (old new : B) (was is : Option (List ℕ)) (e : WireFault) (rows : List Record) (replies : List Reply)
-      → length rows ≤ 1000000 → IfSome input (AreFirst rows) → AnswersAll is_clean lists failures old rows replies new → Told replies was is
+      → e ≢ fault.Write → length rows ≤ 1000000 → IfSome input (AreFirst rows) → AnswersAll is_clean lists failures old rows replies new → Told replies was is
       → GaveUp is_clean lists failures input old new was is e
-  gave-up-between input old new was is e rows replies few first answers told = record {
+  gave-up-between input old new was is e rows replies other few first answers told = record {
     rows = rows;
     replies = replies;
     first = first;
     few = few;
     answers = answers;
-    told = told-whole e replies was is told;
+    told = told-whole e replies was is other told;
   }
 
   -- given up at the line of the last one
-  pub gave-up-at : (input : Option (List ℕ)) (old mid new : B) (was so_far is : Option (List ℕ)) (e : WireFault) (rows : List Record) (replies : List Reply) (row : Record) (reply : Reply) (n : ℕ)
+  pub gave-up-at : (input : Option (List ℕ)) (old mid new : B) (was so_far is : Option (List ℕ)) (e : WireFault) (rows : List Record) (replies : List Reply) (row : Record) (reply : Reply)
       → length rows < 1000000 → IfSome input (AreFirst (rows ++ row ∷ [])) → AnswersAll is_clean lists failures old rows replies mid → Told replies was so_far
-      → Answers is_clean lists failures mid (ask_of row) reply new → Appends so_far is (take n (line_of reply)) → e ≢ fault.Read
+      → Answers is_clean lists failures mid (ask_of row) reply new → LineUntil e reply so_far is
       → GaveUp is_clean lists failures input old new was is e
-  gave-up-at input old mid new was so_far is e rows replies row reply n few first answers told one line other = record {
+  gave-up-at input old mid new was so_far is e rows replies row reply few first answers told one line = record {
     rows = rows ++ row ∷ [];
     replies = replies ++ reply ∷ [];
     first = first;
     few = rw length-append (omega arith);
     answers = answers-more old mid new rows replies row reply answers one;
-    told = told-cut e (replies ++ reply ∷ []) was is other (told-part replies reply n was so_far is told line);
+    told = told-until e replies reply was so_far is told line;
   }

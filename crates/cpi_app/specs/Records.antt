@@ -1,5 +1,5 @@
 -- What the records of an input do, one after the other, and what is written of it.
-use Rattle.std.specs.Prelude.{◌≡◌, ◌≤◌, ◌⊎◌, ℕ, List, [], ◌∷◌, ◌++◌, length, map, take, Option, IfSome}
+use Rattle.std.specs.Prelude.{◌≡◌, ◌≤◌, ◌<◌, ◌⊎◌, ℕ, List, [], ◌∷◌, ◌++◌, length, map, take, Option, IfSome}
 use Rattle.std.specs.List.{concat}
 use Rattle.std.specs.Io.KnownBytes.{Appends}
 use Rattle.csv.specs.Reading.{records, default_config, strip_bom}
@@ -38,13 +38,28 @@ pub record CutOff (replies : List Reply) (old new : Option (List ℕ)) : Type 0 
   pub last : Reply
   pub count : ℕ
   pub split : replies ≡ front ++ last ∷ []
+  pub short : count < length (line_of last)
   pub written : Appends old new (concat (map line_of front) ++ take count (line_of last))
 
--- after a fault of the reader all lines stand whole
+-- of the last line nothing was written
+pub record Untold (replies : List Reply) (old new : Option (List ℕ)) : Type 0 where
+  pub front : List Reply
+  pub last : Reply
+  pub split : replies ≡ front ++ last ∷ []
+  pub written : Told front old new
+
+-- what a fault leaves: after one of the reader all lines stand whole, after one of the writer all but the last, and
+-- without memory the last one may be missing
 abbrev pub ToldUntil : WireFault → List Reply → Option (List ℕ) → Option (List ℕ) → Type 0
 ToldUntil fault.Read replies old new = Told replies old new
-ToldUntil fault.Write replies old new = Told replies old new ⊎ CutOff replies old new
-ToldUntil fault.NoMemory replies old new = Told replies old new ⊎ CutOff replies old new
+ToldUntil fault.Write replies old new = CutOff replies old new
+ToldUntil fault.NoMemory replies old new = Told replies old new ⊎ Untold replies old new
+
+-- the same of one line
+abbrev pub LineUntil : WireFault → Reply → Option (List ℕ) → Option (List ℕ) → Type 0
+LineUntil fault.Read reply old new = ⊥
+LineUntil fault.Write reply old new = (count : ℕ) × (count < length (line_of reply)) × Appends old new (take count (line_of reply))
+LineUntil fault.NoMemory reply old new = new ≡ old
 
 -- The words of a book: whether its store is clean, the office's lists, and how often it failed.
 module _ {B : Type 0} (is_clean : B → Type 0) (lists : B → Office) (failures : B → ℕ) where

@@ -1,10 +1,10 @@
 //! The loop over the records of an input.
-ghost use Rattle.std.specs.Prelude.{◌≡◌, ◌≢◌, ℕ, take, IfOk, OnOk, OnErr, IfErr};
+ghost use Rattle.std.specs.Prelude.{◌≡◌, ◌≢◌, IfOk, OnOk, OnErr, IfErr};
 ghost use Rattle.std.specs.Io.KnownBytes.{Appends};
 ghost use Rattle.csv.specs.Records.{fields_of};
 ghost use Rattle.cpi_app.specs.Line.{line_of};
 ghost use Rattle.cpi_app.specs.Record.{ask_of};
-ghost use Rattle.cpi_app.specs.Records.{Answers, AnsweredInput, GaveUp};
+ghost use Rattle.cpi_app.specs.Records.{Answers, AnsweredInput, GaveUp, LineUntil};
 
 use crate::asks::Ask;
 use crate::fault::WireFault;
@@ -26,7 +26,9 @@ const MAX_RECORDS: u32 = 1_000_000;
 const MAX_CALLS: u32 = 20_000_000;
 
 // What an error of the reader is to the replay.
-fn fault_of(error: &Error) -> WireFault {
+fn fault_of(error: &Error) -> WireFault
+    ensures { result ≢ WireFault.Write }
+{
     match error.kind() {
         ErrorKind::OutOfMemory => WireFault::NoMemory,
         _ => WireFault::Read,
@@ -60,8 +62,7 @@ fn answer_row<B: Book>(
 // Writes the line of the reply.
 fn tell<W: Write>(alloc: Global, writer: &mut W, reply: &Reply) -> Result<(), WireFault>
     ensures whole { OnOk result (Appends (W.contents writer.old) (W.contents writer.new) (line_of reply.now)) }
-    ensures part { (n : ℕ) × Appends (W.contents writer.old) (W.contents writer.new) (take n (line_of reply.now)) }
-    ensures fault { IfErr result (λ e. e ≢ WireFault.Read) }
+    ensures part { IfErr result (λ e. LineUntil e reply.now (W.contents writer.old) (W.contents writer.new)) }
 {
     let line = reply_line(alloc, reply)?;
     write_whole(writer, &line)
