@@ -135,7 +135,9 @@ fn standing<B: Book>(book: &mut B, places: Places) -> Result<[bool; CALLS], Stor
     let outlet = book.outlet(places.outlet)?.is_some();
     let own = book.own(places.collector)?;
     let assigned = own.assigned(places.slot).is_some();
-    let receipt = own.quote(places.slot, places.month).map(|quote| quote.receipt);
+    let receipt = own
+        .quote(places.slot, places.month)
+        .map(|quote| quote.receipt);
     Ok([
         item,
         row,
