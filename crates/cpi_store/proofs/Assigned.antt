@@ -1,10 +1,9 @@
 -- The assignments of all holders after one was put among those of one holder.
-use Rattle.std.proofs.Common.{◌≡◌, ℕ, zero, suc, ◌<◌, Bool, true, false, List, [], ◌∷◌, ◌++◌, map, length, get_or, set, refl, sym, ap, ◌∙◌}
-use Rattle.std.specs.Prelude.{IsSome, filter, Result, Ok, Err, OnOk, OnErr}
-use Rattle.std.specs.declared.cmp.Ordering.TheVariants.{Equal}
+use Rattle.std.proofs.Common.{◌≡◌, ℕ, zero, suc, Bool, true, false, List, [], ◌∷◌, ◌++◌, map, get_or, set, refl, sym, ap, ◌∙◌}
+use Rattle.std.specs.Prelude.{filter, Result, Ok, Err, OnOk, OnErr}
 use Rattle.std.specs.Ordering.{nat_cmp}
 use Rattle.std.specs.List.{AllByRecursion}
-use Rattle.cpi_rows.specs.Keyed.{put, put_by, IsInOrder}
+use Rattle.cpi_rows.specs.Keyed.{put}
 use Rattle.cpi_rows.proofs.Puts.{map-put}
 use Rattle.cpi_store.specs.Outlet.{with_name}
 use Rattle.cpi_store.specs.declared.outlet.Outlet.{Outlet}

@@ -1,14 +1,14 @@
 -- A holder found at a place, and the lists of all after the holder changed.
-use Rattle.std.proofs.Common.{◌≡◌, ◌≢◌, ℕ, zero, suc, ◌<◌, List, [], ◌∷◌, ◌++◌, map, length, get_or, set, Some, None, Option, Ok, Err, refl, sym, ap, ◌∙◌, arith}
+use Rattle.std.proofs.Common.{◌≡◌, ℕ, zero, suc, ◌<◌, List, [], ◌∷◌, ◌++◌, map, length, get_or, set, Some, None, refl, sym, ap, ◌∙◌}
 use Rattle.std.specs.Prelude.{IsSome}
 use Rattle.std.specs.declared.cmp.Ordering.TheVariants.{Less, Equal, Greater}
 use Rattle.std.specs.declared.cmp.Ordering.{Ordering}
 use Rattle.std.specs.Ordering.{nat_cmp, is_eq}
 use Rattle.std.specs.List.{flat_map}
-use Rattle.std.proofs.lemmas.Cmp.{nat_cmp_total, tied_itself, ranked}
+use Rattle.std.proofs.lemmas.Cmp.{nat_cmp_total, ranked}
 use Rattle.cpi_rows.specs.Keyed.{put, row_at, IsInOrder}
 use Rattle.cpi_rows.specs.Held.{held_by, held_cmp, held_key}
-use Rattle.cpi_rows.specs.Gathered.{gathered, rows_in}
+use Rattle.cpi_rows.specs.Gathered.{rows_in}
 use Rattle.cpi_rows.proofs.Places.{row_found, put_at_row, put_in_order}
 use Rattle.cpi_rows.proofs.Puts.{map-put}
 use Rattle.cpi_survey.specs.declared.assignment.Assigned.{Assigned}

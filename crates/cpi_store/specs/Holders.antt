@@ -1,12 +1,11 @@
 -- A collector with all that is the collector's, as the book in memory keeps it.
-use Rattle.std.specs.Prelude.{◌≡◌, ℕ, List, map, IsSome, Result, ⊤}
+use Rattle.std.specs.Prelude.{ℕ, List, map, IsSome, Result, ⊤}
 use Rattle.std.specs.List.{AllByRecursion}
 use Rattle.cpi_rows.specs.Keyed.{at}
 use Rattle.cpi_rows.specs.Gathered.{gathered}
 use Rattle.cpi_survey.specs.Quote.{QuoteRow}
 use Rattle.cpi_survey.specs.declared.assignment.Assignment.{Assignment}
 use Rattle.cpi_survey.specs.declared.assignment.Assigned.{Assigned}
-use Rattle.cpi_survey.specs.Own.{OwnPart}
 use Rattle.cpi_survey.specs.Public.{PublicPart}
 use Rattle.cpi_store.specs.Outlet.{with_name}
 use Rattle.cpi_store.specs.declared.outlet.Outlet.{Outlet}

@@ -1,7 +1,7 @@
 -- The office as lists, each in the order of what it is listed by, and what an accepted request puts into them.
-use Rattle.std.specs.Prelude.{ℕ, List, [], ◌∷◌, map, Option, Some, None, if◌then◌else◌, ◌==◌}
+use Rattle.std.specs.Prelude.{ℕ, List, [], map}
 use Rattle.std.specs.Ordering.{nat_cmp}
-use Rattle.cpi_rows.specs.Keyed.{row_at, put, at, put_by}
+use Rattle.cpi_rows.specs.Keyed.{put, put_by}
 use Rattle.cpi_rows.specs.Held.{held_by, held_cmp, held_key}
 use Rattle.cpi_plan.specs.declared.items.Item.{Item}
 use Rattle.cpi_store.specs.declared.outlet.Outlet.{Outlet}

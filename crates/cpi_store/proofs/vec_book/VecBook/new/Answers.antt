@@ -1,4 +1,4 @@
-use Rattle.std.proofs.Common.{◌≡◌, [], refl, sym}
+use Rattle.std.proofs.Common.{refl}
 use Rattle.std.specs.Ordering.{nat_cmp}
 use Rattle.cpi_rows.proofs.Places.{none_in_order}
 use Rattle.cpi_survey.specs.Quote.{quote_cmp, quote_key}

@@ -1,12 +1,8 @@
-use Rattle.std.proofs.Common.{◌≡◌, List, Some, None, sym, ap, ◌∙◌}
-use Rattle.std.specs.Prelude.{IsSome}
+use Rattle.std.proofs.Common.{◌≡◌, Some, None, sym, ap, ◌∙◌}
 use Rattle.std.specs.Option.{option_copied}
 use Rattle.std.specs.Ordering.{nat_cmp}
-use Rattle.std.proofs.lemmas.Bool.{false≢true}
 use Rattle.cpi_rows.specs.Keyed.{row_at}
 use Rattle.cpi_store.specs.declared.holder.Holder.{Holder}
-use Rattle.cpi_store.specs.Holders.{Kept}
-use Rattle.cpi_store.specs.Office.{own_part}
 use Rattle.cpi_store.proofs.Found.{own_found, own_missing}
 use Rattle.cpi_store.proofs.vec_book.VecBook.own_of.Goals as goal
 

@@ -1,11 +1,9 @@
-use Rattle.std.proofs.Common.{◌≡◌, None, sym, ap, ◌∙◌, arith, Ok, Err, OnOk}
-use Rattle.std.specs.Prelude.{OnErr, map}
-use Rattle.std.specs.Ordering.{nat_cmp}
+use Rattle.std.proofs.Common.{◌≡◌, None, ap, ◌∙◌, arith}
+use Rattle.std.specs.Prelude.{map}
 use Rattle.cpi_rows.specs.Keyed.{at, put_by}
 use Rattle.cpi_store.specs.declared.outlet.Outlet.{Outlet}
 use Rattle.cpi_store.specs.declared.holder.Holder.{Holder}
-use Rattle.cpi_store.specs.Office.{Office}
-use Rattle.cpi_store.specs.Holders.{Kept, ArePlaced, named_by, collectors_of, all_assignments, all_quotes}
+use Rattle.cpi_store.specs.Holders.{Kept, named_by, collectors_of, all_assignments, all_quotes}
 use Rattle.cpi_store.proofs.Outlets.{names_stay, still_placed}
 use Rattle.cpi_store.proofs.vec_book.VecBookBook.put_outlet.Goals as goal
 
