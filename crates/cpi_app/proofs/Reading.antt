@@ -13,7 +13,7 @@ use Rattle.csv.specs.declared.parser.State.TheVariants as st
 use Rattle.csv.specs.declared.reader.Reader.{Reader}
 use Rattle.csv.specs.declared.reader.Trim.TheVariants as trim
 use Rattle.csv.proofs.ReadFacts.{rows-more, rows-end}
-use Rattle.cpi_app.specs.Records.{Record, AreFirst, records_of}
+use Rattle.cpi_app.specs.Input.{Record, AreFirst, records_of}
 
 -- the reader has given these records of the input
 pub record IsAt {R : Type 0} (rem : R → Option (List ℕ)) (input : Option (List ℕ)) (rows : List Record) (s : Reader R) : Type 0 where
