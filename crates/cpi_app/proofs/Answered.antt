@@ -1,5 +1,5 @@
 -- One record more is answered, and what stands when a replay is given up.
-use Rattle.std.proofs.Common.{◌≡◌, ◌≢◌, ◌∙◌, sym, ap, refl, ◌<◌, ◌≤◌, ◌+◌, ◌⊎◌, inl, inr, ℕ, List, [], ◌∷◌, ◌++◌, length, map, take, Option, IfSome, arith, append_assoc, append-nil, length-append}
+use Rattle.std.proofs.Common.{◌≡◌, ◌≢◌, ◌∙◌, sym, ap, refl, ◌<◌, ◌≤◌, inl, inr, ℕ, List, [], ◌∷◌, ◌++◌, length, map, take, Option, IfSome, arith, append_assoc, append-nil, length-append}
 use Rattle.std.proofs.lemmas.List.{map-append}
 use Rattle.std.specs.List.{concat}
 use Rattle.std.specs.Io.KnownBytes.{Appends}
@@ -11,7 +11,7 @@ use Rattle.cpi_app.specs.declared.fault.WireFault.TheVariants as fault
 use Rattle.cpi_app.specs.Answers.{Answers, InTurn}
 use Rattle.cpi_app.specs.Input.{Record, AreFirst}
 use Rattle.cpi_app.specs.Record.{ask_of}
-use Rattle.cpi_app.specs.Records.{Told, CutOff, ToldUntil, LineUntil, AnswersAll, AnsweredInput, GaveUp}
+use Rattle.cpi_app.specs.Records.{Told, ToldUntil, LineUntil, AnswersAll, GaveUp}
 use Rattle.cpi_app.specs.Rows.{answer_line}
 
 concat-more : (lines : List (List ℕ)) (line : List ℕ) → concat (lines ++ line ∷ []) ≡ concat lines ++ line

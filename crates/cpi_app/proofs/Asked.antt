@@ -1,5 +1,5 @@
 -- The fields of a record, by their places.
-use Rattle.std.proofs.Common.{◌≡◌, refl, ◌≤◌, ◌<◌, ◌-◌, List, [], ◌∷◌, length, get_or, take, drop, map, Option, None, Bor, arith}
+use Rattle.std.proofs.Common.{◌≡◌, refl, ◌≤◌, ◌<◌, ◌-◌, List, [], ◌∷◌, length, get_or, take, drop, Option, None, Bor, arith}
 use Rattle.std.specs.Option.{unwrap_or}
 use Rattle.std.proofs.lemmas.List.{take_rest}
 use Rattle.cpi_app.specs.declared.asks.Ask.{Ask}

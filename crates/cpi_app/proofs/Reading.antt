@@ -1,5 +1,5 @@
 -- How far the loop over the records of an input has come.
-use Rattle.std.proofs.Common.{◌≡◌, ◌∙◌, sym, ap, refl, ◌<◌, ◌≤◌, ◌+◌, ◌-◌, ◌⊎◌, inl, inr, ℕ, zero, suc, List, [], ◌∷◌, ◌++◌, length, map, take, Option, None, Some, IfSome, option_map, arith, Bool, false, true, ◌==◌, ◌&&◌, if◌then◌else◌, append_assoc, append-nil, length-append}
+use Rattle.std.proofs.Common.{◌≡◌, ◌∙◌, sym, ap, refl, ◌<◌, ◌≤◌, ◌-◌, ℕ, zero, suc, List, [], ◌∷◌, ◌++◌, length, Option, None, Some, IfSome, option_map, arith, Bool, false, true, ◌==◌, ◌&&◌, if◌then◌else◌}
 use Rattle.std.proofs.lemmas.Bool.{false≢true}
 use Rattle.csv.specs.Machine.{Read, next_record, step, start_record, start_field, in_field, after_end, ends_with, is_byte, is_end, ends_at_end, fields_after, field_after}
 use Rattle.csv.specs.Reading.{Reached, Ready, ReadRecord, ReadsOn, default_config, source_of, strip_bom, records_from}

@@ -1,8 +1,8 @@
 -- Records that were answered in turn are a run of their requests.
-use Rattle.std.proofs.Common.{◌≡◌, ◌∙◌, refl, sym, ℕ, ◌+◌, List, [], ◌∷◌, ◌++◌, length, Option, Some, None, append_assoc, length-append, arith}
+use Rattle.std.proofs.Common.{◌≡◌, ◌∙◌, refl, sym, ℕ, List, [], ◌∷◌, ◌++◌, length, Option, Some, None, append_assoc, length-append, arith}
 use Rattle.std.proofs.lemmas.List.{append-nil}
 use Rattle.cpi_store.specs.Office.{Office}
-use Rattle.cpi_office.specs.Served.{Ran, IsRun}
+use Rattle.cpi_office.specs.Served.{Ran}
 use Rattle.cpi_office.proofs.Served.{ran_more}
 use Rattle.cpi_office.specs.declared.caller.Caller.{Caller}
 use Rattle.cpi_office.specs.declared.request.Ask.{Ask as Asking}

@@ -1,5 +1,5 @@
 -- The rows of an import.
-use Rattle.std.specs.Prelude.{ℕ, List, [], ◌∷◌, if◌then◌else◌, nat_lt, length, map, Option, Some, None}
+use Rattle.std.specs.Prelude.{List, [], ◌∷◌, if◌then◌else◌, nat_lt, length, map, Option, Some, None}
 use Rattle.cpi_office.specs.declared.request.Request.{Request}
 use Rattle.cpi_app.specs.Arguments.{Text}
 use Rattle.cpi_app.specs.Input.{Record, records_of}

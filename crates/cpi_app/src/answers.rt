@@ -61,11 +61,9 @@ pub(crate) fn answer<B: Book>(
 {
     match ask {
         Ask::Bad => Ok(Answer::One(Reply::Refused(Refusal::BadRequest))),
-        Ask::One(now, caller, request) => Ok(Answer::One(
-            office.handle(now, caller, request),
-        )),
-        Ask::Import(now, caller, rows) => Ok(Answer::Rows(
-            answer_rows(alloc, office, now, &caller, rows)?,
-        )),
+        Ask::One(now, caller, request) => Ok(Answer::One(office.handle(now, caller, request))),
+        Ask::Import(now, caller, rows) => Ok(Answer::Rows(answer_rows(
+            alloc, office, now, &caller, rows,
+        )?)),
     }
 }

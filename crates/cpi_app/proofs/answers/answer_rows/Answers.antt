@@ -1,4 +1,4 @@
-use Rattle.std.proofs.Common.{◌≡◌, ◌++◌, List, [], ◌∷◌, ℕ, length, ◌+◌, ap, sym, ◌∙◌, append_assoc, length-append, arith}
+use Rattle.std.proofs.Common.{◌++◌, [], ◌∷◌, length, ◌+◌, ap, sym, ◌∙◌, append_assoc, length-append, arith}
 use Rattle.std.specs.Vec.Iter.{into_iter_items}
 use Rattle.cpi_app.specs.Answers.{RowAnswers}
 use Rattle.cpi_app.proofs.Answered.{in-turn-more}

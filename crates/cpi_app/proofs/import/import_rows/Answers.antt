@@ -1,4 +1,4 @@
-use Rattle.std.proofs.Common.{◌≡◌, ◌∙◌, sym, refl, ap, ℕ, List, [], ◌∷◌, ◌++◌, ◌<◌, ◌≤◌, ◌+◌, length, map, Option, Some, None, inl, inr, arith, rules, nat_lt, true, false, Bool, IfSome, length-append}
+use Rattle.std.proofs.Common.{◌≡◌, ◌∙◌, refl, ℕ, List, [], ◌∷◌, ◌++◌, ◌<◌, ◌≤◌, length, map, Some, None, inr, arith, nat_lt, true, false, length-append}
 use Rattle.std.proofs.lemmas.List.{map-append}
 use Rattle.std.proofs.lemmas.Bool.Decides.{nat_tests}
 use Rattle.csv.specs.Records.{fields_of}
@@ -27,9 +27,13 @@ loop-init c =
     let fr = c.from_reader-reader.ensures in
     let f = c.flexible.ensures in
     let h = c.has_headers.ensures in
-    let n = c.new.ensures in
-    ([], at-start _ _ _ (rw (f, h) at fr.trim ∙ n.trim) (inr (inr (rw (f, h) at fr.has_headers, fr.headers))) (rw (f, h) at fr.config ∙ n.config)
-      fr.state fr.source, c.new-rows.ensures.items, refl)
+    let n = c.new.ensures in (
+      [],
+      at-start _ _ _ (rw (f, h) at fr.trim ∙ n.trim) (inr (inr (rw (f, h) at fr.has_headers, fr.headers))) (rw (f, h) at fr.config ∙ n.config)
+          fr.state fr.source,
+      c.new-rows.ensures.items,
+      refl,
+    )
 
 pub returns-in-Ok-false : goal.returns-in-Ok-false
 returns-in-Ok-false c =
@@ -42,10 +46,12 @@ pub loop-preserved : goal.loop-preserved
 loop-preserved c =
     let inv = c.loop.invariant in
     let read = rw c.in-Ok-true.field-0-test at (c.in-Ok-true.ensures.reads inv.1.trim inv.1.ready) in
-    let on = c.in-Ok-true.ensures.reads_on c.in-Ok-true.field-0-test in
-    (inv.0 ++ fields_of c.read_byte_record.new.row ∷ [], at-next _ _ inv.0 c.loop.reader c.read_byte_record.new.self (fields_of c.read_byte_record.new.row) inv.1 read on,
+    let on = c.in-Ok-true.ensures.reads_on c.in-Ok-true.field-0-test in (
+      inv.0 ++ fields_of c.read_byte_record.new.row ∷ [],
+      at-next _ _ inv.0 c.loop.reader c.read_byte_record.new.self (fields_of c.read_byte_record.new.row) inv.1 read on,
       rw (c.in_ok-push.ensures.items, inv.2, c.in_ok-request.ensures, c.deref.ensures.value, c.in_ok-fields.ensures, map-append row_request inv.0 (fields_of c.read_byte_record.new.row ∷ [])) refl,
-      let count = inv.3 in rw length-append (omega arith))
+      let count = inv.3 in rw length-append (omega arith),
+    )
 
 pub returns-in-Ok-true-read_byte_record : goal.returns-in-Ok-true-read_byte_record
 returns-in-Ok-true-read_byte_record c =

@@ -1,4 +1,4 @@
-use Rattle.std.proofs.Common.{◌≡◌, ℕ, List, Some, length, map}
+use Rattle.std.proofs.Common.{◌≡◌, List, Some, length, map}
 use Rattle.cpi_app.specs.Import.{row_request}
 use Rattle.cpi_app.specs.Input.{Record}
 use Rattle.cpi_app.proofs.Reading.{IsAt}

@@ -1,4 +1,3 @@
-use Rattle.std.proofs.Common.{sym}
 use Rattle.cpi_app.proofs.Asked.{row-of, row-none}
 use Rattle.cpi_app.proofs.import.row_request.Goals as goal
 

@@ -1,4 +1,4 @@
-use Rattle.std.proofs.Common.{◌≡◌, ◌∙◌, sym, refl, inr, true, false, [], ◌∷◌, ◌++◌, arith, length-append}
+use Rattle.std.proofs.Common.{◌∙◌, refl, inr, [], ◌∷◌, ◌++◌, arith, length-append}
 use Rattle.std.proofs.lemmas.Result.{err_from_is_err_and}
 use Rattle.csv.specs.Records.{fields_of}
 use Rattle.cpi_app.specs.declared.fault.WireFault.TheVariants.{NoMemory}

@@ -1,4 +1,4 @@
-use Rattle.std.proofs.Common.{◌≡◌, ◌∙◌, ◌++◌, [], ◌∷◌, ℕ, List, ap}
+use Rattle.std.proofs.Common.{◌∙◌, ◌++◌, [], ◌∷◌, ℕ, List, ap}
 use Rattle.cpi_app.proofs.Floats.{no-floats-in-rows}
 use Rattle.cpi_app.proofs.rows.rows_line.Goals as goal
 
