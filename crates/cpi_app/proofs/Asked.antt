@@ -1,11 +1,13 @@
 -- The fields of a record, by their places.
-use Rattle.std.proofs.Common.{◌≡◌, refl, ◌≤◌, ◌<◌, ◌-◌, List, [], ◌∷◌, length, get_or, take, drop, map, Option, Bor, arith}
+use Rattle.std.proofs.Common.{◌≡◌, refl, ◌≤◌, ◌<◌, ◌-◌, List, [], ◌∷◌, length, get_or, take, drop, Option, None, Bor, arith}
 use Rattle.std.specs.Option.{unwrap_or}
 use Rattle.std.proofs.lemmas.List.{take_rest}
 use Rattle.cpi_app.specs.declared.asks.Ask.{Ask}
 use Rattle.cpi_app.specs.declared.asks.Ask.TheVariants as ask
 use Rattle.cpi_app.specs.Arguments.{Text}
+use Rattle.cpi_app.specs.Import.{row_request}
 use Rattle.cpi_app.specs.Record.{ask_of, parts}
+use Rattle.cpi_app.specs.Words.{word_of, request_of}
 use Rattle.cpi_app.proofs.Counted.{texts}
 
 pub ask-short : (xs : List (Bor Text)) → length xs < 3 → ask.Bad ≡ ask_of (texts xs)
@@ -23,3 +25,12 @@ ask-parts [] d r h e = absurd (omega arith)
 ask-parts (a ∷ []) d r h e = absurd (omega arith)
 ask-parts (a ∷ b ∷ []) d r h e = absurd (omega arith)
 ask-parts (a ∷ b ∷ c ∷ xs) d r h e = rw (rw (take_rest (a ∷ b ∷ c ∷ xs) 3) at e) refl
+
+pub row-of : (xs : List (Bor Text)) (x : Bor Text) (rest : List (Bor Text)) → xs ≡ x ∷ rest → request_of (word_of x.now) (texts rest) ≡ row_request (texts xs)
+unfolding row_request
+row-of xs x rest e = rw e refl
+
+pub row-none : (xs : List (Bor Text)) → length xs ≡ 0 → None ≡ row_request (texts xs)
+unfolding row_request
+row-none [] e = refl
+row-none (x ∷ xs) e = absurd (omega arith)

@@ -1,5 +1,5 @@
 -- The text of an item code from its number.
-use Rattle.std.proofs.Common.{◌≡◌, ◌∙◌, sym, refl, ap, ap₂, ℕ, zero, suc, ◌+◌, ◌*◌, ◌<◌, ◌≤◌, ◌/◌, ◌%◌, ◌-◌, List, [], ◌∷◌, ◌++◌, length, take, get_or, filter, true, Some, arith, lit<, lit≤, add-one}
+use Rattle.std.proofs.Common.{◌≡◌, ◌∙◌, sym, refl, ap, ap₂, ℕ, zero, suc, ◌+◌, ◌<◌, ◌≤◌, ◌/◌, ◌%◌, ◌-◌, List, [], ◌∷◌, ◌++◌, take, get_or, filter, true, Some, arith, lit<, lit≤, add-one}
 use Rattle.std.specs.Int.Digits.{number_from_digits, digits_of}
 use Rattle.std.proofs.lemmas.Int.Digits.{digits_of_step}
 use Rattle.std.proofs.lemmas.List.{take_more, take_all}

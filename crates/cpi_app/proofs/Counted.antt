@@ -1,5 +1,5 @@
 -- How many arguments a list of fields has.
-use Rattle.std.proofs.Common.{◌≡◌, ◌≢◌, refl, true, false, ℕ, List, [], ◌∷◌, length, get_or, map, Option, None, Some, Bor, arith}
+use Rattle.std.proofs.Common.{◌≡◌, ◌≢◌, refl, true, false, List, [], ◌∷◌, length, get_or, map, None, Some, Bor, arith}
 use Rattle.cpi_app.specs.Arguments.{Text, none, one, two, four, four_and_confirm, is_confirm, five, six}
 
 abbrev pub texts : List (Bor Text) → List Text

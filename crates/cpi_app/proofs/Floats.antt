@@ -11,6 +11,7 @@ use Rattle.cpi_office.specs.declared.refusal.Refusal.{Refusal}
 use Rattle.cpi_office.specs.declared.refusal.Refusal.TheVariants as refusal
 use Rattle.cpi_office.specs.declared.reply.Reply.{Reply}
 use Rattle.cpi_office.specs.declared.reply.Reply.TheVariants as reply
+use Rattle.cpi_app.specs.Rows.{rows_data}
 use Rattle.cpi_app.specs.Line.{data_of, quote_data, mark_value, item_data, price_data, mark_data, receipt_data, work_row_data, refusal_data}
 
 none-of : {X : Type 0} (f : X → Data) → ((x : X) → has_float (f x) ≡ false) → (xs : List X) → items_have_float (items_of (map f xs)) ≡ false
@@ -66,3 +67,6 @@ no-floats (reply.Work rows) = rw (none-of work_row_data work-none rows) refl
 no-floats (reply.Quotes rows) = rw (none-of quote_data quote-none rows) refl
 no-floats (reply.Items rows) = rw (none-of item_data (λ i. refl) rows) refl
 no-floats (reply.Refused why) = refusal-none why
+
+pub no-floats-in-rows : (replies : List Reply) → has_float (rows_data replies) ≡ false
+no-floats-in-rows replies = rw (none-of data_of no-floats replies) refl

@@ -1,5 +1,5 @@
 -- How far the loop over the records of an input has come.
-use Rattle.std.proofs.Common.{◌≡◌, ◌∙◌, sym, ap, refl, ◌<◌, ◌≤◌, ◌+◌, ◌-◌, ◌⊎◌, inl, inr, ℕ, zero, suc, List, [], ◌∷◌, ◌++◌, length, map, take, Option, None, Some, IfSome, option_map, arith, Bool, false, true, ◌==◌, ◌&&◌, if◌then◌else◌, append_assoc, append-nil, length-append}
+use Rattle.std.proofs.Common.{◌≡◌, ◌∙◌, sym, ap, refl, ◌<◌, ◌≤◌, ◌-◌, ℕ, zero, suc, List, [], ◌∷◌, ◌++◌, length, Option, None, Some, IfSome, option_map, arith, Bool, false, true, ◌==◌, ◌&&◌, if◌then◌else◌}
 use Rattle.std.proofs.lemmas.Bool.{false≢true}
 use Rattle.csv.specs.Machine.{Read, next_record, step, start_record, start_field, in_field, after_end, ends_with, is_byte, is_end, ends_at_end, fields_after, field_after}
 use Rattle.csv.specs.Reading.{Reached, Ready, ReadRecord, ReadsOn, default_config, source_of, strip_bom, records_from}
@@ -13,7 +13,7 @@ use Rattle.csv.specs.declared.parser.State.TheVariants as st
 use Rattle.csv.specs.declared.reader.Reader.{Reader}
 use Rattle.csv.specs.declared.reader.Trim.TheVariants as trim
 use Rattle.csv.proofs.ReadFacts.{rows-more, rows-end}
-use Rattle.cpi_app.specs.Records.{Record, AreFirst, records_of}
+use Rattle.cpi_app.specs.Input.{Record, AreFirst, records_of}
 
 -- the reader has given these records of the input
 pub record IsAt {R : Type 0} (rem : R → Option (List ℕ)) (input : Option (List ℕ)) (rows : List Record) (s : Reader R) : Type 0 where

@@ -1,5 +1,5 @@
 -- The words of requests, each with its arguments.
-use Rattle.std.specs.Prelude.{◌≡◌, ℕ, List, ◌&&◌, if◌then◌else◌, nat_lt, nat_le, Option, Some, None, bytes_eq, codes}
+use Rattle.std.specs.Prelude.{ℕ, List, ◌&&◌, if◌then◌else◌, nat_lt, nat_le, Option, Some, None, bytes_eq, codes}
 use Rattle.std.specs.Result.{result_ok}
 use Rattle.cpi_codes.specs.Number.{number_of}
 use Rattle.cpi_codes.specs.Month.{month_of}

@@ -158,7 +158,7 @@ fn items_value(alloc: Global, items: &[Item]) -> Result<Value, AllocError>
     json!(in alloc; {"items": rows})
 }
 
-fn reply_value(alloc: Global, reply: &Reply) -> Result<Value, AllocError>
+pub(crate) fn reply_value(alloc: Global, reply: &Reply) -> Result<Value, AllocError>
     ensures { IfOk result (λ v. view v ≡ data_of reply.now) }
 {
     match reply {

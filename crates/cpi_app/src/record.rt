@@ -1,8 +1,11 @@
 //! From the fields of a record to what it asks.
 ghost use Rattle.std.specs.Prelude.{◌≡◌, map, IfOk};
-ghost use Rattle.cpi_app.specs.Record.{caller_of as spelled_caller, parts as spelled_parts, ask_of};
+ghost use Rattle.cpi_app.specs.Record.{caller_of as spelled_caller, import_of as spelled_import, asks as spelled_asks, parts as spelled_parts, ask_of};
 
+use crate::arguments::one;
 use crate::asks::Ask;
+use crate::import::import_rows;
+use crate::requests::ImportRows;
 use crate::words::{request_of, word_of};
 use cpi_codes::{Key, Moment};
 use cpi_office::Caller;
@@ -18,6 +21,38 @@ fn caller_of(text: &[u8]) -> Option<Caller>
     } else {
         Some(Caller::Collector(Key::parse(text)?))
     }
+}
+
+// The rows of an import, which has one argument.
+fn import_of(alloc: Global, arguments: &[&[u8]]) -> Result<Option<ImportRows>, AllocError>
+    ensures { IfOk result (λ rows. rows ≡ spelled_import (map (λ f. f.now) arguments.now)) }
+{
+    match one(arguments) {
+        Some(body) => import_rows(alloc, body),
+        None => Ok(None),
+    }
+}
+
+// What a word with its arguments asks.
+fn asks_of(
+    alloc: Global,
+    now: Moment,
+    caller: Caller,
+    word: &[u8],
+    arguments: &[&[u8]],
+) -> Result<Option<Ask>, AllocError>
+    ensures { IfOk result (λ a. a ≡ spelled_asks now caller word.now (map (λ f. f.now) arguments.now)) }
+{
+    if word == b"import".as_slice() {
+        let Some(rows) = import_of(alloc, arguments)? else {
+            return Ok(None);
+        };
+        return Ok(Some(Ask::Import(now, caller, rows)));
+    }
+    let Some(request) = request_of(alloc, word_of(word), arguments)? else {
+        return Ok(None);
+    };
+    Ok(Some(Ask::One(now, caller, request)))
 }
 
 // The first three fields of a record, and its arguments.
@@ -36,14 +71,11 @@ fn parts_of(
     let Some(caller) = caller_of(caller) else {
         return Ok(None);
     };
-    let Some(request) = request_of(alloc, word_of(word), arguments)? else {
-        return Ok(None);
-    };
-    Ok(Some(Ask::One(moment, caller, request)))
+    asks_of(alloc, moment, caller, word, arguments)
 }
 
 /// What the fields of a record ask: a moment in seconds since 1970 UTC, a caller (`public`, `desk` or a key), a word
-/// and its arguments. Whatever isn't of these forms, or outside the limits, is `Bad`.
+/// and its arguments; those of an import are one body of rows. Whatever isn't of these forms, or outside the limits, is `Bad`.
 pub fn request_of_record(alloc: Global, fields: &[&[u8]]) -> Result<Ask, AllocError>
     ensures { IfOk result (λ a. a ≡ ask_of (map (λ f. f.now) fields.now)) }
 {

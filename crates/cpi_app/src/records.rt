@@ -2,18 +2,20 @@
 ghost use Rattle.std.specs.Prelude.{◌≡◌, ◌≢◌, IfOk, OnOk, OnErr, IfErr};
 ghost use Rattle.std.specs.Io.KnownBytes.{Appends};
 ghost use Rattle.csv.specs.Records.{fields_of};
-ghost use Rattle.cpi_app.specs.Line.{line_of};
+ghost use Rattle.cpi_app.specs.Answers.{Answers};
 ghost use Rattle.cpi_app.specs.Record.{ask_of};
-ghost use Rattle.cpi_app.specs.Records.{Answers, AnsweredInput, GaveUp, LineUntil};
+ghost use Rattle.cpi_app.specs.Records.{AnsweredInput, GaveUp, LineUntil};
+ghost use Rattle.cpi_app.specs.Rows.{answer_line as line_of};
 
-use crate::asks::Ask;
+use crate::answers::answer;
+use crate::asks::Answer;
 use crate::fault::WireFault;
 use crate::fields::field_list;
-use crate::line::reply_line;
 use crate::reader::CallCountingReader;
 use crate::record::request_of_record;
+use crate::rows::answer_line;
 use crate::write::write_whole;
-use cpi_office::{Office, Refusal, Reply};
+use cpi_office::Office;
 use cpi_store::Book;
 use csv::{ByteRecord, Error, ErrorKind, ReaderBuilder};
 use std::alloc::{AllocError, Global};
@@ -35,36 +37,26 @@ fn fault_of(error: &Error) -> WireFault
     }
 }
 
-// Carries out what the record asks.
-fn answer<B: Book>(office: &mut Office<B>, ask: Ask) -> Reply
-    ensures { Answers B.is_clean B.lists B.failures office.old.book ask result office.new.book }
-{
-    match ask {
-        Ask::Bad => Reply::Refused(Refusal::BadRequest),
-        Ask::One(now, caller, request) => office.handle(now, caller, request),
-    }
-}
-
 // Carries out what the fields of the record ask. Without memory nothing is carried out.
 fn answer_row<B: Book>(
     alloc: Global,
     office: &mut Office<B>,
     row: &ByteRecord,
-) -> Result<Reply, AllocError>
-    ensures ok { IfOk result (λ reply. Answers B.is_clean B.lists B.failures office.old.book (ask_of (fields_of row.now)) reply office.new.book) }
+) -> Result<Answer, AllocError>
+    ensures ok { IfOk result (λ told. Answers B.is_clean B.lists B.failures office.old.book (ask_of (fields_of row.now)) told office.new.book) }
     ensures err { OnErr result (office.new ≡ office.old) }
 {
     let fields = field_list(alloc, row)?;
     let ask = request_of_record(alloc, &fields)?;
-    Ok(answer(office, ask))
+    answer(alloc, office, ask)
 }
 
-// Writes the line of the reply.
-fn tell<W: Write>(alloc: Global, writer: &mut W, reply: &Reply) -> Result<(), WireFault>
-    ensures whole { OnOk result (Appends (W.contents writer.old) (W.contents writer.new) (line_of reply.now)) }
-    ensures part { IfErr result (λ e. LineUntil e reply.now (W.contents writer.old) (W.contents writer.new)) }
+// Writes the line of what the record is answered.
+fn tell<W: Write>(alloc: Global, writer: &mut W, told: &Answer) -> Result<(), WireFault>
+    ensures whole { OnOk result (Appends (W.contents writer.old) (W.contents writer.new) (line_of told.now)) }
+    ensures part { IfErr result (λ e. LineUntil e told.now (W.contents writer.old) (W.contents writer.new)) }
 {
-    let line = reply_line(alloc, reply)?;
+    let line = answer_line(alloc, told)?;
     write_whole(writer, &line)
 }
 
@@ -90,8 +82,8 @@ pub fn replay<R: Read + Drop, W: Write, B: Book>(
             Ok(false) => return Ok(()),
             Err(error) => return Err(fault_of(&error)),
         }
-        let reply = answer_row(alloc, office, &row)?;
-        tell(alloc, writer, &reply)?;
+        let told = answer_row(alloc, office, &row)?;
+        tell(alloc, writer, &told)?;
     }
     match records.read_byte_record(&mut row) {
         Ok(false) => Ok(()),

@@ -2,6 +2,7 @@
 use crate::{Ask, Job, WireFault, job_of_words, replay, reply_line, request_of_record};
 use cpi_office::{Office, Refusal, Reply};
 use cpi_store::VecBook;
+use std::alloc::Global;
 use std::io;
 use std::io::{ErrorKind, Read, Write};
 use std::test::Fail;
@@ -18,6 +19,19 @@ const COLLECTOR: &[u8] = b"1500,aaaaaaaaaaaaaaaaaaaaaaaaaaaaaaaa,quote,1,2026-01
 1500,public,items
 1500,public,quotes,2026-01,2026-01
 1500,nobody,items
+";
+
+const IMPORTS: &[u8] = b"1500,aaaaaaaaaaaaaaaaaaaaaaaaaaaaaaaa,import,\"quote,1,2026-01,price,210
+quote,2,2026-01,price,210
+
+import,items
+quote,1,2026-01,price,211
+\"
+2500,aaaaaaaaaaaaaaaaaaaaaaaaaaaaaaaa,import,\"quote,1,2026-01,price,211\"
+1500,public,import,\"work,2026-01
+work\"
+1500,desk,import,\"\"
+1500,desk,import
 ";
 
 // A reader that gives its bytes and then fails.
@@ -135,5 +149,51 @@ fn the_word_replay_is_the_job(rt: HostRuntime) -> Result<(), Fail> {
     assert!(rt; matches!(job_of_words(alloc, &["replay"]), Ok(Job::Replay)));
     assert!(rt; matches!(job_of_words(alloc, &[]), Err(error) if error.exit_code() == 2));
     assert!(rt; matches!(job_of_words(alloc, &["--help"]), Err(error) if error.exit_code() == 0));
+    Ok(())
+}
+
+#[test]
+fn each_row_of_an_import_has_its_reply(rt: HostRuntime) -> Result<(), Fail> {
+    let alloc = rt.alloc();
+    let mut office = Office::new(alloc, VecBook::new(alloc));
+    let mut written: Vec<u8> = Vec::new(alloc);
+    let done = replay(alloc, DESK, &mut written, &mut office);
+    assert_eq!(rt; done, Ok(()));
+    written.clear();
+    let rest = replay(alloc, IMPORTS, &mut written, &mut office);
+    assert_eq!(rt; rest, Ok(()));
+    let wanted = b"{\"rows\":[{\"receipt\":1},{\"refused\":20},{\"refused\":10},{\"receipt\":2}]}
+{\"rows\":[{\"receipt\":2}]}
+{\"rows\":[{\"refused\":12},{\"refused\":10}]}
+{\"rows\":[]}
+{\"refused\":10}
+";
+    assert_eq!(rt; written.as_slice(), wanted.as_slice());
+    Ok(())
+}
+
+// The line of an import of so many rows of no form.
+fn line_of_bad_rows(alloc: Global, rows: usize) -> Result<Vec<u8>, Fail> {
+    let mut input = b"0,desk,import,\"".as_slice().to_vec(alloc)?;
+    for _ in 0..rows {
+        input.extend_from_slice(b"items,x\n")?;
+    }
+    input.extend_from_slice(b"\"\n")?;
+    let mut office = Office::new(alloc, VecBook::new(alloc));
+    let mut written: Vec<u8> = Vec::new(alloc);
+    match replay(alloc, input.as_slice(), &mut written, &mut office) {
+        Ok(()) => Ok(written),
+        Err(_) => Ok(Vec::new(alloc)),
+    }
+}
+
+#[test]
+fn an_import_has_20_000_rows_at_most(rt: HostRuntime) -> Result<(), Fail> {
+    let alloc = rt.alloc();
+    let many = line_of_bad_rows(alloc, 20_000)?;
+    assert_eq!(rt; many.len(), 12 + 20_000 * 15 - 1);
+    assert!(rt; many.starts_with(b"{\"rows\":[{\"refused\":10},{".as_slice()));
+    let more = line_of_bad_rows(alloc, 20_001)?;
+    assert_eq!(rt; more.as_slice(), b"{\"refused\":10}\n".as_slice());
     Ok(())
 }

@@ -1,4 +1,4 @@
-use Rattle.std.proofs.Common.{◌≡◌, ◌∙◌, sym, refl, ap, ◌++◌, [], ◌∷◌, List, ℕ, rules}
+use Rattle.std.proofs.Common.{sym, rules}
 use Rattle.std.proofs.lemmas.List.{map-append}
 use Rattle.csv.specs.Records.{fields_of}
 use Rattle.csv.proofs.RecordFacts.{field-there}

@@ -1,4 +1,4 @@
-use Rattle.std.proofs.Common.{◌≡◌, ◌∙◌, ◌++◌, [], ◌∷◌, ℕ, List, ap}
+use Rattle.std.proofs.Common.{◌∙◌, ◌++◌, [], ◌∷◌, ℕ, List, ap}
 use Rattle.cpi_app.proofs.Floats.{no-floats}
 use Rattle.cpi_app.proofs.line.reply_line.Goals as goal
 

@@ -1,4 +1,4 @@
-use Rattle.std.proofs.Common.{◌≡◌, ◌∙◌, sym, refl, inr, true, false, [], ◌∷◌, ◌++◌, arith, length-append}
+use Rattle.std.proofs.Common.{◌∙◌, refl, inr, [], ◌∷◌, ◌++◌, arith, length-append}
 use Rattle.std.proofs.lemmas.Result.{err_from_is_err_and}
 use Rattle.csv.specs.Records.{fields_of}
 use Rattle.cpi_app.specs.declared.fault.WireFault.TheVariants.{NoMemory}
@@ -29,9 +29,9 @@ loop-preserved g c =
     let read = rw c.in-Ok-true.field-0-test at (c.in-Ok-true.ensures.reads inv.2.trim inv.2.ready) in
     let on = c.in-Ok-true.ensures.reads_on c.in-Ok-true.field-0-test in (
       inv.0 ++ f ∷ [],
-      inv.1 ++ c.in_ok-reply.reply ∷ [],
+      inv.1 ++ c.in_ok-told.told ∷ [],
       at-next _ _ inv.0 _ _ _ inv.2 read on,
-      answers-more _ _ _ _ _ _ inv.0 inv.1 f c.in_ok-reply.reply inv.3 c.in_ok-reply.ensures.ok,
+      answers-more _ _ _ _ _ _ inv.0 inv.1 f c.in_ok-told.told inv.3 c.in_ok-told.ensures.ok,
       told-more inv.1 _ _ _ _ inv.4 c.in_ok-tell.ensures.whole,
       rw length-append (omega (arith, n)),
     )
@@ -56,12 +56,12 @@ returns-in-Err-clause-err g c =
     let n = inv.5 in
     gave-up-between _ _ _ _ _ _ _ _ _ inv.0 inv.1 c.fault_of.ensures (omega (arith, n)) (at-front _ _ inv.0 _ inv.2) inv.3 inv.4
 
-pub returns-in_err-reply-clause-err : goal.returns-in_err-reply-clause-err
-returns-in_err-reply-clause-err g c =
+pub returns-in_err-told-clause-err : goal.returns-in_err-told-clause-err
+returns-in_err-told-clause-err g c =
     let inv = c.loop.invariant in
     let n = inv.5 in
     let p = err_from_is_err_and c.from_residual.result c.from_residual.ensures.1 in
-    rw (p.1, p.2, c.in_err-reply.ensures.err) (gave-up-between _ _ _ _ _ _ _ _ NoMemory inv.0 inv.1 (λ e. cc) (omega (arith, n)) (at-front _ _ inv.0 _ inv.2) inv.3 inv.4)
+    rw (p.1, p.2, c.in_err-told.ensures.err) (gave-up-between _ _ _ _ _ _ _ _ NoMemory inv.0 inv.1 (λ e. cc) (omega (arith, n)) (at-front _ _ inv.0 _ inv.2) inv.3 inv.4)
 
 pub returns-in_err-tell-clause-err : goal.returns-in_err-tell-clause-err
 returns-in_err-tell-clause-err g c =
@@ -71,8 +71,8 @@ returns-in_err-tell-clause-err g c =
     let read = rw c.in-Ok-true.field-0-test at (c.in-Ok-true.ensures.reads inv.2.trim inv.2.ready) in
     let on = c.in-Ok-true.ensures.reads_on c.in-Ok-true.field-0-test in
     let p = err_from_is_err_and c.from_residual-in_err-tell.result c.from_residual-in_err-tell.ensures.1 in
-    rw (p.1, p.2) (gave-up-at _ _ _ _ _ _ _ _ _ _ _ inv.0 inv.1 f c.in_ok-reply.reply (omega (arith, n))
-    (at-front _ _ _ c.read_byte_record.new.self (at-next _ _ inv.0 c.loop.records c.read_byte_record.new.self f inv.2 read on)) inv.3 inv.4 c.in_ok-reply.ensures.ok c.in_err-tell.ensures.part)
+    rw (p.1, p.2) (gave-up-at _ _ _ _ _ _ _ _ _ _ _ inv.0 inv.1 f c.in_ok-told.told (omega (arith, n))
+    (at-front _ _ _ c.read_byte_record.new.self (at-next _ _ inv.0 c.loop.records c.read_byte_record.new.self f inv.2 read on)) inv.3 inv.4 c.in_ok-told.ensures.ok c.in_err-tell.ensures.part)
 
 pub returns-in-Ok-true-read_byte_record-clause-err : goal.returns-in-Ok-true-read_byte_record-clause-err
 returns-in-Ok-true-read_byte_record-clause-err g c =

@@ -1,0 +1,18 @@
+//! The rows of an import.
+ghost use Rattle.std.specs.Prelude.{List, Option};
+ghost use Rattle.cpi_office.specs.declared.request.Request.{Request};
+
+use cpi_office::Request;
+use std::marker::Model;
+
+/// The rows of an import in their order, each a request, or none where it is of no form or outside the limits.
+#[derive(Debug, Drop)]
+pub struct ImportRows {
+    pub(crate) rows: Vec<Option<Request>>,
+}
+
+impl Model for ImportRows {
+    ghost Value = { List (Option Request) };
+
+    ghost view = { λ r. r.rows.items };
+}
