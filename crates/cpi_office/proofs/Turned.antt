@@ -1,5 +1,5 @@
 -- A collector who bears the key is turned away from requests alone that aren't a collector's.
-use Rattle.std.proofs.Common.{◌≡◌, ℕ, Bool, true, false, refl, sym, ap, ◌∙◌}
+use Rattle.std.proofs.Common.{◌≡◌, ℕ, Bool, false, refl, sym, ap, ◌∙◌}
 use Rattle.std.specs.Prelude.{IsTrue}
 use Rattle.std.proofs.lemmas.Bool.{false≢true}
 use Rattle.cpi_survey.specs.Own.{OwnPart}
@@ -9,7 +9,6 @@ use Rattle.cpi_office.specs.Answers.{collector_answer}
 use Rattle.cpi_office.specs.Turned.{is_turned_away}
 use Rattle.cpi_office.specs.declared.request.Request.{Request}
 use Rattle.cpi_office.specs.declared.request.Request.TheVariants as request
-use Rattle.cpi_office.specs.declared.reply.Reply.{Reply}
 use Rattle.cpi_office.specs.declared.reply.Reply.TheVariants.{Refused}
 use Rattle.cpi_office.specs.declared.refusal.Refusal.TheVariants.{NotForCaller}
 use Rattle.cpi_office.proofs.Failures.{decision_own, work_own}

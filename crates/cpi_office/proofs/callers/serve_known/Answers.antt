@@ -1,4 +1,4 @@
-use Rattle.std.proofs.Common.{◌≡◌, Some, refl, sym, ◌∙◌}
+use Rattle.std.proofs.Common.{Some, refl, sym, ◌∙◌}
 use Rattle.cpi_survey.specs.Decision.{decided}
 use Rattle.cpi_store.specs.Office.{public_part, own_part}
 use Rattle.cpi_office.specs.Known.{collector_view}
