@@ -37,7 +37,7 @@ digits-are text h (suc k) le =
     let byte : front text (k + 1) % 256 ≡ get_or (filled text) k 0 = last.1 ∙ ap (λ n. get_or (filled text) n 0) less in
     let step = digits_of_step 256 (front text (k + 1)) (lit≤ tt) some in
     let whole : digits_of 256 (front text (k + 1)) ≡ take (k + 1) (filled text) =
-        step ∙ ap₂ (λ (xs : List ℕ) n. xs ++ n ∷ []) (ap (digits_of 256) rest ∙ digits-are text h k (omega arith)) byte ∙ sym (take_more (filled text) k 0 (omega (arith, len))) in
+    step ∙ ap₂ (λ (xs : List ℕ) n. xs ++ n ∷ []) (ap (digits_of 256) rest ∙ digits-are text h k (omega arith)) byte ∙ sym (take_more (filled text) k 0 (omega (arith, len))) in
     rw add-one at whole
 
 pub text_is : (text : List ℕ) (code : ℕ) → item_code_of text ≡ Some code → text ≡ item_text code

@@ -1,5 +1,5 @@
 -- The words of requests, each with its arguments.
-use Rattle.std.specs.Prelude.{◌≡◌, ℕ, List, false, ◌&&◌, if◌then◌else◌, nat_lt, nat_le, Option, Some, None, bytes_eq, codes}
+use Rattle.std.specs.Prelude.{◌≡◌, ℕ, List, ◌&&◌, if◌then◌else◌, nat_lt, nat_le, Option, Some, None, bytes_eq, codes}
 use Rattle.std.specs.Result.{result_ok}
 use Rattle.cpi_codes.specs.Number.{number_of}
 use Rattle.cpi_codes.specs.Month.{month_of}
@@ -8,12 +8,14 @@ use Rattle.cpi_codes.specs.ItemCode.{item_code_of}
 use Rattle.cpi_codes.specs.Name.{is_name}
 use Rattle.cpi_plan.specs.Calendar.{CalendarPart}
 use Rattle.cpi_survey.specs.declared.mark.Mark.{Mark}
-use Rattle.cpi_survey.specs.declared.mark.Mark.TheVariants.{Price}
+use Rattle.cpi_survey.specs.declared.mark.Mark.TheVariants.{Price, Missing, Comparable, Other}
+use Rattle.cpi_survey.specs.declared.mark.Reason.{Reason}
+use Rattle.cpi_survey.specs.declared.mark.Reason.TheVariants.{Stock, Closed, Gone, Refused}
 use Rattle.cpi_office.specs.declared.request.Request.{Request}
 use Rattle.cpi_office.specs.declared.request.Request.TheVariants as request
 use Rattle.cpi_app.specs.declared.words.Word.{Word}
 use Rattle.cpi_app.specs.declared.words.Word.TheVariants as word
-use Rattle.cpi_app.specs.Arguments.{Text, none, two, four, five, six}
+use Rattle.cpi_app.specs.Arguments.{Text, none, one, two, four, four_and_confirm, five, six}
 
 -- a reader goes on with what another one read
 infixl 10 ◌>>=◌
@@ -50,9 +52,22 @@ high_tolerance text = number_of 1000 10000 text
 abbrev pub name : Text → Option Text
 name text = if is_name text then Some text else None
 
--- a price alone is a mark yet
+abbrev pub reason : Text → Option Reason
+reason text =
+    if bytes_eq text (codes "stock") then Some Stock
+    else if bytes_eq text (codes "closed") then Some Closed
+    else if bytes_eq text (codes "gone") then Some Gone
+    else if bytes_eq text (codes "refused") then Some Refused
+    else None
+
+-- a price, a reason why there is none, or the price of a replacement
 abbrev pub mark_of : Text → Text → Option Mark
-mark_of kind value = if bytes_eq kind (codes "price") then (price value >>= λ p. Some (Price p)) else None
+mark_of kind value =
+    if bytes_eq kind (codes "price") then (price value >>= λ p. Some (Price p))
+    else if bytes_eq kind (codes "missing") then (reason value >>= λ r. Some (Missing r))
+    else if bytes_eq kind (codes "comparable") then (price value >>= λ p. Some (Comparable p))
+    else if bytes_eq kind (codes "other") then (price value >>= λ p. Some (Other p))
+    else None
 
 -- a row of the calendar opens before it closes, and is published no earlier
 abbrev pub calendar_row : ℕ → ℕ → ℕ → ℕ → Option CalendarPart
@@ -67,6 +82,7 @@ abbrev pub word_of : Text → Word
 word_of text =
     if bytes_eq text (codes "quote") then word.Quote
     else if bytes_eq text (codes "quotes") then word.Quotes
+    else if bytes_eq text (codes "work") then word.Work
     else if bytes_eq text (codes "items") then word.Items
     else if bytes_eq text (codes "item") then word.Item
     else if bytes_eq text (codes "outlet") then word.Outlet
@@ -89,12 +105,16 @@ request_of word.Quotes arguments = do
   first ← month a.0
   last ← month a.1
   Some (request.Quotes first last)
+request_of word.Work arguments = do
+  a ← one arguments
+  m ← month a
+  Some (request.Work m)
 request_of word.Quote arguments = do
-  a ← four arguments
+  a ← four_and_confirm arguments
   s ← slot a.0
   m ← month a.1
   k ← mark_of a.2 a.3
-  Some (request.Submit (record { slot = s; month = m; mark = k; confirm = false }))
+  Some (request.Submit (record { slot = s; month = m; mark = k; confirm = a.4 }))
 request_of word.Item arguments = do
   a ← five arguments
   c ← item_code_of a.0

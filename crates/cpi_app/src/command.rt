@@ -14,7 +14,9 @@ fn replay_command<'a>(alloc: Global) -> Command<'a>
     ensures app { app_of result ≡ line.replay }
     ensures local { (out-Command result).has_globals ≡ false }
 {
-    Command::new(alloc, "replay")
+    Command::new(alloc, "replay").about(
+        "Reads records from standard input, and writes the line of each reply",
+    )
 }
 
 // The whole command line.
@@ -23,6 +25,7 @@ fn cpi_command<'a>(alloc: Global) -> Result<Command<'a>, AllocError>
     ensures local { IfOk result (λ c. (out-Command c).has_globals ≡ false) }
 {
     Command::new(alloc, "cpi")
+        .about("The office of a consumer price survey")
         .no_binary_name(true)
         .subcommand_required(true)
         .bin_name("cpi")?

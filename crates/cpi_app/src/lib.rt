@@ -7,6 +7,7 @@ mod command;
 mod fault;
 mod fields;
 mod job;
+mod laws;
 mod line;
 mod reader;
 mod record;
@@ -18,6 +19,10 @@ pub use asks::Ask;
 pub use command::job_of_words;
 pub use fault::WireFault;
 pub use job::Job;
+pub use laws::records_are_a_run;
 pub use line::reply_line;
 pub use record::request_of_record;
 pub use records::replay;
+
+#[cfg(test)]
+mod tests;

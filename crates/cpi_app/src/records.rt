@@ -1,5 +1,10 @@
 //! The loop over the records of an input.
-ghost use Rattle.std.specs.Prelude.{OnOk, IfErr};
+ghost use Rattle.std.specs.Prelude.{◌≡◌, ◌≢◌, IfOk, OnOk, OnErr, IfErr};
+ghost use Rattle.std.specs.Io.KnownBytes.{Appends};
+ghost use Rattle.csv.specs.Records.{fields_of};
+ghost use Rattle.cpi_app.specs.Line.{line_of};
+ghost use Rattle.cpi_app.specs.Record.{ask_of};
+ghost use Rattle.cpi_app.specs.Records.{Answers, AnsweredInput, GaveUp, LineUntil};
 
 use crate::asks::Ask;
 use crate::fault::WireFault;
@@ -21,25 +26,46 @@ const MAX_RECORDS: u32 = 1_000_000;
 const MAX_CALLS: u32 = 20_000_000;
 
 // What an error of the reader is to the replay.
-fn fault_of(error: &Error) -> WireFault {
+fn fault_of(error: &Error) -> WireFault
+    ensures { result ≢ WireFault.Write }
+{
     match error.kind() {
         ErrorKind::OutOfMemory => WireFault::NoMemory,
         _ => WireFault::Read,
     }
 }
 
-// What the record asks.
-fn ask_of_row(alloc: Global, row: &ByteRecord) -> Result<Ask, AllocError> {
-    let fields = field_list(alloc, row)?;
-    request_of_record(alloc, &fields)
-}
-
 // Carries out what the record asks.
-fn answer<B: Book>(office: &mut Office<B>, ask: Ask) -> Reply {
+fn answer<B: Book>(office: &mut Office<B>, ask: Ask) -> Reply
+    ensures { Answers B.is_clean B.lists B.failures office.old.book ask result office.new.book }
+{
     match ask {
         Ask::Bad => Reply::Refused(Refusal::BadRequest),
         Ask::One(now, caller, request) => office.handle(now, caller, request),
     }
+}
+
+// Carries out what the fields of the record ask. Without memory nothing is carried out.
+fn answer_row<B: Book>(
+    alloc: Global,
+    office: &mut Office<B>,
+    row: &ByteRecord,
+) -> Result<Reply, AllocError>
+    ensures ok { IfOk result (λ reply. Answers B.is_clean B.lists B.failures office.old.book (ask_of (fields_of row.now)) reply office.new.book) }
+    ensures err { OnErr result (office.new ≡ office.old) }
+{
+    let fields = field_list(alloc, row)?;
+    let ask = request_of_record(alloc, &fields)?;
+    Ok(answer(office, ask))
+}
+
+// Writes the line of the reply.
+fn tell<W: Write>(alloc: Global, writer: &mut W, reply: &Reply) -> Result<(), WireFault>
+    ensures whole { OnOk result (Appends (W.contents writer.old) (W.contents writer.new) (line_of reply.now)) }
+    ensures part { IfErr result (λ e. LineUntil e reply.now (W.contents writer.old) (W.contents writer.new)) }
+{
+    let line = reply_line(alloc, reply)?;
+    write_whole(writer, &line)
 }
 
 /// Reads records from the reader, carries each out on the office in turn, and writes the line of its reply whole,
@@ -49,7 +75,10 @@ pub fn replay<R: Read + Drop, W: Write, B: Book>(
     reader: R,
     writer: &mut W,
     office: &mut Office<B>,
-) -> Result<(), WireFault> {
+) -> Result<(), WireFault>
+    ensures ok { OnOk result (AnsweredInput B.is_clean B.lists B.failures (R.remaining reader) office.old.book office.new.book (W.contents writer.old) (W.contents writer.new)) }
+    ensures err { IfErr result (GaveUp B.is_clean B.lists B.failures (R.remaining reader) office.old.book office.new.book (W.contents writer.old) (W.contents writer.new)) }
+{
     let mut records = ReaderBuilder::new()
         .has_headers(false)
         .flexible(true)
@@ -61,10 +90,8 @@ pub fn replay<R: Read + Drop, W: Write, B: Book>(
             Ok(false) => return Ok(()),
             Err(error) => return Err(fault_of(&error)),
         }
-        let ask = ask_of_row(alloc, &row)?;
-        let reply = answer(office, ask);
-        let line = reply_line(alloc, &reply)?;
-        write_whole(writer, &line)?;
+        let reply = answer_row(alloc, office, &row)?;
+        tell(alloc, writer, &reply)?;
     }
     match records.read_byte_record(&mut row) {
         Ok(false) => Ok(()),

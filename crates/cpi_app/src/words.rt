@@ -1,20 +1,23 @@
 //! The words of requests, each with its arguments.
 ghost use Rattle.std.specs.Prelude.{◌≡◌, map, IfOk};
 ghost use Rattle.cpi_app.specs.declared.words.Word.TheVariants as word;
-ghost use Rattle.cpi_app.specs.Words.{word_of as spelled_word, month as spelled_month, name as spelled_name, mark_of as spelled_mark, request_of as spelled_request};
+ghost use Rattle.cpi_app.specs.Words.{word_of as spelled_word, month as spelled_month, name as spelled_name, mark_of as spelled_mark, reason as spelled_reason, request_of as spelled_request};
 
-use crate::arguments::{five, four, no_more, six, two};
-use cpi_codes::{CollectorId, ItemCode, Key, Moment, Month, Name, NameFault, OutletId, Price, SeriesId, Slot};
+use crate::arguments::{five, four, four_and_confirm, no_more, one, six, two};
+use cpi_codes::{
+    CollectorId, ItemCode, Key, Moment, Month, Name, NameFault, OutletId, Price, SeriesId, Slot,
+};
 use cpi_office::Request;
 use cpi_plan::{CalendarRow, HighTolerance, Item, LowTolerance};
 use cpi_store::{Bearer, Outlet};
-use cpi_survey::{Assignment, Entry, Mark};
+use cpi_survey::{Assignment, Entry, Mark, Reason};
 use std::alloc::{AllocError, Global};
 
 /// The word of a request.
 #[derive(Clone, Copy, Debug, PartialEq, Eq)]
 pub(crate) enum Word {
     Items,
+    Work,
     Quotes,
     Quote,
     Item,
@@ -32,6 +35,8 @@ pub(crate) fn word_of(text: &[u8]) -> Word
         Word::Quote
     } else if text == b"quotes".as_slice() {
         Word::Quotes
+    } else if text == b"work".as_slice() {
+        Word::Work
     } else if text == b"items".as_slice() {
         Word::Items
     } else if text == b"item".as_slice() {
@@ -65,11 +70,33 @@ fn name_of(alloc: Global, text: &[u8]) -> Result<Option<Name>, AllocError>
     }
 }
 
+fn reason_of(text: &[u8]) -> Option<Reason>
+    ensures { result ≡ spelled_reason text.now }
+{
+    if text == b"stock".as_slice() {
+        Some(Reason::Stock)
+    } else if text == b"closed".as_slice() {
+        Some(Reason::Closed)
+    } else if text == b"gone".as_slice() {
+        Some(Reason::Gone)
+    } else if text == b"refused".as_slice() {
+        Some(Reason::Refused)
+    } else {
+        None
+    }
+}
+
 fn mark_of(mark: &[u8], value: &[u8]) -> Option<Mark>
     ensures { result ≡ spelled_mark mark.now value.now }
 {
     if mark == b"price".as_slice() {
         Some(Mark::Price(Price::parse(value)?))
+    } else if mark == b"missing".as_slice() {
+        Some(Mark::Missing(reason_of(value)?))
+    } else if mark == b"comparable".as_slice() {
+        Some(Mark::Comparable(Price::parse(value)?))
+    } else if mark == b"other".as_slice() {
+        Some(Mark::Other(Price::parse(value)?))
     } else {
         None
     }
@@ -91,10 +118,18 @@ fn quotes_of(arguments: &[&[u8]]) -> Option<Request>
     Some(Request::Quotes(first, last))
 }
 
+fn work_of(arguments: &[&[u8]]) -> Option<Request>
+    ensures { result ≡ spelled_request word.Work (map (λ a. a.now) arguments.now) }
+{
+    let month = one(arguments)?;
+    let month = month_of(month)?;
+    Some(Request::Work(month))
+}
+
 fn quote_of(arguments: &[&[u8]]) -> Option<Request>
     ensures { result ≡ spelled_request word.Quote (map (λ a. a.now) arguments.now) }
 {
-    let (slot, month, mark, value) = four(arguments)?;
+    let (slot, month, mark, value, confirm) = four_and_confirm(arguments)?;
     let slot = Slot::parse(slot)?;
     let month = month_of(month)?;
     let mark = mark_of(mark, value)?;
@@ -102,7 +137,7 @@ fn quote_of(arguments: &[&[u8]]) -> Option<Request>
         slot,
         month,
         mark,
-        confirm: false,
+        confirm,
     }))
 }
 
@@ -207,6 +242,7 @@ pub(crate) fn request_of(
 {
     match kind {
         Word::Items => Ok(items_of(arguments)),
+        Word::Work => Ok(work_of(arguments)),
         Word::Quotes => Ok(quotes_of(arguments)),
         Word::Quote => Ok(quote_of(arguments)),
         Word::Item => item_of(alloc, arguments),

@@ -1,5 +1,5 @@
 -- The bytes of item codes.
-use Rattle.std.proofs.Common.{◌≡◌, ◌∙◌, sym, refl, ap, ℕ, suc, ◌+◌, ◌*◌, ◌-◌, ◌^◌, ◌<◌, ◌≤◌, List, ◌++◌, [], ◌∷◌, length, take, replicate, get_or, Bool, true, false, nat_le, set, length-set, Some, None, cond, inl, inr, filter, ◌/◌, ◌%◌, ◌&&◌, arith, lit<, length-append, zero}
+use Rattle.std.proofs.Common.{◌≡◌, ◌∙◌, sym, refl, ap, ℕ, suc, ◌+◌, ◌*◌, ◌-◌, ◌^◌, ◌<◌, ◌≤◌, List, ◌++◌, [], ◌∷◌, length, take, replicate, get_or, Bool, true, false, nat_le, set, Some, None, cond, inl, inr, filter, ◌/◌, ◌%◌, ◌&&◌, arith, lit<, length-append, zero}
 use Rattle.std.proofs.lemmas.List.{length-replicate}
 use Rattle.std.proofs.Math.Nat.{pow-le-pow_right}
 use Rattle.std.proofs.lemmas.Grind.{pow_more}
@@ -11,6 +11,7 @@ use Rattle.std.proofs.lemmas.Bool.{cases_lt}
 use Rattle.std.proofs.lemmas.Bool.Decides.{nat_tests}
 use Rattle.std.proofs.lemmas.List.{get_or_past, take_all, get_or-set_same, get_or-set_other}
 use Rattle.cpi_codes.specs.ItemCode.{is_item_character, is_item_text, item_code_of, item_number, filled, is_no_zero}
+use Rattle.cpi_codes.proofs.Choices.{both, all-three, chosen}
 use Rattle.cpi_codes.proofs.Digits.{passes-at}
 
 pub code-of-text : (text : List ℕ) → is_item_text text ≡ true → item_code_of text ≡ Some (item_number text)
@@ -53,20 +54,10 @@ power-le k h =
     let most = pow-le-pow_right base within in
     omega arith
 
-chosen : (b : Bool) (x n : ℕ) → cond b (Some x) None ≡ Some n → (b ≡ true) × (n ≡ x)
-chosen true x n h = (refl, cc)
-chosen false x n h = absurd cc
-
 -- a text that writes a code is one of an item, and its number is the code
 pub text-of-code : (text : List ℕ) (code : ℕ) → item_code_of text ≡ Some code → (is_item_text text ≡ true) × (code ≡ item_number text)
 unfolding item_code_of
 text-of-code text code h = chosen (is_item_text text) (item_number text) code h
-
-all-three : (a b c : Bool) → (a && b && c) ≡ true → (a ≡ true) × (b ≡ true) × (c ≡ true)
-all-three true true true h = (refl, refl, refl)
-all-three true true false h = absurd cc
-all-three true false c h = absurd cc
-all-three false b c h = absurd cc
 
 pub text-parts : (text : List ℕ) → is_item_text text ≡ true → (1 ≤ length text) × (length text ≤ 12) × (list_all is_item_character text ≡ true)
 text-parts text h =
@@ -103,10 +94,6 @@ set-at xs ys i k byte len here is after low high = elim (cases_lt i k) [
 ascii-zeros : (k : ℕ) → list_all is_ascii (replicate k 0) ≡ true
 ascii-zeros zero = refl
 ascii-zeros (suc k) = ascii-zeros k
-
-pub both : (a b : Bool) → (a && b) ≡ true → (a ≡ true) × (b ≡ true)
-both true b h = (refl, h)
-both false b h = absurd cc
 
 ascii-text : (text : List ℕ) (k : ℕ) → list_all is_item_character text ≡ true → list_all is_ascii (text ++ replicate k 0) ≡ true
 ascii-text [] k h = ascii-zeros k

@@ -1,19 +1,19 @@
 -- The order of item codes.
-use Rattle.std.proofs.Common.{◌≡◌, ◌∙◌, sym, refl, ap, ℕ, zero, suc, ◌+◌, ◌*◌, ◌-◌, ◌^◌, ◌<◌, ◌≤◌, ◌&&◌, List, ◌++◌, [], ◌∷◌, length, replicate, Bool, true, false, Some, inl, inr, arith, lit<, length-append}
+use Rattle.std.proofs.Common.{◌≡◌, ◌∙◌, sym, refl, ap, ℕ, zero, suc, ◌+◌, ◌*◌, ◌-◌, ◌^◌, ◌<◌, ◌≤◌, List, ◌++◌, [], ◌∷◌, length, replicate, true, Some, inl, inr, arith, lit<, length-append}
 use Rattle.std.proofs.lemmas.List.{length-replicate}
 use Rattle.std.proofs.Math.Nat.{pow-succ', mul-le-mul_right, suc-mul, add-mul, mul_assoc, pow-le-pow_right}
 use Rattle.std.proofs.lemmas.Slice.Eq.{bytes_eq-Decides}
 use Rattle.std.proofs.lemmas.Map.Text.{is_eq-slice_cmp}
 use Rattle.std.specs.Int.Digits.{number_from_digits, number_from_digits_after}
 use Rattle.std.specs.List.{list_all}
-use Rattle.std.specs.declared.cmp.Ordering.{Ordering}
 use Rattle.std.specs.declared.cmp.Ordering.TheVariants.{Less, Equal, Greater}
 use Rattle.std.specs.Ordering.{nat_cmp, ordering_then, is_eq}
 use Rattle.std.specs.Cmp.{nat_cmp_is}
 use Rattle.std.specs.Cmp.Lexicographic.{slice_cmp}
-use Rattle.std.proofs.lemmas.Bool.{cases_lt, cases_order}
-use Rattle.cpi_codes.specs.ItemCode.{is_item_character, is_item_text, item_code_of, item_number, filled}
-use Rattle.cpi_codes.proofs.Bytes.{text-of-code, text-parts, character-range, both}
+use Rattle.std.proofs.lemmas.Bool.{cases_order}
+use Rattle.cpi_codes.specs.ItemCode.{is_item_character, item_code_of}
+use Rattle.cpi_codes.proofs.Bytes.{text-of-code, text-parts, character-range}
+use Rattle.cpi_codes.proofs.Choices.{both}
 
 -- the first of the bytes counts most
 after-head : (n : ℕ) (xs : List ℕ) → number_from_digits_after 256 n xs ≡ n * 256 ^ length xs + number_from_digits_after 256 0 xs

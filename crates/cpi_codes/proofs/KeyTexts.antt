@@ -1,11 +1,11 @@
 -- A key has one text.
-use Rattle.std.proofs.Common.{◌≡◌, ◌∙◌, sym, refl, ap, ℕ, suc, ◌+◌, ◌-◌, ◌*◌, ◌<◌, ◌≤◌, List, [], ◌∷◌, length, Bool, true, false, ◌&&◌, ◌||◌, ◌==◌, cond, Option, Some, None, arith}
+use Rattle.std.proofs.Common.{◌≡◌, ◌∙◌, sym, refl, ℕ, ◌+◌, ◌*◌, ◌<◌, List, [], ◌∷◌, length, Bool, true, false, ◌&&◌, ◌==◌, cond, Some, None, arith}
 use Rattle.std.proofs.lemmas.Bool.Decides.{nat_tests}
 use Rattle.std.specs.List.{list_all}
 use Rattle.std.specs.Char.{digit_value}
 use Rattle.std.specs.Str.Parse.{digits_value, digits_value_after}
 use Rattle.cpi_codes.specs.Key.{is_key_digit, key_of}
-use Rattle.cpi_codes.proofs.Bytes.{both}
+use Rattle.cpi_codes.proofs.Choices.{both, chosen}
 
 digit-lt : (c : ℕ) → is_key_digit c ≡ true → digit_value c < 16
 digit-lt c h = grind (arith, nat_tests)
@@ -31,10 +31,6 @@ same-digits m n (x ∷ xs) (y ∷ ys) p q l e =
     let tail = rest.1 in
     (front, cc)
 
-chosen : (b : Bool) (x n : ℕ) → cond b (Some x) None ≡ Some n → (b ≡ true) × (x ≡ n)
-chosen true x n h = (refl, cc)
-chosen false x n h = absurd cc
-
 pub one-spelling : (key : ℕ) (a b : List ℕ) → key_of a ≡ Some key → key_of b ≡ Some key → a ≡ b
 one-spelling key a b p q =
     let ra = chosen (length a == 32 && list_all is_key_digit a) (digits_value 16 a) key p in
@@ -43,4 +39,4 @@ one-spelling key a b p q =
     let tb = both (length b == 32) (list_all is_key_digit b) rb.0 in
     let la : length a ≡ 32 = grind (arith, nat_tests, ta.0) in
     let lb : length b ≡ 32 = grind (arith, nat_tests, tb.0) in
-    (same-digits 0 0 a b ta.1 tb.1 (omega arith) (ra.1 ∙ sym rb.1)).1
+    (same-digits 0 0 a b ta.1 tb.1 (omega arith) (sym ra.1 ∙ rb.1)).1

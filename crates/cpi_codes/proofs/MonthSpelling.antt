@@ -1,5 +1,5 @@
 -- A month has one text.
-use Rattle.std.proofs.Common.{◌≡◌, ◌∙◌, sym, refl, ap, ℕ, zero, suc, ◌+◌, ◌-◌, ◌*◌, ◌/◌, ◌%◌, ◌^◌, ◌<◌, ◌≤◌, List, [], ◌∷◌, ◌++◌, length, get_or, take, drop, slice_index, Bool, true, false, ◌&&◌, ◌==◌, nat_le, cond, Result, Ok, Err, arith, lit<}
+use Rattle.std.proofs.Common.{◌≡◌, ◌∙◌, sym, refl, ℕ, ◌+◌, ◌-◌, ◌*◌, ◌/◌, ◌%◌, ◌≤◌, List, [], ◌∷◌, length, get_or, take, drop, slice_index, Bool, true, false, ◌&&◌, ◌==◌, nat_le, cond, Result, Ok, Err, arith}
 use Rattle.std.proofs.lemmas.Bool.Decides.{nat_tests}
 use Rattle.std.proofs.lemmas.Str.{digit_value_digit}
 use Rattle.std.proofs.lemmas.Fmt.{decimal-digits_value, decimal_digit}
@@ -10,7 +10,7 @@ use Rattle.std.specs.Str.Parse.{digits_value}
 use Rattle.cpi_codes.specs.declared.months.MonthFault.{MonthFault}
 use Rattle.cpi_codes.specs.declared.months.MonthFault.TheVariants.{Shape, Range}
 use Rattle.cpi_codes.specs.Month.{two_digits, year_of, month_of_year, month_text, month_in, month_of, is_in_calendar, is_month_shape, months_since_2000}
-use Rattle.cpi_codes.proofs.Bytes.{both}
+use Rattle.cpi_codes.proofs.Choices.{both}
 use Rattle.cpi_codes.proofs.Digits.{digit-range}
 use Rattle.cpi_codes.proofs.NumberTexts.{model, all-same}
 

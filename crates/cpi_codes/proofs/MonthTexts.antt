@@ -1,17 +1,12 @@
 -- Months as they are printed and read.
-use Rattle.std.proofs.Common.{◌≡◌, ◌∙◌, refl, sym, ap, ℕ, ◌+◌, ◌-◌, ◌*◌, ◌/◌, ◌%◌, ◌^◌, ◌<◌, ◌≤◌, inl, inr, List, [], ◌∷◌, ◌++◌, length, replicate, true, false, Bool, ◌&&◌, ◌==◌, nat_le, cond, take, drop, slice_index, Result, Ok, Err, append_assoc, zero, suc, get_or, arith, lit<, codes}
+use Rattle.std.proofs.Common.{◌≡◌, ◌∙◌, refl, ap, ℕ, ◌+◌, ◌-◌, ◌*◌, ◌/◌, ◌%◌, ◌^◌, ◌<◌, ◌≤◌, inl, inr, List, [], ◌∷◌, ◌++◌, true, false, nat_le, Ok, append_assoc, arith}
 use Rattle.std.proofs.lemmas.Bool.{cases_lt}
 use Rattle.std.specs.Fmt.{decimal, styled_decimal, format_spec, padded_integral, char_count}
 use Rattle.std.proofs.lemmas.Fmt.{decimal_digit, decimal_step}
 use Rattle.std.proofs.lemmas.Bool.Decides.{nat_tests}
 use Rattle.std.proofs.lemmas.Str.{digit_value_digit}
-use Rattle.std.proofs.lemmas.Fmt.{decimal-digits_value}
-use Rattle.std.specs.List.{list_all}
 use Rattle.std.specs.Char.{is_ascii_digit, digit_value}
-use Rattle.std.specs.Str.Parse.{digits_value}
-use Rattle.cpi_codes.specs.declared.months.MonthFault.{MonthFault}
-use Rattle.cpi_codes.specs.declared.months.MonthFault.TheVariants.{Shape, Range}
-use Rattle.cpi_codes.specs.Month.{two_digits, year_of, month_of_year, month_text, month_in, month_of, is_in_calendar, is_month_shape, months_since_2000}
+use Rattle.cpi_codes.specs.Month.{two_digits, year_of, month_of_year, month_text, month_in, month_of, months_since_2000}
 
 -- a number below 100 that is printed with at least two digits, filled up with a zero in front
 padded-below-10 : (n : ℕ) → n < 10 → padded_integral (format_spec 32 0 4 2 (2 ^ 64 - 1)) false [] (decimal n) ≡ two_digits n

@@ -1,5 +1,5 @@
 -- When bytes are text, and when a text is no name.
-use Rattle.std.proofs.Common.{◌≡◌, ◌∙◌, sym, refl, List, ℕ, Bool, true, false, ◌&&◌, Result, Ok, Err, MatchResult, is_ok, IsUtf8}
+use Rattle.std.proofs.Common.{◌≡◌, sym, refl, List, ℕ, Bool, true, false, ◌&&◌, Result, Ok, Err, MatchResult, is_ok, IsUtf8}
 use Rattle.std.specs.Str.{is_utf8}
 use Rattle.std.proofs.lemmas.Str.{is_utf8-from_IsUtf8, IsUtf8-from_is_utf8}
 use Rattle.cpi_codes.specs.Name.{is_name}

@@ -1,5 +1,5 @@
 -- Numbers and their decimal texts.
-use Rattle.std.proofs.Common.{◌≡◌, ◌∙◌, sym, refl, ap, ℕ, zero, suc, ◌+◌, ◌-◌, ◌^◌, ◌<◌, ◌≤◌, ◌≢◌, ◌==◌, ◌&&◌, ◌||◌, not, nat_le, List, [], ◌∷◌, length, get_or, slice_index, Bool, true, false, cond, Option, Some, None, inl, inr, arith, lit<}
+use Rattle.std.proofs.Common.{◌≡◌, ◌∙◌, sym, refl, ap, ℕ, ◌^◌, ◌<◌, ◌≤◌, ◌==◌, ◌&&◌, ◌||◌, not, nat_le, List, [], ◌∷◌, length, get_or, slice_index, Bool, true, false, cond, Some, None, inl, inr, arith, lit<}
 use Rattle.std.specs.List.{list_all}
 use Rattle.std.specs.Char.{is_ascii_digit}
 use Rattle.std.specs.Str.{all_ascii_digits}
@@ -9,6 +9,7 @@ use Rattle.std.proofs.lemmas.Bool.{cases_lt}
 use Rattle.std.proofs.lemmas.Bool.Decides.{nat_tests}
 use Rattle.std.proofs.lemmas.Str.Parse.{IsNumeralModel, numerals_by_value, tells_all_ascii_digits}
 use Rattle.std.proofs.lemmas.Fmt.{digits_decimal, digits_value-decimal, decimal-digits_value, decimal_nonempty, first_decimal, decimal_digit}
+use Rattle.cpi_codes.proofs.Choices.{all-three, chosen}
 use Rattle.cpi_codes.specs.Number.{is_number, number_of}
 
 pub model : IsNumeralModel (λ ds. all_ascii_digits ds ≡ true) (digits_value 10)
@@ -44,23 +45,13 @@ read-again low high n l h small =
     let below : nat_le n high ≡ true = grind (arith, nat_tests) in
     rw (decimal-is-number n small, digits_value-decimal model n small, above, below) refl
 
-chosen : (b : Bool) (x n : ℕ) → cond b (Some x) None ≡ Some n → (b ≡ true) × (x ≡ n)
-chosen true x n h = (refl, cc)
-chosen false x n h = absurd cc
-
-pub three : (a b c : Bool) → (a && b && c) ≡ true → (a ≡ true) × (b ≡ true) × (c ≡ true)
-three true true true h = (refl, refl, refl)
-three true true false h = absurd cc
-three true false c h = absurd cc
-three false b c h = absurd cc
-
 pub one-spelling : (low high n : ℕ) (text : List ℕ) → n < 2 ^ 64 → number_of low high text ≡ Some n → text ≡ decimal n
 unfolding number_of
 one-spelling low high n text small h =
     let read = chosen (is_number text && nat_le low (digits_value 10 text) && nat_le (digits_value 10 text) high) (digits_value 10 text) n h in
-    let tests = three (is_number text) (nat_le low (digits_value 10 text)) (nat_le (digits_value 10 text) high) read.0 in
-    let number = three (not (length text == 0)) (list_all is_ascii_digit text) ((length text == 1) || not (slice_index text 0 == 48)) tests.0 in
+    let tests = all-three (is_number text) (nat_le low (digits_value 10 text)) (nat_le (digits_value 10 text) high) read.0 in
+    let number = all-three (not (length text == 0)) (list_all is_ascii_digit text) ((length text == 1) || not (slice_index text 0 == 48)) tests.0 in
     let some : 0 < length text = grind (arith, nat_tests, number.0) in
     let one : get_or text 0 0 ≡ 48 → length text ≡ 1 = λ e. grind (arith, nat_tests, number.2, e) in
-    let value : digits_value 10 text < 2 ^ 64 = rw read.1 small in
-    sym (decimal-digits_value model text (sym (all-same text) ∙ number.1) some one value) ∙ ap decimal read.1
+    let value : digits_value 10 text < 2 ^ 64 = rw (← read.1) small in
+    sym (decimal-digits_value model text (sym (all-same text) ∙ number.1) some one value) ∙ ap decimal (sym read.1)

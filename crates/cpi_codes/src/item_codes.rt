@@ -98,7 +98,7 @@ fn bytes_of(value: u128) -> [u8; 12]
     bytes
 }
 
-// The bytes before and between the zeros, as a text.
+// The bytes that are not zero, as a text.
 fn text_of(alloc: Global, bytes: &[u8]) -> Result<String, AllocError>
     requires { list_all is_ascii bytes.now ≡ true }
     ensures { IfOk result (λ s. string_bytes s ≡ filter is_no_zero bytes.now) }

@@ -1,6 +1,12 @@
 //! Numbers, codes and texts of the survey, each within its limits.
 #![tactic(auto)]
 
+mod civil;
+mod code_below;
+mod code_laws;
+mod code_order;
+mod code_texts;
+mod codes;
 mod collectors;
 mod item_codes;
 mod keys;
@@ -11,9 +17,15 @@ mod names;
 mod number;
 mod outlets;
 mod prices;
+mod rounding;
 mod series;
 mod slots;
+mod spelling;
+mod zone;
 
+pub use code_laws::{nodes_are_on_the_path, one_text_one_code};
+pub use code_texts::CodeFault;
+pub use codes::Code;
 pub use collectors::CollectorId;
 pub use item_codes::ItemCode;
 pub use keys::Key;
@@ -28,8 +40,12 @@ pub use names::{Name, NameFault};
 pub use number::number_of;
 pub use outlets::OutletId;
 pub use prices::Price;
+pub use rounding::round_div;
 pub use series::SeriesId;
 pub use slots::Slot;
+pub use zone::{MomentFault, Zone, moment_at, one_answer, picks_as_stated, zone_of};
 
 #[cfg(test)]
 mod tests;
+#[cfg(test)]
+mod zone_tests;

@@ -90,19 +90,22 @@ fn reads_and_prints_months(rt: HostRuntime) -> Result<(), Fail> {
     Ok(())
 }
 
+fn month(year: u16, number: u8) -> Result<Month, &'static str> {
+    Month::new(year, number).ok().ok_or("month")
+}
+
 #[test]
-fn finds_neighbours(rt: HostRuntime) {
-    let first = Month::new(2000, 1);
-    let last = Month::new(2199, 12);
-    assert_eq!(rt; first.map(|m| m.prev()), Ok(None));
-    assert_eq!(rt; last.map(|m| m.next()), Ok(None));
-    let january = Month::new(2026, 1);
-    let december = Month::new(2025, 12);
-    assert_eq!(rt; january.map(|m| m.prev()), Ok(december.ok()));
-    assert_eq!(rt; december.map(|m| m.next()), Ok(january.ok()));
-    assert_eq!(rt; january.map(|m| m.link()), Ok(december.ok()));
-    assert_eq!(rt; Month::new(2026, 12).map(|m| m.link()), Ok(december.ok()));
-    assert_eq!(rt; Month::new(2000, 12).map(|m| m.link()), Ok(None));
+fn finds_neighbours(rt: HostRuntime) -> Result<(), Fail> {
+    let december = month(2025, 12)?;
+    let january = month(2026, 1)?;
+    assert_eq!(rt; january.prev(), Some(december));
+    assert_eq!(rt; december.next(), Some(january));
+    assert_eq!(rt; january.link(), Some(december));
+    assert_eq!(rt; month(2026, 12)?.link(), Some(december));
+    assert_eq!(rt; month(2000, 12)?.link(), None);
+    assert_eq!(rt; month(2000, 1)?.prev(), None);
+    assert_eq!(rt; month(2199, 12)?.next(), None);
+    Ok(())
 }
 
 #[test]

@@ -27,3 +27,6 @@ pub use office::Office;
 pub use refusal::Refusal;
 pub use reply::Reply;
 pub use request::{Ask, Request};
+
+#[cfg(test)]
+mod tests;

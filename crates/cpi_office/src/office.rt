@@ -12,7 +12,7 @@ use cpi_codes::Moment;
 use cpi_store::Book;
 use std::alloc::Global;
 
-/// An office over a book.
+/// An office over a book: it answers requests, and keeps nothing itself.
 #[derive(Drop)]
 pub struct Office<B: Book> {
     book: B,
@@ -20,23 +20,28 @@ pub struct Office<B: Book> {
 }
 
 impl<B: Book> Office<B> {
+    /// The office whose lists are those of the book. `alloc` gives the memory that answers take.
     pub fn new(alloc: Global, book: B) -> Office<B>
         ensures { result.book ≡ book }
     {
         Office { book, alloc }
     }
 
+    /// Gives the book back, with all that it holds.
     pub fn into_book(self) -> B
         ensures { result ≡ self.book }
     {
-        self.book
+        let Office { book, .. } = self;
+        book
     }
 
     pub(crate) fn allocator(&self) -> Global {
         self.alloc
     }
 
-    /// Answers a request.
+    /// Answers a request at a moment, in seconds since 1970 UTC.
+    ///
+    /// The reply and the change are those of the definitions, or the reply is [`Refusal::Unavailable`] and nothing is changed. The public and the desk are never told that in place of [`Refusal::NotForCaller`], and in place of it or of [`Refusal::UnknownKey`] a collector is told it only where a look-up of the book failed during the call.
     pub fn handle(&mut self, now: Moment, caller: Caller, request: Request) -> Reply
         ensures serves { let o = B.lists self.old.book in
             Serves B.is_clean B.lists B.failures self.old.book self.new.book result (reply_to now caller request o) (after_one now caller request o) }

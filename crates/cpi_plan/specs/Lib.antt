@@ -1,2 +1,8 @@
 pub mod Calendar
 pub mod Items
+pub mod Once
+pub mod Plan
+pub mod Steps
+pub mod Sums
+pub mod Planned
+pub mod SamePlan

@@ -1,10 +1,23 @@
-//! Items of the survey, and the rows of its calendar.
+//! Items of the survey, the rows of its calendar, and yearly plans.
 #![tactic(auto)]
 
 mod calendar;
+mod checks;
 mod items;
+mod once;
+mod plan_faults;
+mod plan_rows;
+mod plans;
+mod same_rows;
+mod sums;
 mod tolerances;
 
 pub use calendar::CalendarRow;
 pub use items::Item;
+pub use plan_faults::PlanFault;
+pub use plan_rows::{Node, Place, Title, Weight};
+pub use plans::{YearPlan, has_one_fault, makes_one_plan};
 pub use tolerances::{HighTolerance, LowTolerance};
+
+#[cfg(test)]
+mod tests;

@@ -3,14 +3,18 @@ ghost use Rattle.cpi_store.specs.Bearer.{same_bearer};
 
 use cpi_codes::{CollectorId, Key};
 
-/// A collector's number, and the key that the collector bears.
+/// A registered collector: the number, 1 to 9999, and the key of 32 hexadecimal digits that the collector bears. No two collectors
+/// share either.
 #[derive(Clone, Copy, Debug, PartialEq, Eq)]
 pub struct Bearer {
+    /// The collector's number.
     pub number: CollectorId,
+    /// The key by which the collector's requests are known.
     pub key: Key,
 }
 
 impl Bearer {
+    /// Whether number and key are the same.
     pub fn is_same(&self, other: &Bearer) -> bool
         ensures { result ≡ same_bearer self.now other.now }
     {

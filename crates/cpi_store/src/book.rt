@@ -7,18 +7,25 @@ use cpi_codes::{CollectorId, Key, OutletId};
 use cpi_plan::{CalendarRow, Item};
 use cpi_survey::{Assigned, Own, Public, Quote};
 
-/// The store failed, and nothing was changed.
+/// The store failed during a call: memory was refused, or what keeps the rows failed. The office is as it was before.
 #[derive(Clone, Copy, Debug, PartialEq, Eq)]
 pub struct StoreFault;
 
-/// The public specification and what one collector has.
+/// The public specification and what one collector has, lent at once: an entry is judged by both.
 #[derive(Drop)]
 pub struct Parts<'a> {
+    /// What everybody may see.
     pub public: &'a Public,
+    /// What the collector has.
     pub own: &'a Own,
 }
 
-/// An office that is kept somewhere.
+/// An office that is kept somewhere: items by code, calendar rows by month, collectors by number, outlets by number, assignments by
+/// collector and slot, quotes by collector, slot and month.
+///
+/// Each call answers a `StoreFault` only where the count of failures rose during the call, and the office is as it was then.
+/// A read changes nothing and copies no row. What is said of the office holds where the store is clean as the call ends.
+/// The caller of a write owes the conditions under which the office accepts the row.
 pub trait Book {
     ghost use Rattle.std.specs.Borrow.{sem};
     ghost use Rattle.cpi_survey.specs.Quote.{greatest_receipt};
@@ -29,79 +36,84 @@ pub trait Book {
     ghost use Rattle.cpi_rows.specs.Held.{held_by};
     ghost use Rattle.cpi_rows.specs.Keyed.{at};
 
-    /// The office's lists.
+    /// The office's lists, each in the order of what it is listed by.
     ghost lists: { Self → Office };
 
-    /// How often the store has failed.
+    /// How often the store has failed: a number of any size, since it stands in contracts alone.
     ghost failures: { Self → ℕ };
 
-    /// Whether what is said of the lists holds.
+    /// Whether what is said of the lists holds: that the store is as this program left it.
     ghost is_clean: { Self → Type 0 };
 
     /// Which lists may stand after a crash.
     ghost may_leave: { Self → Office → Type 0 };
 
-    /// That a look-up of a collector, by key or by number, never fails.
+    /// That a read never fails.
     ghost finds_always: { Type 0 };
 
-    /// The collector who bears the key.
+    /// The collector who bears the key; none where nobody does.
     fn bearer_of(&mut self, key: Key) -> Result<Option<Bearer>, StoreFault>
         ensures reads { Reads is_clean lists failures may_leave self.old self.new result (λ found. found ≡ bearer_of key (lists self.old).collectors) }
         ensures always { finds_always → IsOk result };
 
-    /// The collector with the number.
+    /// The collector with the number; none where the number isn't registered.
     fn bearer_at(&mut self, number: CollectorId) -> Result<Option<Bearer>, StoreFault>
         ensures reads { Reads is_clean lists failures may_leave self.old self.new result (λ found. found ≡ at (λ b. b.number) number (lists self.old).collectors) }
         ensures always { finds_always → IsOk result };
 
-    /// The number of the collector who bears the key.
+    /// The number of the collector who bears the key; none where nobody does.
     fn collector_of(&mut self, key: Key) -> Result<Option<CollectorId>, StoreFault>
         ensures reads { Reads is_clean lists failures may_leave self.old self.new result (λ found. found ≡ collector_of key (lists self.old).collectors) }
         ensures always { finds_always → IsOk result };
 
-    /// The key that the collector with the number bears.
+    /// The key that the collector with the number bears; none where the number isn't registered.
     fn collector_key(&mut self, number: CollectorId) -> Result<Option<Key>, StoreFault>
         ensures reads { Reads is_clean lists failures may_leave self.old self.new result (λ found. found ≡ collector_key number (lists self.old).collectors) }
         ensures always { finds_always → IsOk result };
 
-    /// The outlet with the number.
+    /// The outlet with the number; none where there is no such outlet.
     fn outlet(&mut self, number: OutletId) -> Result<Option<&Outlet>, StoreFault>
-        ensures* reads { sem 𝓛 (EndsAs Self.row self.entry (λ book. Reads is_clean lists failures may_leave self.old book result (λ found. option_copied found ≡ at (λ u. u.number) number (lists self.old).outlets))) };
+        ensures* reads { sem 𝓛 (EndsAs Self.row self.entry (λ book. Reads is_clean lists failures may_leave self.old book result (λ found. option_copied found ≡ at (λ u. u.number) number (lists self.old).outlets))) }
+        ensures always { finds_always → IsOk result };
 
-    /// The public specification.
+    /// The public specification: items by code, and calendar rows by month.
     fn public_part(&mut self) -> Result<&Public, StoreFault>
-        ensures* reads { sem 𝓛 (EndsAs Self.row self.entry (λ book. Reads is_clean lists failures may_leave self.old book result (λ public. public.now ≡ public_part (lists self.old)))) };
+        ensures* reads { sem 𝓛 (EndsAs Self.row self.entry (λ book. Reads is_clean lists failures may_leave self.old book result (λ public. public.now ≡ public_part (lists self.old)))) }
+        ensures always { finds_always → IsOk result };
 
-    /// What a collector has; a number that nobody has, has nothing.
+    /// What a collector has: assignments by slot, and quotes by slot and month. A number that nobody has, has nothing.
     fn own(&mut self, collector: CollectorId) -> Result<&Own, StoreFault>
-        ensures* reads { sem 𝓛 (EndsAs Self.row self.entry (λ book. Reads is_clean lists failures may_leave self.old book result (λ own. own.now ≡ own_part collector (lists self.old)))) };
+        ensures* reads { sem 𝓛 (EndsAs Self.row self.entry (λ book. Reads is_clean lists failures may_leave self.old book result (λ own. own.now ≡ own_part collector (lists self.old)))) }
+        ensures always { finds_always → IsOk result };
 
     /// The public specification, and what a collector has; a number that nobody has, has nothing.
     fn parts(&mut self, collector: CollectorId) -> Result<Parts<'_>, StoreFault>
         ensures* reads { sem 𝓛 (EndsAs Self.row self.entry (λ book. Reads is_clean lists failures may_leave self.old book result (λ parts.
-            (parts.public.now ≡ public_part (lists self.old)) × (parts.own.now ≡ own_part collector (lists self.old))))) };
+            (parts.public.now ≡ public_part (lists self.old)) × (parts.own.now ≡ own_part collector (lists self.old))))) }
+        ensures always { finds_always → IsOk result };
 
-    /// Puts a new item.
+    /// Puts a new item. The caller owes that no item has its code.
     fn put_item(&mut self, item: Item) -> Result<(), StoreFault>
         requires new { is_clean self.old → at (λ i. i.code) item.code (lists self.old).items ≡ None }
         ensures writes { Writes is_clean lists failures may_leave self.old self.new result (changed (PutsItem item) (lists self.old)) };
 
-    /// Puts a month's row, over the one that stands if there is one.
+    /// Puts a month's calendar row, over the one that stands if there is one.
     fn put_calendar(&mut self, row: CalendarRow) -> Result<(), StoreFault>
         ensures writes { Writes is_clean lists failures may_leave self.old self.new result (changed (PutsCalendar row) (lists self.old)) };
 
-    /// Puts a new collector with a new key.
+    /// Puts a new collector, who has nothing yet. The caller owes that nobody has the number, and that nobody bears the key.
     fn put_collector(&mut self, bearer: Bearer) -> Result<(), StoreFault>
         requires number { is_clean self.old → at (λ b. b.number) bearer.number (lists self.old).collectors ≡ None }
         requires key { is_clean self.old → bearer_of bearer.key (lists self.old).collectors ≡ None }
         ensures writes { Writes is_clean lists failures may_leave self.old self.new result (changed (Registers bearer) (lists self.old)) };
 
-    /// Puts a new outlet.
+    /// Puts a new outlet. The caller owes that no outlet has its number.
     fn put_outlet(&mut self, outlet: Outlet) -> Result<(), StoreFault>
         requires new { is_clean self.old → at (λ u. u.number) outlet.number (lists self.old).outlets ≡ None }
         ensures writes { Writes is_clean lists failures may_leave self.old self.new result (changed (PutsOutlet outlet) (lists self.old)) };
 
-    /// Puts a new assignment of the collector, with the name of its outlet.
+    /// Puts a new assignment of the collector, with the name of its outlet. The caller owes that the collector is registered with this
+    /// key, that the collector's slot is free, that item and outlet are there, and that the name is the outlet's.
     fn put_assignment(&mut self, bearer: Bearer, assigned: Assigned) -> Result<(), StoreFault>
         requires known { is_clean self.old → at (λ b. b.number) bearer.number (lists self.old).collectors ≡ Some bearer }
         requires new { is_clean self.old → at (λ a. a.slot) assigned.assignment.slot (held_by bearer.number (lists self.old).assignments) ≡ None }
@@ -110,7 +122,8 @@ pub trait Book {
         requires name { is_clean self.old → assigned ≡ with_name (lists self.old).outlets assigned.assignment }
         ensures writes { Writes is_clean lists failures may_leave self.old self.new result (changed (Assigns bearer assigned) (lists self.old)) };
 
-    /// Puts a quote of the collector, over the one of its slot and month if there is one.
+    /// Puts a quote of the collector, over the one of its slot and month if there is one. The caller owes that the collector is
+    /// registered, and that the receipt is above all others of the collector.
     fn put_quote(&mut self, bearer: Bearer, quote: Quote) -> Result<(), StoreFault>
         requires known { is_clean self.old → IsSome (at (λ b. b.number) bearer.number (lists self.old).collectors) }
         requires receipt { is_clean self.old → greatest_receipt (held_by bearer.number (lists self.old).quotes) < quote.receipt }

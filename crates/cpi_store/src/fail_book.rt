@@ -6,10 +6,12 @@ use cpi_codes::{CollectorId, Key, OutletId};
 use cpi_plan::{CalendarRow, Item};
 use cpi_survey::{Assigned, Own, Public, Quote};
 
-/// A book that passes each call on but the n-th, which it fails.
+/// A book that passes each call on to another book, but for the n-th, which it fails without passing it on. It shows how those
+/// above a book take a failing store.
 #[derive(Drop)]
 pub struct FailBook<B: Book> {
     inner: B,
+    // the calls up to the one that fails, that one included; 0 where none will
     left: u64,
     own_failures: Failures,
 }
@@ -17,6 +19,7 @@ pub struct FailBook<B: Book> {
 impl<B: Book> FailBook<B> {
     ghost use Rattle.std.specs.Prelude.{◌≡◌, ◌-◌, ◌+◌, ◌↔◌, IsErr, is_err, if◌then◌else◌};
 
+    /// A book that fails the n-th of its calls, reads and writes alike, counted from 1; none at 0.
     pub fn new(inner: B, nth: u64) -> FailBook<B>
         ensures inner { result.inner ≡ inner }
         ensures left { result.left ≡ nth }

@@ -5,7 +5,7 @@ ghost use Rattle.std.specs.Prelude.{◌≡◌, ℕ, ◌+◌};
 use crate::book::StoreFault;
 use std::marker::Model;
 
-/// How often a store has failed.
+/// How often a store has failed. The count is nowhere in the program: it lets a contract say that a call failed only where it rose.
 #[derive(Drop)]
 pub struct Failures {
     pub ghost count: { ℕ },
@@ -18,6 +18,7 @@ impl Model for Failures {
 }
 
 impl Failures {
+    /// No failure yet.
     pub fn none() -> Failures
         ensures { result.count ≡ 0 }
     {

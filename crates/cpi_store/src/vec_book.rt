@@ -1,7 +1,8 @@
 use crate::bearer::Bearer;
 use crate::book::{Book, Parts, StoreFault};
 use crate::failures::Failures;
-use crate::holder::{Holder, put_assignment_of, put_holder, put_quote_of};
+use crate::holder::Holder;
+use crate::holders::{put_assignment_of, put_holder, put_quote_of};
 use crate::outlet::Outlet;
 use cpi_codes::{CollectorId, Key, OutletId};
 use cpi_plan::{CalendarRow, Item};
@@ -11,12 +12,17 @@ use std::alloc::Global;
 use std::collections::BTreeMap;
 use std::marker::Model;
 
-/// An office in memory.
+/// An office in memory. A call fails only where memory was refused; a read, and a write over a row that stands, takes none.
+/// Collectors, their rows, items, months and outlets are found in a number of steps that grows with the logarithm of how many there
+/// are, and a write shifts the rows of one list, of quotes and assignments those of one collector alone.
 #[derive(Drop)]
 pub struct VecBook {
     public: Public,
+    // by number
     holders: Vec<Holder>,
+    // by number
     outlets: Vec<Outlet>,
+    // the holders, by the key that each bears
     bearers: BTreeMap<Key, Bearer>,
     // what a number that nobody has, has
     nobody: Own,
@@ -47,37 +53,11 @@ impl Model for VecBook {
 }
 
 impl VecBook {
-    ghost use Rattle.std.specs.Prelude.{◌≡◌, IsSome, option_map};
-    ghost use Rattle.std.specs.Ordering.{nat_cmp};
-    ghost use Rattle.cpi_rows.specs.Keyed.{row_at, at};
-    ghost use Rattle.cpi_store.specs.Office.{public_part, own_part};
-
-    fn parts_of(&self, collector: CollectorId) -> Parts<'_>
-        ensures public { result.public.now ≡ public_part self.now.office }
-        ensures own { result.own.now ≡ own_part collector self.now.office }
-    {
-        Parts {
-            public: &self.public,
-            own: self.own_of(collector),
-        }
-    }
-
-    fn own_of(&self, collector: CollectorId) -> &Own
-        ensures { result.now ≡ own_part collector self.now.office }
-    {
-        match find_row(&self.holders, &collector) {
-            Some(holder) => &holder.own,
-            None => &self.nobody,
-        }
-    }
-}
-
-impl VecBook {
     ghost use Rattle.std.specs.Prelude.{◌≡◌};
     ghost use Rattle.cpi_rows.specs.Keyed.{at};
-    ghost use Rattle.cpi_store.specs.Office.{empty_office};
+    ghost use Rattle.cpi_store.specs.Office.{empty_office, public_part, own_part};
 
-    /// An empty office.
+    /// An empty office, which takes no memory yet. Its calls take their memory from this allocator.
     pub fn new(alloc: Global) -> VecBook
         ensures { result ≡ record { office = empty_office; failures = 0 } }
     {
@@ -101,6 +81,25 @@ impl VecBook {
                 key: holder.key,
             }),
             None => None,
+        }
+    }
+
+    fn own_of(&self, collector: CollectorId) -> &Own
+        ensures { result.now ≡ own_part collector self.now.office }
+    {
+        match find_row(&self.holders, &collector) {
+            Some(holder) => &holder.own,
+            None => &self.nobody,
+        }
+    }
+
+    fn parts_of(&self, collector: CollectorId) -> Parts<'_>
+        ensures public { result.public.now ≡ public_part self.now.office }
+        ensures own { result.own.now ≡ own_part collector self.now.office }
+    {
+        Parts {
+            public: &self.public,
+            own: self.own_of(collector),
         }
     }
 }

@@ -1,8 +1,6 @@
-use Rattle.std.proofs.Common.{◌≡◌, ◌+◌, ◌-◌, ◌%◌, ◌<◌, ◌≤◌, arith, refl, length, take, get_or, set, length-set, ◌∙◌, sym}
+use Rattle.std.proofs.Common.{◌-◌, ◌%◌, arith, refl, length-set, ◌∙◌}
 use Rattle.std.proofs.lemmas.Grind.{same_number_lists}
-use Rattle.std.proofs.lemmas.List.{take_all}
-use Rattle.std.specs.Int.Digits.{number_from_digits}
-use Rattle.cpi_codes.specs.ItemCode.{filled, item_number}
+use Rattle.cpi_codes.specs.ItemCode.{filled}
 use Rattle.cpi_codes.proofs.Bytes.{text-of-code, text-parts, length-filled, whole-number, last-byte, set-at}
 use Rattle.cpi_codes.proofs.item_codes.bytes_of.Goals as goal
 

@@ -1,7 +1,5 @@
-use Rattle.std.proofs.Common.{◌≡◌, ◌+◌, ◌*◌, ◌<◌, ◌≤◌, ◌^◌, arith}
-use Rattle.std.specs.Int.Digits.{number_from_digits}
-use Rattle.cpi_codes.specs.ItemCode.{filled}
-use Rattle.cpi_codes.proofs.Bytes.{number-more, power-more, power-le, length-filled}
+use Rattle.std.proofs.Common.{arith}
+use Rattle.cpi_codes.proofs.Bytes.{number-more, power-more, power-le}
 use Rattle.cpi_codes.proofs.item_codes.number_of_bytes.Goals as goal
 
 pub overflow_mul-value : goal.overflow_mul-value

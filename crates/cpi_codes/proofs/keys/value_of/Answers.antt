@@ -1,4 +1,4 @@
-use Rattle.std.proofs.Common.{◌<◌, ◌≤◌, arith}
+use Rattle.std.proofs.Common.{arith}
 use Rattle.cpi_codes.specs.Key.{is_key_digit}
 use Rattle.cpi_codes.proofs.Digits.{passes-at, key-more, power-more, power-le}
 use Rattle.cpi_codes.proofs.keys.value_of.Goals as goal

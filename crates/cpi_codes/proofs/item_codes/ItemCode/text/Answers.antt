@@ -1,8 +1,6 @@
-use Rattle.std.proofs.Common.{◌≡◌, ◌∙◌, sym, ap, true, filter, Some, string_bytes}
-use Rattle.std.specs.List.{list_all}
-use Rattle.std.specs.Char.{is_ascii}
+use Rattle.std.proofs.Common.{◌∙◌, ap, filter, Some}
 use Rattle.std.proofs.lemmas.Result.{IfOk-weaker}
-use Rattle.cpi_codes.specs.ItemCode.{filled, item_code_of, is_no_zero}
+use Rattle.cpi_codes.specs.ItemCode.{item_code_of, is_no_zero}
 use Rattle.cpi_codes.proofs.Bytes.{text-of-code, ascii-filled, kept-filled}
 use Rattle.cpi_codes.proofs.item_codes.ItemCode.text.Goals as goal
 

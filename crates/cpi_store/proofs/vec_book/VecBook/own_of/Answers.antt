@@ -7,7 +7,7 @@ use Rattle.cpi_rows.specs.Keyed.{row_at}
 use Rattle.cpi_store.specs.declared.holder.Holder.{Holder}
 use Rattle.cpi_store.specs.Holders.{Kept}
 use Rattle.cpi_store.specs.Office.{own_part}
-use Rattle.cpi_store.proofs.Holders.{own_found, own_missing}
+use Rattle.cpi_store.proofs.Found.{own_found, own_missing}
 use Rattle.cpi_store.proofs.vec_book.VecBook.own_of.Goals as goal
 
 pub returns-in-Some : goal.returns-in-Some

@@ -1,7 +1,7 @@
 use Rattle.std.proofs.Common.{ap, ◌∙◌, subst, sym, refl}
 use Rattle.std.specs.Prelude.{IsSome}
 use Rattle.cpi_rows.specs.Keyed.{at}
-use Rattle.cpi_store.proofs.Holders.{known_holder}
+use Rattle.cpi_store.proofs.Found.{known_holder}
 use Rattle.cpi_store.specs.declared.bearer.Bearer.{Bearer}
 use Rattle.cpi_store.specs.Holders.{Kept}
 use Rattle.cpi_store.proofs.vec_book.VecBookBook.put_assignment.Goals as goal

@@ -1,5 +1,5 @@
 use Rattle.std.proofs.Common.{sym, ap, ◌∙◌}
-use Rattle.cpi_store.proofs.Holders.{known_holder}
+use Rattle.cpi_store.proofs.Found.{known_holder}
 use Rattle.cpi_store.specs.Bearer.{bearer_of}
 use Rattle.cpi_store.specs.Holders.{Kept}
 use Rattle.cpi_store.proofs.vec_book.VecBookBook.put_quote.Goals as goal

@@ -1,0 +1,17 @@
+-- What tests that hold together say of each, and what a choice by a test made.
+use Rattle.std.proofs.Common.{◌≡◌, ℕ, refl, Bool, true, false, ◌&&◌, cond, Option, Some, None}
+
+pub both : (a b : Bool) → (a && b) ≡ true → (a ≡ true) × (b ≡ true)
+both true b h = (refl, h)
+both false b h = absurd cc
+
+pub all-three : (a b c : Bool) → (a && b && c) ≡ true → (a ≡ true) × (b ≡ true) × (c ≡ true)
+all-three true true true h = (refl, refl, refl)
+all-three true true false h = absurd cc
+all-three true false c h = absurd cc
+all-three false b c h = absurd cc
+
+-- a value that stands only where the test holds
+pub chosen : (b : Bool) (x n : ℕ) → cond b (Some x) None ≡ Some n → (b ≡ true) × (n ≡ x)
+chosen true x n h = (refl, cc)
+chosen false x n h = absurd cc

@@ -1,0 +1,146 @@
+-- A year's plan: what the desk sends for it, its faults, and the plan that is made of it.
+use Rattle.std.specs.Prelude.{ℕ, ◌≤◌, ◌≡◌, ◌==◌, ◌≢◌, ◌&&◌, ⊤, Bool, true, false, not, List, sum_by, Result, MatchResult, Option, None, option_map, is_none, if◌then◌else◌}
+use Rattle.std.specs.Ordering.{nat_cmp, is_eq}
+use Rattle.std.specs.List.{list_any, list_all, IsDistinct}
+use Rattle.std.specs.List.Sorted.{IsPermutation}
+use Rattle.cpi_codes.specs.CodeOrder.{code_cmp, is_same, is_elementary}
+use Rattle.cpi_codes.specs.declared.codes.Code.{Code}
+use Rattle.cpi_plan.specs.declared.items.Item.{Item}
+use Rattle.cpi_rows.specs.Keyed.{IsInOrder, row_at, at}
+use Rattle.cpi_plan.specs.Sums.{weight_under, is_node}
+use Rattle.cpi_plan.specs.Steps.{IsFirst}
+use Rattle.cpi_plan.specs.declared.plan_rows.Title.{Title}
+use Rattle.cpi_plan.specs.declared.plan_rows.Weight.{Weight}
+use Rattle.cpi_plan.specs.declared.plan_rows.Place.{Place}
+use Rattle.cpi_plan.specs.declared.plan_rows.Node.{Node}
+use Rattle.cpi_plan.specs.declared.plan_faults.PlanFault.{PlanFault}
+use Rattle.cpi_plan.specs.declared.plan_faults.PlanFault.TheVariants.{DuplicateCode, NotElementary, ZeroWeight, WeightSum, TitleMissing, UnknownItem, ItemTwice, UnknownAggregate, NoMemory}
+
+-- what the desk sends, in any order, with the items that are known
+pub record Body : Type 0 where
+  pub known : List Item
+  pub titles : List Title
+  pub weights : List Weight
+  pub places : List Place
+
+-- a plan: nodes and weights by code, places by item
+pub record Plan : Type 0 where
+  pub year : ℕ
+  pub nodes : List Node
+  pub weights : List Weight
+  pub places : List Place
+
+abbrev pub is_same_item : ℕ → ℕ → Bool
+is_same_item a b = is_eq (nat_cmp a b)
+
+-- ---- the tests, in the order in which they are made
+-- no code twice among the titles, and none twice among the weights
+abbrev pub CodesOnce : List Title → List Weight → Type 0
+CodesOnce titles weights = IsDistinct (λ s t. is_same s.code t.code) titles × IsDistinct (λ v w. is_same v.code w.code) weights
+
+abbrev pub are_elementary : List Weight → List Place → Bool
+are_elementary weights places = list_all (λ w. is_elementary w.code) weights && list_all (λ p. is_elementary p.aggregate) places
+
+abbrev pub has_zero : List Weight → Bool
+has_zero weights = list_any (λ w. w.parts == 0) weights
+
+abbrev pub total : List Weight → ℕ
+total weights = sum_by (λ w. w.parts) weights
+
+-- a node without a title
+abbrev pub is_untitled : List Title → List Weight → Code → Bool
+is_untitled titles weights code = is_node weights code && not (list_any (λ t. is_same t.code code) titles)
+
+-- an item that isn't among the known ones
+abbrev pub is_unknown : List Item → Place → Bool
+is_unknown known place = is_none (at (λ i. i.code) place.item known)
+
+abbrev pub has_unknown : List Item → List Place → Bool
+has_unknown known places = list_any (is_unknown known) places
+
+abbrev pub ItemsOnce : List Place → Type 0
+ItemsOnce places = IsDistinct (λ p q. is_same_item p.item q.item) places
+
+-- an item at an aggregate without weight
+abbrev pub has_unplaced : List Weight → List Place → Bool
+has_unplaced weights places = list_any (λ p. not (list_any (λ w. is_same w.code p.aggregate) weights)) places
+
+-- ---- what stands once the first tests are passed
+abbrev pub Passes2 : Body → Type 0
+Passes2 b = CodesOnce b.titles b.weights × (are_elementary b.weights b.places ≡ true)
+
+abbrev pub Passes3 : Body → Type 0
+Passes3 b = Passes2 b × (has_zero b.weights ≡ false)
+
+abbrev pub Passes4 : Body → Type 0
+Passes4 b = Passes3 b × (total b.weights ≡ 1000000)
+
+abbrev pub Passes5 : Body → Type 0
+Passes5 b = Passes4 b × ((code : Code) → is_untitled b.titles b.weights code ≡ false)
+
+abbrev pub Passes6 : Body → Type 0
+Passes6 b = Passes5 b × (has_unknown b.known b.places ≡ false)
+
+abbrev pub Passes7 : Body → Type 0
+Passes7 b = Passes6 b × ItemsOnce b.places
+
+abbrev pub Passes8 : Body → Type 0
+Passes8 b = Passes7 b × (has_unplaced b.weights b.places ≡ false)
+
+-- the first node without a title, in the order of codes
+abbrev pub IsFirstUntitled : List Title → List Weight → Code → Type 0
+IsFirstUntitled titles weights code = IsFirst (is_untitled titles weights) code
+
+-- the fault of a body: the first that there is. Want of memory can come at any time.
+abbrev pub IsFirstFault : PlanFault → Body → Type 0
+IsFirstFault DuplicateCode b = CodesOnce b.titles b.weights → ⊥
+IsFirstFault NotElementary b = CodesOnce b.titles b.weights × (are_elementary b.weights b.places ≡ false)
+IsFirstFault ZeroWeight b = Passes2 b × (has_zero b.weights ≡ true)
+IsFirstFault (WeightSum found) b = Passes3 b × (found ≡ total b.weights) × (found ≢ 1000000)
+IsFirstFault (TitleMissing code) b = Passes4 b × IsFirstUntitled b.titles b.weights code
+IsFirstFault UnknownItem b = Passes5 b × (has_unknown b.known b.places ≡ true)
+IsFirstFault ItemTwice b = Passes6 b × (ItemsOnce b.places → ⊥)
+IsFirstFault UnknownAggregate b = Passes7 b × (has_unplaced b.weights b.places ≡ true)
+IsFirstFault NoMemory b = ⊤
+
+-- ---- the plan
+-- a title with the sum of the weights under its code
+abbrev pub node : List Weight → Title → Node
+node weights t = record { code = t.code; title = t.title; weight = weight_under t.code weights }
+
+-- the row of a code: none of a code that is no node
+abbrev pub row_of : List Title → List Weight → Code → Option Node
+row_of titles weights code = if is_node weights code then option_map (node weights) (row_at code_cmp (λ t. t.code) code titles) else None
+
+-- the plan has the nodes, the weights and the places that were sent. That it has them in order is kept by the type.
+pub record IsPlanOf (year : ℕ) (b : Body) (plan : Plan) : Type 0 where
+  pub of_year : plan.year ≡ year
+  pub has_nodes : (code : Code) → row_at code_cmp (λ n. n.code) code plan.nodes ≡ row_of b.titles b.weights code
+  pub has_weights : IsPermutation b.weights plan.weights
+  pub has_places : IsPermutation b.places plan.places
+
+-- what every plan keeps
+pub record IsPlan (plan : Plan) : Type 0 where
+  pub in_calendar : (2000 ≤ plan.year) × (plan.year ≤ 2199)
+  pub nodes_in_order : IsInOrder code_cmp (λ n. n.code) plan.nodes
+  pub weights_in_order : IsInOrder code_cmp (λ w. w.code) plan.weights
+  pub places_in_order : IsInOrder nat_cmp (λ p. p.item) plan.places
+  pub elementary : list_all (λ w. is_elementary w.code) plan.weights ≡ true
+  pub positive : has_zero plan.weights ≡ false
+  pub whole : total plan.weights ≡ 1000000
+  -- each node has its title and weight, and each row is a node
+  pub complete : (code : Code) → is_node plan.weights code ≡ list_any (λ n. is_same n.code code) plan.nodes
+  pub weighed : list_all (λ n. n.weight == weight_under n.code plan.weights) plan.nodes ≡ true
+  pub placed : has_unplaced plan.weights plan.places ≡ false
+
+-- what is built of a body: a plan exactly where no test fails, else the first fault
+abbrev pub IsBuilt : ℕ → Body → Result Plan PlanFault → Type 0
+IsBuilt year b result = MatchResult result (λ plan. Passes8 b × IsPlanOf year b plan) (λ fault. IsFirstFault fault b)
+
+-- two plans of one body are the same plan
+abbrev pub IsOnePlan : ℕ → Body → Type 0
+IsOnePlan year b = (p q : Plan) → IsPlan p → IsPlan q → IsPlanOf year b p → IsPlanOf year b q → p ≡ q
+
+-- two faults of one body are the same fault, want of memory aside
+abbrev pub IsOneFault : Body → Type 0
+IsOneFault b = (f g : PlanFault) → f ≢ NoMemory → g ≢ NoMemory → IsFirstFault f b → IsFirstFault g b → f ≡ g

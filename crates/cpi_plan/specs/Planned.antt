@@ -1,0 +1,83 @@
+-- A year's plan as a function of what the desk sends: the plan, or the first fault.
+use Rattle.std.specs.Prelude.{ℕ, ◌==◌, Bool, true, ◌&&◌, not, List, [], ◌∷◌, map, filter, Option, Some, None, Result, Ok, Err, if◌then◌else◌}
+use Rattle.std.specs.declared.cmp.Ordering.{Ordering}
+use Rattle.std.specs.Ordering.{nat_cmp, is_gt}
+use Rattle.std.specs.List.{list_any, flat_map}
+use Rattle.cpi_codes.specs.CodeOrder.{code_cmp, is_same}
+use Rattle.cpi_codes.specs.CodePath.{path}
+use Rattle.cpi_codes.specs.declared.codes.Code.{Code}
+use Rattle.cpi_rows.specs.Keyed.{put}
+use Rattle.cpi_plan.specs.Sums.{is_node}
+use Rattle.cpi_plan.specs.Plan.{Body, Plan, node, are_elementary, has_zero, total, is_untitled, has_unknown, is_same_item, has_unplaced}
+use Rattle.cpi_plan.specs.declared.plan_rows.Title.{Title}
+use Rattle.cpi_plan.specs.declared.plan_rows.Weight.{Weight}
+use Rattle.cpi_plan.specs.declared.plan_rows.Place.{Place}
+use Rattle.cpi_plan.specs.declared.plan_rows.Node.{Node}
+use Rattle.cpi_plan.specs.declared.plan_faults.PlanFault.{PlanFault}
+use Rattle.cpi_plan.specs.declared.plan_faults.PlanFault.TheVariants.{DuplicateCode, NotElementary, ZeroWeight, WeightSum, TitleMissing, UnknownItem, ItemTwice, UnknownAggregate}
+
+-- no row is the same as a later one
+abbrev pub are_distinct : {X : Type 0} → (X → X → Bool) → List X → Bool
+are_distinct same [] = true
+are_distinct same (x ∷ xs) = not (list_any (same x) xs) && are_distinct same xs
+
+-- no code twice among the titles, and none twice among the weights
+abbrev pub are_codes_once : List Title → List Weight → Bool
+are_codes_once titles weights = are_distinct (λ s t. is_same s.code t.code) titles && are_distinct (λ v w. is_same v.code w.code) weights
+
+abbrev pub are_items_once : List Place → Bool
+are_items_once places = are_distinct (λ p q. is_same_item p.item q.item) places
+
+-- the lesser of a code and another, if there is another
+abbrev pub lesser : Code → Option Code → Code
+lesser c None = c
+lesser c (Some d) = if is_gt (code_cmp c d) then d else c
+
+-- the first of codes in the order of codes
+abbrev pub first_of : List Code → Option Code
+first_of [] = None
+first_of (c ∷ cs) = Some (lesser c (first_of cs))
+
+-- the first node without a title: nodes are the codes at and above those with weight
+abbrev pub first_untitled : List Title → List Weight → Option Code
+first_untitled titles weights = first_of (filter (is_untitled titles weights) (flat_map (λ w. path w.code) weights))
+
+-- the rows, put in the order of a key one by one
+abbrev pub in_order : {X K : Type 0} → (K → K → Ordering) → (X → K) → List X → List X
+in_order cmp key [] = []
+in_order cmp key (x ∷ xs) = put cmp key x (in_order cmp key xs)
+
+-- the titles of nodes, each with its weight
+abbrev pub nodes_of : List Title → List Weight → List Node
+nodes_of titles weights = map (node weights) (filter (λ t. is_node weights t.code) titles)
+
+-- the plan of what was sent: titles of codes that are no nodes are dropped
+abbrev pub plan_of : ℕ → Body → Plan
+plan_of year b = record {
+  year = year;
+  nodes = in_order code_cmp (λ n. n.code) (nodes_of b.titles b.weights);
+  weights = in_order code_cmp (λ w. w.code) b.weights;
+  places = in_order nat_cmp (λ p. p.item) b.places;
+}
+
+-- the tests of the places, the last ones
+abbrev pub placed : ℕ → Body → Result Plan PlanFault
+placed year b =
+    if has_unknown b.known b.places then Err UnknownItem else
+    if not (are_items_once b.places) then Err ItemTwice else
+    if has_unplaced b.weights b.places then Err UnknownAggregate else
+    Ok (plan_of year b)
+
+-- the test of the titles, and those after it
+abbrev pub titled : ℕ → Body → Option Code → Result Plan PlanFault
+titled year b (Some code) = Err (TitleMissing code)
+titled year b None = placed year b
+
+-- the plan, or the first fault of what was sent
+abbrev pub planned : ℕ → Body → Result Plan PlanFault
+planned year b =
+    if not (are_codes_once b.titles b.weights) then Err DuplicateCode else
+    if not (are_elementary b.weights b.places) then Err NotElementary else
+    if has_zero b.weights then Err ZeroWeight else
+    if not (total b.weights == 1000000) then Err (WeightSum (total b.weights)) else
+    titled year b (first_untitled b.titles b.weights)

@@ -1,0 +1,142 @@
+//! The tests that a plan has to pass, and the nodes that are made of it.
+ghost use Rattle.std.specs.Prelude.{◌≡◌, ◌^◌, ◌<◌, not, ◌&&◌, nat_lt, IfOk, MatchOption, true, false};
+ghost use Rattle.std.specs.List.{list_all, list_any};
+ghost use Rattle.std.specs.Ordering.{nat_cmp};
+ghost use Rattle.cpi_codes.specs.CodeOrder.{code_cmp, is_elementary, is_same};
+ghost use Rattle.cpi_codes.specs.declared.codes.Code.{Code};
+ghost use Rattle.cpi_rows.specs.Keyed.{IsInOrder, at};
+ghost use Rattle.cpi_plan.specs.Sums.{sum_at, weight_under};
+ghost use Rattle.cpi_plan.specs.Steps.{is_without, IsFirst, nodes_with};
+ghost use Rattle.cpi_plan.specs.Plan.{are_elementary as are_all_elementary, has_zero as has_zero_weight, total as total_weight, has_unknown as has_unknown_item, is_unknown as is_unknown_item, has_unplaced as has_unplaced_item};
+
+use crate::items::Item;
+use crate::plan_rows::{Node, Place, Title, Weight};
+use crate::sums::add_path;
+use cpi_codes::Code;
+use cpi_rows::find_row;
+use std::alloc::{AllocError, Global};
+use std::collections::BTreeMap;
+
+fn are_weights_elementary(weights: &[Weight]) -> bool
+    ensures { result ≡ list_all (λ w. is_elementary w.code) weights.now }
+{
+    weights.iter().all(|weight| weight.code.is_elementary())
+}
+
+fn are_places_elementary(places: &[Place]) -> bool
+    ensures { result ≡ list_all (λ p. is_elementary p.aggregate) places.now }
+{
+    places.iter().all(|place| place.aggregate.is_elementary())
+}
+
+pub(crate) fn are_elementary(weights: &[Weight], places: &[Place]) -> bool
+    ensures { result ≡ are_all_elementary weights.now places.now }
+{
+    are_weights_elementary(weights) && are_places_elementary(places)
+}
+
+pub(crate) fn has_zero(weights: &[Weight]) -> bool
+    ensures { result ≡ has_zero_weight weights.now }
+{
+    weights.iter().any(|weight| weight.parts == 0)
+}
+
+pub(crate) fn total(weights: &[Weight]) -> u128
+    ensures { result ≡ total_weight weights.now }
+{
+    let mut sum: u128 = 0;
+    for weight in weights {
+        sum += u128::from(weight.parts);
+    }
+    sum
+}
+
+// The sum of the weights at and below each code.
+pub(crate) fn weight_sums(
+    alloc: Global,
+    weights: &[Weight],
+) -> Result<BTreeMap<Code, u128>, AllocError>
+    requires { list_all (λ w. is_elementary w.code) weights.now ≡ true }
+    ensures { IfOk result (λ sums. (q : Code) → sum_at sums q ≡ weight_under q weights.now) }
+{
+    let mut sums = BTreeMap::new(alloc);
+    for weight in weights {
+        add_path(&mut sums, weight.code, u128::from(weight.parts))?;
+    }
+    Ok(sums)
+}
+
+fn lacks_title(titles: &[Title], code: &Code, weight: u128) -> bool
+    requires { IsInOrder code_cmp (λ t. t.code) titles.now }
+    ensures { result ≡ (nat_lt 0 weight && not (list_any (λ t. is_same t.code code.now) titles.now)) }
+{
+    weight > 0 && find_row(titles, code).is_none()
+}
+
+// The first code with a sum and without a title.
+pub(crate) fn first_untitled(sums: &BTreeMap<Code, u128>, titles: &[Title]) -> Option<Code>
+    requires { IsInOrder code_cmp (λ t. t.code) titles.now }
+    ensures { MatchOption result
+        ((q : Code) → is_without sums.now titles.now q ≡ false)
+        (λ code. IsFirst (is_without sums.now titles.now) code) }
+{
+    for (code, weight) in sums.iter() {
+        if lacks_title(titles, code, *weight) {
+            return Some(*code);
+        }
+    }
+    None
+}
+
+fn is_unknown(known: &[Item], place: &Place) -> bool
+    requires { IsInOrder nat_cmp (λ i. i.code) known.now }
+    ensures { result ≡ is_unknown_item known.now place.now }
+{
+    find_row(known, &place.item).is_none()
+}
+
+// Whether some item isn't known.
+pub(crate) fn has_unknown(known: &[Item], places: &[Place]) -> bool
+    requires { IsInOrder nat_cmp (λ i. i.code) known.now }
+    ensures { result ≡ has_unknown_item known.now places.now }
+{
+    places.iter().any(|place| is_unknown(known, place))
+}
+
+fn is_unplaced(weights: &[Weight], place: &Place) -> bool
+    requires { IsInOrder code_cmp (λ w. w.code) weights.now }
+    ensures { result ≡ not (list_any (λ w. is_same w.code place.now.aggregate) weights.now) }
+{
+    find_row(weights, &place.aggregate).is_none()
+}
+
+// Whether some item is placed at an aggregate without weight.
+pub(crate) fn has_unplaced(weights: &[Weight], places: &[Place]) -> bool
+    requires { IsInOrder code_cmp (λ w. w.code) weights.now }
+    ensures { result ≡ has_unplaced_item weights.now places.now }
+{
+    places.iter().any(|place| is_unplaced(weights, place))
+}
+
+// The titles of nodes, with their weights.
+pub(crate) fn nodes_of(
+    alloc: Global,
+    titles: Vec<Title>,
+    sums: &BTreeMap<Code, u128>,
+) -> Result<Vec<Node>, AllocError>
+    requires { (q : Code) → sum_at sums.now q < 2 ^ 32 }
+    ensures { IfOk result (λ v. v.items ≡ nodes_with (sum_at sums.now) titles.items) }
+{
+    let mut nodes = Vec::new(alloc);
+    for title in titles {
+        let weight = sums.get(&title.code).copied().unwrap_or(0);
+        if weight > 0 {
+            nodes.push(Node {
+                code: title.code,
+                title: title.title,
+                weight: weight as u32,
+            })?;
+        }
+    }
+    Ok(nodes)
+}

@@ -1,0 +1,33 @@
+//! Rows put in order, in which no key comes twice.
+ghost use Rattle.std.specs.Prelude.{◌≡◌, IfOk, MatchBool};
+ghost use Rattle.std.specs.List.{IsDistinct};
+ghost use Rattle.std.specs.List.Sorted.{IsPermutation};
+ghost use Rattle.std.specs.Ordering.{is_eq};
+ghost use Rattle.cpi_rows.specs.Keyed.{IsInOrder};
+ghost use Rattle.cpi_plan.specs.Once.{Falters};
+
+use cpi_rows::Keyed;
+use std::alloc::AllocError;
+
+// Whether each key is below the next.
+fn rises<T: Keyed>(rows: &[T]) -> bool
+    ensures { MatchBool result (IsInOrder T.Key.cmp T.key rows.now) (Falters T.Key.cmp T.key rows.now) }
+{
+    for i in 1..rows.len() {
+        if !rows[i - 1].key().cmp(&rows[i].key()).is_lt() {
+            return false;
+        }
+    }
+    true
+}
+
+// Puts rows in the order of their keys, and says whether no key comes twice.
+pub(crate) fn put_in_order<T: Keyed + Drop>(rows: &mut Vec<T>) -> Result<bool, AllocError>
+    ensures moved { IsPermutation rows.old.items rows.new.items }
+    ensures order { IfOk result (λ b. MatchBool b
+        (IsInOrder T.Key.cmp T.key rows.new.items)
+        (IsDistinct (λ a b. is_eq (T.Key.cmp (T.key a) (T.key b))) rows.old.items → ⊥)) }
+{
+    rows.sort_by_key(|row| row.key())?;
+    Ok(rises(rows))
+}

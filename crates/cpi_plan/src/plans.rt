@@ -1,0 +1,198 @@
+//! Yearly plans.
+ghost use Rattle.std.specs.Prelude.{◌≡◌, ◌≢◌, ℕ, ◌≤◌, IsTrue, SomeIff, option_map};
+ghost use Rattle.std.specs.Option.{option_copied};
+ghost use Rattle.std.specs.Ordering.{nat_cmp};
+ghost use Rattle.cpi_codes.specs.CodeOrder.{code_cmp};
+ghost use Rattle.cpi_rows.specs.Keyed.{row_at, IsInOrder};
+ghost use Rattle.cpi_plan.specs.Plan.{Body, IsBuilt, IsOneFault, IsOnePlan};
+ghost use Rattle.cpi_plan.specs.Planned.{planned};
+ghost use Rattle.cpi_plan.specs.SamePlan.{same_plan};
+ghost use Rattle.cpi_plan.specs.Sums.{weight_under, is_node};
+ghost use Rattle.cpi_plan.specs.declared.plan_faults.PlanFault.TheVariants.{NoMemory};
+
+use crate::checks::{
+    are_elementary, first_untitled, has_unknown, has_unplaced, has_zero, nodes_of, total,
+    weight_sums,
+};
+use crate::items::Item;
+use crate::once::put_in_order;
+use crate::plan_faults::PlanFault;
+use crate::plan_rows::{Node, Place, Title, Weight};
+use crate::same_rows::are_same;
+use cpi_codes::{Code, ItemCode, Name};
+use cpi_rows::{Keyed, find_row};
+use std::alloc::Global;
+use std::marker::Model;
+
+const WHOLE: u128 = 1_000_000;
+
+/// The plan of a year.
+#[derive(Debug, Drop)]
+pub struct YearPlan {
+    year: u16,
+    nodes: Vec<Node>,
+    weights: Vec<Weight>,
+    places: Vec<Place>,
+}
+
+impl Model for YearPlan {
+    ghost use Rattle.cpi_plan.specs.Plan.{Plan, IsPlan};
+
+    ghost Value = { Plan };
+
+    ghost view = { λ p. record { year = p.year; nodes = p.nodes.items; weights = p.weights.items; places = p.places.items } };
+
+    ghost invariant = { λ p. IsPlan (record { year = p.year; nodes = p.nodes.items; weights = p.weights.items; places = p.places.items }) };
+}
+
+fn of_ordered(
+    alloc: Global,
+    year: u16,
+    known_items: &[Item],
+    titles: Vec<Title>,
+    weights: Vec<Weight>,
+    mut places: Vec<Place>,
+) -> Result<YearPlan, PlanFault>
+    requires year_in_calendar { (2000 ≤ year) × (year ≤ 2199) }
+    requires known_in_order { IsInOrder nat_cmp (λ i. i.code) known_items.now }
+    requires titles_in_order { IsInOrder code_cmp (λ t. t.code) titles.items }
+    requires weights_in_order { IsInOrder code_cmp (λ w. w.code) weights.items }
+    ensures { IsBuilt year (record { known = known_items.now; titles = titles.items; weights = weights.items; places = places.items }) result }
+{
+    if !are_elementary(&weights, &places) {
+        return Err(PlanFault::NotElementary);
+    }
+    if has_zero(&weights) {
+        return Err(PlanFault::ZeroWeight);
+    }
+    let found = total(&weights);
+    if found != WHOLE {
+        return Err(PlanFault::WeightSum(found));
+    }
+    let sums = weight_sums(alloc, &weights).map_err(|_| PlanFault::NoMemory)?;
+    if let Some(code) = first_untitled(&sums, &titles) {
+        return Err(PlanFault::TitleMissing(code));
+    }
+    if has_unknown(known_items, &places) {
+        return Err(PlanFault::UnknownItem);
+    }
+    if !put_in_order(&mut places).map_err(|_| PlanFault::NoMemory)? {
+        return Err(PlanFault::ItemTwice);
+    }
+    if has_unplaced(&weights, &places) {
+        return Err(PlanFault::UnknownAggregate);
+    }
+    let nodes = nodes_of(alloc, titles, &sums).map_err(|_| PlanFault::NoMemory)?;
+    Ok(YearPlan {
+        year,
+        nodes,
+        weights,
+        places,
+    })
+}
+
+impl YearPlan {
+    /// The plan of a year, 2000 to 2199, or the first fault of what was sent, over all of it. Rows may come in any order;
+    /// titles of codes that are no nodes are dropped. `known_items` are the items that are known, in the order of codes.
+    /// O(n log n) for n rows.
+    pub fn build(
+        alloc: Global,
+        year: u16,
+        known_items: &[Item],
+        mut titles: Vec<Title>,
+        mut weights: Vec<Weight>,
+        places: Vec<Place>,
+    ) -> Result<YearPlan, PlanFault>
+        requires year_in_calendar { (2000 ≤ year) × (year ≤ 2199) }
+        requires known_in_order { IsInOrder nat_cmp (λ i. i.code) known_items.now }
+        ensures built { IsBuilt year (record { known = known_items.now; titles = titles.items; weights = weights.items; places = places.items }) result }
+        ensures planned { result ≢ Err NoMemory → result ≡ planned year (record { known = known_items.now; titles = titles.items; weights = weights.items; places = places.items }) }
+    {
+        let titles_once = put_in_order(&mut titles).map_err(|_| PlanFault::NoMemory)?;
+        let weights_once = put_in_order(&mut weights).map_err(|_| PlanFault::NoMemory)?;
+        if !titles_once || !weights_once {
+            return Err(PlanFault::DuplicateCode);
+        }
+        of_ordered(alloc, year, known_items, titles, weights, places)
+    }
+
+    /// The year, 2000 to 2199.
+    pub fn year(&self) -> u16
+        ensures value { result ≡ self.now.year }
+        ensures range { (2000 ≤ result) × (result ≤ 2199) }
+    {
+        self.year
+    }
+
+    /// The nodes, in the order of codes.
+    pub fn nodes(&self) -> &[Node]
+        ensures { result.now ≡ self.now.nodes }
+    {
+        &self.nodes
+    }
+
+    /// The weights, in the order of codes.
+    pub fn weights(&self) -> &[Weight]
+        ensures { result.now ≡ self.now.weights }
+    {
+        &self.weights
+    }
+
+    /// The items with their aggregates, in the order of items.
+    pub fn places(&self) -> &[Place]
+        ensures { result.now ≡ self.now.places }
+    {
+        &self.places
+    }
+
+    /// Whether the two plans are one: the year, the nodes with their titles, the weights and the places.
+    pub fn is_same(&self, other: &YearPlan) -> bool
+        ensures { result ≡ same_plan self.now other.now }
+    {
+        self.year == other.year
+            && are_same(&self.nodes, &other.nodes)
+            && are_same(&self.weights, &other.weights)
+            && are_same(&self.places, &other.places)
+    }
+
+    /// The sum of the weights of the aggregates that are the code or below it; none of a code that is no node.
+    pub fn weight(&self, code: &Code) -> Option<u32>
+        ensures { SomeIff result (IsTrue (is_node self.now.weights code.now)) (weight_under code.now self.now.weights) }
+    {
+        Some(find_row(&self.nodes, code)?.weight)
+    }
+
+    /// The title of a node.
+    pub fn title(&self, code: &Code) -> Option<&Name>
+        ensures { option_copied result ≡ option_map (λ n. n.title) (row_at code_cmp (λ n. n.code) code.now self.now.nodes) }
+    {
+        Some(&find_row(&self.nodes, code)?.title)
+    }
+
+    /// The aggregate of an item.
+    pub fn aggregate_of(&self, item: &ItemCode) -> Option<Code>
+        ensures { result ≡ option_map (λ p. p.aggregate) (row_at nat_cmp (λ p. p.item) item.now self.now.places) }
+    {
+        Some(find_row(&self.places, item)?.aggregate)
+    }
+}
+
+impl Keyed for YearPlan {
+    type Key = u16;
+
+    ghost key = { λ p. p.year };
+
+    fn key(&self) -> u16 {
+        self.year
+    }
+}
+
+/// A law: what is sent for a year makes one plan.
+pub fn makes_one_plan()
+    ensures { (year : ℕ) (b : Body) → IsOnePlan year b }
+{}
+
+/// A law: what is sent has one first fault.
+pub fn has_one_fault()
+    ensures { (b : Body) → IsOneFault b }
+{}
