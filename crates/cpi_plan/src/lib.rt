@@ -20,4 +20,6 @@ pub use plans::{YearPlan, has_one_fault, makes_one_plan};
 pub use tolerances::{HighTolerance, LowTolerance};
 
 #[cfg(test)]
+mod plan_tests;
+#[cfg(test)]
 mod tests;
