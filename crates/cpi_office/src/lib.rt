@@ -11,6 +11,7 @@ mod items;
 mod laws;
 mod office;
 mod outlets;
+mod plans;
 mod quotes;
 mod refusal;
 mod reply;
