@@ -1,9 +1,10 @@
 //! The program `cpi`: it reads the words, does the job and tells one line of what failed.
 #![tactic(auto)]
 
-use cpi_app::{Job, WireFault, job_of_words, replay};
+use cpi_app::{Job, job_of_words};
 use cpi_office::Office;
 use cpi_store::VecBook;
+use cpi_wire::{WireFault, replay};
 use std::io::BufReader;
 use std::process::ExitCode;
 use std::{env, io};

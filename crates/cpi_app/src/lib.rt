@@ -1,35 +1,11 @@
-//! The program's jobs: records in and reply lines out, and the words of the command line.
+//! The program's jobs, and the words of the command line.
 #![tactic(auto)]
 
-mod answers;
-mod arguments;
-mod asks;
 mod command;
-mod fault;
-mod fields;
-mod import;
 mod job;
-mod laws;
-mod line;
-mod reader;
-mod record;
-mod records;
-mod requests;
-mod rows;
-mod words;
-mod write;
 
-pub use asks::{Answer, Ask};
 pub use command::job_of_words;
-pub use fault::WireFault;
-pub use import::import_rows;
 pub use job::Job;
-pub use laws::records_are_a_run;
-pub use line::reply_line;
-pub use record::request_of_record;
-pub use records::replay;
-pub use requests::ImportRows;
-pub use rows::answer_line;
 
 #[cfg(test)]
 mod tests;

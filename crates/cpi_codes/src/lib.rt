@@ -21,6 +21,7 @@ mod rounding;
 mod series;
 mod slots;
 mod spelling;
+mod years;
 mod zone;
 
 pub use code_laws::{nodes_are_on_the_path, one_text_one_code};
@@ -43,6 +44,7 @@ pub use prices::Price;
 pub use rounding::round_div;
 pub use series::SeriesId;
 pub use slots::Slot;
+pub use years::Year;
 pub use zone::{MomentFault, Zone, moment_at, one_answer, picks_as_stated, zone_of};
 
 #[cfg(test)]

@@ -51,6 +51,11 @@ fn keeps_limits(rt: HostRuntime) {
         Some(9_999_999_999)
     );
     assert_eq!(rt; Moment::new(10_000_000_000), None);
+    assert_eq!(rt; Year::new(2000).map(|y| y.number()), Some(2000));
+    assert_eq!(rt; Year::parse(b"2199").map(|y| y.number()), Some(2199));
+    assert_eq!(rt; Year::new(1999), None);
+    assert_eq!(rt; Year::parse(b"2200"), None);
+    assert_eq!(rt; Year::parse(b"02026"), None);
 }
 
 #[test]

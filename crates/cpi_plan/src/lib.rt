@@ -5,6 +5,7 @@ mod calendar;
 mod checks;
 mod items;
 mod once;
+mod plan_bodies;
 mod plan_faults;
 mod plan_rows;
 mod plans;
@@ -14,6 +15,7 @@ mod tolerances;
 
 pub use calendar::CalendarRow;
 pub use items::Item;
+pub use plan_bodies::PlanBody;
 pub use plan_faults::PlanFault;
 pub use plan_rows::{Node, Place, Title, Weight};
 pub use plans::{YearPlan, has_one_fault, makes_one_plan};

@@ -1,0 +1,142 @@
+-- How many arguments a list of fields has.
+use Rattle.std.proofs.Common.{◌≡◌, ◌≢◌, refl, true, false, List, [], ◌∷◌, length, get_or, map, None, Some, Bor, arith}
+use Rattle.cpi_wire.specs.Arguments.{Text, none, one, two, four, four_and_confirm, is_confirm, five, six}
+
+abbrev pub texts : List (Bor Text) → List Text
+texts xs = map (λ a. a.now) xs
+
+pub none-is : (xs : List (Bor Text)) → length xs ≡ 0 → Some tt ≡ none (texts xs)
+unfolding none
+none-is [] h = refl
+none-is (z ∷ xs) h = absurd (omega arith)
+
+pub none-not : (xs : List (Bor Text)) → length xs ≢ 0 → None ≡ none (texts xs)
+unfolding none
+none-not [] h = absurd (h refl)
+none-not (z ∷ xs) h = refl
+
+pub two-is : (xs : List (Bor Text)) (o : Bor Text) → length xs ≡ 2 → Some ((get_or xs 0 o).now, (get_or xs 1 o).now) ≡ two (texts xs)
+unfolding two
+two-is [] o h = absurd (omega arith)
+two-is (a ∷ []) o h = absurd (omega arith)
+two-is (a ∷ b ∷ []) o h = refl
+two-is (a ∷ b ∷ z ∷ xs) o h = absurd (omega arith)
+
+pub two-not : (xs : List (Bor Text)) → length xs ≢ 2 → None ≡ two (texts xs)
+unfolding two
+two-not [] h = refl
+two-not (a ∷ []) h = refl
+two-not (a ∷ b ∷ []) h = absurd (h refl)
+two-not (a ∷ b ∷ z ∷ xs) h = refl
+
+pub one-is : (xs : List (Bor Text)) (o : Bor Text) → length xs ≡ 1 → Some (get_or xs 0 o).now ≡ one (texts xs)
+unfolding one
+one-is [] o h = absurd (omega arith)
+one-is (a ∷ []) o h = refl
+one-is (a ∷ z ∷ xs) o h = absurd (omega arith)
+
+pub one-not : (xs : List (Bor Text)) → length xs ≢ 1 → None ≡ one (texts xs)
+unfolding one
+one-not [] h = refl
+one-not (a ∷ []) h = absurd (h refl)
+one-not (a ∷ z ∷ xs) h = refl
+
+pub confirm-four : (xs : List (Bor Text)) (o : Bor Text) → length xs ≡ 4 → Some ((get_or xs 0 o).now, (get_or xs 1 o).now, (get_or xs 2 o).now, (get_or xs 3 o).now, false) ≡ four_and_confirm (texts xs)
+unfolding four_and_confirm
+confirm-four [] o h = absurd (omega arith)
+confirm-four (a ∷ []) o h = absurd (omega arith)
+confirm-four (a ∷ b ∷ []) o h = absurd (omega arith)
+confirm-four (a ∷ b ∷ c ∷ []) o h = absurd (omega arith)
+confirm-four (a ∷ b ∷ c ∷ d ∷ []) o h = refl
+confirm-four (a ∷ b ∷ c ∷ d ∷ e ∷ []) o h = absurd (omega arith)
+confirm-four (a ∷ b ∷ c ∷ d ∷ e ∷ z ∷ xs) o h = absurd (omega arith)
+
+pub confirm-five : (xs : List (Bor Text)) (o : Bor Text) → length xs ≡ 5 → is_confirm (get_or xs 4 o).now ≡ true → Some ((get_or xs 0 o).now, (get_or xs 1 o).now, (get_or xs 2 o).now, (get_or xs 3 o).now, true) ≡ four_and_confirm (texts xs)
+unfolding four_and_confirm
+confirm-five [] o h yes_it = absurd (omega arith)
+confirm-five (a ∷ []) o h yes_it = absurd (omega arith)
+confirm-five (a ∷ b ∷ []) o h yes_it = absurd (omega arith)
+confirm-five (a ∷ b ∷ c ∷ []) o h yes_it = absurd (omega arith)
+confirm-five (a ∷ b ∷ c ∷ d ∷ []) o h yes_it = absurd (omega arith)
+confirm-five (a ∷ b ∷ c ∷ d ∷ e ∷ []) o h yes_it = rw yes_it refl
+confirm-five (a ∷ b ∷ c ∷ d ∷ e ∷ z ∷ xs) o h yes_it = absurd (omega arith)
+
+pub confirm-other : (xs : List (Bor Text)) (o : Bor Text) → length xs ≡ 5 → is_confirm (get_or xs 4 o).now ≡ false → None ≡ four_and_confirm (texts xs)
+unfolding four_and_confirm
+confirm-other [] o h not_it = absurd (omega arith)
+confirm-other (a ∷ []) o h not_it = absurd (omega arith)
+confirm-other (a ∷ b ∷ []) o h not_it = absurd (omega arith)
+confirm-other (a ∷ b ∷ c ∷ []) o h not_it = absurd (omega arith)
+confirm-other (a ∷ b ∷ c ∷ d ∷ []) o h not_it = absurd (omega arith)
+confirm-other (a ∷ b ∷ c ∷ d ∷ e ∷ []) o h not_it = rw not_it refl
+confirm-other (a ∷ b ∷ c ∷ d ∷ e ∷ z ∷ xs) o h not_it = absurd (omega arith)
+
+pub confirm-not : (xs : List (Bor Text)) → length xs ≢ 4 → length xs ≢ 5 → None ≡ four_and_confirm (texts xs)
+unfolding four_and_confirm
+confirm-not [] h i = refl
+confirm-not (a ∷ []) h i = refl
+confirm-not (a ∷ b ∷ []) h i = refl
+confirm-not (a ∷ b ∷ c ∷ []) h i = refl
+confirm-not (a ∷ b ∷ c ∷ d ∷ []) h i = absurd (h refl)
+confirm-not (a ∷ b ∷ c ∷ d ∷ e ∷ []) h i = absurd (i refl)
+confirm-not (a ∷ b ∷ c ∷ d ∷ e ∷ z ∷ xs) h i = refl
+
+pub four-is : (xs : List (Bor Text)) (o : Bor Text) → length xs ≡ 4 → Some ((get_or xs 0 o).now, (get_or xs 1 o).now, (get_or xs 2 o).now, (get_or xs 3 o).now) ≡ four (texts xs)
+unfolding four
+four-is [] o h = absurd (omega arith)
+four-is (a ∷ []) o h = absurd (omega arith)
+four-is (a ∷ b ∷ []) o h = absurd (omega arith)
+four-is (a ∷ b ∷ c ∷ []) o h = absurd (omega arith)
+four-is (a ∷ b ∷ c ∷ d ∷ []) o h = refl
+four-is (a ∷ b ∷ c ∷ d ∷ z ∷ xs) o h = absurd (omega arith)
+
+pub four-not : (xs : List (Bor Text)) → length xs ≢ 4 → None ≡ four (texts xs)
+unfolding four
+four-not [] h = refl
+four-not (a ∷ []) h = refl
+four-not (a ∷ b ∷ []) h = refl
+four-not (a ∷ b ∷ c ∷ []) h = refl
+four-not (a ∷ b ∷ c ∷ d ∷ []) h = absurd (h refl)
+four-not (a ∷ b ∷ c ∷ d ∷ z ∷ xs) h = refl
+
+pub five-is : (xs : List (Bor Text)) (o : Bor Text) → length xs ≡ 5 → Some ((get_or xs 0 o).now, (get_or xs 1 o).now, (get_or xs 2 o).now, (get_or xs 3 o).now, (get_or xs 4 o).now) ≡ five (texts xs)
+unfolding five
+five-is [] o h = absurd (omega arith)
+five-is (a ∷ []) o h = absurd (omega arith)
+five-is (a ∷ b ∷ []) o h = absurd (omega arith)
+five-is (a ∷ b ∷ c ∷ []) o h = absurd (omega arith)
+five-is (a ∷ b ∷ c ∷ d ∷ []) o h = absurd (omega arith)
+five-is (a ∷ b ∷ c ∷ d ∷ e ∷ []) o h = refl
+five-is (a ∷ b ∷ c ∷ d ∷ e ∷ z ∷ xs) o h = absurd (omega arith)
+
+pub five-not : (xs : List (Bor Text)) → length xs ≢ 5 → None ≡ five (texts xs)
+unfolding five
+five-not [] h = refl
+five-not (a ∷ []) h = refl
+five-not (a ∷ b ∷ []) h = refl
+five-not (a ∷ b ∷ c ∷ []) h = refl
+five-not (a ∷ b ∷ c ∷ d ∷ []) h = refl
+five-not (a ∷ b ∷ c ∷ d ∷ e ∷ []) h = absurd (h refl)
+five-not (a ∷ b ∷ c ∷ d ∷ e ∷ z ∷ xs) h = refl
+
+pub six-is : (xs : List (Bor Text)) (o : Bor Text) → length xs ≡ 6 → Some ((get_or xs 0 o).now, (get_or xs 1 o).now, (get_or xs 2 o).now, (get_or xs 3 o).now, (get_or xs 4 o).now, (get_or xs 5 o).now) ≡ six (texts xs)
+unfolding six
+six-is [] o h = absurd (omega arith)
+six-is (a ∷ []) o h = absurd (omega arith)
+six-is (a ∷ b ∷ []) o h = absurd (omega arith)
+six-is (a ∷ b ∷ c ∷ []) o h = absurd (omega arith)
+six-is (a ∷ b ∷ c ∷ d ∷ []) o h = absurd (omega arith)
+six-is (a ∷ b ∷ c ∷ d ∷ e ∷ []) o h = absurd (omega arith)
+six-is (a ∷ b ∷ c ∷ d ∷ e ∷ f ∷ []) o h = refl
+six-is (a ∷ b ∷ c ∷ d ∷ e ∷ f ∷ z ∷ xs) o h = absurd (omega arith)
+
+pub six-not : (xs : List (Bor Text)) → length xs ≢ 6 → None ≡ six (texts xs)
+unfolding six
+six-not [] h = refl
+six-not (a ∷ []) h = refl
+six-not (a ∷ b ∷ []) h = refl
+six-not (a ∷ b ∷ c ∷ []) h = refl
+six-not (a ∷ b ∷ c ∷ d ∷ []) h = refl
+six-not (a ∷ b ∷ c ∷ d ∷ e ∷ []) h = refl
+six-not (a ∷ b ∷ c ∷ d ∷ e ∷ f ∷ []) h = absurd (h refl)
+six-not (a ∷ b ∷ c ∷ d ∷ e ∷ f ∷ z ∷ xs) h = refl

@@ -1,0 +1,86 @@
+-- No reply has a float.
+use Rattle.std.proofs.Common.{◌≡◌, refl, ℕ, List, [], ◌∷◌, map, false, Option, Some, None}
+use Rattle.serde_json.specs.Data.{Data}
+use Rattle.serde_json.specs.View.{items_of}
+use Rattle.serde_json.specs.Written.{has_float, items_have_float}
+use Rattle.cpi_survey.specs.declared.mark.Mark.{Mark}
+use Rattle.cpi_survey.specs.declared.mark.Mark.TheVariants.{Price, Missing, Comparable, Other}
+use Rattle.cpi_survey.specs.Quote.{QuoteRow}
+use Rattle.cpi_survey.specs.WorkPart.{WorkPart}
+use Rattle.cpi_plan.specs.declared.plan_faults.PlanFault.{PlanFault}
+use Rattle.cpi_plan.specs.declared.plan_faults.PlanFault.TheVariants as fault
+use Rattle.cpi_office.specs.declared.refusal.Refusal.{Refusal}
+use Rattle.cpi_office.specs.declared.refusal.Refusal.TheVariants as refusal
+use Rattle.cpi_office.specs.declared.reply.Reply.{Reply}
+use Rattle.cpi_office.specs.declared.reply.Reply.TheVariants as reply
+use Rattle.cpi_wire.specs.Rows.{rows_data}
+use Rattle.cpi_wire.specs.Line.{data_of, quote_data, mark_value, item_data, price_data, mark_data, receipt_data, work_row_data, fault_data, refusal_data}
+
+none-of : {X : Type 0} (f : X → Data) → ((x : X) → has_float (f x) ≡ false) → (xs : List X) → items_have_float (items_of (map f xs)) ≡ false
+none-of f h [] = refl
+none-of f h (x ∷ xs) = rw (h x) (none-of f h xs)
+
+value-none : (m : Mark) → has_float (mark_value m) ≡ false
+value-none (Price p) = refl
+value-none (Missing r) = refl
+value-none (Comparable p) = refl
+value-none (Other p) = refl
+
+quote-none : (q : QuoteRow) → has_float (quote_data q) ≡ false
+quote-none q = rw (value-none q.mark) refl
+
+price-none : (p : Option ℕ) → has_float (price_data p) ≡ false
+price-none None = refl
+price-none (Some p) = refl
+
+mark-none : (q : Option QuoteRow) → has_float (mark_data q) ≡ false
+mark-none None = refl
+mark-none (Some q) = refl
+
+receipt-none : (q : Option QuoteRow) → has_float (receipt_data q) ≡ false
+receipt-none None = refl
+receipt-none (Some q) = refl
+
+work-none : (w : WorkPart) → has_float (work_row_data w) ≡ false
+work-none w = rw (price-none w.last, mark-none w.quote, receipt-none w.quote) refl
+
+fault-none : (f : PlanFault) → has_float (fault_data f) ≡ false
+fault-none fault.DuplicateCode = refl
+fault-none fault.NotElementary = refl
+fault-none fault.ZeroWeight = refl
+fault-none (fault.WeightSum found) = refl
+fault-none (fault.TitleMissing code) = refl
+fault-none fault.UnknownItem = refl
+fault-none fault.ItemTwice = refl
+fault-none fault.UnknownAggregate = refl
+fault-none fault.NoMemory = refl
+
+refusal-none : (why : Refusal) → has_float (refusal_data why) ≡ false
+refusal-none (refusal.OutOfTolerance last low high) = refl
+refusal-none refusal.BadRequest = refl
+refusal-none refusal.UnknownKey = refl
+refusal-none refusal.NotForCaller = refl
+refusal-none refusal.UnknownSlot = refl
+refusal-none refusal.UnknownMonth = refl
+refusal-none refusal.NotActive = refl
+refusal-none refusal.NotOpen = refl
+refusal-none refusal.Closed = refl
+refusal-none refusal.NoLastPrice = refl
+refusal-none refusal.ReceiptsUsedUp = refl
+refusal-none refusal.Taken = refl
+refusal-none refusal.UnknownItem = refl
+refusal-none refusal.UnknownOutlet = refl
+refusal-none refusal.UnknownCollector = refl
+refusal-none (refusal.PlanFault f) = fault-none f
+refusal-none refusal.Unavailable = refl
+
+pub no-floats : (r : Reply) → has_float (data_of r) ≡ false
+no-floats (reply.Receipt n) = refl
+no-floats reply.Done = refl
+no-floats (reply.Work rows) = rw (none-of work_row_data work-none rows) refl
+no-floats (reply.Quotes rows) = rw (none-of quote_data quote-none rows) refl
+no-floats (reply.Items rows) = rw (none-of item_data (λ i. refl) rows) refl
+no-floats (reply.Refused why) = refusal-none why
+
+pub no-floats-in-rows : (replies : List Reply) → has_float (rows_data replies) ≡ false
+no-floats-in-rows replies = rw (none-of data_of no-floats replies) refl

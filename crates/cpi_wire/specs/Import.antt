@@ -1,0 +1,15 @@
+-- The rows of an import.
+use Rattle.std.specs.Prelude.{List, [], ◌∷◌, if◌then◌else◌, nat_lt, length, map, Option, Some, None}
+use Rattle.cpi_office.specs.declared.request.Request.{Request}
+use Rattle.cpi_wire.specs.Arguments.{Text}
+use Rattle.cpi_wire.specs.Input.{Record, records_of}
+use Rattle.cpi_wire.specs.Words.{word_of, request_of}
+
+-- a row is a word and its arguments; no word of a row is that of an import
+unfoldable pub row_request : Record → Option Request
+row_request [] = None
+row_request (word ∷ arguments) = request_of (word_of word) arguments
+
+-- the rows of a body, where they are at most 20,000
+unfoldable pub rows_of : Text → Option (List (Option Request))
+rows_of body = if nat_lt 20000 (length (records_of body)) then None else Some (map row_request (records_of body))

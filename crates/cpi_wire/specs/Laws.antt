@@ -1,0 +1,55 @@
+-- The requests in the records of an input.
+use Rattle.std.specs.Prelude.{ℕ, List, [], ◌∷◌, ◌++◌, Option, Some, None}
+use Rattle.cpi_store.specs.Office.{Office}
+use Rattle.cpi_office.specs.Served.{Ran}
+use Rattle.cpi_office.specs.declared.caller.Caller.{Caller}
+use Rattle.cpi_office.specs.declared.request.Ask.{Ask as Asking}
+use Rattle.cpi_office.specs.declared.request.Request.{Request}
+use Rattle.cpi_office.specs.declared.reply.Reply.{Reply}
+use Rattle.cpi_wire.specs.declared.asks.Answer.{Answer}
+use Rattle.cpi_wire.specs.declared.asks.Answer.TheVariants as answer
+use Rattle.cpi_wire.specs.declared.asks.Ask.{Ask}
+use Rattle.cpi_wire.specs.declared.asks.Ask.TheVariants as ask
+use Rattle.cpi_wire.specs.Input.{Record}
+use Rattle.cpi_wire.specs.Record.{ask_of}
+use Rattle.cpi_wire.specs.Records.{AnswersAll}
+
+-- the requests in the rows of an import, and their replies
+abbrev pub rows_asked : ℕ → Caller → List (Option Request) → List Asking
+rows_asked t k [] = []
+rows_asked t k (None ∷ rows) = rows_asked t k rows
+rows_asked t k (Some r ∷ rows) = record { now = t; caller = k; request = r } ∷ rows_asked t k rows
+
+abbrev pub rows_replied : List (Option Request) → List Reply → List Reply
+rows_replied [] replies = []
+rows_replied (row ∷ rows) [] = []
+rows_replied (None ∷ rows) (reply ∷ replies) = rows_replied rows replies
+rows_replied (Some r ∷ rows) (reply ∷ replies) = reply ∷ rows_replied rows replies
+
+-- the requests of a record
+abbrev pub asked : Ask → List Asking
+asked ask.Bad = []
+asked (ask.One t k r) = record { now = t; caller = k; request = r } ∷ []
+asked (ask.Import t k rows) = rows_asked t k rows
+
+-- their replies
+abbrev pub replied : Ask → Answer → List Reply
+replied ask.Bad told = []
+replied (ask.One t k r) (answer.One reply) = reply ∷ []
+replied (ask.One t k r) (answer.Rows replies) = []
+replied (ask.Import t k rows) (answer.One reply) = []
+replied (ask.Import t k rows) (answer.Rows replies) = rows_replied rows replies
+
+abbrev pub requests : List Record → List Asking
+requests [] = []
+requests (row ∷ rows) = asked (ask_of row) ++ requests rows
+
+abbrev pub replies_of : List Record → List Answer → List Reply
+replies_of [] replies = []
+replies_of (row ∷ rows) [] = []
+replies_of (row ∷ rows) (reply ∷ replies) = replied (ask_of row) reply ++ replies_of rows replies
+
+-- records that were answered in turn are a run of their requests
+abbrev pub AreARun : {B : Type 0} → (B → Type 0) → (B → Office) → (B → ℕ) → Type 0
+AreARun {B} is_clean lists failures = (old new : B) (rows : List Record) (replies : List Answer)
+    → AnswersAll is_clean lists failures old rows replies new → Ran is_clean lists old new (requests rows) (replies_of rows replies)

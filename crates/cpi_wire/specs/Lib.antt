@@ -1,0 +1,11 @@
+pub mod Answers
+pub mod Arguments
+pub mod Fault
+pub mod Import
+pub mod Input
+pub mod Laws
+pub mod Line
+pub mod Record
+pub mod Records
+pub mod Rows
+pub mod Words

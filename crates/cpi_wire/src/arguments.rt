@@ -1,0 +1,104 @@
+//! So many arguments, and no more.
+ghost use Rattle.std.specs.Prelude.{◌≡◌, map, option_map};
+ghost use Rattle.cpi_wire.specs.Arguments.{none, one as exactly_one, two as exactly_two, four as exactly_four, four_and_confirm as exactly_four_and_confirm, is_confirm, five as exactly_five, six as exactly_six};
+
+pub(crate) fn no_more(arguments: &[&[u8]]) -> Option<()>
+    ensures { result ≡ none (map (λ a. a.now) arguments.now) }
+{
+    if arguments.len() == 0 { Some(()) } else { None }
+}
+
+pub(crate) fn one<'a>(arguments: &[&'a [u8]]) -> Option<&'a [u8]>
+    ensures { option_map (λ a. a.now) result ≡ exactly_one (map (λ a. a.now) arguments.now) }
+{
+    if arguments.len() == 1 {
+        Some(arguments[0])
+    } else {
+        None
+    }
+}
+
+pub(crate) fn two<'a>(arguments: &[&'a [u8]]) -> Option<(&'a [u8], &'a [u8])>
+    ensures { option_map (λ a. (a.0.now, a.1.now)) result ≡ exactly_two (map (λ a. a.now) arguments.now) }
+{
+    if arguments.len() == 2 {
+        Some((arguments[0], arguments[1]))
+    } else {
+        None
+    }
+}
+
+pub(crate) fn four<'a>(arguments: &[&'a [u8]]) -> Option<(&'a [u8], &'a [u8], &'a [u8], &'a [u8])>
+    ensures { option_map (λ a. (a.0.now, a.1.now, a.2.now, a.3.now)) result ≡ exactly_four (map (λ a. a.now) arguments.now) }
+{
+    if arguments.len() == 4 {
+        Some((arguments[0], arguments[1], arguments[2], arguments[3]))
+    } else {
+        None
+    }
+}
+
+fn is_confirm(text: &[u8]) -> bool
+    ensures { result ≡ is_confirm text.now }
+{
+    text == b"confirm".as_slice()
+}
+
+/// Four arguments, and whether a fifth one confirms them.
+pub(crate) fn four_and_confirm<'a>(
+    arguments: &[&'a [u8]],
+) -> Option<(&'a [u8], &'a [u8], &'a [u8], &'a [u8], bool)>
+    ensures { option_map (λ a. (a.0.now, a.1.now, a.2.now, a.3.now, a.4)) result ≡ exactly_four_and_confirm (map (λ a. a.now) arguments.now) }
+{
+    if arguments.len() == 4 {
+        return Some((
+            arguments[0],
+            arguments[1],
+            arguments[2],
+            arguments[3],
+            false,
+        ));
+    }
+    if arguments.len() == 5 && is_confirm(arguments[4]) {
+        Some((arguments[0], arguments[1], arguments[2], arguments[3], true))
+    } else {
+        None
+    }
+}
+
+pub(crate) fn five<'a>(
+    arguments: &[&'a [u8]],
+) -> Option<(&'a [u8], &'a [u8], &'a [u8], &'a [u8], &'a [u8])>
+    ensures { option_map (λ a. (a.0.now, a.1.now, a.2.now, a.3.now, a.4.now)) result ≡ exactly_five (map (λ a. a.now) arguments.now) }
+{
+    if arguments.len() == 5 {
+        Some((
+            arguments[0],
+            arguments[1],
+            arguments[2],
+            arguments[3],
+            arguments[4],
+        ))
+    } else {
+        None
+    }
+}
+
+pub(crate) fn six<'a>(
+    arguments: &[&'a [u8]],
+) -> Option<(&'a [u8], &'a [u8], &'a [u8], &'a [u8], &'a [u8], &'a [u8])>
+    ensures { option_map (λ a. (a.0.now, a.1.now, a.2.now, a.3.now, a.4.now, a.5.now)) result ≡ exactly_six (map (λ a. a.now) arguments.now) }
+{
+    if arguments.len() == 6 {
+        Some((
+            arguments[0],
+            arguments[1],
+            arguments[2],
+            arguments[3],
+            arguments[4],
+            arguments[5],
+        ))
+    } else {
+        None
+    }
+}

@@ -1,0 +1,31 @@
+//! Records in and reply lines out, to the byte.
+#![tactic(auto)]
+
+mod answers;
+mod arguments;
+mod asks;
+mod fault;
+mod fields;
+mod import;
+mod laws;
+mod line;
+mod reader;
+mod record;
+mod records;
+mod requests;
+mod rows;
+mod words;
+mod write;
+
+pub use asks::{Answer, Ask};
+pub use fault::WireFault;
+pub use import::import_rows;
+pub use laws::records_are_a_run;
+pub use line::reply_line;
+pub use record::request_of_record;
+pub use records::replay;
+pub use requests::ImportRows;
+pub use rows::answer_line;
+
+#[cfg(test)]
+mod tests;

@@ -1,0 +1,89 @@
+//! From the fields of a record to what it asks.
+ghost use Rattle.std.specs.Prelude.{◌≡◌, map, IfOk};
+ghost use Rattle.cpi_wire.specs.Record.{caller_of as spelled_caller, import_of as spelled_import, asks as spelled_asks, parts as spelled_parts, ask_of};
+
+use crate::arguments::one;
+use crate::asks::Ask;
+use crate::import::import_rows;
+use crate::requests::ImportRows;
+use crate::words::{request_of, word_of};
+use cpi_codes::{Key, Moment};
+use cpi_office::Caller;
+use std::alloc::{AllocError, Global};
+
+fn caller_of(text: &[u8]) -> Option<Caller>
+    ensures { result ≡ spelled_caller text.now }
+{
+    if text == b"public".as_slice() {
+        Some(Caller::Public)
+    } else if text == b"desk".as_slice() {
+        Some(Caller::Desk)
+    } else {
+        Some(Caller::Collector(Key::parse(text)?))
+    }
+}
+
+// The rows of an import, which has one argument.
+fn import_of(alloc: Global, arguments: &[&[u8]]) -> Result<Option<ImportRows>, AllocError>
+    ensures { IfOk result (λ rows. rows ≡ spelled_import (map (λ f. f.now) arguments.now)) }
+{
+    match one(arguments) {
+        Some(body) => import_rows(alloc, body),
+        None => Ok(None),
+    }
+}
+
+// What a word with its arguments asks.
+fn asks_of(
+    alloc: Global,
+    now: Moment,
+    caller: Caller,
+    word: &[u8],
+    arguments: &[&[u8]],
+) -> Result<Option<Ask>, AllocError>
+    ensures { IfOk result (λ a. a ≡ spelled_asks now caller word.now (map (λ f. f.now) arguments.now)) }
+{
+    if word == b"import".as_slice() {
+        let Some(rows) = import_of(alloc, arguments)? else {
+            return Ok(None);
+        };
+        return Ok(Some(Ask::Import(now, caller, rows)));
+    }
+    let Some(request) = request_of(alloc, word_of(word), arguments)? else {
+        return Ok(None);
+    };
+    Ok(Some(Ask::One(now, caller, request)))
+}
+
+// The first three fields of a record, and its arguments.
+fn parts_of(
+    alloc: Global,
+    moment: &[u8],
+    caller: &[u8],
+    word: &[u8],
+    arguments: &[&[u8]],
+) -> Result<Option<Ask>, AllocError>
+    ensures { IfOk result (λ a. a ≡ spelled_parts moment.now caller.now word.now (map (λ f. f.now) arguments.now)) }
+{
+    let Some(moment) = Moment::parse(moment) else {
+        return Ok(None);
+    };
+    let Some(caller) = caller_of(caller) else {
+        return Ok(None);
+    };
+    asks_of(alloc, moment, caller, word, arguments)
+}
+
+/// What the fields of a record ask: a moment in seconds since 1970 UTC, a caller (`public`, `desk` or a key), a word
+/// and its arguments; those of an import are one body of rows. Whatever isn't of these forms, or outside the limits, is `Bad`.
+pub fn request_of_record(alloc: Global, fields: &[&[u8]]) -> Result<Ask, AllocError>
+    ensures { IfOk result (λ a. a ≡ ask_of (map (λ f. f.now) fields.now)) }
+{
+    if fields.len() < 3 {
+        return Ok(Ask::Bad);
+    }
+    match parts_of(alloc, fields[0], fields[1], fields[2], &fields[3..])? {
+        Some(ask) => Ok(ask),
+        None => Ok(Ask::Bad),
+    }
+}

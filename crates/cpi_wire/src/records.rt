@@ -1,0 +1,94 @@
+//! The loop over the records of an input.
+ghost use Rattle.std.specs.Prelude.{◌≡◌, ◌≢◌, IfOk, OnOk, OnErr, IfErr};
+ghost use Rattle.std.specs.Io.KnownBytes.{Appends};
+ghost use Rattle.csv.specs.Records.{fields_of};
+ghost use Rattle.cpi_wire.specs.Answers.{Answers};
+ghost use Rattle.cpi_wire.specs.Record.{ask_of};
+ghost use Rattle.cpi_wire.specs.Records.{AnsweredInput, GaveUp, LineUntil};
+ghost use Rattle.cpi_wire.specs.Rows.{answer_line as line_of};
+
+use crate::answers::answer;
+use crate::asks::Answer;
+use crate::fault::WireFault;
+use crate::fields::field_list;
+use crate::reader::CallCountingReader;
+use crate::record::request_of_record;
+use crate::rows::answer_line;
+use crate::write::write_whole;
+use cpi_office::Office;
+use cpi_store::Book;
+use csv::{ByteRecord, Error, ErrorKind, ReaderBuilder};
+use std::alloc::{AllocError, Global};
+use std::io::{Read, Write};
+
+/// How many records one replay takes.
+const MAX_RECORDS: u32 = 1_000_000;
+
+/// How many calls of `read` one replay makes.
+const MAX_CALLS: u32 = 20_000_000;
+
+// What an error of the reader is to the replay.
+fn fault_of(error: &Error) -> WireFault
+    ensures { result ≢ WireFault.Write }
+{
+    match error.kind() {
+        ErrorKind::OutOfMemory => WireFault::NoMemory,
+        _ => WireFault::Read,
+    }
+}
+
+// Carries out what the fields of the record ask. Without memory nothing is carried out.
+fn answer_row<B: Book>(
+    alloc: Global,
+    office: &mut Office<B>,
+    row: &ByteRecord,
+) -> Result<Answer, AllocError>
+    ensures ok { IfOk result (λ told. Answers B.is_clean B.lists B.failures office.old.book (ask_of (fields_of row.now)) told office.new.book) }
+    ensures err { OnErr result (office.new ≡ office.old) }
+{
+    let fields = field_list(alloc, row)?;
+    let ask = request_of_record(alloc, &fields)?;
+    answer(alloc, office, ask)
+}
+
+// Writes the line of what the record is answered.
+fn tell<W: Write>(alloc: Global, writer: &mut W, told: &Answer) -> Result<(), WireFault>
+    ensures whole { OnOk result (Appends (W.contents writer.old) (W.contents writer.new) (line_of told.now)) }
+    ensures part { IfErr result (λ e. LineUntil e told.now (W.contents writer.old) (W.contents writer.new)) }
+{
+    let line = answer_line(alloc, told)?;
+    write_whole(writer, &line)
+}
+
+/// Reads records from the reader, carries each out on the office in turn, and writes the line of its reply whole,
+/// before the next record is carried out. The rows of an import are carried out in turn too, and their replies stand
+/// in the one line of the import. Of one input 1,000,000 records are taken; one more ends it with `Read`.
+pub fn replay<R: Read + Drop, W: Write, B: Book>(
+    alloc: Global,
+    reader: R,
+    writer: &mut W,
+    office: &mut Office<B>,
+) -> Result<(), WireFault>
+    ensures ok { OnOk result (AnsweredInput B.is_clean B.lists B.failures (R.remaining reader) office.old.book office.new.book (W.contents writer.old) (W.contents writer.new)) }
+    ensures err { IfErr result (GaveUp B.is_clean B.lists B.failures (R.remaining reader) office.old.book office.new.book (W.contents writer.old) (W.contents writer.new)) }
+{
+    let mut records = ReaderBuilder::new()
+        .has_headers(false)
+        .flexible(true)
+        .from_reader(alloc, CallCountingReader::new(reader, MAX_CALLS));
+    let mut row = ByteRecord::new(alloc);
+    for _ in 0..MAX_RECORDS {
+        match records.read_byte_record(&mut row) {
+            Ok(true) => {}
+            Ok(false) => return Ok(()),
+            Err(error) => return Err(fault_of(&error)),
+        }
+        let told = answer_row(alloc, office, &row)?;
+        tell(alloc, writer, &told)?;
+    }
+    match records.read_byte_record(&mut row) {
+        Ok(false) => Ok(()),
+        Ok(true) => Err(WireFault::Read),
+        Err(error) => Err(fault_of(&error)),
+    }
+}
