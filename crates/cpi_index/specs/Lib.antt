@@ -1,0 +1,4 @@
+pub mod Carried
+pub mod Frozen
+pub mod Row
+pub mod Aggregate
