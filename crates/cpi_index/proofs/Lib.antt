@@ -1,1 +1,5 @@
 pub mod Limits
+pub mod Merge
+pub mod Steps
+pub mod Kept
+pub mod Rising
