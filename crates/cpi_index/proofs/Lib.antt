@@ -3,3 +3,8 @@ pub mod Merge
 pub mod Steps
 pub mod Kept
 pub mod Rising
+pub mod Placing
+pub mod Samples
+pub mod FirstCode
+pub mod Bridge
+pub mod Faults

@@ -5,3 +5,4 @@ pub mod Aggregate
 pub mod Series
 pub mod Sample
 pub mod Month
+pub mod Places

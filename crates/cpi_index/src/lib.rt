@@ -4,14 +4,19 @@
 mod aggregate;
 mod bases;
 mod carried;
+mod carry;
 mod fault;
 mod frozen;
+mod month;
 mod movement;
+mod placed;
+mod places;
 mod row;
 mod rows;
 mod series;
 
 pub use carried::CarriedPrice;
+pub use carry::carry_month;
 pub use fault::IndexFault;
 pub use frozen::FrozenQuote;
 pub use row::GroupRow;
