@@ -8,3 +8,5 @@ pub mod Samples
 pub mod FirstCode
 pub mod Bridge
 pub mod Faults
+pub mod Sums
+pub mod Outside

@@ -6,3 +6,5 @@ pub mod Series
 pub mod Sample
 pub mod Month
 pub mod Places
+pub mod Indices
+pub mod Totals

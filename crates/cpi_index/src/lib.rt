@@ -5,8 +5,11 @@ mod aggregate;
 mod bases;
 mod carried;
 mod carry;
+
 mod fault;
 mod frozen;
+mod index;
+mod indices;
 mod month;
 mod movement;
 mod placed;
@@ -14,10 +17,16 @@ mod places;
 mod row;
 mod rows;
 mod series;
+mod ticks;
+mod totals;
+mod year;
 
 pub use carried::CarriedPrice;
 pub use carry::carry_month;
+pub use indices::elementary;
 pub use fault::IndexFault;
 pub use frozen::FrozenQuote;
+pub use index::{Index, NodeIndex};
 pub use row::GroupRow;
 pub use series::one_number_one_series;
+pub use year::bases_of_year;
