@@ -10,3 +10,4 @@ pub mod Bridge
 pub mod Faults
 pub mod Sums
 pub mod Outside
+pub mod MeanLemmas

@@ -8,3 +8,4 @@ pub mod Month
 pub mod Places
 pub mod Indices
 pub mod Totals
+pub mod Means
