@@ -19,6 +19,7 @@ pub use plan_bodies::PlanBody;
 pub use plan_faults::PlanFault;
 pub use plan_rows::{Node, Place, Title, Weight};
 pub use plans::{YearPlan, has_one_fault, makes_one_plan};
+pub use sums::add_path;
 pub use tolerances::{HighTolerance, LowTolerance};
 
 #[cfg(test)]

@@ -4,7 +4,7 @@ ghost use Rattle.std.specs.Option.{option_copied};
 ghost use Rattle.std.specs.Ordering.{nat_cmp};
 ghost use Rattle.cpi_codes.specs.CodeOrder.{code_cmp};
 ghost use Rattle.cpi_rows.specs.Keyed.{row_at, IsInOrder};
-ghost use Rattle.cpi_plan.specs.Plan.{Body, IsBuilt, IsOneFault, IsOnePlan};
+ghost use Rattle.cpi_plan.specs.Plan.{Body, IsBuilt, IsOneFault, IsOnePlan, IsPlan};
 ghost use Rattle.cpi_plan.specs.Planned.{planned};
 ghost use Rattle.cpi_plan.specs.SamePlan.{same_plan};
 ghost use Rattle.cpi_plan.specs.Sums.{weight_under, is_node};
@@ -136,21 +136,24 @@ impl YearPlan {
 
     /// The nodes, in the order of codes.
     pub fn nodes(&self) -> &[Node]
-        ensures { result.now ≡ self.now.nodes }
+        ensures value { result.now ≡ self.now.nodes }
+        ensures kept { IsPlan self.now }
     {
         &self.nodes
     }
 
     /// The weights, in the order of codes.
     pub fn weights(&self) -> &[Weight]
-        ensures { result.now ≡ self.now.weights }
+        ensures value { result.now ≡ self.now.weights }
+        ensures kept { IsPlan self.now }
     {
         &self.weights
     }
 
     /// The items with their aggregates, in the order of items.
     pub fn places(&self) -> &[Place]
-        ensures { result.now ≡ self.now.places }
+        ensures value { result.now ≡ self.now.places }
+        ensures kept { IsPlan self.now }
     {
         &self.places
     }

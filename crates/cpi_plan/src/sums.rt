@@ -19,8 +19,8 @@ fn add(sums: &mut BTreeMap<Code, u128>, node: Code, amount: u128) -> Result<(), 
     Ok(())
 }
 
-// Adds an amount to an elementary aggregate's own sum and to those of all codes above it.
-pub(crate) fn add_path(
+/// Adds an amount to an elementary aggregate's own sum and to those of all codes above it. Six look-ups; `Err` where memory was refused.
+pub fn add_path(
     sums: &mut BTreeMap<Code, u128>,
     code: Code,
     amount: u128,

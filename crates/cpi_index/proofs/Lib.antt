@@ -1,0 +1,13 @@
+pub mod Limits
+pub mod Merge
+pub mod Steps
+pub mod Kept
+pub mod Rising
+pub mod Placing
+pub mod Samples
+pub mod FirstCode
+pub mod Bridge
+pub mod Faults
+pub mod Sums
+pub mod Outside
+pub mod MeanLemmas

@@ -1,0 +1,8 @@
+use Rattle.std.proofs.Common.{false}
+use Rattle.std.specs.Prelude.{slice_index_or}
+use Rattle.cpi_index.specs.Aggregate.{lacks_match}
+use Rattle.cpi_index.specs.Places.{is_unmatched_at, NoneBelow}
+use Rattle.cpi_index.proofs.month.first_unmatched.Given as goal
+
+abbrev pub invariant-loop-place : goal.invariant-loop-place
+invariant-loop-place l = NoneBelow (is_unmatched_at l.groups l.unchanged) l.place

@@ -1,0 +1,39 @@
+-- Series in their order: by collector, and then by slot.
+use Rattle.std.specs.Prelude.{ℕ, ◌≡◌, ◌≤◌, ◌+◌, ◌*◌, ◌-◌, ◌==◌, Bool, true, ◌&&◌, nat_le, List, [], ◌∷◌, Option, map, find}
+use Rattle.cpi_codes.specs.declared.series.SeriesId.{SeriesId}
+use Rattle.cpi_index.specs.Carried.{Carried}
+use Rattle.cpi_index.specs.Frozen.{Frozen}
+
+-- the number of a series among all that there can be: at most 9,999 collectors with 400 slots each
+abbrev pub serial : SeriesId → ℕ
+serial s = 400 * (s.collector - 1) + (s.slot - 1)
+
+abbrev pub carried_serial : Carried → ℕ
+carried_serial c = serial c.series
+
+abbrev pub frozen_serial : Frozen → ℕ
+frozen_serial q = serial q.series
+
+-- strictly rising, with none below n
+abbrev pub rises_from : ℕ → List ℕ → Bool
+rises_from n [] = true
+rises_from n (x ∷ xs) = nat_le n x && rises_from (x + 1) xs
+
+abbrev pub rises : List ℕ → Bool
+rises xs = rises_from 0 xs
+
+-- in the order of their series, no series twice
+abbrev pub is_by_series : {X : Type 0} → (X → ℕ) → List X → Bool
+is_by_series key xs = rises (map key xs)
+
+-- the element of a series, by its number
+abbrev pub at : {X : Type 0} → (X → ℕ) → ℕ → List X → Option X
+at key n xs = find (λ x. key x == n) xs
+
+-- slots are 1 to 400
+abbrev pub AreSlots : SeriesId → SeriesId → Type 0
+AreSlots s t = ((1 ≤ s.slot) × (s.slot ≤ 400)) × ((1 ≤ t.slot) × (t.slot ≤ 400)) × (1 ≤ s.collector) × (1 ≤ t.collector)
+
+-- one number, one series
+abbrev pub IsOneSeries : SeriesId → SeriesId → Type 0
+IsOneSeries s t = AreSlots s t → serial s ≡ serial t → (s.collector ≡ t.collector) × (s.slot ≡ t.slot)
