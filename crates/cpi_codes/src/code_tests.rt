@@ -31,12 +31,34 @@ fn reads_and_writes_codes(rt: HostRuntime) -> Result<(), Fail> {
 #[test]
 fn refuses_what_is_no_code(rt: HostRuntime) {
     let shapes = [
-        "", "0", "1", "001", "1.1", "01.", "01.11", "01-01", "01.1.1-01", "00.1", "00-01", "16",
-        "99.1", "01.1.1.1-1", "01.1.1.1-001", "01.1.1.1-0a", "01.1.1.1.1", " 01", "01 ", "a1",
+        "",
+        "0",
+        "1",
+        "001",
+        "1.1",
+        "01.",
+        "01.11",
+        "01-01",
+        "01.1.1-01",
+        "00.1",
+        "00-01",
+        "16",
+        "99.1",
+        "01.1.1.1-1",
+        "01.1.1.1-001",
+        "01.1.1.1-0a",
+        "01.1.1.1.1",
+        " 01",
+        "01 ",
+        "a1",
         "16.1.1.1-00",
     ];
     for text in shapes {
-        assert_eq!(rt; Code::parse(text.as_bytes()), Err(CodeFault::Shape), "{text}");
+        assert_eq!(rt;
+            Code::parse(text.as_bytes()),
+            Err(CodeFault::Shape),
+            "{text}"
+        );
     }
     for text in ["14", "15", "14.1", "15.1.1.1-00"] {
         assert_eq!(rt;
@@ -46,7 +68,11 @@ fn refuses_what_is_no_code(rt: HostRuntime) {
         );
     }
     for text in ["01.1.1.1-00", "13.9.0.9-00"] {
-        assert_eq!(rt; Code::parse(text.as_bytes()), Err(CodeFault::Zero), "{text}");
+        assert_eq!(rt;
+            Code::parse(text.as_bytes()),
+            Err(CodeFault::Zero),
+            "{text}"
+        );
     }
 }
 

@@ -114,7 +114,11 @@ fn a_plan_is_put_and_replaced(rt: HostRuntime) -> Result<(), Fail> {
     let mut other = body(alloc)?;
     let mut titles = Rows::new(alloc);
     for (text, words) in TITLES {
-        let words: &[u8] = if text == &b"01.1"[..] { b"Foods" } else { words };
+        let words: &[u8] = if text == &b"01.1"[..] {
+            b"Foods"
+        } else {
+            words
+        };
         titles.push(title(alloc, text, words)?)?;
     }
     other.titles = titles;

@@ -60,7 +60,14 @@ fn calendar(month: u8, closes: u64) -> Result<Request, Fail> {
 
 // The plan of 2026 of one aggregate, with this title of all items.
 fn plan(alloc: Global, all_items: &[u8]) -> Result<Request, Fail> {
-    let texts: [&[u8]; 6] = [b"01", b"01.1", b"01.1.1", b"01.1.1.1", b"01.1.1.1-01", b"00"];
+    let texts: [&[u8]; 6] = [
+        b"01",
+        b"01.1",
+        b"01.1.1",
+        b"01.1.1.1",
+        b"01.1.1.1-01",
+        b"00",
+    ];
     let mut titles = Rows::new(alloc);
     for text in texts {
         titles.push(Title {

@@ -65,8 +65,14 @@ fn plans_stand_by_year(rt: HostRuntime) -> Result<(), Fail> {
     book.put_plan(plan(alloc, 2026, b"Everything")?)?;
     let years = book.public_part()?.plans().iter().map(|plan| plan.year());
     assert!(rt; years.eq([2025, 2026, 2027]));
-    assert_eq!(rt; title_of(alloc, &mut book, 2025)?.as_deref(), Some("All items"));
-    assert_eq!(rt; title_of(alloc, &mut book, 2026)?.as_deref(), Some("Everything"));
+    assert_eq!(rt;
+        title_of(alloc, &mut book, 2025)?.as_deref(),
+        Some("All items")
+    );
+    assert_eq!(rt;
+        title_of(alloc, &mut book, 2026)?.as_deref(),
+        Some("Everything")
+    );
     assert_eq!(rt; title_of(alloc, &mut book, 2028)?, None);
     Ok(())
 }
@@ -78,8 +84,14 @@ fn a_plan_that_fails_leaves_the_one_that_stands(rt: HostRuntime) -> Result<(), F
     book.put_plan(plan(alloc, 2026, b"All items")?)?;
     let again = book.put_plan(plan(alloc, 2026, b"Everything")?);
     assert_eq!(rt; again, Err(StoreFault));
-    assert_eq!(rt; title_of(alloc, &mut book, 2026)?.as_deref(), Some("All items"));
+    assert_eq!(rt;
+        title_of(alloc, &mut book, 2026)?.as_deref(),
+        Some("All items")
+    );
     book.put_plan(plan(alloc, 2026, b"Everything")?)?;
-    assert_eq!(rt; title_of(alloc, &mut book, 2026)?.as_deref(), Some("Everything"));
+    assert_eq!(rt;
+        title_of(alloc, &mut book, 2026)?.as_deref(),
+        Some("Everything")
+    );
     Ok(())
 }
