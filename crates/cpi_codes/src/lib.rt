@@ -48,6 +48,8 @@ pub use years::Year;
 pub use zone::{MomentFault, Zone, moment_at, one_answer, picks_as_stated, zone_of};
 
 #[cfg(test)]
+mod code_tests;
+#[cfg(test)]
 mod tests;
 #[cfg(test)]
 mod zone_tests;

@@ -32,4 +32,6 @@ pub use reply::Reply;
 pub use request::{Ask, Request};
 
 #[cfg(test)]
+mod plan_tests;
+#[cfg(test)]
 mod tests;

@@ -2,8 +2,11 @@ use crate::{
     Ask, Caller, Office, Reply, Request, empty_is_sound, others_do_not_matter, runs_tell_alike,
     views_are_rebuilt, worked_plans, worked_runs,
 };
-use cpi_codes::{CollectorId, ItemCode, Key, Moment, Month, Name, OutletId, Price, SeriesId, Slot};
-use cpi_plan::{CalendarRow, HighTolerance, Item, LowTolerance};
+use cpi_codes::{
+    Code, CollectorId, ItemCode, Key, Moment, Month, Name, OutletId, Price, SeriesId, Slot, Year,
+};
+use cpi_plan::{CalendarRow, HighTolerance, Item, LowTolerance, Place, PlanBody, Title, Weight};
+use cpi_rows::Rows;
 use cpi_store::{Bearer, Book, FailBook, Outlet, VecBook};
 use cpi_survey::{Assignment, Entry, Mark};
 use std::alloc::Global;
@@ -53,6 +56,42 @@ fn calendar(month: u8, closes: u64) -> Result<Request, Fail> {
         at(closes)?,
     );
     Ok(Request::PutCalendar(row.ok_or("no row")?))
+}
+
+// The plan of 2026 of one aggregate, with this title of all items.
+fn plan(alloc: Global, all_items: &[u8]) -> Result<Request, Fail> {
+    let texts: [&[u8]; 6] = [
+        b"01",
+        b"01.1",
+        b"01.1.1",
+        b"01.1.1.1",
+        b"01.1.1.1-01",
+        b"00",
+    ];
+    let mut titles = Rows::new(alloc);
+    for text in texts {
+        titles.push(Title {
+            code: Code::parse(text).ok().ok_or("no code")?,
+            title: Name::new(alloc, all_items)?,
+        })?;
+    }
+    let aggregate = Code::parse(b"01.1.1.1-01").ok().ok_or("no code")?;
+    let mut weights = Rows::new(alloc);
+    weights.push(Weight {
+        code: aggregate,
+        parts: 1_000_000,
+    })?;
+    let mut places = Rows::new(alloc);
+    places.push(Place {
+        item: ItemCode::parse(b"RICE").ok_or("no code")?,
+        aggregate,
+    })?;
+    let body = PlanBody {
+        titles,
+        weights,
+        places,
+    };
+    Ok(Request::PutPlan(Year::new(2026).ok_or("no year")?, body))
 }
 
 fn assign(number: u8, slot: u8, last_month: u8) -> Result<Request, Fail> {
@@ -106,6 +145,7 @@ fn one_of_each(alloc: Global) -> Result<Vec<Ask>, Fail> {
     asks.push(by_desk(register(7, 7)?)?)?;
     asks.push(by_desk(assign(7, 1, 12)?)?)?;
     asks.push(by_desk(calendar(1, 2000)?)?)?;
+    asks.push(by_desk(plan(alloc, b"All items")?)?)?;
     asks.push(by_key(7, price(1, 1, 210)?)?)?;
     asks.push(by_key(7, Request::Work(Month::new(2026, 1)?))?)?;
     asks.push(by_key(7, quotes(1, 1)?)?)?;
@@ -121,6 +161,7 @@ fn another_of_each(alloc: Global) -> Result<Vec<Ask>, Fail> {
     asks.push(by_desk(register(7, 8)?)?)?;
     asks.push(by_desk(assign(7, 1, 11)?)?)?;
     asks.push(by_desk(calendar(1, 3000)?)?)?;
+    asks.push(by_desk(plan(alloc, b"Everything")?)?)?;
     asks.push(by_key(7, price(1, 1, 220)?)?)?;
     asks.push(by_key(7, Request::Work(Month::new(2026, 1)?))?)?;
     asks.push(by_key(7, quotes(1, 1)?)?)?;
@@ -172,10 +213,10 @@ fn fails_without_a_change(alloc: Global, nth: u64) -> Result<bool, Fail> {
 
 #[test]
 fn each_call_of_the_book_fails_in_turn(rt: HostRuntime) -> Result<(), Fail> {
-    for nth in 1..=22 {
+    for nth in 1..=24 {
         assert!(rt; fails_without_a_change(rt.alloc(), nth)?, "call {nth}");
     }
-    assert!(rt; !fails_without_a_change(rt.alloc(), 23)?);
+    assert!(rt; !fails_without_a_change(rt.alloc(), 25)?);
     Ok(())
 }
 
@@ -183,10 +224,11 @@ fn each_call_of_the_book_fails_in_turn(rt: HostRuntime) -> Result<(), Fail> {
 fn a_run_answers_in_order(rt: HostRuntime) -> Result<(), Fail> {
     let mut office = Office::new(rt.alloc(), VecBook::new(rt.alloc()));
     let replies = office.run(one_of_each(rt.alloc())?)?;
-    let [_, _, _, _, done, receipt, work, quotes, items] = replies.as_slice() else {
-        return Ok(Err("nine replies")?);
+    let [_, _, _, _, done, planned, receipt, work, quotes, items] = replies.as_slice() else {
+        return Ok(Err("ten replies")?);
     };
     assert!(rt; matches!(done, Reply::Done));
+    assert!(rt; matches!(planned, Reply::Done));
     assert!(rt; matches!(receipt, Reply::Receipt(1)));
     assert!(rt; matches!(work, Reply::Work(rows) if rows.len() == 1));
     assert!(rt; matches!(quotes, Reply::Quotes(rows) if rows.len() == 1));

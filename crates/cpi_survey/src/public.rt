@@ -42,11 +42,7 @@ impl Public {
     }
 
     /// The public part from its rows. The caller owes one item a code, in the order of codes, one plan a year, in the order of years, and one row a month, in the order of months.
-    pub fn from_parts(
-        items: Vec<Item>,
-        plans: Vec<YearPlan>,
-        calendar: Vec<CalendarRow>,
-    ) -> Public
+    pub fn from_parts(items: Vec<Item>, plans: Vec<YearPlan>, calendar: Vec<CalendarRow>) -> Public
         requires items { IsInOrder nat_cmp (λ i. i.code) items.items }
         requires plans { IsInOrder nat_cmp (λ y. y.year) plans.items }
         requires calendar { IsInOrder nat_cmp (λ r. r.month) calendar.items }
