@@ -22,7 +22,7 @@ impl Holder {
         Holder {
             number: bearer.number,
             key: bearer.key,
-            own: Own::from_parts(Vec::new(alloc), Vec::new(alloc), 0),
+            own: Own::new(alloc),
         }
     }
 }

@@ -194,7 +194,7 @@ fn a_book_in_memory_shows_what_was_put(rt: HostRuntime) -> Result<(), Fail> {
     assert_eq!(rt; book.collector_key(places.collector)?, Some(places.key));
     let other = CollectorId::new(8).ok_or("no collector")?;
     assert_eq!(rt; book.bearer_at(other)?, None);
-    assert!(rt; book.own(other)?.all_quotes().is_empty());
+    assert_eq!(rt; book.own(other)?.greatest_receipt(), 0);
     let parts = book.parts(places.collector)?;
     assert_eq!(rt; parts.public.items().len(), 1);
     assert_eq!(rt; parts.own.greatest_receipt(), 2);

@@ -14,7 +14,8 @@ use std::marker::Model;
 
 /// An office in memory. A call fails only where memory was refused; a read, and a write over a row that stands, takes none.
 /// Collectors, their rows, items, plans, months and outlets are found in a number of steps that grows with the logarithm of how many there
-/// are, and a write shifts the rows of one list, of quotes and assignments those of one collector alone.
+/// are, and a write shifts the rows of one list: of assignments those of one collector, and of quotes those of one slot, or the collector's
+/// slots where one has its first quote.
 #[derive(Drop)]
 pub struct VecBook {
     public: Public,
@@ -66,7 +67,7 @@ impl VecBook {
             holders: Vec::new(alloc),
             outlets: Vec::new(alloc),
             bearers: BTreeMap::new(alloc),
-            nobody: Own::from_parts(Vec::new(alloc), Vec::new(alloc), 0),
+            nobody: Own::new(alloc),
             failed: Failures::none(),
             alloc,
         }

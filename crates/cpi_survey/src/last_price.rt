@@ -3,23 +3,13 @@ ghost use Rattle.cpi_rows.specs.Keyed.{IsInOrder};
 ghost use Rattle.cpi_survey.specs.Quote.{quote_cmp, quote_key};
 ghost use Rattle.cpi_survey.specs.LastPrice.{last_price};
 
-use crate::own::Own;
 use crate::quote::Quote;
 use cpi_codes::{Month, Price, Slot};
 use cpi_rows::place_of;
 
-impl Own {
-    /// The last price of the slot before the month, in minor units: the price that was observed in the greatest earlier month
-    /// of which the collector has a quote of the slot with a price.
-    pub fn last_price(&self, slot: Slot, month: Month) -> Option<Price>
-        ensures { result ≡ last_price slot month self.now.quotes }
-    {
-        last_price(self.all_quotes(), slot, month)
-    }
-}
-
-/// The last price among quotes by slot and month: back from the place of the slot and the month, over months without a price.
-fn last_price(quotes: &[Quote], slot: Slot, month: Month) -> Option<Price>
+/// The last price of the slot before the month among quotes by slot and month: back from the place of the slot and the month,
+/// over months without a price.
+pub fn last_price(quotes: &[Quote], slot: Slot, month: Month) -> Option<Price>
     requires { IsInOrder quote_cmp quote_key quotes.now }
     ensures { result ≡ last_price slot month quotes.now }
 {

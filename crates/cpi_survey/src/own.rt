@@ -1,21 +1,28 @@
-ghost use Rattle.std.specs.Prelude.{◌≡◌, ◌<◌, [], OnOk, OnErr, IsSome, IsOk};
+ghost use Rattle.std.specs.Prelude.{◌≡◌, ◌<◌, [], IfOk, OnOk, OnErr, IsSome, IsOk};
 ghost use Rattle.std.specs.Ordering.{nat_cmp};
 ghost use Rattle.std.specs.Option.{option_copied};
 ghost use Rattle.cpi_rows.specs.Keyed.{IsInOrder, put, row_at, at};
+ghost use Rattle.cpi_survey.specs.LastPrice.{last_price};
 ghost use Rattle.cpi_survey.specs.Quote.{greatest_receipt, quote_cmp, quote_key};
+ghost use Rattle.cpi_survey.specs.Within.{quotes_within};
 
 use crate::assignment::Assigned;
+use crate::last_price::last_price;
 use crate::quote::Quote;
-use cpi_codes::{Month, Slot};
+use crate::slot_quotes::SlotQuotes;
+use crate::slots::{by_slot, put_quote, quotes_of};
+use crate::within::quotes_within;
+use cpi_codes::{Month, Price, Slot};
 use cpi_rows::{find_row, put_row};
 use std::alloc::{AllocError, Global};
 use std::marker::Model;
 
-/// What a collector has in the office: the assignments by slot, and the stored quotes by slot and then by month.
+/// What a collector has in the office: the assignments by slot, and the stored quotes slot by slot and then by month.
 #[derive(Drop)]
 pub struct Own {
+    alloc: Global,
     assignments: Vec<Assigned>,
-    quotes: Vec<Quote>,
+    slots: Vec<SlotQuotes>,
     greatest: u32,
 }
 
@@ -24,40 +31,54 @@ impl Model for Own {
     ghost use Rattle.std.specs.Ordering.{nat_cmp};
     ghost use Rattle.cpi_rows.specs.Keyed.{IsInOrder};
     ghost use Rattle.cpi_survey.specs.Own.{OwnPart};
-    ghost use Rattle.cpi_survey.specs.Quote.{quote_cmp, quote_key, greatest_receipt};
+    ghost use Rattle.cpi_survey.specs.Quote.{greatest_receipt};
+    ghost use Rattle.cpi_survey.specs.Slots.{AreBySlot, all_quotes};
 
     ghost Value = { OwnPart };
 
-    ghost view = { λ o. record { assignments = o.assignments.items; quotes = o.quotes.items } };
+    ghost view = { λ o. record { assignments = o.assignments.items; quotes = all_quotes o.slots.items } };
 
     ghost invariant = { λ o. record {
       assignments : IsInOrder nat_cmp (λ a. a.assignment.slot) o.assignments.items;
-      quotes : IsInOrder quote_cmp quote_key o.quotes.items;
-      greatest : o.greatest ≡ greatest_receipt o.quotes.items;
+      slots : AreBySlot o.slots.items;
+      greatest : o.greatest ≡ greatest_receipt (all_quotes o.slots.items);
     } };
 }
 
 impl Own {
-    /// The part of a collector who has nothing yet.
+    /// The part of a collector who has nothing yet. It takes no memory until a row is put, and then takes it from this allocator.
     pub fn new(alloc: Global) -> Own
         ensures { result ≡ record { assignments = []; quotes = [] } }
     {
-        Own::from_parts(Vec::new(alloc), Vec::new(alloc), 0)
+        Own {
+            alloc,
+            assignments: Vec::new(alloc),
+            slots: Vec::new(alloc),
+            greatest: 0,
+        }
     }
 
     /// A collector's part from its rows. The caller owes one assignment a slot, in the order of slots, one quote a slot and month,
-    /// in the order of slots and then of months, and the greatest receipt among the quotes, or 0 where there is none.
-    pub fn from_parts(assignments: Vec<Assigned>, quotes: Vec<Quote>, greatest: u32) -> Own
+    /// in the order of slots and then of months, and the greatest receipt among the quotes, or 0 where there is none. For n quotes it takes
+    /// O(n log n) steps.
+    pub fn from_parts(
+        alloc: Global,
+        assignments: Vec<Assigned>,
+        quotes: Vec<Quote>,
+        greatest: u32,
+    ) -> Result<Own, AllocError>
         requires assignments_in_order { IsInOrder nat_cmp (λ a. a.assignment.slot) assignments.items }
         requires quotes_in_order { IsInOrder quote_cmp quote_key quotes.items }
         requires greatest { greatest ≡ greatest_receipt quotes.items }
-        ensures { result ≡ record { assignments = assignments.items; quotes = quotes.items } }
+        ensures { IfOk result (λ own. own ≡ record { assignments = assignments.items; quotes = quotes.items }) }
     {
-        Own {
+        let slots = by_slot(alloc, &quotes)?;
+        Ok(Own {
+            alloc,
             assignments,
-            quotes,
+            slots,
             greatest,
-        }
+        })
     }
 
     /// Puts a quote in its place, over that of its slot and month if there is one, which takes no memory. The caller owes a receipt above
@@ -70,7 +91,7 @@ impl Own {
         ensures assignments { self.new.assignments ≡ self.old.assignments }
     {
         let receipt = quote.receipt();
-        put_quote(&mut self.quotes, quote)?;
+        put_quote(self.alloc, &mut self.slots, quote)?;
         self.greatest = receipt;
         Ok(())
     }
@@ -104,7 +125,24 @@ impl Own {
     pub fn quote(&self, slot: Slot, month: Month) -> Option<&Quote>
         ensures { option_copied result ≡ row_at quote_cmp quote_key (slot, month) self.now.quotes }
     {
-        find_row(&self.quotes, &(slot, month))
+        find_row(quotes_of(&self.slots, slot), &(slot, month))
+    }
+
+    /// The last price of the slot before the month, in minor units: the price that was observed in the greatest earlier month
+    /// of which the collector has a quote of the slot with a price.
+    pub fn last_price(&self, slot: Slot, month: Month) -> Option<Price>
+        ensures { result ≡ last_price slot month self.now.quotes }
+    {
+        last_price(quotes_of(&self.slots, slot), slot, month)
+    }
+
+    /// The quotes of the months from the first to the last, both included, by month and then by slot: none where the first is after the last.
+    pub fn quotes(&self, alloc: Global, first: Month, last: Month) -> Result<Vec<Quote>, AllocError>
+        ensures { IfOk result (λ found. found.items ≡ quotes_within first last self.now.quotes) }
+    {
+        let mut found = quotes_within(alloc, first, last, &self.slots)?;
+        found.sort_by_key(|quote| quote.month)?;
+        Ok(found)
     }
 
     /// The greatest receipt of the quotes, at most 1,000,000 where each has one of those that are given, or 0 where there is no quote.
@@ -113,23 +151,4 @@ impl Own {
     {
         self.greatest
     }
-
-    /// All quotes, by slot and then by month.
-    pub fn all_quotes(&self) -> &[Quote]
-        ensures quotes { result.now ≡ self.now.quotes }
-        ensures order { IsInOrder quote_cmp quote_key result.now }
-    {
-        &self.quotes
-    }
-}
-
-/// Puts a quote in its place, over the one of its slot and month if there is one, which takes no memory.
-fn put_quote(quotes: &mut Vec<Quote>, quote: Quote) -> Result<(), AllocError>
-    requires { IsInOrder quote_cmp quote_key quotes.old.items }
-    ensures ok { OnOk result (quotes.new.items ≡ put quote_cmp quote_key quote quotes.old.items) }
-    ensures err { OnErr result (quotes.new.items ≡ quotes.old.items) }
-    ensures order { IsInOrder quote_cmp quote_key quotes.new.items }
-    ensures replaced { IsSome (row_at quote_cmp quote_key (quote.slot, quote.month) quotes.old.items) → IsOk result }
-{
-    put_row(quotes, quote)
 }

@@ -178,7 +178,6 @@ fn quotes_and_last_prices(rt: HostRuntime) -> Result<(), Fail> {
     ];
     assert_eq!(rt; found.as_slice(), wanted.as_slice());
     assert_eq!(rt; own.quotes(rt.alloc(), december, october)?.len(), 0);
-    assert_eq!(rt; own.all_quotes().len(), 4);
     assert_eq!(rt;
         own.quote(slot(1)?, december),
         Some(&quote(1, december, 110, 3)?)

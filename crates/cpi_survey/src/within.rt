@@ -1,36 +1,41 @@
-ghost use Rattle.std.specs.Prelude.{◌≡◌, filter, IfOk};
-ghost use Rattle.cpi_survey.specs.Within.{quotes_within, is_within};
+ghost use Rattle.std.specs.Prelude.{◌≡◌, ◌++◌, filter, IfOk, OnOk};
+ghost use Rattle.cpi_survey.specs.Slots.{all_quotes};
+ghost use Rattle.cpi_survey.specs.Within.{is_within};
 
-use crate::own::Own;
 use crate::quote::Quote;
+use crate::slot_quotes::SlotQuotes;
 use cpi_codes::Month;
 use std::alloc::{AllocError, Global};
 
-impl Own {
-    /// The quotes of the months from the first to the last, both included, by month and then by slot: none where the first is after the last.
-    pub fn quotes(&self, alloc: Global, first: Month, last: Month) -> Result<Vec<Quote>, AllocError>
-        ensures { IfOk result (λ found. found.items ≡ quotes_within first last self.now.quotes) }
-    {
-        let mut found = quotes_within(alloc, first, last, self.all_quotes())?;
-        found.sort_by_key(|quote| quote.month)?;
-        Ok(found)
-    }
-}
-
-/// The quotes of the months, in the order in which they stand.
-fn quotes_within(
+/// The quotes of the months, slot by slot and then by month.
+pub fn quotes_within(
     alloc: Global,
     first: Month,
     last: Month,
-    quotes: &[Quote],
+    slots: &[SlotQuotes],
 ) -> Result<Vec<Quote>, AllocError>
-    ensures { IfOk result (λ found. found.items ≡ filter (is_within first last) quotes.now) }
+    ensures { IfOk result (λ found. found.items ≡ filter (is_within first last) (all_quotes slots.now)) }
 {
     let mut found = Vec::new(alloc);
+    for group in slots {
+        push_within(&mut found, first, last, &group.quotes)?;
+    }
+    Ok(found)
+}
+
+/// Puts the quotes of the months behind those that were found, in the order in which they stand.
+fn push_within(
+    found: &mut Vec<Quote>,
+    first: Month,
+    last: Month,
+    quotes: &[Quote],
+) -> Result<(), AllocError>
+    ensures { OnOk result (found.new.items ≡ found.old.items ++ filter (is_within first last) quotes.now) }
+{
     for quote in quotes {
         if first <= quote.month && quote.month <= last {
             found.push(*quote)?;
         }
     }
-    Ok(found)
+    Ok(())
 }

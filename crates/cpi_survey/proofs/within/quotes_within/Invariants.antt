@@ -1,7 +1,8 @@
 use Rattle.std.proofs.Common.{◌≡◌, take}
 use Rattle.std.specs.Prelude.{filter}
+use Rattle.cpi_survey.specs.Slots.{all_quotes}
 use Rattle.cpi_survey.specs.Within.{is_within}
 use Rattle.cpi_survey.proofs.within.quotes_within.Given as goal
 
-abbrev pub invariant-loop-quote : goal.invariant-loop-quote
-invariant-loop-quote l = l.found.items ≡ filter (is_within l.first l.last) (take l.quote-index l.quotes)
+abbrev pub invariant-loop-group : goal.invariant-loop-group
+invariant-loop-group l = l.found.items ≡ filter (is_within l.first l.last) (all_quotes (take l.group-index l.slots))
