@@ -19,3 +19,4 @@ pub mod OneTime
 pub mod Picked
 pub mod Seconds
 pub mod CodesAbove
+pub mod Clock
