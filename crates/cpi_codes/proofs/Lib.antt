@@ -20,3 +20,4 @@ pub mod Picked
 pub mod Seconds
 pub mod CodesAbove
 pub mod Clock
+pub mod CodeOf

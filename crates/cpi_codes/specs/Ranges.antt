@@ -1,5 +1,5 @@
 -- Tests of a number that show what they found.
-use Rattle.std.proofs.Common.{ℕ, ◌<◌, ◌≤◌, ◌⊎◌, inl, inr, Option, Some, None, pos, arith}
+use Rattle.std.proofs.Common.{ℕ, ◌<◌, ◌≤◌, ◌⊎◌, inl, inr, Option, Some, None, Bool, true, false, IsTrue, pos, arith}
 use Rattle.std.specs.Int.{IsInRange}
 use Rattle.std.proofs.lemmas.Bool.{cases_lt}
 use Rattle.jiff.proofs.SpanFacts.{signed_arith}
@@ -30,3 +30,8 @@ is_none = omega arith
 
 pub is_no_fraction : 0 < 1_000_000_000
 is_no_fraction = omega arith
+
+-- the test is passed, and this shows it
+abbrev pub holds : (b : Bool) → Option (IsTrue b)
+holds true = Some (λ _. true)
+holds false = None
