@@ -21,3 +21,4 @@ pub mod Seconds
 pub mod CodesAbove
 pub mod Clock
 pub mod CodeOf
+pub mod CodeAscii

@@ -1,11 +1,15 @@
 //! Codes read from a text, and written.
-ghost use Rattle.std.specs.Prelude.{◌≡◌, IfOk, IfErr, take, length};
+ghost use Rattle.std.specs.Prelude.{◌≡◌, ◌≤◌, true, IfOk, IfErr, take, length};
+ghost use Rattle.std.specs.String.{string_bytes};
+ghost use Rattle.std.specs.Char.{is_ascii};
+ghost use Rattle.std.specs.List.{list_all};
 ghost use Rattle.cpi_codes.specs.CodeText.{text};
 ghost use Rattle.cpi_codes.specs.CodeSpelling.{IsFault};
 ghost use Rattle.cpi_codes.specs.declared.codes.Code.{Code};
 
 use crate::codes::Code;
 use crate::spelling::read;
+use std::alloc::{AllocError, Global};
 
 const LAST_DIVISION: u8 = 13;
 
@@ -50,6 +54,7 @@ impl Code {
     pub fn write_to(self, out: &mut [u8; 11]) -> usize
         ensures written { take result out.new ≡ text self }
         ensures length { result ≡ length (text self) }
+        ensures within { result ≤ 11 }
     {
         let aggregate = self.aggregate.unwrap_or(0);
         *out = [
@@ -73,4 +78,24 @@ impl Code {
             _ => 2,
         }
     }
+    /// The one spelling of the code.
+    pub fn text(self, alloc: Global) -> Result<String, AllocError>
+        ensures { IfOk result (λ s. string_bytes s ≡ text self) }
+    {
+        let mut bytes = [0; 11];
+        let length = self.write_to(&mut bytes);
+        text_of(alloc, &bytes[..length])
+    }
+}
+
+// The text of bytes of ASCII.
+fn text_of(alloc: Global, bytes: &[u8]) -> Result<String, AllocError>
+    requires { list_all is_ascii bytes.now ≡ true }
+    ensures { IfOk result (λ s. string_bytes s ≡ bytes.now) }
+{
+    let mut text = String::new(alloc);
+    for byte in bytes {
+        text.push(char::from(*byte))?;
+    }
+    Ok(text)
 }

@@ -8,12 +8,13 @@ use Rattle.cpi_store.specs.Bearer.{bearer_of}
 use Rattle.cpi_survey.specs.Quote.{quote_key, quote_cmp}
 use Rattle.cpi_store.specs.Office.{Office}
 use Rattle.cpi_store.specs.Outlet.{with_name}
-use Rattle.cpi_store.specs.Office.{Change, PutsItem, PutsCalendar, Registers, PutsOutlet, Assigns, Quotes}
+use Rattle.cpi_store.specs.Office.{Change, PutsItem, PutsPlan, PutsCalendar, Registers, PutsOutlet, Assigns, Quotes}
 use Rattle.cpi_office.specs.Verdicts.{Verdict, Refuses, Stands, Makes}
 
 -- a change that is made: what is never replaced is new, what it speaks of is there, and a release is computed
 abbrev pub Fits : Change → Office → Type 0
 Fits (PutsItem i) o = at (λ i. i.code) i.code o.items ≡ None
+Fits (PutsPlan p) o = ⊤
 Fits (PutsCalendar r) o = ⊤
 Fits (Registers b) o = (at (λ b. b.number) b.number o.collectors ≡ None) × (bearer_of b.key o.collectors ≡ None)
 Fits (PutsOutlet u) o = at (λ u. u.number) u.number o.outlets ≡ None
@@ -28,6 +29,7 @@ Fits (Quotes b q) o = (at (λ b. b.number) b.number o.collectors ≡ Some b) × 
 -- a change whose row stands already
 abbrev pub Stood : Change → Office → Type 0
 Stood (PutsItem i) o = at (λ i. i.code) i.code o.items ≡ Some i
+Stood (PutsPlan p) o = at (λ y. y.year) p.year o.plans ≡ Some p
 Stood (PutsCalendar r) o = at (λ r. r.month) r.month o.calendar ≡ Some r
 Stood (Registers b) o = at (λ b. b.number) b.number o.collectors ≡ Some b
 Stood (PutsOutlet u) o = ⊤

@@ -8,7 +8,7 @@ use Rattle.cpi_survey.specs.declared.decision.Decision.{Decision}
 use Rattle.cpi_survey.specs.declared.decision.Decision.TheVariants.{Again, Put}
 use Rattle.cpi_survey.specs.declared.refusal.Refusal.{Refusal as EntryRefusal}
 use Rattle.std.proofs.Common.{Result, Ok, Err}
-use Rattle.cpi_store.specs.Office.{Office, Change, changed, PutsItem, PutsCalendar, Registers, PutsOutlet, Assigns, Quotes}
+use Rattle.cpi_store.specs.Office.{Office, Change, changed, PutsItem, PutsPlan, PutsCalendar, Registers, PutsOutlet, Assigns, Quotes}
 use Rattle.cpi_office.specs.Views.{View, OwnView, view}
 use Rattle.cpi_office.specs.Verdicts.{Verdict, Refuses, Stands, Makes}
 use Rattle.cpi_office.specs.Desk.{commanded}
@@ -40,10 +40,12 @@ commanded_bare (request.PutItem i) o = refl
 commanded_bare (request.Register b) o = refl
 commanded_bare (request.PutOutlet u) o = refl
 commanded_bare (request.Assign n a) o = refl
+commanded_bare (request.PutPlan year body) o = refl
 commanded_bare (request.PutCalendar row) o = refl
 
 bare_changed : (c : Change) (o u : Office) → bare o ≡ bare u → bare (changed c o) ≡ bare (changed c u)
 bare_changed (PutsItem i) o u e = ap (changed (PutsItem i)) e
+bare_changed (PutsPlan p) o u e = ap (changed (PutsPlan p)) e
 bare_changed (PutsCalendar r) o u e = ap (changed (PutsCalendar r)) e
 bare_changed (Registers b) o u e = ap (changed (Registers b)) e
 bare_changed (PutsOutlet w) o u e = ap (changed (PutsOutlet w)) e
@@ -107,6 +109,7 @@ module _ (key : ℕ) where
     other_unseen now (request.Register b) v = (refl, λ o. refl)
     other_unseen now (request.PutOutlet u) v = (refl, λ o. refl)
     other_unseen now (request.Assign n a) v = (refl, λ o. refl)
+    other_unseen now (request.PutPlan year body) v = (refl, λ o. refl)
     other_unseen now (request.PutCalendar row) v = (refl, λ o. refl)
 
     one_goes : (now : ℕ) (r : Request) (o u : Office) → Agrees o u → Agrees (next (record { now = now; caller = caller.Collector other; request = r }) o) u

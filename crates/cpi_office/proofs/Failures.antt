@@ -2,7 +2,9 @@
 use Rattle.std.proofs.Common.{◌≡◌, ℕ, Bool, true, false, Some, None, Option, Result, Ok, Err, refl}
 use Rattle.std.specs.Prelude.{if◌then◌else◌, is_none}
 use Rattle.cpi_survey.specs.Decision.{decided}
+use Rattle.cpi_plan.specs.Plan.{Plan}
 use Rattle.cpi_plan.specs.Calendar.{CalendarPart}
+use Rattle.cpi_plan.specs.declared.plan_faults.PlanFault.{PlanFault}
 use Rattle.cpi_survey.specs.Public.{PublicPart, calendar_of}
 use Rattle.cpi_survey.specs.Own.{OwnPart}
 use Rattle.cpi_survey.specs.Work.{work, work_rows, in_calendar}
@@ -18,7 +20,7 @@ use Rattle.cpi_survey.specs.declared.decision.Decision.TheVariants.{Again, Put}
 use Rattle.cpi_store.specs.Office.{Office, Change}
 use Rattle.cpi_office.specs.Views.{View, OwnView}
 use Rattle.cpi_office.specs.Verdicts.{Verdict}
-use Rattle.cpi_office.specs.Desk.{put_once, registered, to_collector, assigned, replaced}
+use Rattle.cpi_office.specs.Desk.{put_once, registered, to_collector, assigned, replaced, plan_put}
 use Rattle.cpi_office.specs.Answers.{decision_reply, known_answer, work_reply}
 use Rattle.cpi_office.specs.Verdicts.{verdict_reply}
 use Rattle.cpi_office.specs.Runs.{reply_to}
@@ -73,6 +75,10 @@ replaced_judges c Free = (refl, refl)
 replaced_judges c Same = (refl, refl)
 replaced_judges c Other = (refl, refl)
 
+pub plan_judges : (r : Result (Plan × Standing) PlanFault) → Judges (plan_put r)
+plan_judges (Err fault) = (refl, refl)
+plan_judges (Ok judged) = replaced_judges _ judged.1
+
 pub registered_judges : (b : Bearer) (w v : Option Bearer) → Judges (registered b w v)
 registered_judges b None None = (refl, refl)
 registered_judges b None (Some other) = (refl, refl)
@@ -100,6 +106,7 @@ known_told now (request.PutItem i) v (Some own) = refl
 known_told now (request.Register b) v (Some own) = refl
 known_told now (request.PutOutlet u) v (Some own) = refl
 known_told now (request.Assign n a) v (Some own) = refl
+known_told now (request.PutPlan year body) v (Some own) = refl
 known_told now (request.PutCalendar row) v (Some own) = refl
 
 desk_told : (now : ℕ) (r : Request) (o : Office) → is_failure (reply_to now caller.Desk r o) ≡ false
@@ -111,6 +118,7 @@ desk_told now (request.PutItem i) o = (once_judges _ _).0
 desk_told now (request.Register b) o = (registered_judges b _ _).0
 desk_told now (request.PutOutlet u) o = (once_judges _ _).0
 desk_told now (request.Assign n a) o = (assigned_judges _ _ _ _ _).0
+desk_told now (request.PutPlan year body) o = (plan_judges _).0
 desk_told now (request.PutCalendar row) o = (replaced_judges _ _).0
 
 public_told : (now : ℕ) (r : Request) (o : Office) → is_failure (reply_to now caller.Public r o) ≡ false
@@ -122,6 +130,7 @@ public_told now (request.PutItem i) o = refl
 public_told now (request.Register b) o = refl
 public_told now (request.PutOutlet u) o = refl
 public_told now (request.Assign n a) o = refl
+public_told now (request.PutPlan year body) o = refl
 public_told now (request.PutCalendar row) o = refl
 
 pub never_failure : (now : ℕ) (k : Caller) (r : Request) (o : Office) → is_failure (reply_to now k r o) ≡ false

@@ -15,7 +15,7 @@ use Rattle.cpi_rows.specs.Keyed.{at}
 use Rattle.cpi_store.specs.Office.{put_assignment}
 use Rattle.cpi_survey.specs.Quote.{quote_key, quote_cmp}
 use Rattle.cpi_store.specs.Office.{Office}
-use Rattle.cpi_store.specs.Office.{Change, changed, PutsItem, PutsCalendar, Registers, PutsOutlet, Assigns, Quotes}
+use Rattle.cpi_store.specs.Office.{Change, changed, PutsItem, PutsPlan, PutsCalendar, Registers, PutsOutlet, Assigns, Quotes}
 use Rattle.cpi_office.specs.Sound.{IsSound, HasItsRows, HasItsAssignment}
 use Rattle.cpi_survey.specs.declared.assignment.Assignment.{Assignment}
 use Rattle.cpi_survey.specs.Quote.{QuoteRow}
@@ -94,6 +94,7 @@ module _ (o : Office) (s : IsSound o) (n : ℕ) (a : Assignment) (new : at (λ a
 pub stays_sound : (c : Change) (o : Office) → IsSound o → Fits c o → IsSound (changed c o)
 stays_sound (PutsItem i) o s h = record {
   items = put_in_order nat_cmp_total (λ i. i.code) o.items i s.items;
+  plans = s.plans;
   calendar = s.calendar;
   collectors = s.collectors;
   outlets = s.outlets;
@@ -103,7 +104,20 @@ stays_sound (PutsItem i) o s h = record {
   assigned = all_weaker (HasItsRows o) (HasItsRows (changed (PutsItem i) o)) (λ row has. (has.0, has.1, at-put_some (λ i. i.code) i o.items s.items h row.1.item has.2)) o.assignments s.assigned;
   quoted = s.quoted;
 }
+stays_sound (PutsPlan p) o s h = record {
+  plans = put_in_order nat_cmp_total (λ y. y.year) o.plans p s.plans;
+  items = s.items;
+  calendar = s.calendar;
+  collectors = s.collectors;
+  outlets = s.outlets;
+  assignments = s.assignments;
+  quotes = s.quotes;
+  keys = s.keys;
+  assigned = s.assigned;
+  quoted = s.quoted;
+}
 stays_sound (PutsCalendar r) o s h = record {
+  plans = s.plans;
   calendar = put_in_order nat_cmp_total (λ r. r.month) o.calendar r s.calendar;
   items = s.items;
   collectors = s.collectors;
@@ -119,6 +133,7 @@ stays_sound (Registers b) o s h = record {
   keys = keys-put b o.collectors s.collectors h.0 s.keys h.1;
   assigned = all_weaker (HasItsRows o) (HasItsRows (changed (Registers b) o)) (λ row has. (at-put_some (λ b. b.number) b o.collectors s.collectors h.0 row.0 has.0, has.1, has.2)) o.assignments s.assigned;
   items = s.items;
+  plans = s.plans;
   calendar = s.calendar;
   outlets = s.outlets;
   assignments = s.assignments;
@@ -129,6 +144,7 @@ stays_sound (PutsOutlet u) o s h = record {
   outlets = put_in_order nat_cmp_total (λ u. u.number) o.outlets u s.outlets;
   assigned = all_weaker (HasItsRows o) (HasItsRows (changed (PutsOutlet u) o)) (λ row has. (has.0, at-put_some (λ u. u.number) u o.outlets s.outlets h row.1.outlet has.1, has.2)) o.assignments s.assigned;
   items = s.items;
+  plans = s.plans;
   calendar = s.calendar;
   collectors = s.collectors;
   assignments = s.assignments;
@@ -141,6 +157,7 @@ stays_sound (Assigns b a) o s h = record {
   assigned = all-put (HasItsRows o) (held_cmp nat_cmp) (held_key (λ a. a.slot)) (b.number, a.assignment) o.assignments (subst IsSome (sym h.1) refl, h.2, h.3) s.assigned;
   quoted = all_weaker (HasItsAssignment o.assignments) (HasItsAssignment (put_assignment b.number a.assignment o.assignments)) (still_assigned o s b.number a.assignment h.0) o.quotes s.quoted;
   items = s.items;
+  plans = s.plans;
   calendar = s.calendar;
   collectors = s.collectors;
   outlets = s.outlets;
@@ -151,6 +168,7 @@ stays_sound (Quotes b q) o s h = record {
   quotes = put_in_order (held_total quote_total) (held_key quote_key) o.quotes (b.number, q) s.quotes;
   quoted = all-put (HasItsAssignment o.assignments) (held_cmp quote_cmp) (held_key quote_key) (b.number, q) o.quotes h.1 s.quoted;
   items = s.items;
+  plans = s.plans;
   calendar = s.calendar;
   collectors = s.collectors;
   outlets = s.outlets;

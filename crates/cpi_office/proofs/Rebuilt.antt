@@ -5,7 +5,7 @@ use Rattle.std.proofs.lemmas.List.{append-nil}
 use Rattle.std.proofs.lemmas.Grind.{flat_map-append}
 use Rattle.cpi_store.specs.Office.{Office}
 use Rattle.cpi_office.specs.Views.{View, view}
-use Rattle.cpi_store.specs.Office.{Change, PutsItem, PutsCalendar, Registers, PutsOutlet, Assigns, Quotes}
+use Rattle.cpi_store.specs.Office.{Change, PutsItem, PutsPlan, PutsCalendar, Registers, PutsOutlet, Assigns, Quotes}
 use Rattle.cpi_office.specs.Verdicts.{Verdict, Refuses, Stands, Makes}
 use Rattle.cpi_office.specs.Sights.{Sight, sights, shown, seen, build}
 use Rattle.cpi_office.specs.Runs.{verdict, next, after, trace, changes, replies, reply_to}
@@ -18,7 +18,7 @@ use Rattle.cpi_office.specs.declared.caller.Caller.{Caller}
 use Rattle.cpi_office.specs.declared.caller.Caller.TheVariants.{Public, Collector, Desk}
 use Rattle.cpi_office.specs.declared.request.Request.{Request}
 use Rattle.cpi_office.proofs.Accepted.{Holds, Fits}
-use Rattle.cpi_office.proofs.Sights.{shows_item, shows_calendar, shows_registered, shows_outlet, shows_assignment, shows_quote, Shows}
+use Rattle.cpi_office.proofs.Sights.{shows_item, shows_plan, shows_calendar, shows_registered, shows_outlet, shows_assignment, shows_quote, Shows}
 use Rattle.cpi_office.proofs.Stood.{stood_shows}
 use Rattle.cpi_office.proofs.Kept.{stays_sound}
 use Rattle.cpi_office.proofs.Verdicts.{verdict_holds}
@@ -26,6 +26,7 @@ use Rattle.cpi_office.proofs.Verdicts.{verdict_holds}
 -- a change that fits shows to each caller
 fits_shows : (k : Caller) (o : Office) → IsSound o → (c : Change) → Fits c o → Shows k o c
 fits_shows k o s (PutsItem i) h = shows_item k o i
+fits_shows k o s (PutsPlan p) h = shows_plan k o p
 fits_shows k o s (PutsCalendar r) h = shows_calendar k o r
 fits_shows k o s (Registers b) h = shows_registered k o s b h.0 h.1
 fits_shows k o s (PutsOutlet u) h = shows_outlet k o s u h

@@ -13,10 +13,11 @@ use Rattle.cpi_store.specs.Office.{Office}
 use Rattle.cpi_store.specs.Outlet.{with_name}
 use Rattle.cpi_survey.specs.declared.assignment.Assigned.{Assigned}
 use Rattle.cpi_office.specs.Views.{View, view, OwnView, own_view}
-use Rattle.cpi_store.specs.Office.{Change, changed, PutsItem, PutsCalendar, Registers, PutsOutlet, Assigns, Quotes}
+use Rattle.cpi_store.specs.Office.{Change, changed, PutsItem, PutsPlan, PutsCalendar, Registers, PutsOutlet, Assigns, Quotes}
 use Rattle.cpi_office.specs.Sights.{sights, build, with_assigned, with_quote}
 use Rattle.cpi_office.specs.Sound.{IsSound, HasItsRows}
 use Rattle.cpi_plan.specs.declared.items.Item.{Item}
+use Rattle.cpi_plan.specs.Plan.{Plan}
 use Rattle.cpi_plan.specs.Calendar.{CalendarPart}
 use Rattle.cpi_store.specs.declared.bearer.Bearer.{Bearer}
 use Rattle.cpi_store.specs.declared.outlet.Outlet.{Outlet}
@@ -41,6 +42,11 @@ pub shows_item : (k : Caller) (o : Office) (i : Item) → Shows k o (PutsItem i)
 shows_item Public o i = refl
 shows_item (Collector key) o i = refl
 shows_item Desk o i = refl
+
+pub shows_plan : (k : Caller) (o : Office) (p : Plan) → Shows k o (PutsPlan p)
+shows_plan Public o p = refl
+shows_plan (Collector key) o p = refl
+shows_plan Desk o p = refl
 
 pub shows_calendar : (k : Caller) (o : Office) (r : CalendarPart) → Shows k o (PutsCalendar r)
 shows_calendar Public o r = refl

@@ -14,7 +14,7 @@ use Rattle.cpi_store.specs.Bearer.{bearer_of}
 use Rattle.cpi_survey.specs.Quote.{quote_key, quote_cmp}
 use Rattle.cpi_store.specs.Office.{Office}
 use Rattle.cpi_office.specs.Views.{view}
-use Rattle.cpi_store.specs.Office.{Change, changed, PutsItem, PutsCalendar, Registers, PutsOutlet, Assigns, Quotes}
+use Rattle.cpi_store.specs.Office.{Change, changed, PutsItem, PutsPlan, PutsCalendar, Registers, PutsOutlet, Assigns, Quotes}
 use Rattle.cpi_office.specs.Sights.{sights, build}
 use Rattle.cpi_office.specs.Sound.{IsSound}
 use Rattle.cpi_store.specs.declared.bearer.Bearer.{Bearer}
@@ -22,7 +22,7 @@ use Rattle.cpi_office.specs.declared.caller.Caller.{Caller}
 use Rattle.cpi_office.specs.declared.caller.Caller.TheVariants.{Public, Collector, Desk}
 use Rattle.cpi_rows.proofs.Puts.{put_standing}
 use Rattle.cpi_office.proofs.Accepted.{Stood}
-use Rattle.cpi_office.proofs.Sights.{Shows, shows_item, shows_calendar, shows_assignment, shows_quote}
+use Rattle.cpi_office.proofs.Sights.{Shows, shows_item, shows_plan, shows_calendar, shows_assignment, shows_quote}
 
 pub held_total : {K : Type 0} {cmp : K → K → Ordering} → IsTotalOrder cmp → IsTotalOrder (held_cmp cmp)
 held_total o = then_total (on_total (λ r. r.0) nat_cmp_total) (on_total (λ r. r.1) o)
@@ -71,6 +71,8 @@ registered_stands (Collector key) o s b found = by (eqb_tells b.key key)
 pub stood_shows : (k : Caller) (o : Office) → IsSound o → (c : Change) → Stood c o → view k o ≡ build (view k o) (sights k c)
 stood_shows k o s (PutsItem i) h =
     unmoved k o s (PutsItem i) (ap (λ rows. record o { items = rows }) (put_standing nat_cmp_total (λ i. i.code) i o.items s.items h)) (shows_item k o i)
+stood_shows k o s (PutsPlan p) h =
+    unmoved k o s (PutsPlan p) (ap (λ rows. record o { plans = rows }) (put_standing nat_cmp_total (λ y. y.year) p o.plans s.plans h)) (shows_plan k o p)
 stood_shows k o s (PutsCalendar r) h =
     unmoved k o s (PutsCalendar r) (ap (λ rows. record o { calendar = rows }) (put_standing nat_cmp_total (λ r. r.month) r o.calendar s.calendar h)) (shows_calendar k o r)
 stood_shows k o s (Registers b) h = registered_stands k o s b h

@@ -25,6 +25,7 @@ turned_is now (request.PutItem i) v own turned = refl
 turned_is now (request.Register b) v own turned = refl
 turned_is now (request.PutOutlet u) v own turned = refl
 turned_is now (request.Assign n a) v own turned = refl
+turned_is now (request.PutPlan year body) v own turned = refl
 turned_is now (request.PutCalendar row) v own turned = refl
 
 -- a request that is told its own reply turns nobody away

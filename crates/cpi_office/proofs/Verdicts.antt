@@ -16,6 +16,11 @@ use Rattle.cpi_store.specs.Outlet.{with_name}
 use Rattle.cpi_survey.specs.Quote.{quote_cmp, quote_key}
 use Rattle.cpi_plan.specs.Items.{same_item}
 use Rattle.cpi_store.specs.Outlet.{same_outlet}
+use Rattle.cpi_plan.specs.Plan.{Plan}
+use Rattle.cpi_plan.specs.Planned.{planned}
+use Rattle.cpi_plan.specs.SamePlan.{same_plan}
+use Rattle.cpi_plan.specs.declared.plan_faults.PlanFault.{PlanFault}
+use Rattle.cpi_plan.proofs.SamePlans.{plan_decides}
 use Rattle.cpi_plan.specs.Calendar.{same_calendar}
 use Rattle.cpi_store.specs.Bearer.{same_bearer}
 use Rattle.cpi_survey.specs.Assignment.{same_assignment}
@@ -27,11 +32,11 @@ use Rattle.cpi_survey.specs.declared.assignment.Assignment.{Assignment}
 use Rattle.cpi_survey.specs.declared.assignment.Assigned.{Assigned}
 use Rattle.cpi_survey.specs.declared.decision.Decision.{Decision}
 use Rattle.cpi_survey.specs.declared.refusal.Refusal.{Refusal as EntryRefusal}
-use Rattle.cpi_store.specs.Office.{Office, own_part, public_part}
+use Rattle.cpi_store.specs.Office.{Office, PutsPlan, own_part, public_part}
 use Rattle.cpi_store.specs.Bearer.{bearer_of}
 use Rattle.cpi_office.specs.Views.{view, own_view}
 use Rattle.cpi_office.specs.Verdicts.{Verdict}
-use Rattle.cpi_office.specs.Desk.{standing, item_put, outlet_put, registered, to_collector, standing_for, assigned, calendar_put}
+use Rattle.cpi_office.specs.Desk.{standing, item_put, outlet_put, registered, to_collector, standing_for, assigned, replaced, calendar_put, sent, plan_standing, plan_put}
 use Rattle.cpi_office.specs.Desk.{commanded}
 use Rattle.cpi_office.specs.Entries.{of_collector, decision_verdict, entered, quoted}
 use Rattle.cpi_office.specs.Runs.{verdict}
@@ -72,6 +77,18 @@ module _ (o : Office) where
       by : (t : Bool) → same_calendar old r ≡ t → Fair (calendar_put r (Some old))
       by true f = rw f (e ∙ ap Some (calendar_equal old r f))
       by false f = rw f tt
+
+  plan_fair : (p : Plan) (w : Option Plan) → at (λ y. y.year) p.year o.plans ≡ w → Fair (replaced (PutsPlan p) (standing same_plan p w))
+  plan_fair p None e = tt
+  plan_fair p (Some old) e = by (same_plan old p) refl
+    where
+      by : (t : Bool) → same_plan old p ≡ t → Fair (replaced (PutsPlan p) (standing same_plan p (Some old)))
+      by true f = rw f (e ∙ ap Some ((plan_decides old p).0 f))
+      by false f = rw f tt
+
+  planned_fair : (r : Result Plan PlanFault) → Fair (plan_put (plan_standing o.plans r))
+  planned_fair (Err fault) = tt
+  planned_fair (Ok p) = plan_fair p (at (λ y. y.year) p.year o.plans) refl
 
   registered_fair : (b : Bearer) (w v : Option Bearer) → at (λ b. b.number) b.number o.collectors ≡ w → bearer_of b.key o.collectors ≡ v → Fair (registered b w v)
   registered_fair b None None e f = (e, f)
@@ -176,6 +193,7 @@ entered_holds o s key now entry = by (bearer_of key o.collectors) refl
 module _ (now : ℕ) (o : Office) where
   command_holds : (r : Request) → Holds (commanded r o) o
   command_holds (request.PutItem i) = item_fair o i (at (λ i. i.code) i.code o.items) refl
+  command_holds (request.PutPlan year body) = planned_fair o (planned year (sent o.items body))
   command_holds (request.PutCalendar row) = calendar_fair o row (at (λ r. r.month) row.month o.calendar) refl
   command_holds (request.Register b) = registered_fair o b (at (λ b. b.number) b.number o.collectors) (bearer_of b.key o.collectors) refl refl
   command_holds (request.PutOutlet u) = outlet_fair o u (at (λ u. u.number) u.number o.outlets) refl
@@ -188,6 +206,7 @@ module _ (now : ℕ) (o : Office) where
   collector_holds : IsSound o → (key : ℕ) (r : Request) → Holds (of_collector key now r (view (caller.Collector key) o)) o
   collector_holds s key (request.Submit entry) = entered_holds o s key now entry
   collector_holds s key (request.PutItem i) = tt
+  collector_holds s key (request.PutPlan year body) = tt
   collector_holds s key (request.PutCalendar row) = tt
   collector_holds s key (request.Register b) = tt
   collector_holds s key (request.PutOutlet u) = tt

@@ -155,6 +155,7 @@ EntryRefusals = Answers
 abbrev pub late : Office
 late = record {
   items = rice ∷ [];
+  plans = [];
   calendar = record { month = 311; opens = 1000; closes = 2000; publishes = 9000 } ∷ record { month = 312; opens = 1000; closes = 2000; publishes = 9000 } ∷ [];
   collectors = record { number = 7; key = key_a } ∷ [];
   outlets = record { number = 10; name = shop_name } ∷ [];

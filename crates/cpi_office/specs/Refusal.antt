@@ -31,4 +31,5 @@ number_of refusal.Taken = 40
 number_of refusal.UnknownItem = 41
 number_of refusal.UnknownOutlet = 42
 number_of refusal.UnknownCollector = 43
+number_of (refusal.PlanFault fault) = 44
 number_of refusal.Unavailable = 90

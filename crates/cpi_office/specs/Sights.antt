@@ -4,10 +4,11 @@ use Rattle.std.specs.List.{flat_map}
 use Rattle.cpi_rows.specs.Keyed.{put, put_by}
 use Rattle.cpi_survey.specs.Quote.{QuoteRow, quote_cmp, quote_key}
 use Rattle.cpi_plan.specs.declared.items.Item.{Item}
+use Rattle.cpi_plan.specs.Plan.{Plan}
 use Rattle.cpi_plan.specs.Calendar.{CalendarPart}
 use Rattle.cpi_survey.specs.declared.assignment.Assigned.{Assigned}
 use Rattle.cpi_store.specs.declared.bearer.Bearer.{Bearer}
-use Rattle.cpi_store.specs.Office.{Change, PutsItem, PutsCalendar, Registers, PutsOutlet, Assigns, Quotes}
+use Rattle.cpi_store.specs.Office.{Change, PutsItem, PutsPlan, PutsCalendar, Registers, PutsOutlet, Assigns, Quotes}
 use Rattle.cpi_office.specs.Views.{View, OwnView}
 use Rattle.cpi_office.specs.declared.caller.Caller.{Caller}
 use Rattle.cpi_office.specs.declared.caller.Caller.TheVariants as caller
@@ -16,6 +17,7 @@ use Rattle.cpi_office.specs.Runs.{changes}
 -- A row of a caller's own view.
 pub data Sight : Type 0 where
   SeesItem : Item → Sight
+  SeesPlan : Plan → Sight
   SeesCalendar : CalendarPart → Sight
   IsRegistered : ℕ → Sight
   IsAssigned : Assigned → Sight
@@ -32,6 +34,7 @@ seen_if sees s = if sees then s ∷ [] else []
 -- Of what was accepted, a caller sees the public specification, and what was accepted from or for that caller.
 abbrev pub sights : Caller → Change → List Sight
 sights k (PutsItem i) = SeesItem i ∷ []
+sights k (PutsPlan p) = SeesPlan p ∷ []
 sights k (PutsCalendar r) = SeesCalendar r ∷ []
 sights k (PutsOutlet u) = []
 sights k (Registers b) = seen_if (is_borne k b) (IsRegistered b.number)
@@ -54,6 +57,7 @@ with_quote q own = record { number = own.number; part = record { assignments = o
 -- the view with one more row in its place
 abbrev pub shown : Sight → View → View
 shown (SeesItem i) v = record v { public = record v.public { items = put_by (λ i. i.code) i v.public.items } }
+shown (SeesPlan p) v = record v { public = record v.public { plans = put_by (λ y. y.year) p v.public.plans } }
 shown (SeesCalendar r) v = record v { public = record v.public { calendar = put_by (λ r. r.month) r v.public.calendar } }
 shown (IsRegistered n) v = record v { own = Some (with_number n v.own) }
 shown (IsAssigned a) v = record v { own = option_map (with_assigned a) v.own }

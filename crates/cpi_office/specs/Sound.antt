@@ -27,6 +27,7 @@ HasItsAssignment assignments row = IsSome (at (λ a. a.slot) row.1.slot (held_by
 pub record IsSound (o : Office) : Type 0 where
   -- no two rows of a list agree in what it is listed by
   pub items : IsInOrder nat_cmp (λ i. i.code) o.items
+  pub plans : IsInOrder nat_cmp (λ y. y.year) o.plans
   pub calendar : IsInOrder nat_cmp (λ r. r.month) o.calendar
   pub collectors : IsInOrder nat_cmp (λ b. b.number) o.collectors
   pub outlets : IsInOrder nat_cmp (λ u. u.number) o.outlets

@@ -13,6 +13,7 @@ use crate::calendar::put_calendar;
 use crate::collectors::register;
 use crate::items::{items, put_item};
 use crate::outlets::put_outlet;
+use crate::plans::put_plan;
 use crate::quotes::quotes;
 use crate::refusal::Refusal;
 use crate::reply::Reply;
@@ -85,6 +86,7 @@ pub fn serve_desk<B: Book>(alloc: Global, book: &mut B, now: Moment, request: Re
     match request {
         Request::Items => items(alloc, book),
         Request::PutItem(item) => put_item(book, item),
+        Request::PutPlan(year, body) => put_plan(alloc, book, year, body),
         Request::PutCalendar(row) => put_calendar(book, row),
         Request::Register(bearer) => register(book, bearer),
         Request::PutOutlet(outlet) => put_outlet(book, outlet),

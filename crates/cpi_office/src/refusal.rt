@@ -2,6 +2,7 @@ ghost use Rattle.std.specs.Prelude.{◌≡◌};
 ghost use Rattle.cpi_office.specs.Refusal.{of_survey, number_of};
 
 use cpi_codes::Price;
+use cpi_plan::PlanFault;
 
 /// Why a request is refused. Each refusal has a number, by which it is told.
 #[derive(Clone, Copy, Debug, PartialEq, Eq)]
@@ -44,6 +45,8 @@ pub enum Refusal {
     UnknownOutlet,
     /// An assignment's collector isn't known.
     UnknownCollector,
+    /// What was sent for a year is no plan: its first fault, which is never want of memory.
+    PlanFault(PlanFault),
     /// Memory was refused, or the store failed during the request.
     Unavailable,
 }
@@ -69,6 +72,7 @@ impl Refusal {
             Refusal::UnknownItem => 41,
             Refusal::UnknownOutlet => 42,
             Refusal::UnknownCollector => 43,
+            Refusal::PlanFault(_) => 44,
             Refusal::Unavailable => 90,
         }
     }

@@ -1,6 +1,6 @@
 use crate::caller::Caller;
-use cpi_codes::{CollectorId, Moment, Month};
-use cpi_plan::{CalendarRow, Item};
+use cpi_codes::{CollectorId, Moment, Month, Year};
+use cpi_plan::{CalendarRow, Item, PlanBody};
 use cpi_store::{Bearer, Outlet};
 use cpi_survey::{Assignment, Entry};
 
@@ -23,6 +23,8 @@ pub enum Request {
     PutOutlet(Outlet),
     /// What a free slot of the collector is for.
     Assign(CollectorId, Assignment),
+    /// What there is for the plan of a year: titles, weights, and the aggregates of items.
+    PutPlan(Year, PlanBody),
     /// The window and the publishing moment of a month.
     PutCalendar(CalendarRow),
 }

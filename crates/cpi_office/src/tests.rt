@@ -1,6 +1,6 @@
 use crate::{
     Ask, Caller, Office, Reply, Request, empty_is_sound, others_do_not_matter, runs_tell_alike,
-    views_are_rebuilt, worked_runs,
+    views_are_rebuilt, worked_plans, worked_runs,
 };
 use cpi_codes::{CollectorId, ItemCode, Key, Moment, Month, Name, OutletId, Price, SeriesId, Slot};
 use cpi_plan::{CalendarRow, HighTolerance, Item, LowTolerance};
@@ -242,4 +242,5 @@ fn the_laws_hold_of_both_books() {
     others_do_not_matter();
     runs_tell_alike::<VecBook, FailBook<VecBook>>();
     worked_runs();
+    worked_plans();
 }

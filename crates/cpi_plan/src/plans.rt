@@ -1,5 +1,5 @@
 //! Yearly plans.
-ghost use Rattle.std.specs.Prelude.{◌≡◌, ◌≢◌, ℕ, ◌≤◌, IsTrue, SomeIff, option_map};
+ghost use Rattle.std.specs.Prelude.{◌≡◌, ◌≢◌, ◌↔◌, ℕ, ◌≤◌, IsTrue, SomeIff, option_map};
 ghost use Rattle.std.specs.Option.{option_copied};
 ghost use Rattle.std.specs.Ordering.{nat_cmp};
 ghost use Rattle.cpi_codes.specs.CodeOrder.{code_cmp};
@@ -91,6 +91,16 @@ fn of_ordered(
     })
 }
 
+// Whether the two plans have one content.
+fn is_alike(plan: &YearPlan, other: &YearPlan) -> bool
+    ensures { result ≡ same_plan plan.now other.now }
+{
+    plan.year == other.year
+        && are_same(&plan.nodes, &other.nodes)
+        && are_same(&plan.weights, &other.weights)
+        && are_same(&plan.places, &other.places)
+}
+
 impl YearPlan {
     /// The plan of a year, 2000 to 2199, or the first fault of what was sent, over all of it. Rows may come in any order;
     /// titles of codes that are no nodes are dropped. `known_items` are the items that are known, in the order of codes.
@@ -147,12 +157,10 @@ impl YearPlan {
 
     /// Whether the two plans are one: the year, the nodes with their titles, the weights and the places.
     pub fn is_same(&self, other: &YearPlan) -> bool
-        ensures { result ≡ same_plan self.now other.now }
+        ensures content { result ≡ same_plan self.now other.now }
+        ensures same { IsTrue result ↔ (self.now ≡ other.now) }
     {
-        self.year == other.year
-            && are_same(&self.nodes, &other.nodes)
-            && are_same(&self.weights, &other.weights)
-            && are_same(&self.places, &other.places)
+        is_alike(self, other)
     }
 
     /// The sum of the weights of the aggregates that are the code or below it; none of a code that is no node.

@@ -37,6 +37,7 @@ all_quotes hs = gathered (λ h. h.number) quotes_of hs
 abbrev pub office_of : PublicPart → List Outlet → List Holder → Office
 office_of public outlets holders = record {
   items = public.items;
+  plans = public.plans;
   calendar = public.calendar;
   collectors = collectors_of holders;
   outlets = outlets;

@@ -5,6 +5,7 @@ use Rattle.cpi_rows.specs.Keyed.{put, put_by}
 use Rattle.cpi_rows.specs.Held.{held_by, held_cmp, held_key}
 use Rattle.cpi_plan.specs.declared.items.Item.{Item}
 use Rattle.cpi_store.specs.declared.outlet.Outlet.{Outlet}
+use Rattle.cpi_plan.specs.Plan.{Plan}
 use Rattle.cpi_plan.specs.Calendar.{CalendarPart}
 use Rattle.cpi_survey.specs.declared.assignment.Assignment.{Assignment}
 use Rattle.cpi_survey.specs.declared.assignment.Assigned.{Assigned}
@@ -18,6 +19,7 @@ use Rattle.cpi_survey.specs.Quote.{quote_cmp, quote_key}
 -- an assignment and a quote stand beside the number of their collector
 pub record Office : Type 0 where
   pub items : List Item  -- by code
+  pub plans : List Plan  -- by year
   pub calendar : List CalendarPart  -- by month
   pub collectors : List Bearer  -- by number
   pub outlets : List Outlet  -- by number
@@ -25,11 +27,11 @@ pub record Office : Type 0 where
   pub quotes : List (ℕ × QuoteRow)  -- by collector, slot and month
 
 abbrev pub empty_office : Office
-empty_office = record { items = []; calendar = []; collectors = []; outlets = []; assignments = []; quotes = [] }
+empty_office = record { items = []; plans = []; calendar = []; collectors = []; outlets = []; assignments = []; quotes = [] }
 
 -- what everybody may see
 abbrev pub public_part : Office → PublicPart
-public_part o = record { items = o.items; calendar = o.calendar }
+public_part o = record { items = o.items; plans = o.plans; calendar = o.calendar }
 
 -- what a collector has
 abbrev pub own_part : ℕ → Office → OwnPart
@@ -45,6 +47,7 @@ put_quote number q rows = put (held_cmp quote_cmp) (held_key quote_key) (number,
 -- A row that an accepted request puts.
 pub data Change : Type 0 where
   PutsItem : Item → Change
+  PutsPlan : Plan → Change
   PutsCalendar : CalendarPart → Change
   Registers : Bearer → Change
   PutsOutlet : Outlet → Change
@@ -56,6 +59,7 @@ pub data Change : Type 0 where
 -- the office with the row in its place
 abbrev pub changed : Change → Office → Office
 changed (PutsItem i) o = record o { items = put_by (λ i. i.code) i o.items }
+changed (PutsPlan p) o = record o { plans = put_by (λ y. y.year) p o.plans }
 changed (PutsCalendar r) o = record o { calendar = put_by (λ r. r.month) r o.calendar }
 changed (Registers b) o = record o { collectors = put_by (λ b. b.number) b o.collectors }
 changed (PutsOutlet u) o = record o { outlets = put_by (λ u. u.number) u o.outlets }

@@ -4,7 +4,7 @@ ghost use Rattle.std.specs.Option.{option_copied};
 use crate::bearer::Bearer;
 use crate::outlet::Outlet;
 use cpi_codes::{CollectorId, Key, OutletId};
-use cpi_plan::{CalendarRow, Item};
+use cpi_plan::{CalendarRow, Item, YearPlan};
 use cpi_survey::{Assigned, Own, Public, Quote};
 
 /// The store failed during a call: memory was refused, or what keeps the rows failed. The office is as it was before.
@@ -20,7 +20,7 @@ pub struct Parts<'a> {
     pub own: &'a Own,
 }
 
-/// An office that is kept somewhere: items by code, calendar rows by month, collectors by number, outlets by number, assignments by
+/// An office that is kept somewhere: items by code, plans by year, calendar rows by month, collectors by number, outlets by number, assignments by
 /// collector and slot, quotes by collector, slot and month.
 ///
 /// Each call answers a `StoreFault` only where the count of failures rose during the call, and the office is as it was then.
@@ -30,7 +30,7 @@ pub trait Book {
     ghost use Rattle.std.specs.Borrow.{sem};
     ghost use Rattle.cpi_survey.specs.Quote.{greatest_receipt};
     ghost use Rattle.cpi_store.specs.Outlet.{with_name};
-    ghost use Rattle.cpi_store.specs.Office.{Office, public_part, own_part, changed, PutsItem, PutsCalendar, Registers, PutsOutlet, Assigns, Quotes};
+    ghost use Rattle.cpi_store.specs.Office.{Office, public_part, own_part, changed, PutsItem, PutsPlan, PutsCalendar, Registers, PutsOutlet, Assigns, Quotes};
     ghost use Rattle.cpi_store.specs.Bearer.{bearer_of, collector_of, collector_key};
     ghost use Rattle.cpi_store.specs.Calls.{Reads, Writes, EndsAs};
     ghost use Rattle.cpi_rows.specs.Held.{held_by};
@@ -76,7 +76,7 @@ pub trait Book {
         ensures* reads { sem 𝓛 (EndsAs Self.row self.entry (λ book. Reads is_clean lists failures may_leave self.old book result (λ found. option_copied found ≡ at (λ u. u.number) number (lists self.old).outlets))) }
         ensures always { finds_always → IsOk result };
 
-    /// The public specification: items by code, and calendar rows by month.
+    /// The public specification: items by code, plans by year, and calendar rows by month.
     fn public_part(&mut self) -> Result<&Public, StoreFault>
         ensures* reads { sem 𝓛 (EndsAs Self.row self.entry (λ book. Reads is_clean lists failures may_leave self.old book result (λ public. public.now ≡ public_part (lists self.old)))) }
         ensures always { finds_always → IsOk result };
@@ -96,6 +96,10 @@ pub trait Book {
     fn put_item(&mut self, item: Item) -> Result<(), StoreFault>
         requires new { is_clean self.old → at (λ i. i.code) item.code (lists self.old).items ≡ None }
         ensures writes { Writes is_clean lists failures may_leave self.old self.new result (changed (PutsItem item) (lists self.old)) };
+
+    /// Puts a year's plan, over the one that stands if there is one.
+    fn put_plan(&mut self, plan: YearPlan) -> Result<(), StoreFault>
+        ensures writes { Writes is_clean lists failures may_leave self.old self.new result (changed (PutsPlan plan) (lists self.old)) };
 
     /// Puts a month's calendar row, over the one that stands if there is one.
     fn put_calendar(&mut self, row: CalendarRow) -> Result<(), StoreFault>

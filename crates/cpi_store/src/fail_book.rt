@@ -3,7 +3,7 @@ use crate::book::{Book, Parts, StoreFault};
 use crate::failures::Failures;
 use crate::outlet::Outlet;
 use cpi_codes::{CollectorId, Key, OutletId};
-use cpi_plan::{CalendarRow, Item};
+use cpi_plan::{CalendarRow, Item, YearPlan};
 use cpi_survey::{Assigned, Own, Public, Quote};
 
 /// A book that passes each call on to another book, but for the n-th, which it fails without passing it on. It shows how those
@@ -109,6 +109,11 @@ impl<B: Book> Book for FailBook<B> {
     fn put_item(&mut self, item: Item) -> Result<(), StoreFault> {
         self.count()?;
         self.inner.put_item(item)
+    }
+
+    fn put_plan(&mut self, plan: YearPlan) -> Result<(), StoreFault> {
+        self.count()?;
+        self.inner.put_plan(plan)
     }
 
     fn put_calendar(&mut self, row: CalendarRow) -> Result<(), StoreFault> {

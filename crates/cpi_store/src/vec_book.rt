@@ -5,7 +5,7 @@ use crate::holder::Holder;
 use crate::holders::{put_assignment_of, put_holder, put_quote_of};
 use crate::outlet::Outlet;
 use cpi_codes::{CollectorId, Key, OutletId};
-use cpi_plan::{CalendarRow, Item};
+use cpi_plan::{CalendarRow, Item, YearPlan};
 use cpi_rows::{find_row, put_row};
 use cpi_survey::{Assigned, Own, Public, Quote};
 use std::alloc::Global;
@@ -13,7 +13,7 @@ use std::collections::BTreeMap;
 use std::marker::Model;
 
 /// An office in memory. A call fails only where memory was refused; a read, and a write over a row that stands, takes none.
-/// Collectors, their rows, items, months and outlets are found in a number of steps that grows with the logarithm of how many there
+/// Collectors, their rows, items, plans, months and outlets are found in a number of steps that grows with the logarithm of how many there
 /// are, and a write shifts the rows of one list, of quotes and assignments those of one collector alone.
 #[derive(Drop)]
 pub struct VecBook {
@@ -62,7 +62,7 @@ impl VecBook {
         ensures { result ≡ record { office = empty_office; failures = 0 } }
     {
         VecBook {
-            public: Public::from_parts(Vec::new(alloc), Vec::new(alloc)),
+            public: Public::new(alloc),
             holders: Vec::new(alloc),
             outlets: Vec::new(alloc),
             bearers: BTreeMap::new(alloc),
@@ -109,7 +109,7 @@ impl Book for VecBook {
     ghost use Rattle.cpi_rows.specs.Keyed.{row_at, at};
     ghost use Rattle.cpi_rows.specs.Held.{held_by};
     ghost use Rattle.cpi_survey.specs.Quote.{greatest_receipt, quote_cmp, quote_key};
-    ghost use Rattle.cpi_store.specs.Office.{changed, PutsCalendar, Quotes};
+    ghost use Rattle.cpi_store.specs.Office.{changed, PutsPlan, PutsCalendar, Quotes};
     ghost use Rattle.cpi_store.specs.Bearer.{bearer_of, collector_of, collector_key};
     ghost use Rattle.cpi_store.specs.Holders.{KeptReads, KeptWrites};
 
@@ -169,6 +169,16 @@ impl Book for VecBook {
 
     fn put_item(&mut self, item: Item) -> Result<(), StoreFault> {
         match self.public.put_item(item) {
+            Ok(()) => Ok(()),
+            Err(_) => Err(self.failed.fault()),
+        }
+    }
+
+    fn put_plan(&mut self, plan: YearPlan) -> Result<(), StoreFault>
+        ensures writes { KeptWrites self.old self.new result (changed (PutsPlan plan) self.old.office) }
+        ensures replaced { IsSome (at (λ y. y.year) plan.year self.old.office.plans) → IsOk result }
+    {
+        match self.public.put_plan(plan) {
             Ok(()) => Ok(()),
             Err(_) => Err(self.failed.fault()),
         }

@@ -23,6 +23,7 @@ use Rattle.cpi_survey.specs.Work.{work}
 abbrev public : PublicPart
 public = record {
   items = [];
+  plans = [];
   calendar = record { month = 312; opens = 1000; closes = 2000; publishes = 3000 }
       ∷ record { month = 324; opens = 1000; closes = 2000; publishes = 3000 } ∷ [];
 }
@@ -127,6 +128,7 @@ of_months_turned_round = refl
 abbrev open_public : PublicPart
 open_public = record {
   items = record { code = 1; text = 82 ∷ []; unit = 107 ∷ []; low = 700; high = 1500 } ∷ [];
+  plans = [];
   calendar = record { month = 312; opens = 1000; closes = 2000; publishes = 3000 } ∷ [];
 }
 

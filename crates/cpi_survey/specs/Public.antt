@@ -2,16 +2,22 @@
 use Rattle.std.specs.Prelude.{ℕ, List, Option}
 use Rattle.cpi_rows.specs.Keyed.{at}
 use Rattle.cpi_plan.specs.declared.items.Item.{Item}
+use Rattle.cpi_plan.specs.Plan.{Plan}
 use Rattle.cpi_plan.specs.Calendar.{CalendarPart}
 
--- the public specification: items by code, calendar rows by month
+-- the public specification: items by code, plans by year, calendar rows by month
 pub record PublicPart : Type 0 where
   pub items : List Item
+  pub plans : List Plan
   pub calendar : List CalendarPart
 
 -- the item with a code
 abbrev pub item_of : ℕ → PublicPart → Option Item
 item_of code public = at (λ i. i.code) code public.items
+
+-- the plan of a year
+abbrev pub plan_of : ℕ → PublicPart → Option Plan
+plan_of year public = at (λ y. y.year) year public.plans
 
 -- the calendar row of a month
 abbrev pub calendar_of : ℕ → PublicPart → Option CalendarPart

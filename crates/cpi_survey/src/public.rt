@@ -3,16 +3,17 @@ ghost use Rattle.std.specs.Ordering.{nat_cmp};
 ghost use Rattle.std.specs.Option.{option_copied};
 ghost use Rattle.cpi_rows.specs.Keyed.{IsInOrder, put, row_at, at};
 
-use cpi_codes::{ItemCode, Month};
-use cpi_plan::{CalendarRow, Item};
+use cpi_codes::{ItemCode, Month, Year};
+use cpi_plan::{CalendarRow, Item, YearPlan};
 use cpi_rows::{find_row, put_row};
 use std::alloc::{AllocError, Global};
 use std::marker::Model;
 
-/// What everybody may see of the survey: the items by code and the calendar rows by month.
+/// What everybody may see of the survey: the items by code, the plans by year and the calendar rows by month.
 #[derive(Drop)]
 pub struct Public {
     items: Vec<Item>,
+    plans: Vec<YearPlan>,
     calendar: Vec<CalendarRow>,
 }
 
@@ -23,29 +24,39 @@ impl Model for Public {
 
     ghost Value = { PublicPart };
 
-    ghost view = { λ p. record { items = p.items.items; calendar = p.calendar.items } };
+    ghost view = { λ p. record { items = p.items.items; plans = p.plans.items; calendar = p.calendar.items } };
 
     ghost invariant = { λ p. record {
       items : IsInOrder nat_cmp (λ i. i.code) p.items.items;
+      plans : IsInOrder nat_cmp (λ y. y.year) p.plans.items;
       calendar : IsInOrder nat_cmp (λ r. r.month) p.calendar.items;
     } };
 }
 
 impl Public {
-    /// The public part of a survey without items and months.
+    /// The public part of a survey without items, plans and months.
     pub fn new(alloc: Global) -> Public
-        ensures { result ≡ record { items = []; calendar = [] } }
+        ensures { result ≡ record { items = []; plans = []; calendar = [] } }
     {
-        Public::from_parts(Vec::new(alloc), Vec::new(alloc))
+        Public::from_parts(Vec::new(alloc), Vec::new(alloc), Vec::new(alloc))
     }
 
-    /// The public part from its rows. The caller owes one item a code, in the order of codes, and one row a month, in the order of months.
-    pub fn from_parts(items: Vec<Item>, calendar: Vec<CalendarRow>) -> Public
+    /// The public part from its rows. The caller owes one item a code, in the order of codes, one plan a year, in the order of years, and one row a month, in the order of months.
+    pub fn from_parts(
+        items: Vec<Item>,
+        plans: Vec<YearPlan>,
+        calendar: Vec<CalendarRow>,
+    ) -> Public
         requires items { IsInOrder nat_cmp (λ i. i.code) items.items }
+        requires plans { IsInOrder nat_cmp (λ y. y.year) plans.items }
         requires calendar { IsInOrder nat_cmp (λ r. r.month) calendar.items }
-        ensures { result ≡ record { items = items.items; calendar = calendar.items } }
+        ensures { result ≡ record { items = items.items; plans = plans.items; calendar = calendar.items } }
     {
-        Public { items, calendar }
+        Public {
+            items,
+            plans,
+            calendar,
+        }
     }
 
     /// The item with the code, if there is one.
@@ -53,6 +64,13 @@ impl Public {
         ensures { option_copied result ≡ at (λ i. i.code) code self.now.items }
     {
         find_row(&self.items, &code)
+    }
+
+    /// The plan of the year, if there is one.
+    pub fn plan(&self, year: Year) -> Option<&YearPlan>
+        ensures { option_copied result ≡ at (λ y. y.year) year self.now.plans }
+    {
+        find_row(&self.plans, &year.number())
     }
 
     /// The calendar row of the month, if there is one.
@@ -64,9 +82,18 @@ impl Public {
 
     /// The items in the order of their codes.
     pub fn items(&self) -> &[Item]
-        ensures { result.now ≡ self.now.items }
+        ensures items { result.now ≡ self.now.items }
+        ensures order { IsInOrder nat_cmp (λ i. i.code) result.now }
     {
         &self.items
+    }
+
+    /// The plans in the order of their years.
+    pub fn plans(&self) -> &[YearPlan]
+        ensures plans { result.now ≡ self.now.plans }
+        ensures order { IsInOrder nat_cmp (λ y. y.year) result.now }
+    {
+        &self.plans
     }
 
     /// All items once more, in the order of their codes.
@@ -84,6 +111,16 @@ impl Public {
         ensures replaced { IsSome (row_at nat_cmp (λ i. i.code) item.code self.old.items) → IsOk result }
     {
         put_row(&mut self.items, item)
+    }
+
+    /// Puts a plan in its place, over the one of its year if there is one, which takes no memory. An `Err` says that memory was refused;
+    /// nothing has changed then.
+    pub fn put_plan(&mut self, plan: YearPlan) -> Result<(), AllocError>
+        ensures ok { OnOk result (self.new ≡ record self.old { plans = put nat_cmp (λ y. y.year) plan self.old.plans }) }
+        ensures err { OnErr result (self.new ≡ self.old) }
+        ensures replaced { IsSome (row_at nat_cmp (λ y. y.year) plan.year self.old.plans) → IsOk result }
+    {
+        put_row(&mut self.plans, plan)
     }
 
     /// Puts a calendar row in its place, over the one of its month if there is one, which takes no memory. An `Err` says that memory was

@@ -7,12 +7,14 @@ use Rattle.cpi_survey.specs.declared.mark.Mark.{Mark}
 use Rattle.cpi_survey.specs.declared.mark.Mark.TheVariants.{Price, Missing, Comparable, Other}
 use Rattle.cpi_survey.specs.Quote.{QuoteRow}
 use Rattle.cpi_survey.specs.WorkPart.{WorkPart}
+use Rattle.cpi_plan.specs.declared.plan_faults.PlanFault.{PlanFault}
+use Rattle.cpi_plan.specs.declared.plan_faults.PlanFault.TheVariants as fault
 use Rattle.cpi_office.specs.declared.refusal.Refusal.{Refusal}
 use Rattle.cpi_office.specs.declared.refusal.Refusal.TheVariants as refusal
 use Rattle.cpi_office.specs.declared.reply.Reply.{Reply}
 use Rattle.cpi_office.specs.declared.reply.Reply.TheVariants as reply
 use Rattle.cpi_wire.specs.Rows.{rows_data}
-use Rattle.cpi_wire.specs.Line.{data_of, quote_data, mark_value, item_data, price_data, mark_data, receipt_data, work_row_data, refusal_data}
+use Rattle.cpi_wire.specs.Line.{data_of, quote_data, mark_value, item_data, price_data, mark_data, receipt_data, work_row_data, fault_data, refusal_data}
 
 none-of : {X : Type 0} (f : X → Data) → ((x : X) → has_float (f x) ≡ false) → (xs : List X) → items_have_float (items_of (map f xs)) ≡ false
 none-of f h [] = refl
@@ -42,6 +44,17 @@ receipt-none (Some q) = refl
 work-none : (w : WorkPart) → has_float (work_row_data w) ≡ false
 work-none w = rw (price-none w.last, mark-none w.quote, receipt-none w.quote) refl
 
+fault-none : (f : PlanFault) → has_float (fault_data f) ≡ false
+fault-none fault.DuplicateCode = refl
+fault-none fault.NotElementary = refl
+fault-none fault.ZeroWeight = refl
+fault-none (fault.WeightSum found) = refl
+fault-none (fault.TitleMissing code) = refl
+fault-none fault.UnknownItem = refl
+fault-none fault.ItemTwice = refl
+fault-none fault.UnknownAggregate = refl
+fault-none fault.NoMemory = refl
+
 refusal-none : (why : Refusal) → has_float (refusal_data why) ≡ false
 refusal-none (refusal.OutOfTolerance last low high) = refl
 refusal-none refusal.BadRequest = refl
@@ -58,6 +71,7 @@ refusal-none refusal.Taken = refl
 refusal-none refusal.UnknownItem = refl
 refusal-none refusal.UnknownOutlet = refl
 refusal-none refusal.UnknownCollector = refl
+refusal-none (refusal.PlanFault f) = fault-none f
 refusal-none refusal.Unavailable = refl
 
 pub no-floats : (r : Reply) → has_float (data_of r) ≡ false

@@ -1,12 +1,15 @@
 -- The line of a reply: one JSON text, and a line feed.
-use Rattle.std.specs.Prelude.{ℕ, List, [], ◌∷◌, ◌++◌, true, map, filter, codes, Option, Some, None}
+use Rattle.std.specs.Prelude.{ℕ, List, [], ◌∷◌, ◌++◌, true, map, filter, codes, Option, Some, None, nat_le, if◌then◌else◌}
 use Rattle.std.specs.Int.Digits.{digits_of}
 use Rattle.serde_json.specs.Data.{Data, null, boolean, number, unsigned, string, array, object, no_members, member}
 use Rattle.serde_json.specs.View.{items_of}
 use Rattle.serde_json.specs.Written.{compact_text}
 use Rattle.cpi_codes.specs.ItemCode.{is_no_zero}
 use Rattle.cpi_codes.specs.Month.{month_text}
+use Rattle.cpi_codes.specs.CodeText.{text as code_text}
 use Rattle.cpi_plan.specs.declared.items.Item.{Item}
+use Rattle.cpi_plan.specs.declared.plan_faults.PlanFault.{PlanFault}
+use Rattle.cpi_plan.specs.declared.plan_faults.PlanFault.TheVariants as fault
 use Rattle.cpi_survey.specs.declared.mark.Mark.{Mark}
 use Rattle.cpi_survey.specs.declared.mark.Mark.TheVariants.{Price, Missing, Comparable, Other}
 use Rattle.cpi_survey.specs.declared.mark.Reason.{Reason}
@@ -89,10 +92,35 @@ quotes_data rows = only (codes "quotes") (list (map quote_data rows))
 abbrev pub items_data : List Item → Data
 items_data rows = only (codes "items") (list (map item_data rows))
 
--- a refusal is told by its number; a price outside its bounds also with these and the last price
+-- ---- a fault of a plan
+abbrev pub fault_number : PlanFault → ℕ
+fault_number fault.DuplicateCode = 1
+fault_number fault.NotElementary = 2
+fault_number fault.ZeroWeight = 3
+fault_number (fault.WeightSum found) = 4
+fault_number (fault.TitleMissing code) = 5
+fault_number fault.UnknownItem = 6
+fault_number fault.ItemTwice = 7
+fault_number fault.UnknownAggregate = 8
+fault_number fault.NoMemory = 9
+
+-- a sum of weights, as far as 64 bits tell it: no record sends more
+abbrev pub told_sum : ℕ → ℕ
+told_sum found = if nat_le found 18446744073709551615 then found else 18446744073709551615
+
+-- by its number; a wrong sum with that sum, a missing title with its code
+abbrev pub fault_data : PlanFault → Data
+fault_data (fault.WeightSum found) =
+    object (member (codes "fault") (int 4) (member (codes "found") (int (told_sum found)) (member (codes "refused") (int 44) no_members)))
+fault_data (fault.TitleMissing code) =
+    object (member (codes "code") (text (code_text code)) (member (codes "fault") (int 5) (member (codes "refused") (int 44) no_members)))
+fault_data f = object (member (codes "fault") (int (fault_number f)) (member (codes "refused") (int 44) no_members))
+
+-- a refusal is told by its number; a price outside its bounds also with these and the last price, a plan's fault by what it is
 abbrev pub refusal_data : Refusal → Data
 refusal_data (refusal.OutOfTolerance last low high) =
     object (member (codes "high") (int high) (member (codes "last") (int last) (member (codes "low") (int low) (member (codes "refused") (int 26) no_members))))
+refusal_data (refusal.PlanFault f) = fault_data f
 refusal_data why = only (codes "refused") (int (number_of why))
 
 abbrev pub data_of : Reply → Data

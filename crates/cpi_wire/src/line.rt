@@ -3,11 +3,11 @@ ghost use Rattle.std.specs.Prelude.{◌≡◌, IfOk, option_map};
 ghost use Rattle.std.specs.Option.{option_copied};
 ghost use Rattle.std.specs.String.{string_bytes};
 ghost use Rattle.serde_json.specs.View.{view};
-ghost use Rattle.cpi_wire.specs.Line.{data_of, line_of, reason_name, mark_name as name_of_mark, mark_value as value_of_mark, quote_data, item_data, item_text, price_data, mark_data, receipt_data, work_row_data, refusal_data, quotes_data, items_data, work_data};
+ghost use Rattle.cpi_wire.specs.Line.{data_of, line_of, reason_name, mark_name as name_of_mark, mark_value as value_of_mark, quote_data, item_data, item_text, price_data, mark_data, receipt_data, work_row_data, refusal_data, fault_data, fault_number as number_of_fault, told_sum as sum_told, quotes_data, items_data, work_data};
 
 use cpi_codes::{ItemCode, Price};
 use cpi_office::{Refusal, Reply};
-use cpi_plan::Item;
+use cpi_plan::{Item, PlanFault};
 use cpi_survey::{Mark, Quote, Reason, WorkRow};
 use serde_json::{Value, json};
 use std::alloc::{AllocError, Global};
@@ -117,6 +117,49 @@ fn work_row_value(alloc: Global, row: &WorkRow) -> Result<Value, AllocError>
     json!(in alloc; [slot, outlet, outlet_name, item, text, unit, last, mark, receipt])
 }
 
+// The number of a fault of a plan.
+fn fault_number(fault: PlanFault) -> u8
+    ensures { result ≡ number_of_fault fault }
+{
+    match fault {
+        PlanFault::DuplicateCode => 1,
+        PlanFault::NotElementary => 2,
+        PlanFault::ZeroWeight => 3,
+        PlanFault::WeightSum(_) => 4,
+        PlanFault::TitleMissing(_) => 5,
+        PlanFault::UnknownItem => 6,
+        PlanFault::ItemTwice => 7,
+        PlanFault::UnknownAggregate => 8,
+        PlanFault::NoMemory => 9,
+    }
+}
+
+// A sum of weights, as far as 64 bits tell it.
+fn told_sum(found: u128) -> u64
+    ensures { result ≡ sum_told found }
+{
+    if found <= u128::from(u64::MAX) {
+        found as u64
+    } else {
+        u64::MAX
+    }
+}
+
+fn fault_value(alloc: Global, fault: PlanFault) -> Result<Value, AllocError>
+    ensures { IfOk result (λ v. view v ≡ fault_data fault) }
+{
+    match fault {
+        PlanFault::WeightSum(found) => {
+            json!(in alloc; {"fault": 4, "found": told_sum(found), "refused": 44})
+        }
+        PlanFault::TitleMissing(code) => {
+            let text = code.text(alloc)?;
+            json!(in alloc; {"code": text, "fault": 5, "refused": 44})
+        }
+        other => json!(in alloc; {"fault": fault_number(other), "refused": 44}),
+    }
+}
+
 fn refusal_value(alloc: Global, refusal: &Refusal) -> Result<Value, AllocError>
     ensures { IfOk result (λ v. view v ≡ refusal_data refusal.now) }
 {
@@ -124,6 +167,7 @@ fn refusal_value(alloc: Global, refusal: &Refusal) -> Result<Value, AllocError>
         Refusal::OutOfTolerance { last, low, high } => {
             json!(in alloc; {"high": *high, "last": last.units(), "low": *low, "refused": 26})
         }
+        Refusal::PlanFault(fault) => fault_value(alloc, *fault),
         other => json!(in alloc; {"refused": other.number()}),
     }
 }

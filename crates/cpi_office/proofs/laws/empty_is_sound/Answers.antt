@@ -8,6 +8,7 @@ use Rattle.cpi_office.proofs.laws.empty_is_sound.Goals as goal
 pub returns : goal.returns
 returns c = record {
   items = none_in_order nat_cmp (λ i. i.code);
+  plans = none_in_order nat_cmp (λ y. y.year);
   calendar = none_in_order nat_cmp (λ r. r.month);
   collectors = none_in_order nat_cmp (λ b. b.number);
   outlets = none_in_order nat_cmp (λ u. u.number);

@@ -42,7 +42,7 @@ returns-in-Ok c =
     (record {
       writes = record {
         was_clean = λ k. tt;
-        done = λ k. ap (λ us. record { items = c.self.inside.public.items; calendar = c.self.inside.public.calendar; collectors = collectors_of hs; outlets = us; assignments = all_assignments hs; quotes = all_quotes hs }) after;
+        done = λ k. ap (λ us. record { items = c.self.inside.public.items; plans = c.self.inside.public.plans; calendar = c.self.inside.public.calendar; collectors = collectors_of hs; outlets = us; assignments = all_assignments hs; quotes = all_quotes hs }) after;
         kept = λ k. tt;
         count = omega arith;
         fault = tt;

@@ -1,0 +1,14 @@
+ghost use Rattle.cpi_office.specs.PlanExamples.{EachFault, FaultsChangeNothing, FirstFault, PlanStands, PlansAreSeen, PlansByYear, ItemsFirst, PlansOfTheDesk};
+
+/// Small runs with plans, computed by the definitions: each fault of what is sent for a year, what stands already, and what is
+/// replaced.
+pub fn worked_plans()
+    ensures each_fault { EachFault }
+    ensures faults_change_nothing { FaultsChangeNothing }
+    ensures first_fault { FirstFault }
+    ensures plan_stands { PlanStands }
+    ensures plans_are_seen { PlansAreSeen }
+    ensures plans_by_year { PlansByYear }
+    ensures items_first { ItemsFirst }
+    ensures plans_of_the_desk { PlansOfTheDesk }
+{}

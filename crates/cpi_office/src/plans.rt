@@ -1,0 +1,97 @@
+ghost use Rattle.std.specs.Prelude.{◌≡◌, IfOk};
+ghost use Rattle.std.specs.Option.{option_copied};
+ghost use Rattle.std.specs.Ordering.{nat_cmp};
+ghost use Rattle.cpi_rows.specs.Keyed.{IsInOrder};
+ghost use Rattle.cpi_store.specs.Calls.{Reads};
+ghost use Rattle.cpi_store.specs.Office.{changed, PutsPlan};
+ghost use Rattle.cpi_plan.specs.Planned.{planned};
+ghost use Rattle.cpi_plan.specs.SamePlan.{same_plan};
+ghost use Rattle.cpi_office.specs.Desk.{sent, standing, plan_standing, plan_put};
+ghost use Rattle.cpi_office.specs.Verdicts.{with_verdict, verdict_reply};
+ghost use Rattle.cpi_office.specs.Calls.{Serves};
+
+use crate::refusal::Refusal;
+use crate::reply::Reply;
+use crate::standing::Standing;
+use cpi_codes::Year;
+use cpi_plan::{Item, PlanBody, PlanFault, YearPlan};
+use cpi_store::{Book, StoreFault};
+use std::alloc::{AllocError, Global};
+
+/// Puts the plan of what was sent for a year, over the one that stands if there is one.
+pub fn put_plan<B: Book>(alloc: Global, book: &mut B, year: Year, body: PlanBody) -> Reply
+    ensures { let o = B.lists book.old in let v = plan_put (plan_standing o.plans (planned year (sent o.items body))) in
+        Serves B.is_clean B.lists B.failures book.old book.new result (verdict_reply v) (with_verdict v o) }
+{
+    match find_plan(alloc, book, year, body) {
+        Ok(Ok(Err(fault))) => Reply::Refused(Refusal::PlanFault(fault)),
+        Ok(Ok(Ok((_, Standing::Same)))) => Reply::Done,
+        Ok(Ok(Ok((plan, _)))) => store_plan(book, plan),
+        _ => Reply::Refused(Refusal::Unavailable),
+    }
+}
+
+/// The plan of what was sent, and whether it stands already.
+fn find_plan<B: Book>(
+    alloc: Global,
+    book: &mut B,
+    year: Year,
+    body: PlanBody,
+) -> Result<Result<Result<(YearPlan, Standing), PlanFault>, AllocError>, StoreFault>
+    ensures { Reads B.is_clean B.lists B.failures B.may_leave book.old book.new result (λ found. IfOk found (λ judged. judged ≡ plan_standing (B.lists book.old).plans (planned year (sent (B.lists book.old).items body)))) }
+{
+    let public = book.public_part()?;
+    match build(alloc, year, public.items(), body) {
+        Err(AllocError) => Ok(Err(AllocError)),
+        Ok(Err(fault)) => Ok(Ok(Err(fault))),
+        Ok(Ok(plan)) => {
+            let standing = standing_plan(&plan, public.plan(year));
+            Ok(Ok(Ok((plan, standing))))
+        }
+    }
+}
+
+/// The plan of what was sent, or its fault.
+fn build(
+    alloc: Global,
+    year: Year,
+    known: &[Item],
+    body: PlanBody,
+) -> Result<Result<YearPlan, PlanFault>, AllocError>
+    requires { IsInOrder nat_cmp (λ i. i.code) known.now }
+    ensures { IfOk result (λ built. built ≡ planned year (sent known.now body)) }
+{
+    let titles = body.titles.into_vec();
+    let weights = body.weights.into_vec();
+    let places = body.places.into_vec();
+    match YearPlan::build(alloc, year.number(), known, titles, weights, places) {
+        Ok(plan) => Ok(Ok(plan)),
+        Err(PlanFault::NoMemory) => Err(AllocError),
+        Err(fault) => Ok(Err(fault)),
+    }
+}
+
+fn standing_plan(plan: &YearPlan, old: Option<&YearPlan>) -> Standing
+    ensures { result ≡ standing same_plan plan.now (option_copied old.entry) }
+{
+    match old {
+        None => Standing::Free,
+        Some(old) => {
+            if old.is_same(plan) {
+                Standing::Same
+            } else {
+                Standing::Other
+            }
+        }
+    }
+}
+
+/// Stores a plan.
+fn store_plan<B: Book>(book: &mut B, plan: YearPlan) -> Reply
+    ensures { Serves B.is_clean B.lists B.failures book.old book.new result Reply.Done (changed (PutsPlan plan) (B.lists book.old)) }
+{
+    match book.put_plan(plan) {
+        Ok(()) => Reply::Done,
+        Err(StoreFault) => Reply::Refused(Refusal::Unavailable),
+    }
+}
