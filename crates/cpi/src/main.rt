@@ -1,7 +1,11 @@
 //! The program `cpi`: it reads the words, does the job and tells one line of what failed.
 #![tactic(auto)]
 
+mod fault;
+
+use crate::fault::Fault;
 use cpi_app::{Job, job_of_words};
+use cpi_codes::zone_of;
 use cpi_office::Office;
 use cpi_store::VecBook;
 use cpi_wire::{WireFault, replay};
@@ -21,26 +25,30 @@ fn words_of(rt: &HostRuntime) -> Result<Option<Vec<String>>, WireFault> {
     Ok(Some(words))
 }
 
-// Records from standard input, each answered before the next one is carried out.
-fn run_replay(rt: &HostRuntime) -> Result<(), WireFault> {
+// Records from standard input, each answered before the next one is carried out. The zone is read once.
+fn run_replay(rt: &HostRuntime, zone: &str) -> Result<(), Fault> {
     let alloc = rt.alloc();
+    let Ok(zone) = zone_of(zone) else {
+        return Err(Fault::BadZone);
+    };
     let Ok(reader) = BufReader::new(alloc, rt.reader()) else {
-        return Err(WireFault::NoMemory);
+        return Err(Fault::Wire(WireFault::NoMemory));
     };
     let mut writer = io::writer(rt);
     let mut office = Office::new(alloc, VecBook::new(alloc));
-    replay(alloc, reader, &mut writer, &mut office)
+    replay(alloc, reader, &mut writer, &zone, &mut office)?;
+    Ok(())
 }
 
-fn run_job(rt: &HostRuntime, job: Job) -> Result<(), WireFault> {
+fn run_job(rt: &HostRuntime, job: Job) -> Result<(), Fault> {
     match job {
-        Job::Replay => run_replay(rt),
+        Job::Replay { zone } => run_replay(rt, zone),
     }
 }
 
 // Does the job of the words, and answers the exit status: 0 at its end, or after help that was asked for, and 2
 // where the words are refused.
-fn run(rt: &HostRuntime) -> Result<u8, WireFault> {
+fn run(rt: &HostRuntime) -> Result<u8, Fault> {
     let Some(owned) = words_of(rt)? else {
         let _ = eprintln!(rt; "cpi: a word isn't UTF-8");
         return Ok(2);
@@ -57,7 +65,7 @@ fn run(rt: &HostRuntime) -> Result<u8, WireFault> {
         Err(error) => match error.print(rt) {
             Ok(()) if error.use_stderr() => Ok(2),
             Ok(()) => Ok(0),
-            Err(_) => Err(WireFault::Write),
+            Err(_) => Err(Fault::Wire(WireFault::Write)),
         },
     }
 }

@@ -1,22 +1,30 @@
 //! The words of the command line.
-ghost use Rattle.std.specs.Prelude.{◌≡◌, IfOk, IfSome, map, false, codes, Some, List};
-ghost use Rattle.clap.specs.Words.{app_of, subcommand_rows_of, Text, Row};
+ghost use Rattle.std.specs.Prelude.{◌≡◌, IfOk, IfSome, map, option_map, false, codes, Some, List};
+ghost use Rattle.clap.specs.Words.{app_of, rule_of, found_of, rows_of, first_of, subcommand_rows_of, Text, Row};
 ghost use Rattle.clap.specs.declared.builder.command.Command.TheViews.{out-Command};
 ghost use Rattle.cpi_app.specs.Command as line;
 ghost use Rattle.cpi_app.specs.Command.{GivesJob, IsJob};
 
 use crate::job::Job;
 use clap::error::ErrorKind;
-use clap::{ArgMatches, Command, Error};
+use clap::{Arg, ArgMatches, Command, Error};
 use std::alloc::{AllocError, Global};
 
-fn replay_command<'a>(alloc: Global) -> Command<'a>
-    ensures app { app_of result ≡ line.replay }
-    ensures local { (out-Command result).has_globals ≡ false }
+// An option with a value.
+fn option<'a>(alloc: Global, name: &'a str) -> Arg<'a>
+    ensures rule { rule_of result ≡ line.option name.entry.now }
+    ensures local { result.global ≡ false }
 {
-    Command::new(alloc, "replay").about(
-        "Reads records from standard input, and writes the line of each reply",
-    )
+    Arg::new(alloc, name).long(name)
+}
+
+fn replay_command<'a>(alloc: Global) -> Result<Command<'a>, AllocError>
+    ensures app { IfOk result (λ c. app_of c ≡ line.replay) }
+    ensures local { IfOk result (λ c. (out-Command c).has_globals ≡ false) }
+{
+    Command::new(alloc, "replay")
+        .about("Reads records from standard input, and writes the line of each reply")
+        .arg(option(alloc, "zone"))
 }
 
 // The whole command line.
@@ -29,22 +37,47 @@ fn cpi_command<'a>(alloc: Global) -> Result<Command<'a>, AllocError>
         .no_binary_name(true)
         .subcommand_required(true)
         .bin_name("cpi")?
-        .subcommand(replay_command(alloc))
+        .subcommand(replay_command(alloc)?)
+}
+
+// The value of an option.
+fn text_of<'a>(matches: &ArgMatches<'a>, name: &str) -> Option<&'a str>
+    ensures { option_map (λ t. t.now) result ≡ first_of name.now (rows_of (found_of matches.now)) }
+{
+    matches.get_str(name)
+}
+
+// The zone that was given, or UTC.
+fn zone_of<'a>(matches: &ArgMatches<'a>) -> &'a str
+    ensures { line.HasZone (rows_of (found_of matches.now)) result.now }
+{
+    match text_of(matches, "zone") {
+        Some(zone) => zone,
+        None => "UTC0",
+    }
+}
+
+fn replay_of<'a>(matches: &ArgMatches<'a>) -> Job<'a>
+    ensures { IsJob (codes "replay", rows_of (found_of matches.now)) result }
+{
+    Job::Replay {
+        zone: zone_of(matches),
+    }
 }
 
 // The job of the subcommand that was used.
-fn job_of<'a>(matches: &ArgMatches<'a>) -> Option<Job>
+fn job_of<'a>(matches: &ArgMatches<'a>) -> Option<Job<'a>>
     ensures { IfSome result (λ job. (sub : Text × List Row) × (subcommand_rows_of matches.now ≡ Some sub) × IsJob sub job) }
 {
-    let (name, _) = matches.subcommand()?;
+    let (name, options) = matches.subcommand()?;
     match name {
-        "replay" => Some(Job::Replay),
+        "replay" => Some(replay_of(options)),
         _ => None,
     }
 }
 
 /// The job that the words after the program's name give, by `clap`'s reading. An error is `clap`'s, with its text.
-pub fn job_of_words<'a>(alloc: Global, words: &'a [&'a str]) -> Result<Job, Error>
+pub fn job_of_words<'a>(alloc: Global, words: &'a [&'a str]) -> Result<Job<'a>, Error>
     ensures { IfOk result (GivesJob (map (λ s. s.now) words.now)) }
 {
     let mut command = cpi_command(alloc)?;

@@ -19,4 +19,6 @@ pub mod OneTime
 pub mod Picked
 pub mod Seconds
 pub mod CodesAbove
+pub mod Clock
+pub mod CodeOf
 pub mod CodeAscii

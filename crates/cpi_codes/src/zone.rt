@@ -2,6 +2,8 @@
 ghost use Rattle.std.specs.Prelude.{◌≡◌, ◌↔◌, ◌≤ℤ◌, pos, IsOk, IsSome, IfOk, IfErr, IfSome, IfNone};
 ghost use Rattle.jiff.specs.Placed.{IsPosixZone};
 ghost use Rattle.jiff.specs.Words.{read_whole};
+ghost use Rattle.std.specs.Result.{result_ok};
+ghost use Rattle.cpi_codes.specs.Clock.{moment_in};
 ghost use Rattle.cpi_codes.specs.Picked.{PicksAsStated};
 ghost use Rattle.cpi_codes.specs.Zone.{Gives, OneAnswer};
 
@@ -59,7 +61,16 @@ pub fn zone_of(text: &str) -> Result<Zone, MomentFault>
 /// The moment at which a clock of the zone shows the time `YYYY-MM-DDTHH:MM`: of two such moments the earlier, and
 /// where the clock leaves that time out, the moment as much later as the clock is moved forward. The faults are
 /// `Text` and then `Range`.
+#[tactic(auto, using(crate::proofs::Clock::gives_moment))]
 pub fn moment_at(zone: &Zone, text: &[u8]) -> Result<Moment, MomentFault>
+    ensures gives { Gives zone.now text.now result }
+    ensures value { result_ok result ≡ moment_in zone.now text.now }
+{
+    given_at(zone, text)
+}
+
+// The same, told by what it gives alone.
+fn given_at(zone: &Zone, text: &[u8]) -> Result<Moment, MomentFault>
     ensures { Gives zone.now text.now result }
 {
     let Some(civil) = civil_of(text) else {

@@ -4,6 +4,7 @@ use Rattle.std.proofs.lemmas.List.{map-append}
 use Rattle.std.specs.List.{concat}
 use Rattle.std.specs.Io.KnownBytes.{Appends}
 use Rattle.std.proofs.KnownBytes.{Appends-nil, Appends-trans}
+use Rattle.cpi_codes.specs.Zone.{ZoneRule}
 use Rattle.cpi_store.specs.Office.{Office}
 use Rattle.cpi_wire.specs.declared.asks.Answer.{Answer}
 use Rattle.cpi_wire.specs.declared.fault.WireFault.{WireFault}
@@ -58,16 +59,16 @@ in-turn-more step old mid new [] (p ∷ ps) x y h a = absurd h
 in-turn-more step old mid new (q ∷ qs) [] x y h a = absurd h
 in-turn-more step old mid new (q ∷ qs) (p ∷ ps) x y h a = (h.0, h.1, in-turn-more step h.0 mid new qs ps x y h.2 a)
 
-module _ {B : Type 0} (is_clean : B → Type 0) (lists : B → Office) (failures : B → ℕ) where
+module _ {B : Type 0} (zone : ZoneRule) (is_clean : B → Type 0) (lists : B → Office) (failures : B → ℕ) where
   pub answers-more : (old mid new : B) (rows : List Record) (replies : List Answer) (row : Record) (reply : Answer)
-      → AnswersAll is_clean lists failures old rows replies mid → Answers is_clean lists failures mid (ask_of row) reply new
-      → AnswersAll is_clean lists failures old (rows ++ row ∷ []) (replies ++ reply ∷ []) new
-  answers-more old mid new rows replies row reply h a = in-turn-more (λ from row reply to. Answers is_clean lists failures from (ask_of row) reply to) old mid new rows replies row reply h a
+      → AnswersAll zone is_clean lists failures old rows replies mid → Answers is_clean lists failures mid (ask_of zone row) reply new
+      → AnswersAll zone is_clean lists failures old (rows ++ row ∷ []) (replies ++ reply ∷ []) new
+  answers-more old mid new rows replies row reply h a = in-turn-more (λ from row reply to. Answers is_clean lists failures from (ask_of zone row) reply to) old mid new rows replies row reply h a
 
   -- given up where the lines of all that was carried out stand whole
   pub gave-up-between : (input : Option (List ℕ)) (old new : B) (was is : Option (List ℕ)) (e : WireFault) (rows : List Record) (replies : List Answer)
-      → e ≢ fault.Write → length rows ≤ 1000000 → IfSome input (AreFirst rows) → AnswersAll is_clean lists failures old rows replies new → Told replies was is
-      → GaveUp is_clean lists failures input old new was is e
+      → e ≢ fault.Write → length rows ≤ 1000000 → IfSome input (AreFirst rows) → AnswersAll zone is_clean lists failures old rows replies new → Told replies was is
+      → GaveUp zone is_clean lists failures input old new was is e
   gave-up-between input old new was is e rows replies other few first answers told = record {
     rows = rows;
     replies = replies;
@@ -79,9 +80,9 @@ module _ {B : Type 0} (is_clean : B → Type 0) (lists : B → Office) (failures
 
   -- given up at the line of the last one
   pub gave-up-at : (input : Option (List ℕ)) (old mid new : B) (was so_far is : Option (List ℕ)) (e : WireFault) (rows : List Record) (replies : List Answer) (row : Record) (reply : Answer)
-      → length rows < 1000000 → IfSome input (AreFirst (rows ++ row ∷ [])) → AnswersAll is_clean lists failures old rows replies mid → Told replies was so_far
-      → Answers is_clean lists failures mid (ask_of row) reply new → LineUntil e reply so_far is
-      → GaveUp is_clean lists failures input old new was is e
+      → length rows < 1000000 → IfSome input (AreFirst (rows ++ row ∷ [])) → AnswersAll zone is_clean lists failures old rows replies mid → Told replies was so_far
+      → Answers is_clean lists failures mid (ask_of zone row) reply new → LineUntil e reply so_far is
+      → GaveUp zone is_clean lists failures input old new was is e
   gave-up-at input old mid new was so_far is e rows replies row reply few first answers told one line = record {
     rows = rows ++ row ∷ [];
     replies = replies ++ reply ∷ [];

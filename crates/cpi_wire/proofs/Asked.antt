@@ -2,6 +2,7 @@
 use Rattle.std.proofs.Common.{◌≡◌, refl, ◌≤◌, ◌<◌, ◌-◌, List, [], ◌∷◌, length, get_or, take, drop, Option, None, Bor, arith}
 use Rattle.std.specs.Option.{unwrap_or}
 use Rattle.std.proofs.lemmas.List.{take_rest}
+use Rattle.cpi_codes.specs.Zone.{ZoneRule}
 use Rattle.cpi_wire.specs.declared.asks.Ask.{Ask}
 use Rattle.cpi_wire.specs.declared.asks.Ask.TheVariants as ask
 use Rattle.cpi_wire.specs.Arguments.{Text}
@@ -10,27 +11,27 @@ use Rattle.cpi_wire.specs.Record.{ask_of, parts}
 use Rattle.cpi_wire.specs.Words.{word_of, request_of}
 use Rattle.cpi_wire.proofs.Counted.{texts}
 
-pub ask-short : (xs : List (Bor Text)) → length xs < 3 → ask.Bad ≡ ask_of (texts xs)
+pub ask-short : (zone : ZoneRule) (xs : List (Bor Text)) → length xs < 3 → ask.Bad ≡ ask_of zone (texts xs)
 unfolding ask_of
-ask-short [] h = refl
-ask-short (a ∷ []) h = refl
-ask-short (a ∷ b ∷ []) h = refl
-ask-short (a ∷ b ∷ c ∷ xs) h = absurd (omega arith)
+ask-short zone [] h = refl
+ask-short zone (a ∷ []) h = refl
+ask-short zone (a ∷ b ∷ []) h = refl
+ask-short zone (a ∷ b ∷ c ∷ xs) h = absurd (omega arith)
 
-pub ask-parts : (xs : List (Bor Text)) (d : Bor Text) (r : Option Ask) → 3 ≤ length xs
-    → r ≡ parts (get_or xs 0 d).now (get_or xs 1 d).now (get_or xs 2 d).now (texts (take (length xs - 3) (drop 3 xs)))
-    → unwrap_or r ask.Bad ≡ ask_of (texts xs)
+pub ask-parts : (zone : ZoneRule) (xs : List (Bor Text)) (d : Bor Text) (r : Option Ask) → 3 ≤ length xs
+    → r ≡ parts zone (get_or xs 0 d).now (get_or xs 1 d).now (get_or xs 2 d).now (texts (take (length xs - 3) (drop 3 xs)))
+    → unwrap_or r ask.Bad ≡ ask_of zone (texts xs)
 unfolding ask_of
-ask-parts [] d r h e = absurd (omega arith)
-ask-parts (a ∷ []) d r h e = absurd (omega arith)
-ask-parts (a ∷ b ∷ []) d r h e = absurd (omega arith)
-ask-parts (a ∷ b ∷ c ∷ xs) d r h e = rw (rw (take_rest (a ∷ b ∷ c ∷ xs) 3) at e) refl
+ask-parts zone [] d r h e = absurd (omega arith)
+ask-parts zone (a ∷ []) d r h e = absurd (omega arith)
+ask-parts zone (a ∷ b ∷ []) d r h e = absurd (omega arith)
+ask-parts zone (a ∷ b ∷ c ∷ xs) d r h e = rw (rw (take_rest (a ∷ b ∷ c ∷ xs) 3) at e) refl
 
-pub row-of : (xs : List (Bor Text)) (x : Bor Text) (rest : List (Bor Text)) → xs ≡ x ∷ rest → request_of (word_of x.now) (texts rest) ≡ row_request (texts xs)
+pub row-of : (zone : ZoneRule) (xs : List (Bor Text)) (x : Bor Text) (rest : List (Bor Text)) → xs ≡ x ∷ rest → request_of zone (word_of x.now) (texts rest) ≡ row_request zone (texts xs)
 unfolding row_request
-row-of xs x rest e = rw e refl
+row-of zone xs x rest e = rw e refl
 
-pub row-none : (xs : List (Bor Text)) → length xs ≡ 0 → None ≡ row_request (texts xs)
+pub row-none : (zone : ZoneRule) (xs : List (Bor Text)) → length xs ≡ 0 → None ≡ row_request zone (texts xs)
 unfolding row_request
-row-none [] e = refl
-row-none (x ∷ xs) e = absurd (omega arith)
+row-none zone [] e = refl
+row-none zone (x ∷ xs) e = absurd (omega arith)

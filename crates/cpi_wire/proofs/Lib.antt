@@ -1,8 +1,11 @@
 pub mod Answered
 pub mod Asked
 pub mod Coded
+pub mod Codes
 pub mod Counted
 pub mod Floats
 pub mod Places
+pub mod PlanRead
 pub mod Reading
 pub mod Runs
+pub mod Alike

@@ -1,6 +1,7 @@
 -- Records that were answered in turn are a run of their requests.
 use Rattle.std.proofs.Common.{◌≡◌, ◌∙◌, refl, sym, ℕ, List, [], ◌∷◌, ◌++◌, length, Option, Some, None, append_assoc, length-append, arith}
 use Rattle.std.proofs.lemmas.List.{append-nil}
+use Rattle.cpi_codes.specs.Zone.{ZoneRule}
 use Rattle.cpi_store.specs.Office.{Office}
 use Rattle.cpi_office.specs.Served.{Ran}
 use Rattle.cpi_office.proofs.Served.{ran_more}
@@ -56,15 +57,16 @@ module _ {B : Type 0} (is_clean : B → Type 0) (lists : B → Office) (failures
   run-one start old new front told (ask.Import t k rows) (answer.One reply) ran a = absurd a
   run-one start old new front told (ask.Import t k rows) (answer.Rows replies) ran a = run-rows start old new front told t k rows replies ran a
 
-  run-all : (start old new : B) (front : List Asking) (told : List Reply) (rows : List Record) (replies : List Answer)
-      → IsRunSoFar start old front told → AnswersAll is_clean lists failures old rows replies new
-      → IsRunSoFar start new (front ++ requests rows) (told ++ replies_of rows replies)
-  run-all start old new front told [] [] ran a = rw (append-nil front, append-nil told, a) ran
-  run-all start old new front told [] (p ∷ ps) ran a = absurd a
-  run-all start old new front told (q ∷ qs) [] ran a = absurd a
-  run-all start old new front told (q ∷ qs) (p ∷ ps) ran a =
-      let more = run-all start a.0 new (front ++ asked (ask_of q)) (told ++ replied (ask_of q) p) qs ps (run-one start old a.0 front told (ask_of q) p ran a.1) a.2 in
-      rw (append_assoc front (asked (ask_of q)) (requests qs), append_assoc told (replied (ask_of q) p) (replies_of qs ps)) at more
+  run-all : (zone : ZoneRule) (start old new : B) (front : List Asking) (told : List Reply) (rows : List Record) (replies : List Answer)
+      → IsRunSoFar start old front told → AnswersAll zone is_clean lists failures old rows replies new
+      → IsRunSoFar start new (front ++ requests zone rows) (told ++ replies_of zone rows replies)
+  run-all zone start old new front told [] [] ran a = rw (append-nil front, append-nil told, a) ran
+  run-all zone start old new front told [] (p ∷ ps) ran a = absurd a
+  run-all zone start old new front told (q ∷ qs) [] ran a = absurd a
+  run-all zone start old new front told (q ∷ qs) (p ∷ ps) ran a =
+      let k = ask_of zone q in
+      let more = run-all zone start a.0 new (front ++ asked k) (told ++ replied k p) qs ps (run-one start old a.0 front told k p ran a.1) a.2 in
+      rw (append_assoc front (asked k) (requests zone qs), append_assoc told (replied k p) (replies_of zone qs ps)) at more
 
   pub are_a_run : AreARun is_clean lists failures
-  are_a_run old new rows replies a = (run-all old old new [] [] rows replies (run-none old) a).1
+  are_a_run zone old new rows replies a = (run-all zone old old new [] [] rows replies (run-none old) a).1

@@ -1,5 +1,6 @@
 -- The requests in the records of an input.
 use Rattle.std.specs.Prelude.{ℕ, List, [], ◌∷◌, ◌++◌, Option, Some, None}
+use Rattle.cpi_codes.specs.Zone.{ZoneRule}
 use Rattle.cpi_store.specs.Office.{Office}
 use Rattle.cpi_office.specs.Served.{Ran}
 use Rattle.cpi_office.specs.declared.caller.Caller.{Caller}
@@ -40,16 +41,16 @@ replied (ask.One t k r) (answer.Rows replies) = []
 replied (ask.Import t k rows) (answer.One reply) = []
 replied (ask.Import t k rows) (answer.Rows replies) = rows_replied rows replies
 
-abbrev pub requests : List Record → List Asking
-requests [] = []
-requests (row ∷ rows) = asked (ask_of row) ++ requests rows
+abbrev pub requests : ZoneRule → List Record → List Asking
+requests zone [] = []
+requests zone (row ∷ rows) = asked (ask_of zone row) ++ requests zone rows
 
-abbrev pub replies_of : List Record → List Answer → List Reply
-replies_of [] replies = []
-replies_of (row ∷ rows) [] = []
-replies_of (row ∷ rows) (reply ∷ replies) = replied (ask_of row) reply ++ replies_of rows replies
+abbrev pub replies_of : ZoneRule → List Record → List Answer → List Reply
+replies_of zone [] replies = []
+replies_of zone (row ∷ rows) [] = []
+replies_of zone (row ∷ rows) (reply ∷ replies) = replied (ask_of zone row) reply ++ replies_of zone rows replies
 
 -- records that were answered in turn are a run of their requests
 abbrev pub AreARun : {B : Type 0} → (B → Type 0) → (B → Office) → (B → ℕ) → Type 0
-AreARun {B} is_clean lists failures = (old new : B) (rows : List Record) (replies : List Answer)
-    → AnswersAll is_clean lists failures old rows replies new → Ran is_clean lists old new (requests rows) (replies_of rows replies)
+AreARun {B} is_clean lists failures = (zone : ZoneRule) (old new : B) (rows : List Record) (replies : List Answer)
+    → AnswersAll zone is_clean lists failures old rows replies new → Ran is_clean lists old new (requests zone rows) (replies_of zone rows replies)

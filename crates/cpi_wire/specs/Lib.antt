@@ -5,7 +5,11 @@ pub mod Import
 pub mod Input
 pub mod Laws
 pub mod Line
+pub mod Lines
+pub mod PlanBody
+pub mod PlanRows
 pub mod Record
 pub mod Records
 pub mod Rows
+pub mod Values
 pub mod Words

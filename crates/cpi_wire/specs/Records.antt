@@ -2,6 +2,7 @@
 use Rattle.std.specs.Prelude.{◌≡◌, ◌≤◌, ◌<◌, ◌⊎◌, ℕ, List, [], ◌∷◌, ◌++◌, length, map, take, Option, IfSome}
 use Rattle.std.specs.List.{concat}
 use Rattle.std.specs.Io.KnownBytes.{Appends}
+use Rattle.cpi_codes.specs.Zone.{ZoneRule}
 use Rattle.cpi_store.specs.Office.{Office}
 use Rattle.cpi_wire.specs.declared.asks.Answer.{Answer}
 use Rattle.cpi_wire.specs.declared.fault.WireFault.{WireFault}
@@ -44,11 +45,12 @@ LineUntil fault.Read reply old new = ⊥
 LineUntil fault.Write reply old new = (count : ℕ) × (count < length (answer_line reply)) × Appends old new (take count (answer_line reply))
 LineUntil fault.NoMemory reply old new = new ≡ old
 
--- The words of a book: whether its store is clean, the office's lists, and how often it failed.
-module _ {B : Type 0} (is_clean : B → Type 0) (lists : B → Office) (failures : B → ℕ) where
+-- The clock by which civil times are read, and the words of a book: whether its store is clean, the office's lists, and
+-- how often it failed.
+module _ {B : Type 0} (zone : ZoneRule) (is_clean : B → Type 0) (lists : B → Office) (failures : B → ℕ) where
   -- the records in turn, each with its reply
   abbrev pub AnswersAll : B → List Record → List Answer → B → Type 0
-  AnswersAll old rows replies new = InTurn (λ from row reply to. Answers is_clean lists failures from (ask_of row) reply to) old rows replies new
+  AnswersAll old rows replies new = InTurn (λ from row reply to. Answers is_clean lists failures from (ask_of zone row) reply to) old rows replies new
 
   -- every record of the input was answered, and nothing but the lines of the replies was written
   pub record AnsweredInput (input : Option (List ℕ)) (old new : B) (was is : Option (List ℕ)) : Type 0 where

@@ -1,6 +1,6 @@
 //! So many arguments, and no more.
 ghost use Rattle.std.specs.Prelude.{◌≡◌, map, option_map};
-ghost use Rattle.cpi_wire.specs.Arguments.{none, one as exactly_one, two as exactly_two, four as exactly_four, four_and_confirm as exactly_four_and_confirm, is_confirm, five as exactly_five, six as exactly_six};
+ghost use Rattle.cpi_wire.specs.Arguments.{none, one as exactly_one, two as exactly_two, three as exactly_three, four as exactly_four, four_and_confirm as exactly_four_and_confirm, is_confirm, five as exactly_five, six as exactly_six};
 
 pub(crate) fn no_more(arguments: &[&[u8]]) -> Option<()>
     ensures { result ≡ none (map (λ a. a.now) arguments.now) }
@@ -23,6 +23,16 @@ pub(crate) fn two<'a>(arguments: &[&'a [u8]]) -> Option<(&'a [u8], &'a [u8])>
 {
     if arguments.len() == 2 {
         Some((arguments[0], arguments[1]))
+    } else {
+        None
+    }
+}
+
+pub(crate) fn three<'a>(arguments: &[&'a [u8]]) -> Option<(&'a [u8], &'a [u8], &'a [u8])>
+    ensures { option_map (λ a. (a.0.now, a.1.now, a.2.now)) result ≡ exactly_three (map (λ a. a.now) arguments.now) }
+{
+    if arguments.len() == 3 {
+        Some((arguments[0], arguments[1], arguments[2]))
     } else {
         None
     }

@@ -5,6 +5,7 @@ ghost use Rattle.cpi_wire.specs.Import.{row_request as row_asks, rows_of};
 use crate::fields::field_list;
 use crate::requests::ImportRows;
 use crate::words::{request_of, word_of};
+use cpi_codes::Zone;
 use cpi_office::Request;
 use csv::{ByteRecord, ReaderBuilder};
 use std::alloc::{AllocError, Global};
@@ -13,20 +14,28 @@ use std::alloc::{AllocError, Global};
 const MAX_ROWS: u32 = 20_000;
 
 // The request of a row: its word and its arguments.
-fn row_request(alloc: Global, fields: &[&[u8]]) -> Result<Option<Request>, AllocError>
-    ensures { IfOk result (λ r. r ≡ row_asks (map (λ f. f.now) fields.now)) }
+fn row_request(
+    alloc: Global,
+    zone: &Zone,
+    fields: &[&[u8]],
+) -> Result<Option<Request>, AllocError>
+    ensures { IfOk result (λ r. r ≡ row_asks zone.now (map (λ f. f.now) fields.now)) }
 {
     match fields.split_first() {
-        Some((word, arguments)) => request_of(alloc, word_of(word), arguments),
+        Some((word, arguments)) => request_of(alloc, zone, word_of(word), arguments),
         None => Ok(None),
     }
 }
 
 /// The rows of an import's body, which is CSV without a header row: a byte order mark at its start and empty lines are
-/// skipped. Each row is a word and its arguments; one that is of no form, or outside the limits, is kept as none, and
+/// skipped. Each row is a word and its arguments, with civil times by the clock of the zone; one that is of no form, or outside the limits, is kept as none, and
 /// so is an import inside the import. A body of more than 20,000 rows gives none at all.
-pub fn import_rows(alloc: Global, body: &[u8]) -> Result<Option<ImportRows>, AllocError>
-    ensures { IfOk result (λ rows. rows ≡ rows_of body.now) }
+pub fn import_rows(
+    alloc: Global,
+    zone: &Zone,
+    body: &[u8],
+) -> Result<Option<ImportRows>, AllocError>
+    ensures { IfOk result (λ rows. rows ≡ rows_of zone.now body.now) }
 {
     let mut reader = ReaderBuilder::new()
         .has_headers(false)
@@ -41,7 +50,7 @@ pub fn import_rows(alloc: Global, body: &[u8]) -> Result<Option<ImportRows>, All
             Err(_) => return Err(AllocError),
         }
         let fields = field_list(alloc, &row)?;
-        let request = row_request(alloc, &fields)?;
+        let request = row_request(alloc, zone, &fields)?;
         rows.push(request)?;
     }
     match reader.read_byte_record(&mut row) {

@@ -1,5 +1,6 @@
 //! What holds of the definitions.
 ghost use Rattle.cpi_wire.specs.Laws.{AreARun};
+ghost use Rattle.cpi_wire.specs.Lines.{LinesAreAlike};
 
 use cpi_store::Book;
 
@@ -7,4 +8,14 @@ use cpi_store::Book;
 /// what they were told.
 pub fn records_are_a_run<B: Book>()
     ensures { AreARun B.is_clean B.lists B.failures }
+{}
+
+/// What a collector, or the public, is told of a record is the same bytes in two replays under one zone, over books of
+/// any two kinds, that show that caller the same: at the start, and of what was accepted since. What all others send
+/// doesn't matter otherwise.
+///
+/// Both offices are sound at the start, both stores are clean once the record is answered, and none of its replies says
+/// that the office is unavailable. Nothing is said of time.
+pub fn lines_are_alike<B: Book, C: Book>()
+    ensures { LinesAreAlike B.is_clean B.lists B.failures C.is_clean C.lists C.failures }
 {}

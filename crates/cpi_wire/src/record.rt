@@ -7,7 +7,7 @@ use crate::asks::Ask;
 use crate::import::import_rows;
 use crate::requests::ImportRows;
 use crate::words::{request_of, word_of};
-use cpi_codes::{Key, Moment};
+use cpi_codes::{Key, Moment, Zone};
 use cpi_office::Caller;
 use std::alloc::{AllocError, Global};
 
@@ -24,11 +24,15 @@ fn caller_of(text: &[u8]) -> Option<Caller>
 }
 
 // The rows of an import, which has one argument.
-fn import_of(alloc: Global, arguments: &[&[u8]]) -> Result<Option<ImportRows>, AllocError>
-    ensures { IfOk result (λ rows. rows ≡ spelled_import (map (λ f. f.now) arguments.now)) }
+fn import_of(
+    alloc: Global,
+    zone: &Zone,
+    arguments: &[&[u8]],
+) -> Result<Option<ImportRows>, AllocError>
+    ensures { IfOk result (λ rows. rows ≡ spelled_import zone.now (map (λ f. f.now) arguments.now)) }
 {
     match one(arguments) {
-        Some(body) => import_rows(alloc, body),
+        Some(body) => import_rows(alloc, zone, body),
         None => Ok(None),
     }
 }
@@ -36,20 +40,21 @@ fn import_of(alloc: Global, arguments: &[&[u8]]) -> Result<Option<ImportRows>, A
 // What a word with its arguments asks.
 fn asks_of(
     alloc: Global,
+    zone: &Zone,
     now: Moment,
     caller: Caller,
     word: &[u8],
     arguments: &[&[u8]],
 ) -> Result<Option<Ask>, AllocError>
-    ensures { IfOk result (λ a. a ≡ spelled_asks now caller word.now (map (λ f. f.now) arguments.now)) }
+    ensures { IfOk result (λ a. a ≡ spelled_asks zone.now now caller word.now (map (λ f. f.now) arguments.now)) }
 {
     if word == b"import".as_slice() {
-        let Some(rows) = import_of(alloc, arguments)? else {
+        let Some(rows) = import_of(alloc, zone, arguments)? else {
             return Ok(None);
         };
         return Ok(Some(Ask::Import(now, caller, rows)));
     }
-    let Some(request) = request_of(alloc, word_of(word), arguments)? else {
+    let Some(request) = request_of(alloc, zone, word_of(word), arguments)? else {
         return Ok(None);
     };
     Ok(Some(Ask::One(now, caller, request)))
@@ -58,12 +63,13 @@ fn asks_of(
 // The first three fields of a record, and its arguments.
 fn parts_of(
     alloc: Global,
+    zone: &Zone,
     moment: &[u8],
     caller: &[u8],
     word: &[u8],
     arguments: &[&[u8]],
 ) -> Result<Option<Ask>, AllocError>
-    ensures { IfOk result (λ a. a ≡ spelled_parts moment.now caller.now word.now (map (λ f. f.now) arguments.now)) }
+    ensures { IfOk result (λ a. a ≡ spelled_parts zone.now moment.now caller.now word.now (map (λ f. f.now) arguments.now)) }
 {
     let Some(moment) = Moment::parse(moment) else {
         return Ok(None);
@@ -71,18 +77,22 @@ fn parts_of(
     let Some(caller) = caller_of(caller) else {
         return Ok(None);
     };
-    asks_of(alloc, moment, caller, word, arguments)
+    asks_of(alloc, zone, moment, caller, word, arguments)
 }
 
 /// What the fields of a record ask: a moment in seconds since 1970 UTC, a caller (`public`, `desk` or a key), a word
-/// and its arguments; those of an import are one body of rows. Whatever isn't of these forms, or outside the limits, is `Bad`.
-pub fn request_of_record(alloc: Global, fields: &[&[u8]]) -> Result<Ask, AllocError>
-    ensures { IfOk result (λ a. a ≡ ask_of (map (λ f. f.now) fields.now)) }
+/// and its arguments; those of an import are one body of rows. Civil times are read by the clock of the zone. Whatever isn't of these forms, or outside the limits, is `Bad`.
+pub fn request_of_record(
+    alloc: Global,
+    zone: &Zone,
+    fields: &[&[u8]],
+) -> Result<Ask, AllocError>
+    ensures { IfOk result (λ a. a ≡ ask_of zone.now (map (λ f. f.now) fields.now)) }
 {
     if fields.len() < 3 {
         return Ok(Ask::Bad);
     }
-    match parts_of(alloc, fields[0], fields[1], fields[2], &fields[3..])? {
+    match parts_of(alloc, zone, fields[0], fields[1], fields[2], &fields[3..])? {
         Some(ask) => Ok(ask),
         None => Ok(Ask::Bad),
     }

@@ -15,6 +15,7 @@ use crate::reader::CallCountingReader;
 use crate::record::request_of_record;
 use crate::rows::answer_line;
 use crate::write::write_whole;
+use cpi_codes::Zone;
 use cpi_office::Office;
 use cpi_store::Book;
 use csv::{ByteRecord, Error, ErrorKind, ReaderBuilder};
@@ -40,14 +41,15 @@ fn fault_of(error: &Error) -> WireFault
 // Carries out what the fields of the record ask. Without memory nothing is carried out.
 fn answer_row<B: Book>(
     alloc: Global,
+    zone: &Zone,
     office: &mut Office<B>,
     row: &ByteRecord,
 ) -> Result<Answer, AllocError>
-    ensures ok { IfOk result (λ told. Answers B.is_clean B.lists B.failures office.old.book (ask_of (fields_of row.now)) told office.new.book) }
+    ensures ok { IfOk result (λ told. Answers B.is_clean B.lists B.failures office.old.book (ask_of zone.now (fields_of row.now)) told office.new.book) }
     ensures err { OnErr result (office.new ≡ office.old) }
 {
     let fields = field_list(alloc, row)?;
-    let ask = request_of_record(alloc, &fields)?;
+    let ask = request_of_record(alloc, zone, &fields)?;
     answer(alloc, office, ask)
 }
 
@@ -61,16 +63,17 @@ fn tell<W: Write>(alloc: Global, writer: &mut W, told: &Answer) -> Result<(), Wi
 }
 
 /// Reads records from the reader, carries each out on the office in turn, and writes the line of its reply whole,
-/// before the next record is carried out. The rows of an import are carried out in turn too, and their replies stand
+/// before the next record is carried out. Civil times are read by the clock of the zone. The rows of an import are carried out in turn too, and their replies stand
 /// in the one line of the import. Of one input 1,000,000 records are taken; one more ends it with `Read`.
 pub fn replay<R: Read + Drop, W: Write, B: Book>(
     alloc: Global,
     reader: R,
     writer: &mut W,
+    zone: &Zone,
     office: &mut Office<B>,
 ) -> Result<(), WireFault>
-    ensures ok { OnOk result (AnsweredInput B.is_clean B.lists B.failures (R.remaining reader) office.old.book office.new.book (W.contents writer.old) (W.contents writer.new)) }
-    ensures err { IfErr result (GaveUp B.is_clean B.lists B.failures (R.remaining reader) office.old.book office.new.book (W.contents writer.old) (W.contents writer.new)) }
+    ensures ok { OnOk result (AnsweredInput zone.now B.is_clean B.lists B.failures (R.remaining reader) office.old.book office.new.book (W.contents writer.old) (W.contents writer.new)) }
+    ensures err { IfErr result (GaveUp zone.now B.is_clean B.lists B.failures (R.remaining reader) office.old.book office.new.book (W.contents writer.old) (W.contents writer.new)) }
 {
     let mut records = ReaderBuilder::new()
         .has_headers(false)
@@ -83,7 +86,7 @@ pub fn replay<R: Read + Drop, W: Write, B: Book>(
             Ok(false) => return Ok(()),
             Err(error) => return Err(fault_of(&error)),
         }
-        let told = answer_row(alloc, office, &row)?;
+        let told = answer_row(alloc, zone, office, &row)?;
         tell(alloc, writer, &told)?;
     }
     match records.read_byte_record(&mut row) {

@@ -1,5 +1,6 @@
 //! Records from end to end, over readers and writers in memory.
 use crate::{Ask, WireFault, replay, reply_line, request_of_record};
+use cpi_codes::{MomentFault, Zone, zone_of};
 use cpi_office::{Office, Refusal, Reply};
 use cpi_store::VecBook;
 use std::alloc::Global;
@@ -33,6 +34,10 @@ work\"
 1500,desk,import,\"\"
 1500,desk,import
 ";
+
+fn utc() -> Result<Zone, MomentFault> {
+    zone_of("UTC0")
+}
 
 // A reader that gives its bytes and then fails.
 #[derive(Drop)]
@@ -84,7 +89,7 @@ fn each_record_has_its_line(rt: HostRuntime) -> Result<(), Fail> {
     let mut office = Office::new(alloc, VecBook::new(alloc));
     let mut written: Vec<u8> = Vec::new(alloc);
     let input = [DESK, COLLECTOR].concat(alloc)?;
-    let done = replay(alloc, input.as_slice(), &mut written, &mut office);
+    let done = replay(alloc, input.as_slice(), &mut written, &utc()?, &mut office);
     assert_eq!(rt; done, Ok(()));
     let wanted = b"{\"done\":true}
 {\"done\":true}
@@ -106,7 +111,7 @@ fn a_reader_that_fails_ends_it_with_read(rt: HostRuntime) -> Result<(), Fail> {
     let alloc = rt.alloc();
     let mut office = Office::new(alloc, VecBook::new(alloc));
     let mut written: Vec<u8> = Vec::new(alloc);
-    let done = replay(alloc, Breaking { rest: DESK }, &mut written, &mut office);
+    let done = replay(alloc, Breaking { rest: DESK }, &mut written, &utc()?, &mut office);
     assert_eq!(rt; done, Err(WireFault::Read));
     assert_eq!(rt; written.len(), 5 * 14);
     Ok(())
@@ -120,13 +125,13 @@ fn a_writer_that_fails_stops_before_the_next_record(rt: HostRuntime) -> Result<(
         room: 2 * 14 + 5,
         taken: Vec::new(alloc),
     };
-    let done = replay(alloc, DESK, &mut narrow, &mut office);
+    let done = replay(alloc, DESK, &mut narrow, &utc()?, &mut office);
     assert_eq!(rt; done, Err(WireFault::Write));
     let wanted = b"{\"done\":true}\n{\"done\":true}\n{\"don".as_slice();
     assert_eq!(rt; narrow.taken.as_slice(), wanted);
     // the third record was carried out and the fourth wasn't: slot 1 is free yet
     let mut written: Vec<u8> = Vec::new(alloc);
-    let rest = replay(alloc, COLLECTOR, &mut written, &mut office);
+    let rest = replay(alloc, COLLECTOR, &mut written, &utc()?, &mut office);
     assert_eq!(rt; rest, Ok(()));
     assert!(rt; written.starts_with(b"{\"refused\":20}\n".as_slice()));
     Ok(())
@@ -136,8 +141,8 @@ fn a_writer_that_fails_stops_before_the_next_record(rt: HostRuntime) -> Result<(
 fn a_record_is_read_and_a_reply_is_printed(rt: HostRuntime) -> Result<(), Fail> {
     let alloc = rt.alloc();
     let fields = [b"7".as_slice(), b"public".as_slice(), b"items".as_slice()];
-    assert!(rt; matches!(request_of_record(alloc, &fields)?, Ask::One(_, _, _)));
-    assert!(rt; matches!(request_of_record(alloc, &fields[..2])?, Ask::Bad));
+    assert!(rt; matches!(request_of_record(alloc, &utc()?, &fields)?, Ask::One(_, _, _)));
+    assert!(rt; matches!(request_of_record(alloc, &utc()?, &fields[..2])?, Ask::Bad));
     let line = reply_line(alloc, &Reply::Refused(Refusal::Unavailable))?;
     assert_eq!(rt; line.as_slice(), b"{\"refused\":90}\n".as_slice());
     Ok(())
@@ -148,10 +153,10 @@ fn each_row_of_an_import_has_its_reply(rt: HostRuntime) -> Result<(), Fail> {
     let alloc = rt.alloc();
     let mut office = Office::new(alloc, VecBook::new(alloc));
     let mut written: Vec<u8> = Vec::new(alloc);
-    let done = replay(alloc, DESK, &mut written, &mut office);
+    let done = replay(alloc, DESK, &mut written, &utc()?, &mut office);
     assert_eq!(rt; done, Ok(()));
     written.clear();
-    let rest = replay(alloc, IMPORTS, &mut written, &mut office);
+    let rest = replay(alloc, IMPORTS, &mut written, &utc()?, &mut office);
     assert_eq!(rt; rest, Ok(()));
     let wanted = b"{\"rows\":[{\"receipt\":1},{\"refused\":20},{\"refused\":10},{\"receipt\":2}]}
 {\"rows\":[{\"receipt\":2}]}
@@ -172,7 +177,7 @@ fn line_of_bad_rows(alloc: Global, rows: usize) -> Result<Vec<u8>, Fail> {
     input.extend_from_slice(b"\"\n")?;
     let mut office = Office::new(alloc, VecBook::new(alloc));
     let mut written: Vec<u8> = Vec::new(alloc);
-    match replay(alloc, input.as_slice(), &mut written, &mut office) {
+    match replay(alloc, input.as_slice(), &mut written, &utc()?, &mut office) {
         Ok(()) => Ok(written),
         Err(_) => Ok(Vec::new(alloc)),
     }

@@ -1,16 +1,15 @@
 //! The words of requests, each with its arguments.
 ghost use Rattle.std.specs.Prelude.{◌≡◌, map, IfOk};
-ghost use Rattle.cpi_wire.specs.declared.words.Word.TheVariants as word;
-ghost use Rattle.cpi_wire.specs.Words.{word_of as spelled_word, month as spelled_month, name as spelled_name, mark_of as spelled_mark, reason as spelled_reason, request_of as spelled_request};
+ghost use Rattle.cpi_wire.specs.Words.{word_of as spelled_word, items_request, work_request, quotes_request, quote_request, item_request, outlet_request, collector_request, assign_request, calendar_request, plan_request, request_of as spelled_request};
 
 use crate::arguments::{five, four, four_and_confirm, no_more, one, six, two};
-use cpi_codes::{
-    CollectorId, ItemCode, Key, Moment, Month, Name, NameFault, OutletId, Price, SeriesId, Slot,
-};
+use crate::plan_body::plan_body;
+use crate::values::{mark_of, month_of, name_of, time_of};
+use cpi_codes::{CollectorId, ItemCode, Key, OutletId, SeriesId, Slot, Year, Zone};
 use cpi_office::Request;
 use cpi_plan::{CalendarRow, HighTolerance, Item, LowTolerance};
 use cpi_store::{Bearer, Outlet};
-use cpi_survey::{Assignment, Entry, Mark, Reason};
+use cpi_survey::{Assignment, Entry};
 use std::alloc::{AllocError, Global};
 
 /// The word of a request.
@@ -25,6 +24,7 @@ pub(crate) enum Word {
     Collector,
     Assign,
     Calendar,
+    Plan,
     Unknown,
 }
 
@@ -49,68 +49,22 @@ pub(crate) fn word_of(text: &[u8]) -> Word
         Word::Assign
     } else if text == b"calendar".as_slice() {
         Word::Calendar
+    } else if text == b"plan".as_slice() {
+        Word::Plan
     } else {
         Word::Unknown
     }
 }
 
-fn month_of(text: &[u8]) -> Option<Month>
-    ensures { result ≡ spelled_month text.now }
-{
-    Month::parse(text).ok()
-}
-
-fn name_of(alloc: Global, text: &[u8]) -> Result<Option<Name>, AllocError>
-    ensures { IfOk result (λ n. n ≡ spelled_name text.now) }
-{
-    match Name::new(alloc, text) {
-        Ok(name) => Ok(Some(name)),
-        Err(NameFault::Text) => Ok(None),
-        Err(NameFault::NoMemory) => Err(AllocError),
-    }
-}
-
-fn reason_of(text: &[u8]) -> Option<Reason>
-    ensures { result ≡ spelled_reason text.now }
-{
-    if text == b"stock".as_slice() {
-        Some(Reason::Stock)
-    } else if text == b"closed".as_slice() {
-        Some(Reason::Closed)
-    } else if text == b"gone".as_slice() {
-        Some(Reason::Gone)
-    } else if text == b"refused".as_slice() {
-        Some(Reason::Refused)
-    } else {
-        None
-    }
-}
-
-fn mark_of(mark: &[u8], value: &[u8]) -> Option<Mark>
-    ensures { result ≡ spelled_mark mark.now value.now }
-{
-    if mark == b"price".as_slice() {
-        Some(Mark::Price(Price::parse(value)?))
-    } else if mark == b"missing".as_slice() {
-        Some(Mark::Missing(reason_of(value)?))
-    } else if mark == b"comparable".as_slice() {
-        Some(Mark::Comparable(Price::parse(value)?))
-    } else if mark == b"other".as_slice() {
-        Some(Mark::Other(Price::parse(value)?))
-    } else {
-        None
-    }
-}
-
 fn items_of(arguments: &[&[u8]]) -> Option<Request>
-    ensures { result ≡ spelled_request word.Items (map (λ a. a.now) arguments.now) }
+    ensures { result ≡ items_request (map (λ a. a.now) arguments.now) }
 {
     no_more(arguments)?;
     Some(Request::Items)
 }
 
 fn quotes_of(arguments: &[&[u8]]) -> Option<Request>
-    ensures { result ≡ spelled_request word.Quotes (map (λ a. a.now) arguments.now) }
+    ensures { result ≡ quotes_request (map (λ a. a.now) arguments.now) }
 {
     let (first, last) = two(arguments)?;
     let first = month_of(first)?;
@@ -119,7 +73,7 @@ fn quotes_of(arguments: &[&[u8]]) -> Option<Request>
 }
 
 fn work_of(arguments: &[&[u8]]) -> Option<Request>
-    ensures { result ≡ spelled_request word.Work (map (λ a. a.now) arguments.now) }
+    ensures { result ≡ work_request (map (λ a. a.now) arguments.now) }
 {
     let month = one(arguments)?;
     let month = month_of(month)?;
@@ -127,7 +81,7 @@ fn work_of(arguments: &[&[u8]]) -> Option<Request>
 }
 
 fn quote_of(arguments: &[&[u8]]) -> Option<Request>
-    ensures { result ≡ spelled_request word.Quote (map (λ a. a.now) arguments.now) }
+    ensures { result ≡ quote_request (map (λ a. a.now) arguments.now) }
 {
     let (slot, month, mark, value, confirm) = four_and_confirm(arguments)?;
     let slot = Slot::parse(slot)?;
@@ -142,7 +96,7 @@ fn quote_of(arguments: &[&[u8]]) -> Option<Request>
 }
 
 fn collector_of(arguments: &[&[u8]]) -> Option<Request>
-    ensures { result ≡ spelled_request word.Collector (map (λ a. a.now) arguments.now) }
+    ensures { result ≡ collector_request (map (λ a. a.now) arguments.now) }
 {
     let (number, key) = two(arguments)?;
     let number = CollectorId::parse(number)?;
@@ -150,20 +104,20 @@ fn collector_of(arguments: &[&[u8]]) -> Option<Request>
     Some(Request::Register(Bearer { number, key }))
 }
 
-fn calendar_of(arguments: &[&[u8]]) -> Option<Request>
-    ensures { result ≡ spelled_request word.Calendar (map (λ a. a.now) arguments.now) }
+fn calendar_of(zone: &Zone, arguments: &[&[u8]]) -> Option<Request>
+    ensures { result ≡ calendar_request zone.now (map (λ a. a.now) arguments.now) }
 {
     let (month, opens, closes, publishes) = four(arguments)?;
     let month = month_of(month)?;
-    let opens = Moment::parse(opens)?;
-    let closes = Moment::parse(closes)?;
-    let publishes = Moment::parse(publishes)?;
+    let opens = time_of(zone, opens)?;
+    let closes = time_of(zone, closes)?;
+    let publishes = time_of(zone, publishes)?;
     let row = CalendarRow::new(month, opens, closes, publishes)?;
     Some(Request::PutCalendar(row))
 }
 
 fn assign_of(arguments: &[&[u8]]) -> Option<Request>
-    ensures { result ≡ spelled_request word.Assign (map (λ a. a.now) arguments.now) }
+    ensures { result ≡ assign_request (map (λ a. a.now) arguments.now) }
 {
     let (collector, slot, outlet, item, first, last) = six(arguments)?;
     let collector = CollectorId::parse(collector)?;
@@ -188,7 +142,7 @@ fn assign_of(arguments: &[&[u8]]) -> Option<Request>
 }
 
 fn outlet_of(alloc: Global, arguments: &[&[u8]]) -> Result<Option<Request>, AllocError>
-    ensures { IfOk result (λ r. r ≡ spelled_request word.Outlet (map (λ a. a.now) arguments.now)) }
+    ensures { IfOk result (λ r. r ≡ outlet_request (map (λ a. a.now) arguments.now)) }
 {
     let Some((number, name)) = two(arguments) else {
         return Ok(None);
@@ -203,7 +157,7 @@ fn outlet_of(alloc: Global, arguments: &[&[u8]]) -> Result<Option<Request>, Allo
 }
 
 fn item_of(alloc: Global, arguments: &[&[u8]]) -> Result<Option<Request>, AllocError>
-    ensures { IfOk result (λ r. r ≡ spelled_request word.Item (map (λ a. a.now) arguments.now)) }
+    ensures { IfOk result (λ r. r ≡ item_request (map (λ a. a.now) arguments.now)) }
 {
     let Some((code, text, unit, low, high)) = five(arguments) else {
         return Ok(None);
@@ -232,13 +186,29 @@ fn item_of(alloc: Global, arguments: &[&[u8]]) -> Result<Option<Request>, AllocE
     })))
 }
 
+fn plan_of(alloc: Global, arguments: &[&[u8]]) -> Result<Option<Request>, AllocError>
+    ensures { IfOk result (λ r. r ≡ plan_request (map (λ a. a.now) arguments.now)) }
+{
+    let Some((year, body)) = two(arguments) else {
+        return Ok(None);
+    };
+    let Some(year) = Year::parse(year) else {
+        return Ok(None);
+    };
+    let Some(body) = plan_body(alloc, body)? else {
+        return Ok(None);
+    };
+    Ok(Some(Request::PutPlan(year, body)))
+}
+
 /// The request of a word with its arguments, if they are of its form and within the limits.
 pub(crate) fn request_of(
     alloc: Global,
+    zone: &Zone,
     kind: Word,
     arguments: &[&[u8]],
 ) -> Result<Option<Request>, AllocError>
-    ensures { IfOk result (λ r. r ≡ spelled_request kind (map (λ a. a.now) arguments.now)) }
+    ensures { IfOk result (λ r. r ≡ spelled_request zone.now kind (map (λ a. a.now) arguments.now)) }
 {
     match kind {
         Word::Items => Ok(items_of(arguments)),
@@ -249,7 +219,8 @@ pub(crate) fn request_of(
         Word::Outlet => outlet_of(alloc, arguments),
         Word::Collector => Ok(collector_of(arguments)),
         Word::Assign => Ok(assign_of(arguments)),
-        Word::Calendar => Ok(calendar_of(arguments)),
+        Word::Calendar => Ok(calendar_of(zone, arguments)),
+        Word::Plan => plan_of(alloc, arguments),
         Word::Unknown => Ok(None),
     }
 }

@@ -31,7 +31,7 @@ loop-preserved g c =
       inv.0 ++ f ∷ [],
       inv.1 ++ c.in_ok-told.told ∷ [],
       at-next _ _ inv.0 _ _ _ inv.2 read on,
-      answers-more _ _ _ _ _ _ inv.0 inv.1 f c.in_ok-told.told inv.3 c.in_ok-told.ensures.ok,
+      answers-more _ _ _ _ _ _ _ inv.0 inv.1 f c.in_ok-told.told inv.3 c.in_ok-told.ensures.ok,
       told-more inv.1 _ _ _ _ inv.4 c.in_ok-tell.ensures.whole,
       rw length-append (omega (arith, n)),
     )
@@ -54,14 +54,14 @@ pub returns-in-Err-clause-err : goal.returns-in-Err-clause-err
 returns-in-Err-clause-err g c =
     let inv = c.loop.invariant in
     let n = inv.5 in
-    gave-up-between _ _ _ _ _ _ _ _ _ inv.0 inv.1 c.fault_of.ensures (omega (arith, n)) (at-front _ _ inv.0 _ inv.2) inv.3 inv.4
+    gave-up-between _ _ _ _ _ _ _ _ _ _ inv.0 inv.1 c.fault_of.ensures (omega (arith, n)) (at-front _ _ inv.0 _ inv.2) inv.3 inv.4
 
 pub returns-in_err-told-clause-err : goal.returns-in_err-told-clause-err
 returns-in_err-told-clause-err g c =
     let inv = c.loop.invariant in
     let n = inv.5 in
     let p = err_from_is_err_and c.from_residual.result c.from_residual.ensures.1 in
-    rw (p.1, p.2, c.in_err-told.ensures.err) (gave-up-between _ _ _ _ _ _ _ _ NoMemory inv.0 inv.1 (λ e. cc) (omega (arith, n)) (at-front _ _ inv.0 _ inv.2) inv.3 inv.4)
+    rw (p.1, p.2, c.in_err-told.ensures.err) (gave-up-between _ _ _ _ _ _ _ _ _ NoMemory inv.0 inv.1 (λ e. cc) (omega (arith, n)) (at-front _ _ inv.0 _ inv.2) inv.3 inv.4)
 
 pub returns-in_err-tell-clause-err : goal.returns-in_err-tell-clause-err
 returns-in_err-tell-clause-err g c =
@@ -71,14 +71,14 @@ returns-in_err-tell-clause-err g c =
     let read = rw c.in-Ok-true.field-0-test at (c.in-Ok-true.ensures.reads inv.2.trim inv.2.ready) in
     let on = c.in-Ok-true.ensures.reads_on c.in-Ok-true.field-0-test in
     let p = err_from_is_err_and c.from_residual-in_err-tell.result c.from_residual-in_err-tell.ensures.1 in
-    rw (p.1, p.2) (gave-up-at _ _ _ _ _ _ _ _ _ _ _ inv.0 inv.1 f c.in_ok-told.told (omega (arith, n))
+    rw (p.1, p.2) (gave-up-at _ _ _ _ _ _ _ _ _ _ _ _ inv.0 inv.1 f c.in_ok-told.told (omega (arith, n))
     (at-front _ _ _ c.read_byte_record.new.self (at-next _ _ inv.0 c.loop.records c.read_byte_record.new.self f inv.2 read on)) inv.3 inv.4 c.in_ok-told.ensures.ok c.in_err-tell.ensures.part)
 
 pub returns-in-Ok-true-read_byte_record-clause-err : goal.returns-in-Ok-true-read_byte_record-clause-err
 returns-in-Ok-true-read_byte_record-clause-err g c =
     let inv = c.loop.invariant in
     let n = inv.5 in
-    gave-up-between _ _ _ _ _ _ _ _ _ inv.0 inv.1 (λ e. cc) (omega (arith, n)) (at-front _ _ inv.0 _ inv.2) inv.3 inv.4
+    gave-up-between _ _ _ _ _ _ _ _ _ _ inv.0 inv.1 (λ e. cc) (omega (arith, n)) (at-front _ _ inv.0 _ inv.2) inv.3 inv.4
 
 pub returns-in-Ok-false-read_byte_record-clause-ok : goal.returns-in-Ok-false-read_byte_record-clause-ok
 returns-in-Ok-false-read_byte_record-clause-ok g c =
@@ -98,4 +98,4 @@ pub returns-clause-err : goal.returns-clause-err
 returns-clause-err g c =
     let inv = c.loop.invariant in
     let n = inv.5 in
-    gave-up-between _ _ _ _ _ _ _ _ _ inv.0 inv.1 c.fault_of-in-Err-read_byte_record.ensures (omega (arith, n)) (at-front _ _ inv.0 _ inv.2) inv.3 inv.4
+    gave-up-between _ _ _ _ _ _ _ _ _ _ inv.0 inv.1 c.fault_of-in-Err-read_byte_record.ensures (omega (arith, n)) (at-front _ _ inv.0 _ inv.2) inv.3 inv.4

@@ -9,6 +9,6 @@ use Rattle.cpi_wire.proofs.records.replay.Given as goal
 abbrev pub invariant-loop : goal.invariant-loop
 invariant-loop g l = (rows : List Record) × (replies : List Answer)
     × IsAt (λ s. g.R.Read.remaining s.inner) (g.R.Read.remaining l.fn.reader) rows l.records
-    × AnswersAll g.B.Book.is_clean g.B.Book.lists g.B.Book.failures l.fn.office.book rows replies l.office.book
+    × AnswersAll l.fn.zone g.B.Book.is_clean g.B.Book.lists g.B.Book.failures l.fn.office.book rows replies l.office.book
     × Told replies (g.W.Write.contents l.fn.writer) (g.W.Write.contents l.writer)
     × (length rows ≡ l.counter)

@@ -6,7 +6,7 @@ use Rattle.jiff.specs.Words.{ambiguous_at, civil_seconds, compatible_offset, pla
 use Rattle.cpi_codes.specs.Zone.{second_in}
 use Rattle.cpi_codes.proofs.OfficeYears.{is_moment}
 use Rattle.cpi_codes.proofs.Seconds.{whole, whole_seconds}
-use Rattle.cpi_codes.proofs.zone.moment_at.Goals as goal
+use Rattle.cpi_codes.proofs.zone.given_at.Goals as goal
 
 pub returns-then-civil-lt-FIRST_YEAR : goal.returns-then-civil-lt-FIRST_YEAR
 returns-then-civil-lt-FIRST_YEAR c =

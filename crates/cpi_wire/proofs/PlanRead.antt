@@ -1,0 +1,101 @@
+-- The rows of a plan's body, one after the other.
+use Rattle.std.proofs.Common.{◌≡◌, ◌∙◌, sym, ap, refl, ℕ, List, [], ◌∷◌, ◌++◌, ◌<◌, ◌≤◌, length, Option, Some, None, Bool, true, false, nat_lt, if◌then◌else◌, arith, append_assoc, length-append}
+use Rattle.std.proofs.lemmas.Bool.Decides.{nat_tests}
+use Rattle.cpi_plan.specs.declared.plan_bodies.PlanBody.{PlanBody}
+use Rattle.cpi_plan.specs.declared.plan_rows.Title.{Title}
+use Rattle.cpi_plan.specs.declared.plan_rows.Weight.{Weight}
+use Rattle.cpi_plan.specs.declared.plan_rows.Place.{Place}
+use Rattle.cpi_wire.specs.declared.plan_rows.PlanRow.{PlanRow}
+use Rattle.cpi_wire.specs.declared.plan_rows.PlanRow.TheVariants as row
+use Rattle.cpi_wire.specs.Input.{Record, AreFirst, records_of}
+use Rattle.cpi_wire.specs.PlanBody.{titles_of, weights_of, places_of, told_by, plan_rows, body_of}
+use Rattle.cpi_wire.specs.PlanRows.{plan_row}
+use Rattle.cpi_wire.specs.Values.{◌>>=◌}
+
+-- ---- one row more
+
+title-more : (rows : List PlanRow) (t : Title) → told_by (rows ++ row.Title t ∷ []) ≡ record { titles = titles_of rows ++ t ∷ []; weights = weights_of rows; places = places_of rows }
+title-more [] t = refl
+title-more (row.Title u ∷ rows) t = ap (λ (b : PlanBody). record { titles = u ∷ b.titles; weights = b.weights; places = b.places }) (title-more rows t)
+title-more (row.Weight w ∷ rows) t = ap (λ (b : PlanBody). record { titles = b.titles; weights = w ∷ b.weights; places = b.places }) (title-more rows t)
+title-more (row.Place p ∷ rows) t = ap (λ (b : PlanBody). record { titles = b.titles; weights = b.weights; places = p ∷ b.places }) (title-more rows t)
+
+weight-more : (rows : List PlanRow) (v : Weight) → told_by (rows ++ row.Weight v ∷ []) ≡ record { titles = titles_of rows; weights = weights_of rows ++ v ∷ []; places = places_of rows }
+weight-more [] v = refl
+weight-more (row.Title u ∷ rows) v = ap (λ (b : PlanBody). record { titles = u ∷ b.titles; weights = b.weights; places = b.places }) (weight-more rows v)
+weight-more (row.Weight w ∷ rows) v = ap (λ (b : PlanBody). record { titles = b.titles; weights = w ∷ b.weights; places = b.places }) (weight-more rows v)
+weight-more (row.Place p ∷ rows) v = ap (λ (b : PlanBody). record { titles = b.titles; weights = b.weights; places = p ∷ b.places }) (weight-more rows v)
+
+place-more : (rows : List PlanRow) (q : Place) → told_by (rows ++ row.Place q ∷ []) ≡ record { titles = titles_of rows; weights = weights_of rows; places = places_of rows ++ q ∷ [] }
+place-more [] q = refl
+place-more (row.Title u ∷ rows) q = ap (λ (b : PlanBody). record { titles = u ∷ b.titles; weights = b.weights; places = b.places }) (place-more rows q)
+place-more (row.Weight w ∷ rows) q = ap (λ (b : PlanBody). record { titles = b.titles; weights = w ∷ b.weights; places = b.places }) (place-more rows q)
+place-more (row.Place p ∷ rows) q = ap (λ (b : PlanBody). record { titles = b.titles; weights = b.weights; places = p ∷ b.places }) (place-more rows q)
+
+-- a body with one row more
+pub with-title : (b : PlanBody) (rows : List PlanRow) (t : Title) → b ≡ told_by rows → record { titles = b.titles ++ t ∷ []; weights = b.weights; places = b.places } ≡ told_by (rows ++ row.Title t ∷ [])
+with-title b rows t e = ap (λ (b : PlanBody). record { titles = b.titles ++ t ∷ []; weights = b.weights; places = b.places }) e ∙ sym (title-more rows t)
+
+pub with-weight : (b : PlanBody) (rows : List PlanRow) (w : Weight) → b ≡ told_by rows → record { titles = b.titles; weights = b.weights ++ w ∷ []; places = b.places } ≡ told_by (rows ++ row.Weight w ∷ [])
+with-weight b rows w e = ap (λ (b : PlanBody). record { titles = b.titles; weights = b.weights ++ w ∷ []; places = b.places }) e ∙ sym (weight-more rows w)
+
+pub with-place : (b : PlanBody) (rows : List PlanRow) (p : Place) → b ≡ told_by rows → record { titles = b.titles; weights = b.weights; places = b.places ++ p ∷ [] } ≡ told_by (rows ++ row.Place p ∷ [])
+with-place b rows p e = ap (λ (b : PlanBody). record { titles = b.titles; weights = b.weights; places = b.places ++ p ∷ [] }) e ∙ sym (place-more rows p)
+
+-- ---- the rows of records
+
+-- the rows of two lists of records
+both : Option (List PlanRow) → Option (List PlanRow) → Option (List PlanRow)
+both None more = None
+both (Some rows) None = None
+both (Some rows) (Some more) = Some (rows ++ more)
+
+rows-append : (xs ys : List Record) → plan_rows (xs ++ ys) ≡ both (plan_rows xs) (plan_rows ys)
+unfolding both
+rows-append [] ys = none (plan_rows ys)
+  where
+    none : (o : Option (List PlanRow)) → o ≡ both (Some []) o
+    none None = refl
+    none (Some rows) = refl
+rows-append (x ∷ xs) ys = by (plan_row x) (plan_rows xs) (plan_rows ys) (plan_rows (xs ++ ys)) (rows-append xs ys)
+  where
+    by : (p : Option PlanRow) (o q r : Option (List PlanRow)) → r ≡ both o q
+        → (p >>= λ first. r >>= λ rows. Some (first ∷ rows)) ≡ both (p >>= λ first. o >>= λ rows. Some (first ∷ rows)) q
+    by None o q r e = refl
+    by (Some first) None q r e = rw e refl
+    by (Some first) (Some rows) None r e = rw e refl
+    by (Some first) (Some rows) (Some more) r e = rw e refl
+
+pub rows-more : (given : List Record) (rows : List PlanRow) (fields : Record) (one : PlanRow) → plan_rows given ≡ Some rows → plan_row fields ≡ Some one
+    → plan_rows (given ++ fields ∷ []) ≡ Some (rows ++ one ∷ [])
+unfolding both
+rows-more given rows fields one e f = rows-append given (fields ∷ []) ∙ rw (e, f) refl
+
+-- ---- the body
+
+small : (n : ℕ) → n ≤ 20000 → nat_lt 20000 n ≡ false
+small n h = grind (arith, nat_tests)
+
+large : (n : ℕ) → 20000 < n → nat_lt 20000 n ≡ true
+large n h = grind (arith, nat_tests)
+
+pub body-whole : (text : List ℕ) (given : List Record) (rows : List PlanRow) → given ≡ records_of text → length given ≤ 20000 → plan_rows given ≡ Some rows
+    → Some (told_by rows) ≡ body_of text
+unfolding body_of
+body-whole text given rows e h r = rw (← e, small (length given) h, r) refl
+
+pub body-long : (text : List ℕ) (given : List Record) → AreFirst given text → 20000 < length given → None ≡ body_of text
+unfolding body_of
+body-long text given first h =
+    let t : nat_lt 20000 (length (records_of text)) ≡ true = large _ (rw (first.1, length-append) (omega arith)) in rw t refl
+
+pub body-bad : (text : List ℕ) (given : List Record) (rows : List PlanRow) (fields : Record) → AreFirst (given ++ fields ∷ []) text → plan_rows given ≡ Some rows
+    → plan_row fields ≡ None → None ≡ body_of text
+unfolding body_of both
+body-bad text given rows fields first e f =
+    let all : plan_rows (records_of text) ≡ None = ap plan_rows (first.1 ∙ append_assoc given (fields ∷ []) first.0) ∙ rows-append given (fields ∷ first.0) ∙ rw (e, f) refl in
+    by (nat_lt 20000 (length (records_of text))) (plan_rows (records_of text)) all
+  where
+    by : (t : Bool) (o : Option (List PlanRow)) → o ≡ None → None ≡ (if t then None else (o >>= λ rows. Some (told_by rows)))
+    by true o e = refl
+    by false o e = rw e refl

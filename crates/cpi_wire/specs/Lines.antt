@@ -1,0 +1,62 @@
+-- What the lines to a caller hang on.
+use Rattle.std.specs.Prelude.{◌≡◌, ◌≢◌, ⊤, ℕ, List, [], ◌∷◌}
+use Rattle.cpi_codes.specs.Zone.{ZoneRule}
+use Rattle.cpi_store.specs.Office.{Office}
+use Rattle.cpi_office.specs.Views.{view}
+use Rattle.cpi_office.specs.Runs.{trace}
+use Rattle.cpi_office.specs.Sights.{Sight, seen}
+use Rattle.cpi_office.specs.Served.{all_served}
+use Rattle.cpi_office.specs.Sound.{IsSound}
+use Rattle.cpi_office.specs.Told.{NoneFails}
+use Rattle.cpi_office.specs.declared.caller.Caller.{Caller}
+use Rattle.cpi_office.specs.declared.caller.Caller.TheVariants.{Desk}
+use Rattle.cpi_office.specs.declared.reply.Reply.{Reply}
+use Rattle.cpi_wire.specs.declared.asks.Answer.{Answer}
+use Rattle.cpi_wire.specs.declared.asks.Answer.TheVariants as answer
+use Rattle.cpi_wire.specs.declared.asks.Ask.{Ask}
+use Rattle.cpi_wire.specs.declared.asks.Ask.TheVariants as ask
+use Rattle.cpi_wire.specs.Answers.{Answers}
+use Rattle.cpi_wire.specs.Input.{Record}
+use Rattle.cpi_wire.specs.Laws.{requests, replies_of}
+use Rattle.cpi_wire.specs.Record.{ask_of}
+use Rattle.cpi_wire.specs.Records.{AnswersAll}
+use Rattle.cpi_wire.specs.Rows.{answer_line}
+
+-- the record is of no form, or comes from the caller
+abbrev pub IsFrom : Caller → Ask → Type 0
+IsFrom k ask.Bad = ⊤
+IsFrom k (ask.One t c r) = c ≡ k
+IsFrom k (ask.Import t c rows) = c ≡ k
+
+abbrev pub all_replies : Answer → List Reply
+all_replies (answer.One reply) = reply ∷ []
+all_replies (answer.Rows replies) = replies
+
+module _ {B : Type 0} (is_clean : B → Type 0) (lists : B → Office) (failures : B → ℕ) where
+  -- From a sound office some records were answered, and then one of the caller, over a store that was clean then, and
+  -- without a reply that the office is unavailable.
+  pub record IsTold (zone : ZoneRule) (k : Caller) (start : B) (row : Record) (told : Answer) : Type 0 where
+    pub rows : List Record
+    pub replies : List Answer
+    pub mid : B
+    pub end : B
+    pub sound : IsSound (lists start)
+    pub before : AnswersAll zone is_clean lists failures start rows replies mid
+    pub one : Answers is_clean lists failures mid (ask_of zone row) told end
+    pub clean : is_clean end
+    pub caller : IsFrom k (ask_of zone row)
+    pub served : NoneFails (all_replies told)
+
+  -- what the caller has seen since the start of what was accepted before that record
+  abbrev pub seen_before : (zone : ZoneRule) (k : Caller) (start : B) (row : Record) (told : Answer) → IsTold zone k start row told → List Sight
+  seen_before zone k start row told is = seen k (trace (all_served (requests zone is.rows) (replies_of zone is.rows is.replies)) (lists start))
+
+-- Two replays under one zone, over books of any two kinds: where they show a collector, or the public, the same at the
+-- start, and what was accepted since, the same record of that caller is told in the same bytes, whatever all others sent.
+abbrev pub LinesAreAlike : {B C : Type 0} → (B → Type 0) → (B → Office) → (B → ℕ) → (C → Type 0) → (C → Office) → (C → ℕ) → Type 0
+LinesAreAlike {B} {C} clean lists failures clean' lists' failures' =
+    (zone : ZoneRule) (k : Caller) (row : Record) (told told' : Answer) (start : B) (start' : C)
+    (is : IsTold clean lists failures zone k start row told) (is' : IsTold clean' lists' failures' zone k start' row told') → k ≢ Desk →
+    view k (lists start) ≡ view k (lists' start') →
+    seen_before clean lists failures zone k start row told is ≡ seen_before clean' lists' failures' zone k start' row told' is' →
+    answer_line told ≡ answer_line told'

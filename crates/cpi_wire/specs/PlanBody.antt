@@ -1,0 +1,46 @@
+-- The body of a plan: its rows, in any order.
+use Rattle.std.specs.Prelude.{List, [], ◌∷◌, if◌then◌else◌, nat_lt, length, Option, Some, None}
+use Rattle.cpi_plan.specs.declared.plan_bodies.PlanBody.{PlanBody}
+use Rattle.cpi_plan.specs.declared.plan_rows.Title.{Title}
+use Rattle.cpi_plan.specs.declared.plan_rows.Weight.{Weight}
+use Rattle.cpi_plan.specs.declared.plan_rows.Place.{Place}
+use Rattle.cpi_wire.specs.declared.plan_rows.PlanRow.{PlanRow}
+use Rattle.cpi_wire.specs.declared.plan_rows.PlanRow.TheVariants as row
+use Rattle.cpi_wire.specs.Arguments.{Text}
+use Rattle.cpi_wire.specs.Input.{Record, records_of}
+use Rattle.cpi_wire.specs.PlanRows.{plan_row}
+use Rattle.cpi_wire.specs.Values.{◌>>=◌}
+
+abbrev pub titles_of : List PlanRow → List Title
+titles_of [] = []
+titles_of (row.Title t ∷ rows) = t ∷ titles_of rows
+titles_of (row.Weight w ∷ rows) = titles_of rows
+titles_of (row.Place p ∷ rows) = titles_of rows
+
+abbrev pub weights_of : List PlanRow → List Weight
+weights_of [] = []
+weights_of (row.Title t ∷ rows) = weights_of rows
+weights_of (row.Weight w ∷ rows) = w ∷ weights_of rows
+weights_of (row.Place p ∷ rows) = weights_of rows
+
+abbrev pub places_of : List PlanRow → List Place
+places_of [] = []
+places_of (row.Title t ∷ rows) = places_of rows
+places_of (row.Weight w ∷ rows) = places_of rows
+places_of (row.Place p ∷ rows) = p ∷ places_of rows
+
+-- what the rows say, each kind in the order in which it stands
+abbrev pub told_by : List PlanRow → PlanBody
+told_by rows = record { titles = titles_of rows; weights = weights_of rows; places = places_of rows }
+
+-- all rows, where each is of a form
+abbrev pub plan_rows : List Record → Option (List PlanRow)
+plan_rows [] = Some []
+plan_rows (fields ∷ more) = do
+  first ← plan_row fields
+  rows ← plan_rows more
+  Some (first ∷ rows)
+
+-- the body of at most 20,000 rows
+unfoldable pub body_of : Text → Option PlanBody
+body_of text = if nat_lt 20000 (length (records_of text)) then None else (plan_rows (records_of text) >>= λ rows. Some (told_by rows))

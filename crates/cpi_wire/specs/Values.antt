@@ -1,0 +1,79 @@
+-- The value of one field.
+use Rattle.std.specs.Prelude.{ℕ, List, if◌then◌else◌, Option, Some, None, bytes_eq, codes}
+use Rattle.std.specs.Result.{result_ok}
+use Rattle.cpi_codes.specs.Number.{number_of}
+use Rattle.cpi_codes.specs.Clock.{moment_in}
+use Rattle.cpi_codes.specs.Zone.{ZoneRule}
+use Rattle.cpi_codes.specs.Month.{month_of}
+use Rattle.cpi_codes.specs.Name.{is_name}
+use Rattle.cpi_survey.specs.declared.mark.Mark.{Mark}
+use Rattle.cpi_survey.specs.declared.mark.Mark.TheVariants.{Price, Missing, Comparable, Other}
+use Rattle.cpi_survey.specs.declared.mark.Reason.{Reason}
+use Rattle.cpi_survey.specs.declared.mark.Reason.TheVariants.{Stock, Closed, Gone, Refused}
+use Rattle.cpi_wire.specs.Arguments.{Text}
+
+-- a reader goes on with what another one read
+infixl 10 ◌>>=◌
+abbrev pub ◌>>=◌ : {A B : Type 0} → Option A → (A → Option B) → Option B
+None >>= f = None
+(Some x) >>= f = f x
+
+abbrev pub moment : Text → Option ℕ
+moment text = number_of 0 9999999999 text
+
+-- a value, or another where there is none
+abbrev pub or_else : {A : Type 0} → Option A → Option A → Option A
+or_else None other = other
+or_else (Some x) other = Some x
+
+-- a moment as a number, or as the civil text that a clock shows then
+abbrev pub time : ZoneRule → Text → Option ℕ
+time zone text = or_else (moment text) (moment_in zone text)
+
+abbrev pub month : Text → Option ℕ
+month text = result_ok (month_of text)
+
+abbrev pub collector : Text → Option ℕ
+collector text = number_of 1 9999 text
+
+abbrev pub slot : Text → Option ℕ
+slot text = number_of 1 400 text
+
+abbrev pub outlet : Text → Option ℕ
+outlet text = number_of 1 999999 text
+
+abbrev pub year : Text → Option ℕ
+year text = number_of 2000 2199 text
+
+abbrev pub price : Text → Option ℕ
+price text = number_of 1 100000000 text
+
+abbrev pub low_tolerance : Text → Option ℕ
+low_tolerance text = number_of 1 1000 text
+
+abbrev pub high_tolerance : Text → Option ℕ
+high_tolerance text = number_of 1000 10000 text
+
+-- parts per million
+abbrev pub weight : Text → Option ℕ
+weight text = number_of 0 1000000 text
+
+abbrev pub name : Text → Option Text
+name text = if is_name text then Some text else None
+
+abbrev pub reason : Text → Option Reason
+reason text =
+    if bytes_eq text (codes "stock") then Some Stock
+    else if bytes_eq text (codes "closed") then Some Closed
+    else if bytes_eq text (codes "gone") then Some Gone
+    else if bytes_eq text (codes "refused") then Some Refused
+    else None
+
+-- a price, a reason why there is none, or the price of a replacement
+abbrev pub mark_of : Text → Text → Option Mark
+mark_of kind value =
+    if bytes_eq kind (codes "price") then (price value >>= λ p. Some (Price p))
+    else if bytes_eq kind (codes "missing") then (reason value >>= λ r. Some (Missing r))
+    else if bytes_eq kind (codes "comparable") then (price value >>= λ p. Some (Comparable p))
+    else if bytes_eq kind (codes "other") then (price value >>= λ p. Some (Other p))
+    else None

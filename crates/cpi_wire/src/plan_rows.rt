@@ -1,0 +1,76 @@
+//! The rows of a plan's body.
+ghost use Rattle.std.specs.Prelude.{◌≡◌, map, IfOk};
+ghost use Rattle.cpi_wire.specs.PlanRows.{title_row, weight_row, place_row, lettered_row, plan_row as spelled_row};
+
+use crate::arguments::three;
+use crate::values::{code_of, name_of, weight_of};
+use cpi_codes::ItemCode;
+use cpi_plan::{Place, Title, Weight};
+use std::alloc::{AllocError, Global};
+
+/// A row of a plan's body.
+#[derive(Debug, Drop)]
+pub(crate) enum PlanRow {
+    Title(Title),
+    Weight(Weight),
+    Place(Place),
+}
+
+fn title_of(alloc: Global, code: &[u8], title: &[u8]) -> Result<Option<PlanRow>, AllocError>
+    ensures { IfOk result (λ row. row ≡ title_row code.now title.now) }
+{
+    let Some(code) = code_of(code) else {
+        return Ok(None);
+    };
+    let Some(title) = name_of(alloc, title)? else {
+        return Ok(None);
+    };
+    Ok(Some(PlanRow::Title(Title { code, title })))
+}
+
+fn weight_row_of(code: &[u8], parts: &[u8]) -> Option<PlanRow>
+    ensures { result ≡ weight_row code.now parts.now }
+{
+    let code = code_of(code)?;
+    let parts = weight_of(parts)?;
+    Some(PlanRow::Weight(Weight { code, parts }))
+}
+
+fn place_of(item: &[u8], code: &[u8]) -> Option<PlanRow>
+    ensures { result ≡ place_row item.now code.now }
+{
+    let item = ItemCode::parse(item)?;
+    let aggregate = code_of(code)?;
+    Some(PlanRow::Place(Place { item, aggregate }))
+}
+
+// The row of a letter with its two fields.
+fn lettered(
+    alloc: Global,
+    letter: &[u8],
+    first: &[u8],
+    second: &[u8],
+) -> Result<Option<PlanRow>, AllocError>
+    ensures { IfOk result (λ row. row ≡ lettered_row letter.now first.now second.now) }
+{
+    if letter == b"T".as_slice() {
+        title_of(alloc, first, second)
+    } else if letter == b"W".as_slice() {
+        Ok(weight_row_of(first, second))
+    } else if letter == b"I".as_slice() {
+        Ok(place_of(first, second))
+    } else {
+        Ok(None)
+    }
+}
+
+/// The row that the fields write: `T`, a code and its title; `W`, a code and its weight up to 1,000,000; or `I`, an item
+/// and the code where it is placed. None where they are of no such form.
+pub(crate) fn plan_row(alloc: Global, fields: &[&[u8]]) -> Result<Option<PlanRow>, AllocError>
+    ensures { IfOk result (λ row. row ≡ spelled_row (map (λ f. f.now) fields.now)) }
+{
+    match three(fields) {
+        Some((letter, first, second)) => lettered(alloc, letter, first, second),
+        None => Ok(None),
+    }
+}

@@ -1,0 +1,86 @@
+//! The value of one field.
+ghost use Rattle.std.specs.Prelude.{◌≡◌, IfOk};
+ghost use Rattle.cpi_codes.specs.CodeOf.{code_of as spelled_code};
+ghost use Rattle.cpi_wire.specs.Values.{time as spelled_time, month as spelled_month, name as spelled_name, weight as spelled_weight, mark_of as spelled_mark, reason as spelled_reason};
+
+use cpi_codes::{Code, Moment, Month, Name, NameFault, Price, Zone, moment_at, number_of};
+use cpi_survey::{Mark, Reason};
+use std::alloc::{AllocError, Global};
+
+/// The greatest weight, in parts per million.
+const MAX_WEIGHT: u64 = 1_000_000;
+
+/// A moment as a number, or as the civil text that a clock of the zone shows then.
+pub(crate) fn time_of(zone: &Zone, text: &[u8]) -> Option<Moment>
+    ensures { result ≡ spelled_time zone.now text.now }
+{
+    match Moment::parse(text) {
+        Some(moment) => Some(moment),
+        None => moment_at(zone, text).ok(),
+    }
+}
+
+/// A month as `YYYY-MM`.
+pub(crate) fn month_of(text: &[u8]) -> Option<Month>
+    ensures { result ≡ spelled_month text.now }
+{
+    Month::parse(text).ok()
+}
+
+/// The code of the classification that the field writes.
+pub(crate) fn code_of(text: &[u8]) -> Option<Code>
+    ensures { result ≡ spelled_code text.now }
+{
+    Code::parse(text).ok()
+}
+
+/// A weight in parts per million, up to 1,000,000.
+pub(crate) fn weight_of(text: &[u8]) -> Option<u32>
+    ensures { result ≡ spelled_weight text.now }
+{
+    Some(number_of(text, 0, MAX_WEIGHT)? as u32)
+}
+
+/// A name, title, unit or text; none where it isn't one.
+pub(crate) fn name_of(alloc: Global, text: &[u8]) -> Result<Option<Name>, AllocError>
+    ensures { IfOk result (λ n. n ≡ spelled_name text.now) }
+{
+    match Name::new(alloc, text) {
+        Ok(name) => Ok(Some(name)),
+        Err(NameFault::Text) => Ok(None),
+        Err(NameFault::NoMemory) => Err(AllocError),
+    }
+}
+
+fn reason_of(text: &[u8]) -> Option<Reason>
+    ensures { result ≡ spelled_reason text.now }
+{
+    if text == b"stock".as_slice() {
+        Some(Reason::Stock)
+    } else if text == b"closed".as_slice() {
+        Some(Reason::Closed)
+    } else if text == b"gone".as_slice() {
+        Some(Reason::Gone)
+    } else if text == b"refused".as_slice() {
+        Some(Reason::Refused)
+    } else {
+        None
+    }
+}
+
+/// A price, a reason why there is none, or the price of a replacement.
+pub(crate) fn mark_of(mark: &[u8], value: &[u8]) -> Option<Mark>
+    ensures { result ≡ spelled_mark mark.now value.now }
+{
+    if mark == b"price".as_slice() {
+        Some(Mark::Price(Price::parse(value)?))
+    } else if mark == b"missing".as_slice() {
+        Some(Mark::Missing(reason_of(value)?))
+    } else if mark == b"comparable".as_slice() {
+        Some(Mark::Comparable(Price::parse(value)?))
+    } else if mark == b"other".as_slice() {
+        Some(Mark::Other(Price::parse(value)?))
+    } else {
+        None
+    }
+}
