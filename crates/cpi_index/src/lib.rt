@@ -34,3 +34,6 @@ pub use means::upper;
 pub use row::GroupRow;
 pub use series::one_number_one_series;
 pub use year::bases_of_year;
+
+#[cfg(test)]
+mod tests;
