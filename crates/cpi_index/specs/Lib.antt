@@ -9,3 +9,4 @@ pub mod Places
 pub mod Indices
 pub mod Totals
 pub mod Means
+pub mod Examples

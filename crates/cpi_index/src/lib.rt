@@ -6,6 +6,7 @@ mod bases;
 mod carried;
 mod carry;
 
+mod examples;
 mod fault;
 mod frozen;
 mod index;
@@ -25,6 +26,7 @@ mod year;
 pub use carried::CarriedPrice;
 pub use carry::carry_month;
 pub use indices::elementary;
+pub use examples::worked_months;
 pub use fault::IndexFault;
 pub use frozen::FrozenQuote;
 pub use index::{Index, NodeIndex};
@@ -32,3 +34,6 @@ pub use means::upper;
 pub use row::GroupRow;
 pub use series::one_number_one_series;
 pub use year::bases_of_year;
+
+#[cfg(test)]
+mod tests;
