@@ -1,5 +1,5 @@
 -- The place of an aggregate among weights in code order.
-use Rattle.std.proofs.Common.{◌≡◌, ℕ, zero, suc, ◌<◌, ◌≤◌, Bool, true, false, not, cond, eqb, List, [], ◌∷◌, Option, Some, None, Result, Ok, Err, length, get_or, is_some, refl, sym, ap, ◌∙◌, arith, inl, inr, option_map}
+use Rattle.std.proofs.Common.{◌≡◌, ℕ, zero, suc, ◌<◌, Bool, true, false, eqb, List, [], ◌∷◌, Option, Some, None, Ok, Err, length, get_or, is_some, refl, sym, ap, ◌∙◌, arith, inl, inr, option_map}
 use Rattle.std.specs.List.{list_any}
 use Rattle.std.specs.declared.cmp.Ordering.{Ordering}
 use Rattle.std.specs.declared.cmp.Ordering.TheVariants.{Less, Equal, Greater}
@@ -48,7 +48,7 @@ found_is [] a i s p = absurd (omega (arith, p.0))
 found_is (w ∷ ws) a i s p = found_at (w ∷ ws) a i w s p.0 (p.1 w)
 
 pub missing_is : (ws : List Weight) (a : Code) (i : ℕ) → IsPlace code_cmp (λ w. w.code) a ws (Err i) → place_among a ws ≡ None
-missing_is ws a i p = none_at ws a (λ j d l. elim (cases_lt j i) [ | inl below ↦ ap is_eq (p.1 j d below) | inr above ↦ ap is_eq (p.2 j d above l) ])
+missing_is ws a i p = none_at ws a (λ j d l. elim (cases_lt j i) [ inl below ↦ ap is_eq (p.1 j d below) | inr above ↦ ap is_eq (p.2 j d above l) ])
 
 -- whether the place is k says whether the weight at k is the aggregate's
 at_first : (o : Option ℕ) → is_place 0 (option_map suc o) ≡ false

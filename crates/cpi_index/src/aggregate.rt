@@ -46,7 +46,9 @@ fn movement(rows: &[GroupRow]) -> Option<Movement>
     let mut previous: u128 = 0;
     let mut found = false;
     for row in rows {
-        if let Some(price) = row.compared() && row.before.was_observed() {
+        if let Some(price) = row.compared()
+            && row.before.was_observed()
+        {
             current += u128::from(row.before.priced(price)?.ticks());
             previous += u128::from(row.before.ticks());
             found = true;
@@ -64,8 +66,7 @@ fn movement(rows: &[GroupRow]) -> Option<Movement>
 fn any_matched(rows: &[GroupRow]) -> bool
     ensures { result ≡ list_any is_matched rows.now }
 {
-    rows.iter()
-        .any(|row| row.compared().is_some() && row.before.was_observed())
+    rows.iter().any(|row| row.compared().is_some() && row.before.was_observed())
 }
 
 fn any_uncompared(rows: &[GroupRow]) -> bool

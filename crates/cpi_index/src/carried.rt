@@ -181,10 +181,7 @@ impl CarriedPrice {
             (IsTicks (moved movement.now.current movement.now.previous self.now))
             (record self.now { ticks = moved movement.now.current movement.now.previous self.now; observed = false; imputed = true }) }
     {
-        let ticks = round_div(
-            u128::from(self.ticks) * movement.current,
-            movement.previous,
-        );
+        let ticks = round_div(u128::from(self.ticks) * movement.current, movement.previous);
         let mut carried = *self;
         carried.ticks = in_limits(ticks)?;
         carried.observed = false;

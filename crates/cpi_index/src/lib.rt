@@ -5,7 +5,6 @@ mod aggregate;
 mod bases;
 mod carried;
 mod carry;
-
 mod examples;
 mod fault;
 mod frozen;
@@ -25,11 +24,11 @@ mod year;
 
 pub use carried::CarriedPrice;
 pub use carry::carry_month;
-pub use indices::elementary;
 pub use examples::worked_months;
 pub use fault::IndexFault;
 pub use frozen::FrozenQuote;
 pub use index::{Index, NodeIndex};
+pub use indices::elementary;
 pub use means::upper;
 pub use row::GroupRow;
 pub use series::one_number_one_series;

@@ -53,7 +53,9 @@ fn marked(mut marks: Vec<bool>, place: Option<usize>) -> Vec<bool>
     ensures count { length result.items ≡ length marks.items }
     ensures each { (k : ℕ) → k < length marks.items → slice_index_or result.items k false ≡ (slice_index_or marks.items k false || is_place k place) }
 {
-    if let Some(place) = place && place < marks.len() {
+    if let Some(place) = place
+        && place < marks.len()
+    {
         marks[place] = true;
     }
     marks

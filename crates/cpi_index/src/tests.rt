@@ -142,7 +142,9 @@ struct Year {
 
 fn begun(alloc: Global, december: &[FrozenQuote]) -> Result<Year, Fail> {
     let plan = plan_of(alloc, 2026)?;
-    let bases = bases_of_year(alloc, &plan, &[], december).ok().ok_or("a fault")?;
+    let bases = bases_of_year(alloc, &plan, &[], december)
+        .ok()
+        .ok_or("a fault")?;
     Ok(Year { plan, bases })
 }
 
@@ -159,7 +161,9 @@ impl Year {
 
     // The index of rice, in millionths of a point.
     fn rice(&self, alloc: Global, carried: &[CarriedPrice]) -> Result<u64, Fail> {
-        let indices = elementary(alloc, &self.plan, &self.bases, carried).ok().ok_or("a fault")?;
+        let indices = elementary(alloc, &self.plan, &self.bases, carried)
+            .ok()
+            .ok_or("a fault")?;
         Ok(indices.first().ok_or("no index")?.index.millionths())
     }
 }
@@ -244,7 +248,10 @@ fn halves_are_rounded_up(rt: HostRuntime) -> Result<(), Fail> {
 #[test]
 fn an_index_past_its_limit_is_a_fault(rt: HostRuntime) -> Result<(), Fail> {
     let alloc = rt.alloc();
-    assert_eq!(rt; index_from(alloc, 1, 100_000_000)?, Err(IndexFault::OutOfRange(code(RICE)?)));
+    assert_eq!(rt;
+        index_from(alloc, 1, 100_000_000)?,
+        Err(IndexFault::OutOfRange(code(RICE)?))
+    );
     assert_eq!(rt; index_from(alloc, 1, 100_000)?, Ok(10_000_000_000_000));
     Ok(())
 }
@@ -262,7 +269,10 @@ fn a_mean_is_weighed(rt: HostRuntime) -> Result<(), Fail> {
     let plan = plan_of(alloc, 2026)?;
     let mut indices = Vec::new(alloc);
     indices.push(node_index(RICE, 105_000_000)?)?;
-    assert_eq!(rt; upper(alloc, &plan, &indices).err(), Some(IndexFault::OutOfRange(code(RICE)?)));
+    assert_eq!(rt;
+        upper(alloc, &plan, &indices).err(),
+        Some(IndexFault::OutOfRange(code(RICE)?))
+    );
     indices.push(node_index(FLOUR, 98_000_000)?)?;
     let all = upper(alloc, &plan, &indices).ok().ok_or("a fault")?;
     assert_eq!(rt; all.len(), 8);
@@ -280,7 +290,10 @@ fn each_aggregate_has_a_sample(rt: HostRuntime) -> Result<(), Fail> {
     assert_eq!(rt; without.err(), Some(IndexFault::NoSample(code(FLOUR)?)));
     let none = carry_month(alloc, &plan, &[], &[], &[], &[]);
     assert_eq!(rt; none.err(), Some(IndexFault::NoSample(code(RICE)?)));
-    assert_eq!(rt; elementary(alloc, &plan, &[], &[]).err(), Some(IndexFault::NoSample(code(RICE)?)));
+    assert_eq!(rt;
+        elementary(alloc, &plan, &[], &[]).err(),
+        Some(IndexFault::NoSample(code(RICE)?))
+    );
     Ok(())
 }
 
@@ -290,12 +303,27 @@ fn an_unmatched_aggregate_is_listed_or_at_fault(rt: HostRuntime) -> Result<(), F
     let year = begun(alloc, &prices(alloc, [200, 300, 500], 500)?)?;
     let frozen = prices(alloc, [0, 0, 0], 0)?;
     let carry = [code(FLOUR)?, code(RICE)?];
-    let fault = carry_month(alloc, &year.plan, &year.bases, &year.bases, &frozen, &carry[..1]).err();
+    let fault = carry_month(
+        alloc,
+        &year.plan,
+        &year.bases,
+        &year.bases,
+        &frozen,
+        &carry[..1],
+    )
+    .err();
     assert_eq!(rt; fault, Some(IndexFault::NoMatch(code(RICE)?)));
     let held = carry_month(alloc, &year.plan, &year.bases, &year.bases, &frozen, &carry);
     let held = held.ok().ok_or("a fault")?;
     assert_eq!(rt; ticks_of(&held, 2)?, 5_000_000);
-    let again = carry_month(alloc, &year.plan, &year.bases, &held, &prices(alloc, [1, 2, 3], 4)?, &[]);
+    let again = carry_month(
+        alloc,
+        &year.plan,
+        &year.bases,
+        &held,
+        &prices(alloc, [1, 2, 3], 4)?,
+        &[],
+    );
     assert_eq!(rt; ticks_of(&again.ok().ok_or("a fault")?, 2)?, 30_000);
     Ok(())
 }
