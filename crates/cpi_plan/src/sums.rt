@@ -20,11 +20,7 @@ fn add(sums: &mut BTreeMap<Code, u128>, node: Code, amount: u128) -> Result<(), 
 }
 
 /// Adds an amount to an elementary aggregate's own sum and to those of all codes above it. Six look-ups; `Err` where memory was refused.
-pub fn add_path(
-    sums: &mut BTreeMap<Code, u128>,
-    code: Code,
-    amount: u128,
-) -> Result<(), AllocError>
+pub fn add_path(sums: &mut BTreeMap<Code, u128>, code: Code, amount: u128) -> Result<(), AllocError>
     requires elementary { IsSome code.aggregate }
     requires fits { (q : Code) → sum_at sums.old q + 6 * amount < 2 ^ 128 }
     ensures { OnOk result ((q : Code) → sum_at sums.new q ≡ sum_at sums.old q + (if is_at_or_below q code then amount else 0)) }

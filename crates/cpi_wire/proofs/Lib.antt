@@ -9,3 +9,4 @@ pub mod PlanRead
 pub mod Reading
 pub mod Runs
 pub mod Alike
+pub mod Told

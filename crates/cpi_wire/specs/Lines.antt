@@ -1,5 +1,5 @@
 -- What the lines to a caller hang on.
-use Rattle.std.specs.Prelude.{◌≡◌, ◌≢◌, ⊤, ℕ, List, [], ◌∷◌}
+use Rattle.std.specs.Prelude.{◌≡◌, ◌≢◌, ⊤, ℕ, Bool, false, not, List, [], ◌∷◌, ◌++◌, map, filter, if◌then◌else◌}
 use Rattle.cpi_codes.specs.Zone.{ZoneRule}
 use Rattle.cpi_store.specs.Office.{Office}
 use Rattle.cpi_office.specs.Views.{view}
@@ -7,6 +7,7 @@ use Rattle.cpi_office.specs.Runs.{trace}
 use Rattle.cpi_office.specs.Sights.{Sight, seen}
 use Rattle.cpi_office.specs.Served.{all_served}
 use Rattle.cpi_office.specs.Sound.{IsSound}
+use Rattle.cpi_office.specs.Alone.{is_bearer, is_other}
 use Rattle.cpi_office.specs.Told.{NoneFails}
 use Rattle.cpi_office.specs.declared.caller.Caller.{Caller}
 use Rattle.cpi_office.specs.declared.caller.Caller.TheVariants.{Desk}
@@ -60,3 +61,45 @@ LinesAreAlike {B} {C} clean lists failures clean' lists' failures' =
     view k (lists start) ≡ view k (lists' start') →
     seen_before clean lists failures zone k start row told is ≡ seen_before clean' lists' failures' zone k start' row told' is' →
     answer_line told ≡ answer_line told'
+
+-- ---- all lines to one collector
+
+abbrev pub is_own : ℕ → Ask → Bool
+is_own key ask.Bad = false
+is_own key (ask.One t c r) = is_bearer key c
+is_own key (ask.Import t c rows) = is_bearer key c
+
+-- the record comes from a collector with another key
+abbrev pub is_others : ℕ → Ask → Bool
+is_others key ask.Bad = false
+is_others key (ask.One t c r) = is_other key c
+is_others key (ask.Import t c rows) = is_other key c
+
+abbrev pub without_others : ZoneRule → ℕ → List Record → List Record
+without_others zone key rows = filter (λ row. not (is_others key (ask_of zone row))) rows
+
+-- what the records that come with the key were answered, in order
+abbrev pub own_answers : ZoneRule → ℕ → List Record → List Answer → List Answer
+own_answers zone key [] answers = []
+own_answers zone key (row ∷ rows) [] = []
+own_answers zone key (row ∷ rows) (a ∷ answers) = (if is_own key (ask_of zone row) then a ∷ [] else []) ++ own_answers zone key rows answers
+
+abbrev pub lines_to : ZoneRule → ℕ → List Record → List Answer → List (List ℕ)
+lines_to zone key rows answers = map answer_line (own_answers zone key rows answers)
+
+module _ {B : Type 0} (is_clean : B → Type 0) (lists : B → Office) (failures : B → ℕ) where
+  -- a replay from a sound office, over a store that is clean at its end, in which no reply says that the office is unavailable
+  pub record IsReplayed (zone : ZoneRule) (old new : B) (rows : List Record) (answers : List Answer) : Type 0 where
+    pub each : AnswersAll zone is_clean lists failures old rows answers new
+    pub clean : is_clean new
+    pub sound : IsSound (lists old)
+    pub served : NoneFails (replies_of zone rows answers)
+
+-- Two replays under one zone, over books of any two kinds that hold the same lists: where their records differ in those of
+-- other collectors alone, the lines to a collector are the same, byte for byte.
+abbrev pub ReplaysTellAlike : {B C : Type 0} → (B → Type 0) → (B → Office) → (B → ℕ) → (C → Type 0) → (C → Office) → (C → ℕ) → Type 0
+ReplaysTellAlike {B} {C} clean lists failures clean' lists' failures' =
+    (zone : ZoneRule) (key : ℕ) (old new : B) (old' new' : C) (rows others : List Record) (answers answers' : List Answer) →
+    IsReplayed clean lists failures zone old new rows answers → IsReplayed clean' lists' failures' zone old' new' others answers' →
+    lists old ≡ lists' old' → without_others zone key rows ≡ without_others zone key others →
+    lines_to zone key rows answers ≡ lines_to zone key others answers'

@@ -14,11 +14,7 @@ use std::alloc::{AllocError, Global};
 const MAX_ROWS: u32 = 20_000;
 
 // The request of a row: its word and its arguments.
-fn row_request(
-    alloc: Global,
-    zone: &Zone,
-    fields: &[&[u8]],
-) -> Result<Option<Request>, AllocError>
+fn row_request(alloc: Global, zone: &Zone, fields: &[&[u8]]) -> Result<Option<Request>, AllocError>
     ensures { IfOk result (λ r. r ≡ row_asks zone.now (map (λ f. f.now) fields.now)) }
 {
     match fields.split_first() {

@@ -1,6 +1,6 @@
 //! What holds of the definitions.
 ghost use Rattle.cpi_wire.specs.Laws.{AreARun};
-ghost use Rattle.cpi_wire.specs.Lines.{LinesAreAlike};
+ghost use Rattle.cpi_wire.specs.Lines.{LinesAreAlike, ReplaysTellAlike};
 
 use cpi_store::Book;
 
@@ -18,4 +18,13 @@ pub fn records_are_a_run<B: Book>()
 /// that the office is unavailable. Nothing is said of time.
 pub fn lines_are_alike<B: Book, C: Book>()
     ensures { LinesAreAlike B.is_clean B.lists B.failures C.is_clean C.lists C.failures }
+{}
+
+/// The lines to a collector are the same, byte for byte, in two replays under one zone whose records differ in those of
+/// other collectors alone, whether these are added, dropped, changed or moved.
+///
+/// The books, of any two kinds, hold the same sound lists at the start and are clean at the end, and no reply says that
+/// the office is unavailable. Nothing is said of time.
+pub fn replays_tell_alike<B: Book, C: Book>()
+    ensures { ReplaysTellAlike B.is_clean B.lists B.failures C.is_clean C.lists C.failures }
 {}

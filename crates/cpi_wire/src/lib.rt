@@ -23,7 +23,7 @@ mod write;
 pub use asks::{Answer, Ask};
 pub use fault::WireFault;
 pub use import::import_rows;
-pub use laws::{lines_are_alike, records_are_a_run};
+pub use laws::{lines_are_alike, records_are_a_run, replays_tell_alike};
 pub use line::reply_line;
 pub use record::request_of_record;
 pub use records::replay;

@@ -111,7 +111,13 @@ fn a_reader_that_fails_ends_it_with_read(rt: HostRuntime) -> Result<(), Fail> {
     let alloc = rt.alloc();
     let mut office = Office::new(alloc, VecBook::new(alloc));
     let mut written: Vec<u8> = Vec::new(alloc);
-    let done = replay(alloc, Breaking { rest: DESK }, &mut written, &utc()?, &mut office);
+    let done = replay(
+        alloc,
+        Breaking { rest: DESK },
+        &mut written,
+        &utc()?,
+        &mut office,
+    );
     assert_eq!(rt; done, Err(WireFault::Read));
     assert_eq!(rt; written.len(), 5 * 14);
     Ok(())
@@ -141,7 +147,12 @@ fn a_writer_that_fails_stops_before_the_next_record(rt: HostRuntime) -> Result<(
 fn a_record_is_read_and_a_reply_is_printed(rt: HostRuntime) -> Result<(), Fail> {
     let alloc = rt.alloc();
     let fields = [b"7".as_slice(), b"public".as_slice(), b"items".as_slice()];
-    assert!(rt; matches!(request_of_record(alloc, &utc()?, &fields)?, Ask::One(_, _, _)));
+    assert!(rt;
+        matches!(
+            request_of_record(alloc, &utc()?, &fields)?,
+            Ask::One(_, _, _)
+        )
+    );
     assert!(rt; matches!(request_of_record(alloc, &utc()?, &fields[..2])?, Ask::Bad));
     let line = reply_line(alloc, &Reply::Refused(Refusal::Unavailable))?;
     assert_eq!(rt; line.as_slice(), b"{\"refused\":90}\n".as_slice());
