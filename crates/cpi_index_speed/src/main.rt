@@ -124,7 +124,7 @@ fn plan(alloc: Global, count: u32) -> Option<YearPlan> {
 
 // The quote of the n-th series: a price that goes up and down with the turn, or missing for each 17th.
 fn quote(n: u32, items: u32, turn: u32) -> Option<FrozenQuote> {
-    let mark = if (n % 1000 + turn % 100) % 17 == 0 {
+    let mark = if (n % 1009 + turn % 100) % 17 == 0 {
         Mark::Missing(Reason::Stock)
     } else {
         Mark::Price(Price::new(u64::from(1000 + n % 977 + turn % 100))?)
