@@ -6,29 +6,6 @@ fn code(text: &str) -> Result<Code, Fail> {
 }
 
 #[test]
-fn reads_and_writes_codes(rt: HostRuntime) -> Result<(), Fail> {
-    let rows = [
-        ("00", 0),
-        ("01", 1),
-        ("13", 1),
-        ("01.0", 2),
-        ("13.9.0", 3),
-        ("01.1.1.1", 4),
-        ("01.1.1.1-01", 5),
-        ("13.9.0.9-99", 5),
-    ];
-    for (text, level) in rows {
-        let code = code(text)?;
-        assert_eq!(rt; code.level(), level, "{text}");
-        assert_eq!(rt; code.text(rt.alloc())?.as_str(), text);
-        let mut bytes = [0; 11];
-        assert_eq!(rt; code.write_to(&mut bytes), text.len(), "{text}");
-        assert!(rt; bytes.starts_with(text.as_bytes()), "{text}");
-    }
-    Ok(())
-}
-
-#[test]
 fn refuses_what_is_no_code(rt: HostRuntime) {
     let shapes = [
         "",
