@@ -1,5 +1,5 @@
 -- The bytes of item codes.
-use Rattle.std.proofs.Common.{◌≡◌, ◌∙◌, sym, refl, ap, ℕ, suc, ◌+◌, ◌*◌, ◌-◌, ◌^◌, ◌<◌, ◌≤◌, List, ◌++◌, [], ◌∷◌, length, take, replicate, get_or, Bool, true, false, nat_le, set, Some, None, cond, inl, inr, filter, ◌/◌, ◌%◌, ◌&&◌, arith, lit<, length-append, zero}
+use Rattle.std.proofs.Common.{◌≡◌, ◌∙◌, sym, refl, ap, ℕ, suc, ◌+◌, ◌*◌, ◌-◌, ◌^◌, ◌<◌, ◌≤◌, List, ◌++◌, [], ◌∷◌, length, take, replicate, get_or, true, nat_le, set, Some, inl, inr, filter, ◌/◌, ◌%◌, arith, lit<, length-append, zero}
 use Rattle.std.proofs.lemmas.List.{length-replicate}
 use Rattle.std.proofs.Math.Nat.{pow-le-pow_right}
 use Rattle.std.proofs.lemmas.Grind.{pow_more}

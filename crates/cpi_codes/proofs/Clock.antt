@@ -9,7 +9,8 @@ use Rattle.std.proofs.lemmas.Bool.{cases_lt}
 use Rattle.jiff_core.specs.Calendar.{days_in_month}
 use Rattle.jiff_core.specs.declared.civil.datetime.DateTime.{DateTime}
 use Rattle.cpi_codes.specs.Civil.{IsCivilText, civil_text}
-use Rattle.cpi_codes.specs.Clock.{◌>>=◌, time_at, two_digits, civil_of, is_office_year, moment_in}
+use Rattle.cpi_codes.specs.Following.{◌>>=◌}
+use Rattle.cpi_codes.specs.Clock.{time_at, two_digits, civil_of, is_office_year, moment_in}
 use Rattle.cpi_codes.specs.Zone.{Gives, IsOfficeYear, ZoneRule, second_in}
 use Rattle.cpi_codes.specs.declared.zone.MomentFault.{MomentFault}
 use Rattle.cpi_codes.specs.declared.zone.MomentFault.TheVariants.{Text, Zone, Range, NoMemory}

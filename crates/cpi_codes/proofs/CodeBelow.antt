@@ -1,9 +1,9 @@
 -- What stands at or below what, part by part, and the law of the code above.
-use Rattle.std.proofs.Common.{◌≡◌, ℕ, ◌+◌, ◌/◌, ◌%◌, ◌<◌, Bool, true, false, cond, IsTrue, List, [], ◌∷◌, ◌++◌, Option, Some, None, refl, sym, ap, ◌∙◌, arith, ◌&&◌, ◌||◌, not, eqb, ◌==◌}
+use Rattle.std.proofs.Common.{◌≡◌, ℕ, ◌+◌, Bool, true, false, List, [], ◌∷◌, ◌++◌, Option, Some, None, refl, sym, ap, ◌∙◌, arith, ◌&&◌, ◌||◌, not, ◌==◌}
 use Rattle.std.proofs.lemmas.Bool.Decides.{nat_tests}
 use Rattle.cpi_codes.proofs.CodeBytes.{absent_below, class_rest, subclass_rest}
-use Rattle.cpi_codes.specs.CodeParts.{two_digits, dotted, dashed, is_under, are_parts}
-use Rattle.cpi_codes.specs.CodeText.{text, begins_with, are_one_text, all_items, is_below, same_code, is_at_or_below}
+use Rattle.cpi_codes.specs.CodeParts.{two_digits, dotted, dashed}
+use Rattle.cpi_codes.specs.CodeText.{text, begins_with, are_one_text, all_items, is_at_or_below}
 use Rattle.cpi_codes.specs.declared.codes.Code.{Code}
 
 -- the part that is asked for is absent, or is the part that is there

@@ -1,5 +1,5 @@
 -- Codes with the same parts are one code.
-use Rattle.std.proofs.Common.{◌≡◌, ℕ, Bool, true, false, Option, IsTrue, refl, ap, subst}
+use Rattle.std.proofs.Common.{◌≡◌, ℕ, Bool, true, Option, IsTrue, ap, subst}
 use Rattle.std.proofs.Math.Bool.{Bool-set}
 use Rattle.cpi_codes.specs.CodeParts.{are_parts}
 use Rattle.cpi_codes.specs.declared.codes.Code.{Code}

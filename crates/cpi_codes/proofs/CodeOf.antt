@@ -1,11 +1,11 @@
 -- The code of a text as it is computed is the one that it writes.
 use mathlib.Core.Bool.{true≢false}
-use Rattle.std.proofs.Common.{◌≡◌, ◌∙◌, sym, ap, refl, ℕ, List, ◌+◌, ◌-◌, ◌*◌, ◌/◌, ◌%◌, Bool, true, false, IsTrue, Option, Some, None, Result, Ok, Err, IfSome, IfOk, bytes_eq, Decides, arith, if◌then◌else◌}
+use Rattle.std.proofs.Common.{◌≡◌, sym, ap, refl, ℕ, List, ◌+◌, ◌-◌, ◌*◌, ◌/◌, ◌%◌, Bool, true, false, IsTrue, Option, Some, None, Result, Ok, Err, IfSome, IfOk, bytes_eq, Decides, arith, if◌then◌else◌}
 use Rattle.std.proofs.Math.Bool.{Bool-set}
 use Rattle.std.proofs.lemmas.Bool.Decides.{nat_tests}
 use Rattle.std.proofs.lemmas.Slice.Eq.{bytes_eq-Decides}
 use Rattle.std.specs.Result.{result_ok}
-use Rattle.cpi_codes.specs.Clock.{◌>>=◌}
+use Rattle.cpi_codes.specs.Following.{◌>>=◌}
 use Rattle.cpi_codes.specs.CodeOf.{code_in, digit_at, number_at, code_of}
 use Rattle.cpi_codes.specs.CodeParts.{are_parts}
 use Rattle.cpi_codes.specs.CodeText.{text}

@@ -1,8 +1,8 @@
 -- An amount added to each of the six nodes at or above an elementary aggregate is added to a node
 -- exactly where the aggregate is at or below that node.
-use Rattle.std.proofs.Common.{◌≡◌, ℕ, ◌+◌, ◌<◌, ◌≤◌, Bool, true, false, cond, List, Option, Some, None, refl, sym, ap, ◌∙◌, arith, ◌&&◌, ◌||◌, ◌==◌, is_some}
+use Rattle.std.proofs.Common.{◌≡◌, ℕ, ◌+◌, ◌≤◌, Bool, true, false, cond, List, Option, Some, None, refl, ap, ◌∙◌, arith, ◌&&◌, ◌||◌, ◌==◌, is_some}
 use Rattle.std.proofs.lemmas.Bool.Decides.{nat_tests}
-use Rattle.std.proofs.Common.{[], ◌∷◌, ◌++◌, IsTrue, IsSome, nat_le, is_none}
+use Rattle.std.proofs.Common.{[], ◌++◌, IsTrue, IsSome, nat_le, is_none}
 use Rattle.std.specs.declared.cmp.Ordering.{Ordering}
 use Rattle.std.specs.Ordering.{nat_cmp, ordering_then, is_eq}
 use Rattle.std.specs.Option.{option_cmp}
@@ -10,7 +10,7 @@ use Rattle.cpi_codes.specs.CodeOrder.{code_cmp}
 use Rattle.cpi_codes.specs.CodeParts.{is_under, two_digits, dotted, dashed, are_parts}
 use Rattle.cpi_codes.specs.CodeText.{text, begins_with, are_one_text, all_items, is_at_or_below}
 use Rattle.cpi_codes.specs.declared.codes.Code.{Code}
-use Rattle.cpi_codes.proofs.CodeBytes.{absent_below, class_rest}
+use Rattle.cpi_codes.proofs.CodeBytes.{absent_below}
 use Rattle.cpi_codes.proofs.CodeBelow.{fits, begins-parts, begins-two, begins-nil, at_or_below-begins}
 
 abbrev pub same_part : Option ℕ → Option ℕ → Bool

@@ -1,8 +1,8 @@
 -- A text is spelled by one division alone, with a group or without.
-use Rattle.std.proofs.Common.{◌≡◌, ℕ, ◌+◌, ◌/◌, ◌%◌, ◌<◌, Bool, true, false, cond, IsTrue, List, [], ◌∷◌, ◌++◌, Option, Some, None, SomeIff, MatchOption, is_none, refl, sym, ap, subst, ◌∙◌, arith, ◌&&◌, ◌||◌, nat_le}
+use Rattle.std.proofs.Common.{◌≡◌, ℕ, ◌+◌, ◌/◌, ◌%◌, IsTrue, List, [], ◌++◌, Option, Some, None, SomeIff, MatchOption, is_none, refl, sym, ap, subst, ◌∙◌, arith, ◌&&◌, ◌||◌, nat_le}
 use Rattle.std.proofs.lemmas.Bool.Decides.{nat_tests}
 use Rattle.cpi_codes.proofs.CodeBytes.{empty_under, class_rest}
-use Rattle.cpi_codes.specs.CodeParts.{two_digits, dotted, dashed, is_under, is_digit_part}
+use Rattle.cpi_codes.specs.CodeParts.{dotted, dashed}
 use Rattle.cpi_codes.specs.CodeSpelling.{spelling, is_numbered, is_nested, IsSpelled}
 use Rattle.cpi_codes.specs.declared.spelling.Parts.{Parts}
 

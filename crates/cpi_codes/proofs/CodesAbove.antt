@@ -1,6 +1,5 @@
 -- What a code is at or below is among the codes at and above it.
-use Rattle.std.proofs.Common.{◌≡◌, ℕ, Bool, true, false, List, [], ◌∷◌, ◌++◌, Option, Some, None, IsTrue, refl, sym, ap, ◌∙◌, subst, arith, ◌&&◌, ◌||◌, ◌==◌}
-use Rattle.std.specs.declared.cmp.Ordering.{Ordering}
+use Rattle.std.proofs.Common.{◌≡◌, ℕ, Bool, true, false, List, [], ◌∷◌, ◌++◌, Option, Some, None, refl, sym, ap, ◌∙◌, subst, arith, ◌&&◌, ◌||◌, ◌==◌}
 use Rattle.std.specs.Ordering.{is_eq}
 use Rattle.std.specs.List.{list_any}
 use Rattle.std.proofs.lemmas.List.Folds.{list_any-append}
@@ -8,7 +7,7 @@ use Rattle.std.proofs.lemmas.Bool.Decides.{nat_tests}
 use Rattle.std.proofs.lemmas.Cmp.{tied_itself}
 use Rattle.cpi_codes.specs.CodeParts.{are_parts}
 use Rattle.cpi_codes.specs.CodePath.{code_if, code_with, path}
-use Rattle.cpi_codes.specs.CodeOrder.{code_cmp, is_same}
+use Rattle.cpi_codes.specs.CodeOrder.{is_same}
 use Rattle.cpi_codes.specs.CodeText.{is_at_or_below}
 use Rattle.cpi_codes.specs.declared.codes.Code.{Code}
 use Rattle.cpi_codes.specs.contracts.codes.CodeOrd.TheImpl.Laws.{total-law}

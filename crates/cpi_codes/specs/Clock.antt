@@ -4,13 +4,9 @@ use Rattle.jiff_core.specs.Calendar.{days_in_month}
 use Rattle.jiff_core.specs.declared.civil.datetime.DateTime.{DateTime}
 use Rattle.cpi_codes.specs.Civil.{civil_text}
 use Rattle.cpi_codes.specs.Zone.{ZoneRule, second_in}
-use Rattle.cpi_codes.specs.Ranges.{below, within, is_year, is_none, is_no_fraction}
-
--- what follows of a value, if there is one
-infixl 10 ◌>>=◌
-abbrev pub ◌>>=◌ : {A B : Type 0} → Option A → (A → Option B) → Option B
-None >>= f = None
-(Some x) >>= f = f x
+use Rattle.cpi_codes.specs.Following.{◌>>=◌}
+use Rattle.cpi_codes.specs.Ranges.{below, within}
+use Rattle.cpi_codes.specs.CivilParts.{is_year, is_full_minute, is_full_second}
 
 -- the time of the calendar at a full minute, if the calendar has it in a year of at most four digits
 unfoldable pub time_at : ℕ → ℕ → ℕ → ℕ → ℕ → Option DateTime
@@ -22,7 +18,7 @@ time_at year month day hour minute = do
   in_hour ← below 60 minute
   Some (record {
     date = record { year = pos year; month = month; day = day; year_in = is_year year four_digits; month_in = in_year; day_in = in_month };
-    time = record { hour = hour; minute = minute; second = 0; subsec_nanosecond = 0; hour_in = in_day; minute_in = in_hour; second_in = is_none; subsec_in = is_no_fraction };
+    time = record { hour = hour; minute = minute; second = 0; subsec_nanosecond = 0; hour_in = in_day; minute_in = in_hour; second_in = is_full_minute; subsec_in = is_full_second };
   })
 
 -- the number that two digits write, from a place on

@@ -1,5 +1,5 @@
 -- The level of a code and the code above it, read off its text.
-use Rattle.std.specs.Prelude.{ℕ, ◌*◌, ◌-◌, ◌/◌, Bool, List, Option, Some, None, length, take, if◌then◌else◌, nat_lt}
+use Rattle.std.specs.Prelude.{ℕ, ◌*◌, ◌-◌, ◌/◌, List, Option, Some, None, length, take, if◌then◌else◌, nat_lt}
 use Rattle.cpi_codes.specs.declared.codes.Code.{Code}
 use Rattle.cpi_codes.specs.CodeText.{text, are_one_text, all_items}
 

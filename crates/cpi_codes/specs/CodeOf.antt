@@ -1,8 +1,8 @@
 -- The code that a text writes, computed.
-use Rattle.std.specs.Prelude.{ℕ, ◌+◌, ◌-◌, ◌*◌, Bool, true, false, List, length, get_or, Option, Some, None, if◌then◌else◌, nat_lt, bytes_eq, IsTrue}
+use Rattle.std.specs.Prelude.{ℕ, ◌+◌, ◌-◌, ◌*◌, List, length, get_or, Option, Some, None, if◌then◌else◌, nat_lt, bytes_eq}
 use Rattle.cpi_codes.specs.CodeParts.{are_parts}
 use Rattle.cpi_codes.specs.CodeText.{text}
-use Rattle.cpi_codes.specs.Clock.{◌>>=◌}
+use Rattle.cpi_codes.specs.Following.{◌>>=◌}
 use Rattle.cpi_codes.specs.Ranges.{holds}
 use Rattle.cpi_codes.specs.declared.codes.Code.{Code}
 

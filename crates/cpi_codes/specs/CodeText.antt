@@ -1,5 +1,5 @@
 -- The one spelling of a code, as bytes of ASCII: "01.1.1.1-01", and what stands below what.
-use Rattle.std.specs.Prelude.{ℕ, ◌+◌, Bool, true, false, ◌&&◌, ◌||◌, not, ◌==◌, List, [], ◌∷◌, ◌++◌, Option, Some, None}
+use Rattle.std.specs.Prelude.{ℕ, Bool, true, false, ◌&&◌, ◌||◌, not, ◌==◌, List, [], ◌∷◌, ◌++◌}
 use Rattle.cpi_codes.specs.CodeParts.{two_digits, dotted, dashed}
 use Rattle.cpi_codes.specs.declared.codes.Code.{Code}
 

@@ -1,9 +1,7 @@
 -- Tests of a number that show what they found.
-use Rattle.std.proofs.Common.{ℕ, ◌<◌, ◌≤◌, ◌⊎◌, inl, inr, Option, Some, None, Bool, true, false, IsTrue, pos, arith}
+use Rattle.std.proofs.Common.{ℕ, ◌<◌, ◌≤◌, ◌⊎◌, inl, inr, Option, Some, None, Bool, true, false, IsTrue}
 use Rattle.std.specs.Int.{IsInRange}
 use Rattle.std.proofs.lemmas.Bool.{cases_lt}
-use Rattle.jiff.proofs.SpanFacts.{signed_arith}
-use Rattle.jiff_core.specs.Calendar.{IsYear}
 
 abbrev pub first : {A B : Type 0} → A ⊎ B → Option A
 first (inl a) = Some a
@@ -21,15 +19,6 @@ below end n = first (cases_lt n end)
 -- the number lies from low to high, and this shows it
 abbrev pub within : (low high n : ℕ) → Option (IsInRange low high n)
 within low high n = range (cases_lt n low) (cases_lt high n)
-
-pub is_year : (n : ℕ) → n < 10000 → IsYear (pos n)
-is_year n h = (omega (arith, signed_arith), omega (arith, signed_arith))
-
-pub is_none : 0 < 60
-is_none = omega arith
-
-pub is_no_fraction : 0 < 1_000_000_000
-is_no_fraction = omega arith
 
 -- the test is passed, and this shows it
 abbrev pub holds : (b : Bool) → Option (IsTrue b)

@@ -54,6 +54,36 @@ fn refuses_what_is_no_code(rt: HostRuntime) {
 }
 
 #[test]
+fn reads_and_writes_codes(rt: HostRuntime) -> Result<(), Fail> {
+    let texts = [
+        "00",
+        "01",
+        "13",
+        "01.0",
+        "01.1.2",
+        "13.9.0.9",
+        "01.1.1.1-01",
+        "13.9.0.9-99",
+    ];
+    for text in texts {
+        let written = code(text)?.text(rt.alloc())?;
+        assert_eq!(rt; written.as_str(), text);
+    }
+    Ok(())
+}
+
+#[test]
+fn writes_the_longest_code(rt: HostRuntime) -> Result<(), Fail> {
+    let mut bytes = [0; 11];
+    let length = code("13.9.0.9-99")?.write_to(&mut bytes);
+    assert_eq!(rt; length, 11);
+    assert_eq!(rt; &bytes, b"13.9.0.9-99");
+    assert_eq!(rt; code("00")?.write_to(&mut bytes), 2);
+    assert_eq!(rt; &bytes[..2], b"00".as_slice());
+    Ok(())
+}
+
+#[test]
 fn finds_what_stands_above(rt: HostRuntime) -> Result<(), Fail> {
     let above = ["00", "01", "01.1", "01.1.1", "01.1.1.1", "01.1.1.1-01"];
     for (parent, child) in above.iter().zip(above[1..].iter()) {

@@ -1,7 +1,7 @@
 ghost use Rattle.cpi_index.specs.Examples.{Bases, January, February, March, April, Movement, Imputed, Replacement, AfterReplacement, Means, Rounding, NoSampleFirst, NoMatchInOrder, NoMovementNeeded, IndexLimits, PriceLimits, NextYear};
 
-/// Small months, computed by the definitions: each case of a carried price, the indices and their means, and each fault in its place among
-/// the others.
+/// Small months, computed by the definitions: each case of a carried price, the indices and their means, and each
+/// fault in its place among the others.
 pub fn worked_months()
     ensures bases { Bases }
     ensures january { January }

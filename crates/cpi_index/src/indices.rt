@@ -63,9 +63,10 @@ fn indices_of(
     Ok(indices)
 }
 
-/// The Dutot index of each elementary aggregate, in code order, or the first fault. `bases` are those of the year, `carried` the carried
-/// prices of the month, both by series. `NoSample` names the first aggregate without a base, `OutOfRange` the first whose index is outside
-/// 1 to 10^13, or the first aggregate where a list isn't by series. O(n log m) for n series and m aggregates.
+/// The Dutot index of each elementary aggregate, in code order, or the first fault. `bases` are those of the year,
+/// `carried` the carried prices of the month, both by series. `NoSample` names the first aggregate without a base,
+/// `OutOfRange` the first whose index is outside 1 to 10^13, or the first aggregate where a list isn't by series.
+/// O(n log m) for n series and m aggregates.
 pub fn elementary(
     alloc: Global,
     plan: &YearPlan,

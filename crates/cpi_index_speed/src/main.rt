@@ -1,5 +1,5 @@
-//! The time of a month's index: `cpi_index_speed national` takes 200,000 series in 20,000 elementary aggregates, without that word 400 in
-//! 40. What was computed goes to standard output, the times to standard error.
+//! The time of a month's index: `cpi_index_speed national` takes 200,000 series in 20,000 elementary aggregates,
+//! without that word 400 in 40. What was computed goes to standard output, the times to standard error.
 #![tactic(auto)]
 
 ghost use Rattle.std.specs.Prelude.{◌≤◌, IfSome};

@@ -9,15 +9,13 @@ use Rattle.cpi_plan.specs.declared.plan_rows.Node.{Node}
 use Rattle.cpi_plan.specs.declared.plan_bodies.PlanBody.{PlanBody}
 use Rattle.cpi_plan.specs.declared.plan_faults.PlanFault.TheVariants as fault
 use Rattle.cpi_plan.specs.Plan.{Plan}
-use Rattle.cpi_store.specs.Office.{Office, Change, empty_office, PutsItem, PutsPlan}
+use Rattle.cpi_store.specs.Office.{Office, empty_office, PutsPlan}
 use Rattle.cpi_office.specs.Runs.{replies, after, trace, changes}
-use Rattle.cpi_office.specs.Sights.{Sight, seen, SeesItem, SeesPlan}
+use Rattle.cpi_office.specs.Sights.{seen, SeesPlan}
 use Rattle.cpi_office.specs.Examples.{rice, tea_code, key_a, key_c, by_desk, by_key, by_public, register}
 use Rattle.cpi_office.specs.declared.caller.Caller.TheVariants.{Public}
-use Rattle.cpi_office.specs.declared.request.Request.{Request}
 use Rattle.cpi_office.specs.declared.request.Request.TheVariants as request
 use Rattle.cpi_office.specs.declared.request.Ask.{Ask}
-use Rattle.cpi_office.specs.declared.reply.Reply.{Reply}
 use Rattle.cpi_office.specs.declared.reply.Reply.TheVariants.{Done, Refused}
 use Rattle.cpi_office.specs.declared.refusal.Refusal.TheVariants as refusal
 

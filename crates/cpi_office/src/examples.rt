@@ -1,6 +1,7 @@
 ghost use Rattle.cpi_office.specs.Examples.{OneQuote, TwoCollectors, TenOfAnother, Again, Window, EntryRefusals, LastReceipt, ByMonth, Tolerance, Replacements, WorkLists, ItemsOfAll, NotForCallers, StandsAlready, TakenPlaces, AssignRefusals, NewWindow};
 
-/// Small runs from an empty office, computed by the definitions: each reply and each refusal, in its place among the others.
+/// Small runs from an empty office, computed by the definitions: each reply and each refusal, in its place among the
+/// others.
 pub fn worked_runs()
     ensures one_quote { OneQuote }
     ensures two_collectors { TwoCollectors }

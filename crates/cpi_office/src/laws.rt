@@ -22,9 +22,12 @@ pub fn views_are_rebuilt()
 
 /// What a collector is told doesn't hang on what other collectors ask.
 ///
-/// From a sound office a collector is told the same, reply by reply, if all requests of all other collectors are left out of the list. So it is told the same by two lists that differ in other collectors' requests alone, whether these are added, dropped, changed or moved.
+/// From a sound office a collector is told the same, reply by reply, if all requests of all other collectors are left
+/// out of the list. So it is told the same by two lists that differ in other collectors' requests alone, whether
+/// these are added, dropped, changed or moved.
 ///
-/// It isn't said that a collector can't notice another: by the time that an answer takes, or where a request is answered that the office is unavailable, since another has taken the memory.
+/// It isn't said that a collector can't notice another: by the time that an answer takes, or where a request is
+/// answered that the office is unavailable, since another has taken the memory.
 pub fn others_do_not_matter()
     ensures alone { OthersDoNotMatter }
     ensures differ { OthersMayDiffer }
@@ -32,7 +35,9 @@ pub fn others_do_not_matter()
 
 /// What `Office::run` tells a collector doesn't hang on what other collectors ask.
 ///
-/// Take two runs, over books of any two kinds that hold the same sound lists, with two lists of requests that differ in other collectors' requests alone. Where no reply of either run says that the office is unavailable, and both stores are clean at the end, the replies to the collector are the same in both, one by one.
+/// Take two runs, over books of any two kinds that hold the same sound lists, with two lists of requests that differ
+/// in other collectors' requests alone. Where no reply of either run says that the office is unavailable, and both
+/// stores are clean at the end, the replies to the collector are the same in both, one by one.
 ///
 /// Nothing is said of time, nor of runs in which memory or a store fails a request.
 pub fn runs_tell_alike<B: Book, C: Book>()

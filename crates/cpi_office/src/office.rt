@@ -41,7 +41,9 @@ impl<B: Book> Office<B> {
 
     /// Answers a request at a moment, in seconds since 1970 UTC.
     ///
-    /// The reply and the change are those of the definitions, or the reply is [`Refusal::Unavailable`] and nothing is changed. The public and the desk are never told that in place of [`Refusal::NotForCaller`], and in place of it or of [`Refusal::UnknownKey`] a collector is told it only where a look-up of the book failed during the call.
+    /// The reply and the change are those of the definitions, or the reply is [`Refusal::Unavailable`] and nothing is
+    /// changed. The public and the desk are never told that in place of [`Refusal::NotForCaller`], and in place of it
+    /// or of [`Refusal::UnknownKey`] a collector is told it only where a look-up of the book failed during the call.
     pub fn handle(&mut self, now: Moment, caller: Caller, request: Request) -> Reply
         ensures serves { let o = B.lists self.old.book in
             Serves B.is_clean B.lists B.failures self.old.book self.new.book result (reply_to now caller request o) (after_one now caller request o) }

@@ -1,7 +1,7 @@
 ghost use Rattle.cpi_office.specs.PlanExamples.{EachFault, FaultsChangeNothing, FirstFault, PlanStands, PlansAreSeen, PlansByYear, ItemsFirst, PlansOfTheDesk};
 
-/// Small runs with plans, computed by the definitions: each fault of what is sent for a year, what stands already, and what is
-/// replaced.
+/// Small runs with plans, computed by the definitions: each fault of what is sent for a year, what stands already,
+/// and what is replaced.
 pub fn worked_plans()
     ensures each_fault { EachFault }
     ensures faults_change_nothing { FaultsChangeNothing }

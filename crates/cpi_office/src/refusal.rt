@@ -25,8 +25,8 @@ pub enum Refusal {
     Closed,
     /// A replacement's price without a last price of its slot.
     NoLastPrice,
-    /// A price that isn't confirmed, below `low` or above `high`, the bounds that the item sets round the last price of the slot. All three
-    /// are in minor units; the bounds are at most 1,000,000,000.
+    /// A price that isn't confirmed, below `low` or above `high`, the bounds that the item sets round the last price
+    /// of the slot. All three are in minor units; the bounds are at most 1,000,000,000.
     OutOfTolerance {
         /// The last price.
         last: Price,

@@ -12,13 +12,15 @@ use cpi_store::Book;
 use std::alloc::AllocError;
 
 impl<B: Book> Office<B> {
-    /// Answers requests in order, each reply in the place of its request. Requests that are answered [`Refusal::Unavailable`] change nothing, and the others are answered as if these had not been sent.
+    /// Answers requests in order, each reply in the place of its request. Requests that are answered
+    /// [`Refusal::Unavailable`] change nothing, and the others are answered as if these had not been sent.
     ///
     /// Each collector is told what would be told without the requests of all other collectors.
     ///
     /// # Errors
     ///
-    /// Where memory is refused for the list of replies, the requests up to some place of the list have been carried out and stay so.
+    /// Where memory is refused for the list of replies, the requests up to some place of the list have been carried
+    /// out and stay so.
     pub fn run(&mut self, asks: Vec<Ask>) -> Result<Vec<Reply>, AllocError>
         ensures each { IfOk result (λ rs. length rs.items ≡ length asks.items) }
         ensures ok { IfOk result (λ rs. Ran B.is_clean B.lists self.old.book self.new.book asks.items rs.items) }

@@ -153,7 +153,8 @@ fn one_of_each(alloc: Global) -> Result<Vec<Ask>, Fail> {
     Ok(asks)
 }
 
-// The same requests with other content, which would be refused, or get another receipt, had the first ones been carried out.
+// The same requests with other content, which would be refused, or get another receipt, had the first ones been
+// carried out.
 fn another_of_each(alloc: Global) -> Result<Vec<Ask>, Fail> {
     let mut asks = Vec::new(alloc);
     asks.push(by_desk(rice(alloc, b"Rice, brown")?)?)?;
@@ -192,7 +193,8 @@ fn is_fresh(reply: &Reply) -> bool {
     }
 }
 
-// Whether the book's n-th call was made and failed. It is answered 90 and changes nothing: other content is accepted in its place.
+// Whether the book's n-th call was made and failed. It is answered 90 and changes nothing: other content is accepted
+// in its place.
 fn fails_without_a_change(alloc: Global, nth: u64) -> Result<bool, Fail> {
     let mut office = Office::new(alloc, FailBook::new(VecBook::new(alloc), nth));
     let mut others = another_of_each(alloc)?.into_iter();

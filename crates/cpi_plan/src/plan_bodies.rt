@@ -2,8 +2,8 @@
 use crate::plan_rows::{Place, Title, Weight};
 use cpi_rows::Rows;
 
-/// What the desk sends for the plan of a year, each list in any order. Nothing is checked yet: a code may come twice, and a
-/// weight may be any number.
+/// What the desk sends for the plan of a year, each list in any order. Nothing is checked yet: a code may come twice,
+/// and a weight may be any number.
 #[derive(Debug, Drop)]
 pub struct PlanBody {
     pub titles: Rows<Title>,

@@ -102,9 +102,9 @@ fn is_alike(plan: &YearPlan, other: &YearPlan) -> bool
 }
 
 impl YearPlan {
-    /// The plan of a year, 2000 to 2199, or the first fault of what was sent, over all of it. Rows may come in any order;
-    /// titles of codes that are no nodes are dropped. `known_items` are the items that are known, in the order of codes.
-    /// O(n log n) for n rows.
+    /// The plan of a year, 2000 to 2199, or the first fault of what was sent, over all of it. Rows may come in any
+    /// order; titles of codes that are no nodes are dropped. `known_items` are the items that are known, in the order
+    /// of codes. O(n log n) for n rows.
     pub fn build(
         alloc: Global,
         year: u16,

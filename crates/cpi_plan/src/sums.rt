@@ -19,7 +19,8 @@ fn add(sums: &mut BTreeMap<Code, u128>, node: Code, amount: u128) -> Result<(), 
     Ok(())
 }
 
-/// Adds an amount to an elementary aggregate's own sum and to those of all codes above it. Six look-ups; `Err` where memory was refused.
+/// Adds an amount to an elementary aggregate's own sum and to those of all codes above it. Six look-ups; `Err` where
+/// memory was refused.
 pub fn add_path(sums: &mut BTreeMap<Code, u128>, code: Code, amount: u128) -> Result<(), AllocError>
     requires elementary { IsSome code.aggregate }
     requires fits { (q : Code) → sum_at sums.old q + 6 * amount < 2 ^ 128 }

@@ -3,8 +3,8 @@ ghost use Rattle.cpi_store.specs.Bearer.{same_bearer};
 
 use cpi_codes::{CollectorId, Key};
 
-/// A registered collector: the number, 1 to 9999, and the key of 32 hexadecimal digits that the collector bears. No two collectors
-/// share either.
+/// A registered collector: the number, 1 to 9999, and the key of 32 hexadecimal digits that the collector bears. No
+/// two collectors share either.
 #[derive(Clone, Copy, Debug, PartialEq, Eq)]
 pub struct Bearer {
     /// The collector's number.

@@ -20,12 +20,12 @@ pub struct Parts<'a> {
     pub own: &'a Own,
 }
 
-/// An office that is kept somewhere: items by code, plans by year, calendar rows by month, collectors by number, outlets by number, assignments by
-/// collector and slot, quotes by collector, slot and month.
+/// An office that is kept somewhere: items by code, plans by year, calendar rows by month, collectors by number,
+/// outlets by number, assignments by collector and slot, quotes by collector, slot and month.
 ///
-/// Each call answers a `StoreFault` only where the count of failures rose during the call, and the office is as it was then.
-/// A read changes nothing and copies no row. What is said of the office holds where the store is clean as the call ends.
-/// The caller of a write owes the conditions under which the office accepts the row.
+/// Each call answers a `StoreFault` only where the count of failures rose during the call, and the office is as it
+/// was then. A read changes nothing and copies no row. What is said of the office holds where the store is clean as
+/// the call ends. The caller of a write owes the conditions under which the office accepts the row.
 pub trait Book {
     ghost use Rattle.std.specs.Borrow.{sem};
     ghost use Rattle.cpi_survey.specs.Quote.{greatest_receipt};
@@ -105,7 +105,8 @@ pub trait Book {
     fn put_calendar(&mut self, row: CalendarRow) -> Result<(), StoreFault>
         ensures writes { Writes is_clean lists failures may_leave self.old self.new result (changed (PutsCalendar row) (lists self.old)) };
 
-    /// Puts a new collector, who has nothing yet. The caller owes that nobody has the number, and that nobody bears the key.
+    /// Puts a new collector, who has nothing yet. The caller owes that nobody has the number, and that nobody bears
+    /// the key.
     fn put_collector(&mut self, bearer: Bearer) -> Result<(), StoreFault>
         requires number { is_clean self.old → at (λ b. b.number) bearer.number (lists self.old).collectors ≡ None }
         requires key { is_clean self.old → bearer_of bearer.key (lists self.old).collectors ≡ None }
@@ -116,8 +117,9 @@ pub trait Book {
         requires new { is_clean self.old → at (λ u. u.number) outlet.number (lists self.old).outlets ≡ None }
         ensures writes { Writes is_clean lists failures may_leave self.old self.new result (changed (PutsOutlet outlet) (lists self.old)) };
 
-    /// Puts a new assignment of the collector, with the name of its outlet. The caller owes that the collector is registered with this
-    /// key, that the collector's slot is free, that item and outlet are there, and that the name is the outlet's.
+    /// Puts a new assignment of the collector, with the name of its outlet. The caller owes that the collector is
+    /// registered with this key, that the collector's slot is free, that item and outlet are there, and that the name
+    /// is the outlet's.
     fn put_assignment(&mut self, bearer: Bearer, assigned: Assigned) -> Result<(), StoreFault>
         requires known { is_clean self.old → at (λ b. b.number) bearer.number (lists self.old).collectors ≡ Some bearer }
         requires new { is_clean self.old → at (λ a. a.slot) assigned.assignment.slot (held_by bearer.number (lists self.old).assignments) ≡ None }
@@ -126,8 +128,8 @@ pub trait Book {
         requires name { is_clean self.old → assigned ≡ with_name (lists self.old).outlets assigned.assignment }
         ensures writes { Writes is_clean lists failures may_leave self.old self.new result (changed (Assigns bearer assigned) (lists self.old)) };
 
-    /// Puts a quote of the collector, over the one of its slot and month if there is one. The caller owes that the collector is
-    /// registered, and that the receipt is above all others of the collector.
+    /// Puts a quote of the collector, over the one of its slot and month if there is one. The caller owes that the
+    /// collector is registered, and that the receipt is above all others of the collector.
     fn put_quote(&mut self, bearer: Bearer, quote: Quote) -> Result<(), StoreFault>
         requires known { is_clean self.old → IsSome (at (λ b. b.number) bearer.number (lists self.old).collectors) }
         requires receipt { is_clean self.old → greatest_receipt (held_by bearer.number (lists self.old).quotes) < quote.receipt }

@@ -6,8 +6,8 @@ use cpi_codes::{CollectorId, Key, OutletId};
 use cpi_plan::{CalendarRow, Item, YearPlan};
 use cpi_survey::{Assigned, Own, Public, Quote};
 
-/// A book that passes each call on to another book, but for the n-th, which it fails without passing it on. It shows how those
-/// above a book take a failing store.
+/// A book that passes each call on to another book, but for the n-th, which it fails without passing it on. It shows
+/// how those above a book take a failing store.
 #[derive(Drop)]
 pub struct FailBook<B: Book> {
     inner: B,

@@ -5,7 +5,8 @@ ghost use Rattle.std.specs.Prelude.{◌≡◌, ℕ, ◌+◌};
 use crate::book::StoreFault;
 use std::marker::Model;
 
-/// How often a store has failed. The count is nowhere in the program: it lets a contract say that a call failed only where it rose.
+/// How often a store has failed. The count is nowhere in the program: it lets a contract say that a call failed only
+/// where it rose.
 #[derive(Drop)]
 pub struct Failures {
     pub ghost count: { ℕ },

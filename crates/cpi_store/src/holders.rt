@@ -70,7 +70,8 @@ pub fn put_assignment_of(
     }
 }
 
-/// Puts a new holder among the holders, and beside the key that the holder bears. Where memory is refused, both are as before.
+/// Puts a new holder among the holders, and beside the key that the holder bears. Where memory is refused, both are
+/// as before.
 pub fn put_holder(
     holders: &mut Vec<Holder>,
     bearers: &mut BTreeMap<Key, Bearer>,

@@ -12,10 +12,10 @@ use std::alloc::Global;
 use std::collections::BTreeMap;
 use std::marker::Model;
 
-/// An office in memory. A call fails only where memory was refused; a read, and a write over a row that stands, takes none.
-/// Collectors, their rows, items, plans, months and outlets are found in a number of steps that grows with the logarithm of how many there
-/// are, and a write shifts the rows of one list: of assignments those of one collector, and of quotes those of one slot, or the collector's
-/// slots where one has its first quote.
+/// An office in memory. A call fails only where memory was refused; a read, and a write over a row that stands, takes
+/// none. Collectors, their rows, items, plans, months and outlets are found in a number of steps that grows with the
+/// logarithm of how many there are, and a write shifts the rows of one list: of assignments those of one collector,
+/// and of quotes those of one slot, or the collector's slots where one has its first quote.
 #[derive(Drop)]
 pub struct VecBook {
     public: Public,

@@ -5,6 +5,7 @@ use crate::quote::Quote;
 pub enum Decision {
     /// The quote stands already with the same mark, and this is its receipt. Nothing is to be stored.
     Again(u32),
-    /// The quote is to be stored over that of its slot and month. Its receipt is one more than the collector's greatest.
+    /// The quote is to be stored over that of its slot and month. Its receipt is one more than the collector's
+    /// greatest.
     Put(Quote),
 }

@@ -11,7 +11,8 @@ pub struct Entry {
     pub month: Month,
     /// What was found.
     pub mark: Mark,
-    /// Whether the collector confirms the price. It isn't stored, and entries that differ in it alone are the same entry.
+    /// Whether the collector confirms the price. It isn't stored, and entries that differ in it alone are the same
+    /// entry.
     pub confirm: bool,
 }
 

@@ -7,8 +7,8 @@ use crate::quote::Quote;
 use cpi_codes::{Month, Price, Slot};
 use cpi_rows::place_of;
 
-/// The last price of the slot before the month among quotes by slot and month: back from the place of the slot and the month,
-/// over months without a price.
+/// The last price of the slot before the month among quotes by slot and month: back from the place of the slot and
+/// the month, over months without a price.
 pub fn last_price(quotes: &[Quote], slot: Slot, month: Month) -> Option<Price>
     requires { IsInOrder quote_cmp quote_key quotes.now }
     ensures { result ≡ last_price slot month quotes.now }

@@ -46,7 +46,8 @@ impl Model for Own {
 }
 
 impl Own {
-    /// The part of a collector who has nothing yet. It takes no memory until a row is put, and then takes it from this allocator.
+    /// The part of a collector who has nothing yet. It takes no memory until a row is put, and then takes it from
+    /// this allocator.
     pub fn new(alloc: Global) -> Own
         ensures { result ≡ record { assignments = []; quotes = [] } }
     {
@@ -58,9 +59,9 @@ impl Own {
         }
     }
 
-    /// A collector's part from its rows. The caller owes one assignment a slot, in the order of slots, one quote a slot and month,
-    /// in the order of slots and then of months, and the greatest receipt among the quotes, or 0 where there is none. For n quotes it takes
-    /// O(n log n) steps.
+    /// A collector's part from its rows. The caller owes one assignment a slot, in the order of slots, one quote a
+    /// slot and month, in the order of slots and then of months, and the greatest receipt among the quotes, or 0
+    /// where there is none. For n quotes it takes O(n log n) steps.
     pub fn from_parts(
         alloc: Global,
         assignments: Vec<Assigned>,
@@ -81,8 +82,8 @@ impl Own {
         })
     }
 
-    /// Puts a quote in its place, over that of its slot and month if there is one, which takes no memory. The caller owes a receipt above
-    /// all others. An `Err` says that memory was refused; nothing has changed then.
+    /// Puts a quote in its place, over that of its slot and month if there is one, which takes no memory. The caller
+    /// owes a receipt above all others. An `Err` says that memory was refused; nothing has changed then.
     pub fn put_quote(&mut self, quote: Quote) -> Result<(), AllocError>
         requires { greatest_receipt self.old.quotes < quote.receipt }
         ensures ok { OnOk result (self.new ≡ record self.old { quotes = put quote_cmp quote_key quote self.old.quotes }) }
@@ -96,8 +97,8 @@ impl Own {
         Ok(())
     }
 
-    /// Puts an assignment in its place, over that of its slot if there is one, which takes no memory. An `Err` says that memory was
-    /// refused; nothing has changed then.
+    /// Puts an assignment in its place, over that of its slot if there is one, which takes no memory. An `Err` says
+    /// that memory was refused; nothing has changed then.
     pub fn put_assignment(&mut self, assigned: Assigned) -> Result<(), AllocError>
         ensures ok { OnOk result (self.new ≡ record self.old { assignments = put nat_cmp (λ a. a.assignment.slot) assigned self.old.assignments }) }
         ensures err { OnErr result (self.new ≡ self.old) }
@@ -128,15 +129,16 @@ impl Own {
         find_row(quotes_of(&self.slots, slot), &(slot, month))
     }
 
-    /// The last price of the slot before the month, in minor units: the price that was observed in the greatest earlier month
-    /// of which the collector has a quote of the slot with a price.
+    /// The last price of the slot before the month, in minor units: the price that was observed in the greatest
+    /// earlier month of which the collector has a quote of the slot with a price.
     pub fn last_price(&self, slot: Slot, month: Month) -> Option<Price>
         ensures { result ≡ last_price slot month self.now.quotes }
     {
         last_price(quotes_of(&self.slots, slot), slot, month)
     }
 
-    /// The quotes of the months from the first to the last, both included, by month and then by slot: none where the first is after the last.
+    /// The quotes of the months from the first to the last, both included, by month and then by slot: none where the
+    /// first is after the last.
     pub fn quotes(&self, alloc: Global, first: Month, last: Month) -> Result<Vec<Quote>, AllocError>
         ensures { IfOk result (λ found. found.items ≡ quotes_within first last self.now.quotes) }
     {
@@ -145,7 +147,8 @@ impl Own {
         Ok(found)
     }
 
-    /// The greatest receipt of the quotes, at most 1,000,000 where each has one of those that are given, or 0 where there is no quote.
+    /// The greatest receipt of the quotes, at most 1,000,000 where each has one of those that are given, or 0 where
+    /// there is no quote.
     pub fn greatest_receipt(&self) -> u32
         ensures { result ≡ greatest_receipt self.now.quotes }
     {

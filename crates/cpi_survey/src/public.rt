@@ -41,7 +41,8 @@ impl Public {
         Public::from_parts(Vec::new(alloc), Vec::new(alloc), Vec::new(alloc))
     }
 
-    /// The public part from its rows. The caller owes one item a code, in the order of codes, one plan a year, in the order of years, and one row a month, in the order of months.
+    /// The public part from its rows. The caller owes one item a code, in the order of codes, one plan a year, in the
+    /// order of years, and one row a month, in the order of months.
     pub fn from_parts(items: Vec<Item>, plans: Vec<YearPlan>, calendar: Vec<CalendarRow>) -> Public
         requires items { IsInOrder nat_cmp (λ i. i.code) items.items }
         requires plans { IsInOrder nat_cmp (λ y. y.year) plans.items }
@@ -99,8 +100,8 @@ impl Public {
         copy_items(alloc, &self.items)
     }
 
-    /// Puts an item in its place, over the one with its code if there is one, which takes no memory. An `Err` says that memory was refused;
-    /// nothing has changed then.
+    /// Puts an item in its place, over the one with its code if there is one, which takes no memory. An `Err` says
+    /// that memory was refused; nothing has changed then.
     pub fn put_item(&mut self, item: Item) -> Result<(), AllocError>
         ensures ok { OnOk result (self.new ≡ record self.old { items = put nat_cmp (λ i. i.code) item self.old.items }) }
         ensures err { OnErr result (self.new ≡ self.old) }
@@ -109,8 +110,8 @@ impl Public {
         put_row(&mut self.items, item)
     }
 
-    /// Puts a plan in its place, over the one of its year if there is one, which takes no memory. An `Err` says that memory was refused;
-    /// nothing has changed then.
+    /// Puts a plan in its place, over the one of its year if there is one, which takes no memory. An `Err` says that
+    /// memory was refused; nothing has changed then.
     pub fn put_plan(&mut self, plan: YearPlan) -> Result<(), AllocError>
         ensures ok { OnOk result (self.new ≡ record self.old { plans = put nat_cmp (λ y. y.year) plan self.old.plans }) }
         ensures err { OnErr result (self.new ≡ self.old) }
@@ -119,8 +120,8 @@ impl Public {
         put_row(&mut self.plans, plan)
     }
 
-    /// Puts a calendar row in its place, over the one of its month if there is one, which takes no memory. An `Err` says that memory was
-    /// refused; nothing has changed then.
+    /// Puts a calendar row in its place, over the one of its month if there is one, which takes no memory. An `Err`
+    /// says that memory was refused; nothing has changed then.
     pub fn put_calendar(&mut self, row: CalendarRow) -> Result<(), AllocError>
         ensures ok { OnOk result (self.new ≡ record self.old { calendar = put nat_cmp (λ r. r.month) row self.old.calendar }) }
         ensures err { OnErr result (self.new ≡ self.old) }

@@ -15,8 +15,8 @@ pub enum Refusal {
     Closed,
     /// The price is that of a replacement, and the slot has no last price before the month.
     NoLastPrice,
-    /// The price isn't confirmed, and it lies below `low` or above `high`, the bounds that the item sets round the last price of the slot.
-    /// All three are in minor units; the bounds are at most 1,000,000,000.
+    /// The price isn't confirmed, and it lies below `low` or above `high`, the bounds that the item sets round the
+    /// last price of the slot. All three are in minor units; the bounds are at most 1,000,000,000.
     OutOfTolerance {
         /// The last price.
         last: Price,

@@ -21,13 +21,15 @@ use cpi_plan::{CalendarRow, Item};
 const LAST_RECEIPT: u32 = 1_000_000;
 
 impl Own {
-    /// Decides an entry at a moment, by the public part and the collector's own part alone. It changes nothing and takes no memory.
+    /// Decides an entry at a moment, by the public part and the collector's own part alone. It changes nothing and
+    /// takes no memory.
     ///
-    /// A slot that the collector doesn't have is refused. Then an entry that equals the stored quote of its slot and month, in the mark with
-    /// its value, is answered with the stored receipt, at any moment. Any other entry is refused where the calendar has no row of the month,
-    /// where the month is outside the assignment, before the window opens, from the moment at which it closes, where a replacement has no
-    /// last price, where a price or a comparable replacement's price that isn't confirmed lies outside the bounds round the last price, and
-    /// where all receipts are used up, in this order; else it is to be stored with the next receipt.
+    /// A slot that the collector doesn't have is refused. Then an entry that equals the stored quote of its slot and
+    /// month, in the mark with its value, is answered with the stored receipt, at any moment. Any other entry is
+    /// refused where the calendar has no row of the month, where the month is outside the assignment, before the
+    /// window opens, from the moment at which it closes, where a replacement has no last price, where a price or a
+    /// comparable replacement's price that isn't confirmed lies outside the bounds round the last price, and where
+    /// all receipts are used up, in this order; else it is to be stored with the next receipt.
     pub fn submit(&self, public: &Public, now: Moment, entry: Entry) -> Result<Decision, Refusal>
         ensures { result ≡ decided now entry public.now self.now }
     {
@@ -59,7 +61,8 @@ impl Own {
         }
     }
 
-    /// Decides an entry of a month with a calendar row: the months of the assignment, the window, the price, the receipts.
+    /// Decides an entry of a month with a calendar row: the months of the assignment, the window, the price, the
+    /// receipts.
     fn in_window(
         &self,
         public: &Public,
@@ -104,7 +107,8 @@ impl Own {
     }
 }
 
-/// Checks the price of an entry: a replacement needs a last price, and a price that isn't confirmed is checked against the last one.
+/// Checks the price of an entry: a replacement needs a last price, and a price that isn't confirmed is checked
+/// against the last one.
 fn checked(entry: Entry, item: Option<&Item>, last: Option<Price>) -> Result<(), Refusal>
     ensures { result ≡ checked entry (option_copied item.entry) last }
 {

@@ -21,8 +21,8 @@ pub enum Verdict {
     },
 }
 
-/// Checks a price against the last one: it lies inside from the item's low per mille of the last price, rounded up, to its high per mille,
-/// rounded down. It takes no memory.
+/// Checks a price against the last one: it lies inside from the item's low per mille of the last price, rounded up,
+/// to its high per mille, rounded down. It takes no memory.
 pub fn check(item: &Item, last: Price, price: Price) -> Verdict
     ensures { result ≡ verdict item.now last price }
 {

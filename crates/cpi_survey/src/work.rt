@@ -12,9 +12,9 @@ use cpi_rows::Rows;
 use std::alloc::{AllocError, Global};
 
 impl Own {
-    /// The work list of a month: one row for each assignment that is active in it, by slot, or the refusal `UnknownMonth` where the calendar
-    /// has no row of the month. An assignment whose item isn't in the public part has no row. For n assignments, q quotes and i items it takes
-    /// O(n log (q + i) + q) steps.
+    /// The work list of a month: one row for each assignment that is active in it, by slot, or the refusal
+    /// `UnknownMonth` where the calendar has no row of the month. An assignment whose item isn't in the public part
+    /// has no row. For n assignments, q quotes and i items it takes O(n log (q + i) + q) steps.
     pub fn work(
         &self,
         alloc: Global,

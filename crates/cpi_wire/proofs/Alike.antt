@@ -1,16 +1,16 @@
 -- What a caller is told of a record hangs on what the caller sees alone.
 use mathlib.Core.Bool.{true≢false}
-use Rattle.std.proofs.Common.{◌≡◌, ◌≢◌, ◌∙◌, sym, ap, ap₂, refl, subst, ℕ, List, [], ◌∷◌, ◌++◌, Bool, true, false, IsFalse, Option, Some, None, ◌⊎◌, inl, inr}
+use Rattle.std.proofs.Common.{◌≡◌, ◌≢◌, ◌∙◌, sym, ap, ap₂, refl, subst, ℕ, List, [], ◌∷◌, ◌++◌, IsFalse, Option, Some, None, ◌⊎◌, inl, inr}
 use Rattle.cpi_codes.specs.Zone.{ZoneRule}
-use Rattle.cpi_store.specs.Office.{Office, Change}
+use Rattle.cpi_store.specs.Office.{Office}
 use Rattle.cpi_office.specs.Views.{view}
-use Rattle.cpi_office.specs.Runs.{trace, next, reply_to, after_one, verdict}
+use Rattle.cpi_office.specs.Runs.{reply_to, after_one, verdict}
 use Rattle.cpi_office.specs.Answers.{answer as answer_from}
 use Rattle.cpi_office.specs.Entries.{of_collector}
 use Rattle.cpi_office.specs.Verdicts.{accepted}
 use Rattle.cpi_office.specs.Sights.{seen, build}
 use Rattle.cpi_office.specs.Calls.{Serves}
-use Rattle.cpi_office.specs.Served.{is_failure, all_served, IsRun}
+use Rattle.cpi_office.specs.Served.{is_failure, all_served}
 use Rattle.cpi_office.specs.Sound.{IsSound}
 use Rattle.cpi_office.specs.Told.{NoneFails}
 use Rattle.cpi_office.specs.declared.caller.Caller.{Caller}

@@ -10,7 +10,7 @@ use Rattle.cpi_wire.specs.declared.plan_rows.PlanRow.TheVariants as row
 use Rattle.cpi_wire.specs.Input.{Record, AreFirst, records_of}
 use Rattle.cpi_wire.specs.PlanBody.{titles_of, weights_of, places_of, told_by, plan_rows, body_of}
 use Rattle.cpi_wire.specs.PlanRows.{plan_row}
-use Rattle.cpi_wire.specs.Values.{◌>>=◌}
+use Rattle.cpi_codes.specs.Following.{◌>>=◌}
 
 -- ---- one row more
 

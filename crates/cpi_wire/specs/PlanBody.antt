@@ -9,7 +9,7 @@ use Rattle.cpi_wire.specs.declared.plan_rows.PlanRow.TheVariants as row
 use Rattle.cpi_wire.specs.Arguments.{Text}
 use Rattle.cpi_wire.specs.Input.{Record, records_of}
 use Rattle.cpi_wire.specs.PlanRows.{plan_row}
-use Rattle.cpi_wire.specs.Values.{◌>>=◌}
+use Rattle.cpi_codes.specs.Following.{◌>>=◌}
 
 abbrev pub titles_of : List PlanRow → List Title
 titles_of [] = []

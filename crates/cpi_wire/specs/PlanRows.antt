@@ -5,7 +5,8 @@ use Rattle.cpi_codes.specs.ItemCode.{item_code_of}
 use Rattle.cpi_wire.specs.declared.plan_rows.PlanRow.{PlanRow}
 use Rattle.cpi_wire.specs.declared.plan_rows.PlanRow.TheVariants as row
 use Rattle.cpi_wire.specs.Arguments.{Text, three}
-use Rattle.cpi_wire.specs.Values.{◌>>=◌, name, weight}
+use Rattle.cpi_codes.specs.Following.{◌>>=◌}
+use Rattle.cpi_wire.specs.Values.{name, weight}
 
 -- the title of a code
 abbrev pub title_row : Text → Text → Option PlanRow

@@ -10,7 +10,8 @@ use Rattle.cpi_wire.specs.declared.asks.Ask.{Ask}
 use Rattle.cpi_wire.specs.declared.asks.Ask.TheVariants as ask
 use Rattle.cpi_wire.specs.Arguments.{Text, one}
 use Rattle.cpi_wire.specs.Import.{rows_of}
-use Rattle.cpi_wire.specs.Values.{◌>>=◌, moment}
+use Rattle.cpi_codes.specs.Following.{◌>>=◌}
+use Rattle.cpi_wire.specs.Values.{moment}
 use Rattle.cpi_wire.specs.Words.{word_of, request_of}
 
 -- the public, the desk, or a collector by a key

@@ -1,8 +1,9 @@
 -- The value of one field.
-use Rattle.std.specs.Prelude.{ℕ, List, if◌then◌else◌, Option, Some, None, bytes_eq, codes}
+use Rattle.std.specs.Prelude.{ℕ, if◌then◌else◌, Option, Some, None, bytes_eq, codes}
 use Rattle.std.specs.Result.{result_ok}
 use Rattle.cpi_codes.specs.Number.{number_of}
 use Rattle.cpi_codes.specs.Clock.{moment_in}
+use Rattle.cpi_codes.specs.Following.{◌>>=◌}
 use Rattle.cpi_codes.specs.Zone.{ZoneRule}
 use Rattle.cpi_codes.specs.Month.{month_of}
 use Rattle.cpi_codes.specs.Name.{is_name}
@@ -11,12 +12,6 @@ use Rattle.cpi_survey.specs.declared.mark.Mark.TheVariants.{Price, Missing, Comp
 use Rattle.cpi_survey.specs.declared.mark.Reason.{Reason}
 use Rattle.cpi_survey.specs.declared.mark.Reason.TheVariants.{Stock, Closed, Gone, Refused}
 use Rattle.cpi_wire.specs.Arguments.{Text}
-
--- a reader goes on with what another one read
-infixl 10 ◌>>=◌
-abbrev pub ◌>>=◌ : {A B : Type 0} → Option A → (A → Option B) → Option B
-None >>= f = None
-(Some x) >>= f = f x
 
 abbrev pub moment : Text → Option ℕ
 moment text = number_of 0 9999999999 text

@@ -10,7 +10,8 @@ use Rattle.cpi_wire.specs.declared.words.Word.{Word}
 use Rattle.cpi_wire.specs.declared.words.Word.TheVariants as word
 use Rattle.cpi_wire.specs.Arguments.{Text, none, one, two, four, four_and_confirm, five, six}
 use Rattle.cpi_wire.specs.PlanBody.{body_of}
-use Rattle.cpi_wire.specs.Values.{◌>>=◌, time, year, month, collector, slot, outlet, low_tolerance, high_tolerance, name, mark_of}
+use Rattle.cpi_codes.specs.Following.{◌>>=◌}
+use Rattle.cpi_wire.specs.Values.{time, year, month, collector, slot, outlet, low_tolerance, high_tolerance, name, mark_of}
 
 -- a row of the calendar opens before it closes, and is published no earlier
 abbrev pub calendar_row : ℕ → ℕ → ℕ → ℕ → Option CalendarPart

@@ -23,9 +23,10 @@ fn row_request(alloc: Global, zone: &Zone, fields: &[&[u8]]) -> Result<Option<Re
     }
 }
 
-/// The rows of an import's body, which is CSV without a header row: a byte order mark at its start and empty lines are
-/// skipped. Each row is a word and its arguments, with civil times by the clock of the zone; one that is of no form, or outside the limits, is kept as none, and
-/// so is an import inside the import. A body of more than 20,000 rows gives none at all.
+/// The rows of an import's body, which is CSV without a header row: a byte order mark at its start and empty lines
+/// are skipped. Each row is a word and its arguments, with civil times by the clock of the zone; one that is of no
+/// form, or outside the limits, is kept as none, and so is an import inside the import. A body of more than 20,000
+/// rows gives none at all.
 pub fn import_rows(
     alloc: Global,
     zone: &Zone,

@@ -64,8 +64,8 @@ fn lettered(
     }
 }
 
-/// The row that the fields write: `T`, a code and its title; `W`, a code and its weight up to 1,000,000; or `I`, an item
-/// and the code where it is placed. None where they are of no such form.
+/// The row that the fields write: `T`, a code and its title; `W`, a code and its weight up to 1,000,000; or `I`, an
+/// item and the code where it is placed. None where they are of no such form.
 pub(crate) fn plan_row(alloc: Global, fields: &[&[u8]]) -> Result<Option<PlanRow>, AllocError>
     ensures { IfOk result (λ row. row ≡ spelled_row (map (λ f. f.now) fields.now)) }
 {

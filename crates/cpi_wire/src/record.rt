@@ -81,7 +81,8 @@ fn parts_of(
 }
 
 /// What the fields of a record ask: a moment in seconds since 1970 UTC, a caller (`public`, `desk` or a key), a word
-/// and its arguments; those of an import are one body of rows. Civil times are read by the clock of the zone. Whatever isn't of these forms, or outside the limits, is `Bad`.
+/// and its arguments; those of an import are one body of rows. Civil times are read by the clock of the zone.
+/// Whatever isn't of these forms, or outside the limits, is `Bad`.
 pub fn request_of_record(alloc: Global, zone: &Zone, fields: &[&[u8]]) -> Result<Ask, AllocError>
     ensures { IfOk result (λ a. a ≡ ask_of zone.now (map (λ f. f.now) fields.now)) }
 {

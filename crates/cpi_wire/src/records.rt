@@ -63,8 +63,9 @@ fn tell<W: Write>(alloc: Global, writer: &mut W, told: &Answer) -> Result<(), Wi
 }
 
 /// Reads records from the reader, carries each out on the office in turn, and writes the line of its reply whole,
-/// before the next record is carried out. Civil times are read by the clock of the zone. The rows of an import are carried out in turn too, and their replies stand
-/// in the one line of the import. Of one input 1,000,000 records are taken; one more ends it with `Read`.
+/// before the next record is carried out. Civil times are read by the clock of the zone. The rows of an import are
+/// carried out in turn too, and their replies stand in the one line of the import. Of one input 1,000,000 records are
+/// taken; one more ends it with `Read`.
 pub fn replay<R: Read + Drop, W: Write, B: Book>(
     alloc: Global,
     reader: R,

@@ -1,4 +1,3 @@
-use Rattle.std.proofs.Common.{sym, ◌∙◌}
 use Rattle.cpi_codes.proofs.CodeAscii.{code_ascii}
 use Rattle.cpi_codes.proofs.codes.Code.text.Goals as goal
 
