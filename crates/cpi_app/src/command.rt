@@ -10,12 +10,15 @@ use clap::error::ErrorKind;
 use clap::{Arg, ArgMatches, Command, Error};
 use std::alloc::{AllocError, Global};
 
-// An option with a value.
-fn option<'a>(alloc: Global, name: &'a str) -> Arg<'a>
+const ZONE_HELP: &str =
+    "The clock of civil times, as a POSIX rule like CET-1CEST,M3.5.0,M10.5.0/3; UTC0 where it isn't given";
+
+// An option with a value, and what help says of it.
+fn option<'a>(alloc: Global, name: &'a str, help: &'a str) -> Arg<'a>
     ensures rule { rule_of result ≡ line.option name.entry.now }
     ensures local { result.global ≡ false }
 {
-    Arg::new(alloc, name).long(name)
+    Arg::new(alloc, name).long(name).help(help)
 }
 
 fn replay_command<'a>(alloc: Global) -> Result<Command<'a>, AllocError>
@@ -24,7 +27,7 @@ fn replay_command<'a>(alloc: Global) -> Result<Command<'a>, AllocError>
 {
     Command::new(alloc, "replay")
         .about("Reads records from standard input, and writes the line of each reply")
-        .arg(option(alloc, "zone"))
+        .arg(option(alloc, "zone", ZONE_HELP))
 }
 
 // The whole command line.
