@@ -9,4 +9,6 @@ pub mod Places
 pub mod Indices
 pub mod Totals
 pub mod Means
+pub mod Level
+pub mod Chaining
 pub mod Examples

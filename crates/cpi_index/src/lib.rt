@@ -1,15 +1,17 @@
-//! The index of one month: bases, movements, carried prices, Dutot indices and means.
+//! The index of one month: bases, movements, carried prices, Dutot indices, means and chained levels.
 #![tactic(auto)]
 
 mod aggregate;
 mod bases;
 mod carried;
 mod carry;
+mod chaining;
 mod examples;
 mod fault;
 mod frozen;
 mod index;
 mod indices;
+mod level;
 mod means;
 mod month;
 mod movement;
@@ -24,11 +26,13 @@ mod year;
 
 pub use carried::CarriedPrice;
 pub use carry::carry_month;
+pub use chaining::chain;
 pub use examples::worked_months;
 pub use fault::IndexFault;
 pub use frozen::FrozenQuote;
 pub use index::{Index, NodeIndex};
 pub use indices::elementary;
+pub use level::{ChainedLevel, NodeLevel};
 pub use means::upper;
 pub use row::GroupRow;
 pub use series::one_number_one_series;

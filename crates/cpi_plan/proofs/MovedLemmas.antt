@@ -6,12 +6,8 @@ use Rattle.std.proofs.lemmas.List.Sorted.{list_any-IsPermutation, sum_by-IsPermu
 use Rattle.std.proofs.lemmas.List.Sums.{sum_by-cons}
 use Rattle.cpi_codes.specs.CodeText.{is_at_or_below}
 use Rattle.cpi_codes.specs.declared.codes.Code.{Code}
-use Rattle.cpi_plan.specs.declared.items.Item.{Item}
 use Rattle.cpi_plan.specs.declared.plan_rows.Weight.{Weight}
-use Rattle.cpi_plan.specs.declared.plan_rows.Place.{Place}
 use Rattle.cpi_plan.specs.Sums.{weight_under}
-use Rattle.cpi_plan.specs.Plan.{has_unknown, is_same_item}
-use Rattle.cpi_plan.proofs.UnderLemmas.{any_agree}
 
 not_step : (a b c : Bool) → b ≡ not c → (a && b) ≡ not (not a || c)
 not_step true b c h = h

@@ -7,27 +7,14 @@ use Rattle.std.specs.Bool.{MatchBool}
 use Rattle.std.specs.Cmp.{IsTotalOrder}
 use Rattle.std.specs.Prelude.{is_ok, ◌⊎◌}
 use Rattle.std.specs.List.{IsDistinct, list_any}
-use Rattle.std.specs.List.Sorted.{IsSorted, IsSearchInRange, IsPartitionPoint, IsBinarySearchResult, IsSortedByKey, IsStrictlySortedBy, IsPermutation}
+use Rattle.std.specs.List.Sorted.{IsSorted, IsSearchInRange, IsPartitionPoint, IsBinarySearchResult, IsSortedByKey, IsPermutation}
 use Rattle.std.proofs.lemmas.Cmp.{eq_by_cmp_equiv}
-use Rattle.std.proofs.lemmas.List.Elements.{pair_read}
 use Rattle.std.proofs.lemmas.List.Sorted.{IsPermutation-sym, searchable_from_sorted}
 use Rattle.std.proofs.lemmas.Bool.{cases_lt}
 use Rattle.std.proofs.lemmas.List.Folds.{list_any_at}
-use Rattle.std.proofs.lemmas.Map.Keys.{sorted_from_all_adjacent, IsDistinct-from_sorted, IsDistinct-IsPermutation, apart_from_distinct}
-use Rattle.cpi_rows.specs.Keyed.{IsInOrder}
-use Rattle.cpi_plan.specs.Once.{Falters}
-
-pub by_key_total : {X K : Type 0} {R : K → K → Ordering} → IsTotalOrder R → (key : X → K) → IsTotalOrder (λ a b. R (key a) (key b))
-by_key_total o key = record { antisymm = λ x y. o.antisymm (key x) (key y); trans = λ x y z. o.trans (key x) (key y) (key z); congr = λ x y z. o.congr (key x) (key y) (key z) }
-
-pub Falters-at : {X K : Type 0} (cmp : K → K → Ordering) (key : X → K) (xs : List X) (i j : ℕ) (x y : X) → j + 1 ≡ i → i < length xs → x ≡ get_or xs j x → y ≡ get_or xs i y → is_lt (cmp (key x) (key y)) ≡ false → Falters cmp key xs
-Falters-at cmp key xs i j x y e h at_j at_i f =
-    (j, omega arith, pair_read xs (λ a b. is_lt (cmp (key a) (key b)) ≡ false) j (j + 1) x y (omega arith) (omega arith) at_j (rw e at_i) f)
-
-pub rises_whole : {X K : Type 0} {cmp : K → K → Ordering} → IsTotalOrder cmp → (key : X → K) (xs : List X) → ((k : ℕ) (d : X) → k + 1 < length xs → cmp (key (get_or xs k d)) (key (get_or xs (k + 1) d)) ≡ Less) → IsInOrder cmp key xs
-unfolding IsStrictlySortedBy
-rises_whole o key [] h = tt
-rises_whole o key (x ∷ xs) h = sorted_from_all_adjacent (by_key_total o key) (x ∷ xs) x (λ k l. h k x l)
+use Rattle.std.proofs.lemmas.Map.Keys.{IsDistinct-from_sorted, IsDistinct-IsPermutation, apart_from_distinct}
+use Rattle.cpi_rows.specs.Keyed.{IsInOrder, Falters}
+use Rattle.cpi_rows.proofs.Rising.{by_key_total}
 
 -- rows that come into order have no key twice
 pub once_from_order : {X K : Type 0} {cmp : K → K → Ordering} → IsTotalOrder cmp → (key : X → K) (xs ys : List X) → IsPermutation xs ys → IsInOrder cmp key ys → IsDistinct (λ a b. is_eq (cmp (key a) (key b))) xs

@@ -1,5 +1,5 @@
 -- What is built of a body is what is planned for it.
-use Rattle.std.proofs.Common.{◌≡◌, ◌≢◌, ℕ, Bool, true, false, cond, List, [], ◌∷◌, map, filter, Option, Some, None, Result, Ok, Err, IfOk, refl, sym, ap, ◌∙◌, subst, arith, ◌&&◌, not, ◌==◌}
+use Rattle.std.proofs.Common.{◌≡◌, ◌≢◌, ℕ, Bool, true, false, cond, List, [], ◌∷◌, map, filter, Option, Some, None, Result, Ok, Err, IfOk, refl, sym, ap, ◌∙◌, subst, arith, not, ◌==◌}
 use Rattle.std.proofs.lemmas.Bool.Decides.{nat_tests}
 use Rattle.std.specs.Prelude.{option_map}
 use Rattle.std.specs.declared.cmp.Ordering.{Ordering}
@@ -9,16 +9,15 @@ use Rattle.std.proofs.lemmas.Cmp.{nat_cmp_total as item-law}
 use Rattle.cpi_codes.specs.CodeOrder.{code_cmp, is_same}
 use Rattle.cpi_codes.specs.declared.codes.Code.{Code}
 use Rattle.cpi_codes.specs.contracts.codes.CodeOrd.TheImpl.Laws.{total-law}
-use Rattle.cpi_rows.specs.Keyed.{row_at, IsInOrder}
+use Rattle.cpi_rows.specs.Keyed.{row_at}
 use Rattle.cpi_plan.specs.declared.plan_rows.Title.{Title}
 use Rattle.cpi_plan.specs.declared.plan_rows.Weight.{Weight}
-use Rattle.cpi_plan.specs.declared.plan_rows.Place.{Place}
 use Rattle.cpi_plan.specs.declared.plan_rows.Node.{Node}
 use Rattle.cpi_plan.specs.declared.plan_faults.PlanFault.{PlanFault}
 use Rattle.cpi_plan.specs.declared.plan_faults.PlanFault.TheVariants.{DuplicateCode, NotElementary, ZeroWeight, WeightSum, TitleMissing, UnknownItem, ItemTwice, UnknownAggregate, NoMemory}
 use Rattle.cpi_plan.specs.Sums.{is_node}
-use Rattle.cpi_plan.specs.Plan.{Body, Plan, IsPlan, IsPlanOf, IsBuilt, IsFirstFault, CodesOnce, ItemsOnce, Passes2, Passes3, Passes4, Passes5, Passes6, Passes7, Passes8, are_elementary, has_zero, total, has_unknown, has_unplaced, is_same_item, row_of, node}
-use Rattle.cpi_plan.specs.Planned.{are_codes_once, are_items_once, are_distinct, first_untitled, nodes_of, in_order, plan_of, placed, titled, planned}
+use Rattle.cpi_plan.specs.Plan.{Body, Plan, IsPlan, IsPlanOf, IsBuilt, IsFirstFault, CodesOnce, Passes2, Passes3, Passes4, Passes5, Passes6, Passes7, Passes8, are_elementary, has_zero, total, has_unknown, has_unplaced, is_same_item, row_of, node}
+use Rattle.cpi_plan.specs.Planned.{are_codes_once, are_items_once, are_distinct, first_untitled, nodes_of, in_order, plan_of, titled, planned}
 use Rattle.cpi_plan.proofs.InOrder.{distinct, from_distinct, not_distinct, is_in_order, row_in_order}
 use Rattle.cpi_plan.proofs.FirstUntitled.{first_untitled_is, none_untitled}
 use Rattle.cpi_plan.proofs.UnderLemmas.{same_node, and_first, and_second}

@@ -1,5 +1,5 @@
 -- Lists that are the same row by row.
-use Rattle.std.proofs.Common.{◌≡◌, ◌≢◌, ℕ, zero, suc, ◌<◌, Bool, true, false, List, [], ◌∷◌, length, get_or, refl, sym, ap, ◌∙◌, arith, ◌&&◌}
+use Rattle.std.proofs.Common.{◌≡◌, ℕ, zero, suc, ◌<◌, Bool, true, false, List, [], ◌∷◌, length, get_or, refl, sym, ap, arith, ◌&&◌}
 use Rattle.std.specs.Cmp.Lexicographic.{pointwise}
 
 and_false : (a b : Bool) → b ≡ false → (a && b) ≡ false

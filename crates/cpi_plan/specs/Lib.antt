@@ -1,6 +1,5 @@
 pub mod Calendar
 pub mod Items
-pub mod Once
 pub mod Plan
 pub mod Steps
 pub mod Sums

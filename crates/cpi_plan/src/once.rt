@@ -4,22 +4,9 @@ ghost use Rattle.std.specs.List.{IsDistinct};
 ghost use Rattle.std.specs.List.Sorted.{IsPermutation};
 ghost use Rattle.std.specs.Ordering.{is_eq};
 ghost use Rattle.cpi_rows.specs.Keyed.{IsInOrder};
-ghost use Rattle.cpi_plan.specs.Once.{Falters};
 
-use cpi_rows::Keyed;
+use cpi_rows::{Keyed, are_in_order};
 use std::alloc::AllocError;
-
-// Whether each key is below the next.
-fn rises<T: Keyed>(rows: &[T]) -> bool
-    ensures { MatchBool result (IsInOrder T.Key.cmp T.key rows.now) (Falters T.Key.cmp T.key rows.now) }
-{
-    for i in 1..rows.len() {
-        if !rows[i - 1].key().cmp(&rows[i].key()).is_lt() {
-            return false;
-        }
-    }
-    true
-}
 
 // Puts rows in the order of their keys, and says whether no key comes twice.
 pub(crate) fn put_in_order<T: Keyed + Drop>(rows: &mut Vec<T>) -> Result<bool, AllocError>
@@ -29,5 +16,5 @@ pub(crate) fn put_in_order<T: Keyed + Drop>(rows: &mut Vec<T>) -> Result<bool, A
         (IsDistinct (λ a b. is_eq (T.Key.cmp (T.key a) (T.key b))) rows.old.items → ⊥)) }
 {
     rows.sort_by_key(|row| row.key())?;
-    Ok(rises(rows))
+    Ok(are_in_order(rows))
 }

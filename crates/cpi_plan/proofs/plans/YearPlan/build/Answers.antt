@@ -1,8 +1,8 @@
-use Rattle.std.proofs.Common.{◌≡◌, Ok, IfOk, rules}
+use Rattle.std.proofs.Common.{IfOk, rules}
 use Rattle.std.specs.List.Sorted.{IsPermutation}
 use Rattle.cpi_codes.specs.CodeOrder.{code_cmp}
 use Rattle.cpi_rows.specs.Keyed.{IsInOrder}
-use Rattle.cpi_plan.specs.Plan.{CodesOnce, IsPlan, Plan}
+use Rattle.cpi_plan.specs.Plan.{CodesOnce, IsPlan}
 use Rattle.cpi_plan.proofs.BuiltLemmas.{built_moved}
 use Rattle.cpi_plan.proofs.PlannedLemmas.{built_planned, from_ok, twice_planned}
 use Rattle.cpi_plan.proofs.plans.YearPlan.build.Goals as goal
