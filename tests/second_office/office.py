@@ -1,0 +1,189 @@
+"""The office: what each record is answered, and what it changes."""
+
+import json
+
+from . import values
+from .requests import MOST_ROWS, caller_of, request_of, rows_of
+
+DONE = {"done": True}
+
+
+def refused(number, **found):
+    return {"refused": number, **found}
+
+
+def month_text(month):
+    return f"{month[0]:04}-{month[1]:02}"
+
+
+class Office:
+    def __init__(self):
+        self.items = {}  # by code: text, unit, low, high
+        self.plans = {}
+        self.calendar = {}  # by month: opens, closes, publishes
+        self.outlets = {}
+        self.keys = {}  # by collector
+        self.assignments = {}  # by collector and slot: outlet, item, first and last month
+        self.quotes = {}  # by collector, slot and month: mark, receipt
+
+    def line(self, record):
+        return json.dumps(self.reply(record), separators=(",", ":"), sort_keys=True, ensure_ascii=False)
+
+    def reply(self, record):
+        if len(record) < 3:
+            return refused(10)
+        now, caller, word = values.number(record[0], 0, values.MOST_MOMENT), caller_of(record[1]), record[2]
+        if now is None or caller is None:
+            return refused(10)
+        if word != "import":
+            return self.answer(now, caller, request_of(word, record[3:]))
+        rows = rows_of(record[3]) if len(record) == 4 else None
+        if rows is None or len(rows) > MOST_ROWS:
+            return refused(10)
+        return {"rows": [self.answer(now, caller, request_of(row[0], row[1:])) for row in rows]}
+
+    def answer(self, now, caller, request):
+        if request is None:
+            return refused(10)
+        bearer = next((number for number, key in self.keys.items() if key == caller), None)
+        if caller not in ("public", "desk") and bearer is None:
+            return refused(11)
+        word, *parts = request
+        if word == "items":
+            return {"items": [[code, *self.items[code]] for code in sorted(self.items)]}
+        if word in self.OF_COLLECTORS:
+            return refused(12) if bearer is None else self.OF_COLLECTORS[word](self, now, bearer, *parts)
+        return refused(12) if caller != "desk" else self.OF_THE_DESK[word](self, *parts)
+
+    # ---- the desk
+
+    def put_once(self, rows, key, content):
+        """Content that stands is done; a row is never replaced."""
+        if key in rows:
+            return DONE if rows[key] == content else refused(40)
+        rows[key] = content
+        return DONE
+
+    def put_item(self, code, *content):
+        return self.put_once(self.items, code, list(content))
+
+    def put_outlet(self, number, name):
+        return self.put_once(self.outlets, number, name)
+
+    def register(self, number, key):
+        if number not in self.keys and key in self.keys.values():
+            return refused(40)
+        return self.put_once(self.keys, number, key)
+
+    def assign(self, collector, slot, outlet, item, first, last):
+        if (collector, slot) not in self.assignments:
+            if item not in self.items:
+                return refused(41)
+            if outlet not in self.outlets:
+                return refused(42)
+            if collector not in self.keys:
+                return refused(43)
+        return self.put_once(self.assignments, (collector, slot), (outlet, item, first, last))
+
+    def put_calendar(self, month, *window):
+        self.calendar[month] = window
+        return DONE
+
+    def put_plan(self, year, body):
+        fault = self.plan_fault(*body)
+        if fault is not None:
+            return refused(44, **fault)
+        self.plans[year] = body
+        return DONE
+
+    def plan_fault(self, titles, weights, places):
+        """The first fault of a plan, over all of what was sent."""
+        codes, sum_found = [code for code, _ in weights], sum(weight for _, weight in weights)
+        titled, nodes = [code for code, _ in titles], {node for code in codes for node in values.path(code)}
+        untitled = sorted(nodes - set(titled))
+        items = [item for item, _ in places]
+        faults = [
+            (len(set(titled)) < len(titled) or len(set(codes)) < len(codes), {}),
+            (not all(values.is_elementary(code) for code in codes + [code for _, code in places]), {}),
+            (any(weight == 0 for _, weight in weights), {}),
+            (sum_found != 1_000_000, {"found": sum_found}),
+            (untitled != [], {"code": untitled[0] if untitled else None}),
+            (not set(items) <= set(self.items), {}),
+            (len(set(items)) < len(items), {}),
+            (not {code for _, code in places} <= set(codes), {}),
+        ]
+        return next(({"fault": at + 1, **found} for at, (is_so, found) in enumerate(faults) if is_so), None)
+
+    # ---- a collector
+
+    def own_quotes(self, collector):
+        return {(slot, month): quote for (holder, slot, month), quote in self.quotes.items() if holder == collector}
+
+    def last_price(self, collector, slot, month):
+        """The price of the greatest earlier month with one."""
+        found = [
+            (earlier, mark[1])
+            for (own_slot, earlier), (mark, _) in self.own_quotes(collector).items()
+            if own_slot == slot and earlier < month and mark[0] != "missing"
+        ]
+        return max(found)[1] if found else None
+
+    def work(self, _, collector, month):
+        if month not in self.calendar:
+            return refused(21)
+        rows = []
+        for (holder, slot), (outlet, item, first, last) in sorted(self.assignments.items()):
+            if holder == collector and first <= month <= last:
+                mark, receipt = self.quotes.get((collector, slot, month), ((None,), None))
+                text, unit = self.items[item][:2]
+                price = self.last_price(collector, slot, month)
+                rows.append([slot, outlet, self.outlets[outlet], item, text, unit, price, mark[0], receipt])
+        return {"work": rows}
+
+    def quotes_within(self, _, collector, first, last):
+        own = self.own_quotes(collector)
+        places = sorted((month, slot) for slot, month in own if first <= month <= last)
+        found = [(slot, month, own[slot, month]) for month, slot in places]
+        return {"quotes": [[slot, month_text(month), *mark, receipt] for slot, month, (mark, receipt) in found]}
+
+    def put_quote(self, now, collector, slot, month, mark, confirm):
+        if (collector, slot) not in self.assignments:
+            return refused(20)
+        stored = self.quotes.get((collector, slot, month))
+        if stored and stored[0] == mark:
+            return {"receipt": stored[1]}
+        refusal = self.quote_refusal(now, collector, slot, month, mark, confirm)
+        if refusal is not None:
+            return refusal
+        receipt = 1 + max((receipt for _, receipt in self.own_quotes(collector).values()), default=0)
+        self.quotes[collector, slot, month] = (mark, receipt)
+        return {"receipt": receipt}
+
+    def quote_refusal(self, now, collector, slot, month, mark, confirm):
+        _, item, first, last = self.assignments[collector, slot]
+        if month not in self.calendar:
+            return refused(21)
+        opens, closes, _ = self.calendar[month]
+        if not first <= month <= last:
+            return refused(22)
+        if now < opens:
+            return refused(23)
+        if now >= closes:
+            return refused(24)
+        before = self.last_price(collector, slot, month)
+        if before is None:
+            return refused(25) if mark[0] in ("comparable", "other") else None
+        low, high = -(-before * self.items[item][2] // 1000), before * self.items[item][3] // 1000
+        if mark[0] in ("price", "comparable") and not confirm and not low <= mark[1] <= high:
+            return refused(26, last=before, low=low, high=high)
+        return None
+
+    OF_COLLECTORS = {"work": work, "quotes": quotes_within, "quote": put_quote}
+    OF_THE_DESK = {
+        "item": put_item,
+        "outlet": put_outlet,
+        "collector": register,
+        "assign": assign,
+        "calendar": put_calendar,
+        "plan": put_plan,
+    }

@@ -1,0 +1,154 @@
+"""Random records round a small office: three collectors, two items, four months, and what lies at every limit."""
+
+import csv
+import io
+
+KEYS = [f"{number * 0x1111:032x}" for number in range(1, 5)]
+SHAPES_OF_KEYS = ["A" * 32, "a" * 31, "Desk"]
+MONTHS = ["2025-12", "2026-01", "2026-02", "2026-03"]
+OTHER_MONTHS = ["2025-11", "2150-01", "1999-12", "2026-13", "2026-1", "2200-01"]
+ITEMS = ["RICE", "FLOUR"]
+OTHER_ITEMS = ["TEA", "A", "0", "ABCDEFGHIJKL", "ABCDEFGHIJKLM", "rice", ""]
+TEXTS = ["Rice, white", 'Café "1"', "back\\slash", "two\nlines", "tab\t", "é" * 200, "é" * 201, "", "\u2028", "x"]
+NUMBERS = ["0", "1", "7", "399", "400", "401", "9999", "10000", "999999", "1000000", "+1", "-1", "01", "1.0", " 1", ""]
+PRICES = ["1", "2", "69", "70", "71", "99", "100", "101", "149", "150", "151", "700", "100000000", "100000001", "0"]
+REASONS = ["stock", "closed", "gone", "refused", "lost"]
+MARKS = ["price", "price", "price", "missing", "comparable", "other", "Price"]
+CIVIL = [
+    "1970-01-01T00:00",
+    "2000-02-29T00:00",
+    "2026-02-28T23:59",
+    "2026-02-28T24:00",
+    "2026-02-30T00:00",
+    "2100-02-29T00:00",
+    "2199-12-31T23:59",
+    "2200-01-01T00:00",
+    "2026-1-01T00:00",
+]
+CODES = ["00", "01", "01.1", "01.1.1", "01.1.1.1", "01.1.1.1-01", "01.1.1.1-02", "01.1.1.2-01"]
+OTHER_CODES = ["14.1", "00.1", "01.1.1.1-00", "1", "01.11", "13.9.0.9-99"]
+PLAN = [
+    ["T", "00", "All items"],
+    ["T", "01", "Food"],
+    ["T", "01.1", "Food products"],
+    ["T", "01.1.1", "Cereals"],
+    ["T", "01.1.1.1", "Rice"],
+    ["T", "01.1.1.1-01", "Rice, white"],
+    ["T", "01.1.1.2", "Flour"],
+    ["T", "01.1.1.2-01", "Flour, wheat"],
+    ["W", "01.1.1.1-01", "600000"],
+    ["W", "01.1.1.2-01", "400000"],
+    ["I", "RICE", "01.1.1.1-01"],
+    ["I", "FLOUR", "01.1.1.2-01"],
+]
+WORDS = ["quote"] * 12 + ["quotes", "work", "work", "items", "item", "outlet", "collector", "assign", "assign"]
+WORDS += ["calendar", "plan", "plan", "import", "Quote", ""]
+OF_THE_DESK = ("item", "outlet", "collector", "assign", "calendar", "plan")
+
+
+def text_of(rows, end="\n"):
+    written = io.StringIO()
+    csv.writer(written, lineterminator=end).writerows(rows)
+    return written.getvalue()
+
+
+class Records:
+    def __init__(self, drawn, count):
+        self.drawn = drawn
+        self.count = count
+
+    def mostly(self, usual, others, share=0.9):
+        return self.drawn.choice(usual if self.drawn.random() < share else others)
+
+    def one(self, values):
+        return self.drawn.choice(values)
+
+    def month(self):
+        return self.mostly(MONTHS, OTHER_MONTHS)
+
+    def item(self):
+        return self.mostly(ITEMS, OTHER_ITEMS)
+
+    def code(self):
+        return self.mostly(CODES, OTHER_CODES)
+
+    def plan_body(self):
+        """The plan, with up to two changes."""
+        rows = [row[:] for row in PLAN]
+        for _ in range(self.one([0, 0, 1, 1, 1, 2])):
+            row, at = self.one(rows), self.drawn.randrange(1, 3)
+            change = self.drawn.randrange(5)
+            if change == 0:
+                rows.remove(row)
+            elif change == 1:
+                rows.append(row[:])
+            elif change == 2:
+                self.drawn.shuffle(rows)
+            elif change == 3:
+                row[at] = self.one([self.code(), self.item(), self.one(TEXTS), self.one(NUMBERS)])
+            else:
+                weight = self.one(["0", "1", "400000", "1000000", "1000001"])
+                rows.append(self.one([["W", self.code(), weight], ["I", self.item(), self.code()]]))
+        return text_of(rows, self.one(["\n", "\r\n"]))
+
+    def quote(self):
+        kind = self.one(MARKS)
+        value = self.one(REASONS) if kind == "missing" else self.mostly(PRICES[:12], PRICES + NUMBERS)
+        last = self.mostly([[]], [["confirm"], ["confirm"], ["Confirm"], [""]], 0.8)
+        return [self.mostly(["1", "2"], NUMBERS), self.month(), kind, value, *self.one([last])]
+
+    def assign(self):
+        collector, slot = self.mostly(["1", "2", "3", "9"], NUMBERS), self.mostly(["1", "2", "3"], NUMBERS)
+        outlet = self.mostly(["10", "11", "12"], NUMBERS)
+        return [collector, slot, outlet, self.item(), self.month(), self.month()]
+
+    def calendar(self):
+        opens = self.one([0, 1000, 1500])
+        moments = [opens, opens + self.one([0, 1, 500, 1000]), opens + self.one([500, 1000, 2000])]
+        return [self.month(), *(self.mostly([str(moment)], CIVIL) for moment in moments)]
+
+    def import_body(self):
+        rows = [[word, *self.arguments(word)] for word in self.drawn.choices(WORDS, k=self.drawn.randrange(5))]
+        return self.one(["", "", "\ufeff"]) + text_of(rows, self.one(["\n", "\r\n"]))
+
+    def arguments(self, word):
+        tolerances = [self.mostly(["700"], ["1", "1000", *NUMBERS]), self.mostly(["1500"], ["1000", "10001", *NUMBERS])]
+        given = {
+            "quote": self.quote,
+            "quotes": lambda: [self.month(), self.month()],
+            "work": lambda: [self.month()],
+            "item": lambda: [self.item(), self.one(TEXTS), self.one(TEXTS), *tolerances],
+            "outlet": lambda: [self.mostly(["10", "12"], NUMBERS), self.one(TEXTS)],
+            "collector": lambda: [self.mostly(["1", "2", "4"], NUMBERS), self.mostly(KEYS, SHAPES_OF_KEYS)],
+            "assign": self.assign,
+            "calendar": self.calendar,
+            "plan": lambda: [self.mostly(["2026"], ["2000", "2199", "2200", "1999"]), self.plan_body()],
+            "import": lambda: [self.import_body()],
+        }
+        arguments = given.get(word, list)()
+        return self.mostly([arguments], [[*arguments, "x"], arguments[:-1]], 0.97)
+
+    def caller(self, word):
+        usual = ["desk"] if word in OF_THE_DESK else KEYS[:3]
+        return self.mostly(usual, ["public", "desk", *KEYS, *SHAPES_OF_KEYS], 0.92)
+
+    def begun(self):
+        """The desk's first records."""
+        for number, key in enumerate(KEYS[:3], 1):
+            yield ["0", "desk", "collector", str(number), key]
+        for code in ITEMS:
+            yield ["0", "desk", "item", code, f"Text of {code}", "1 kg", "700", "1500"]
+        for outlet in (10, 11):
+            yield ["0", "desk", "outlet", str(outlet), f"Shop {outlet}"]
+        for collector in (1, 2, 3):
+            for slot in (1, 2):
+                yield ["0", "desk", "assign", str(collector), str(slot), "10", self.one(ITEMS), *MONTHS[::2]]
+        for month in MONTHS:
+            yield ["0", "desk", "calendar", month, "1000", "2000", "3000"]
+
+    def __iter__(self):
+        yield from self.begun()
+        for _ in range(self.count):
+            moment = self.mostly(["999", "1000", "1500", "1500", "1999", "2000"], ["9999999999", *NUMBERS], 0.97)
+            word = self.one(WORDS)
+            yield [moment, self.caller(word), word, *self.arguments(word)]

@@ -1,0 +1,86 @@
+"""From the fields of a record to what it asks. A request is a tuple that begins with its word."""
+
+import csv
+import io
+
+from . import values
+
+MOST_ROWS = 20_000
+
+
+def rows_of(body):
+    return [row for row in csv.reader(io.StringIO(body.removeprefix("\ufeff"), newline="")) if row]
+
+
+def plan_body(body):
+    """Titles, weights and places; None where a row is of no form, or where there are too many."""
+    rows = rows_of(body)
+    titles, weights, places = [], [], []
+    for row in rows:
+        kind, first, second = row if len(row) == 3 else ("", "", "")
+        weight = values.number(second, 0, 1_000_000)
+        if kind == "T" and values.code(first) and values.name(second):
+            titles.append((first, second))
+        elif kind == "W" and values.code(first) and weight is not None:
+            weights.append((first, weight))
+        elif kind == "I" and values.item_code(first) and values.code(second):
+            places.append((first, second))
+        else:
+            return None
+    return (titles, weights, places) if len(rows) <= MOST_ROWS else None
+
+
+def number_within(least, most):
+    return lambda text: values.number(text, least, most)
+
+
+COLLECTOR = number_within(1, 9999)
+SLOT = number_within(1, 400)
+OUTLET = number_within(1, 999_999)
+
+# the readers of each word's arguments
+ARGUMENTS = {
+    "items": [],
+    "work": [values.month],
+    "quotes": [values.month, values.month],
+    "item": [values.item_code, values.name, values.name, number_within(1, 1000), number_within(1000, 10_000)],
+    "plan": [number_within(2000, 2199), plan_body],
+    "calendar": [values.month, values.moment, values.moment, values.moment],
+    "collector": [COLLECTOR, values.key],
+    "outlet": [OUTLET, values.name],
+    "assign": [COLLECTOR, SLOT, OUTLET, values.item_code, values.month, values.month],
+}
+
+
+def quote_of(arguments):
+    confirm = arguments[4:] == ["confirm"]
+    if len(arguments) != (5 if confirm else 4):
+        return None
+    slot, month, mark = SLOT(arguments[0]), values.month(arguments[1]), values.mark(*arguments[2:4])
+    return None if None in (slot, month, mark) else ("quote", slot, month, mark, confirm)
+
+
+def is_in_form(request):
+    word, *parts = request
+    if word == "assign":
+        return parts[4] <= parts[5]
+    if word == "calendar":
+        return parts[1] < parts[2] <= parts[3]
+    return True
+
+
+def request_of(word, arguments):
+    """The request, or None where the fields are of no form."""
+    if word == "quote":
+        return quote_of(arguments)
+    readers = ARGUMENTS.get(word)
+    if readers is None or len(readers) != len(arguments):
+        return None
+    parts = [reader(text) for reader, text in zip(readers, arguments)]
+    if None in parts:
+        return None
+    return (word, *parts) if is_in_form((word, *parts)) else None
+
+
+def caller_of(text):
+    return text if text in ("public", "desk") else values.key(text)
