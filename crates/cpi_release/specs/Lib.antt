@@ -1,0 +1,5 @@
+pub mod Change
+pub mod Figures
+pub mod TextTable
+pub mod CsvTable
+pub mod Examples

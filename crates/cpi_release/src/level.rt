@@ -1,0 +1,18 @@
+//! A row of the table of a month.
+use cpi_codes::{Code, Name};
+use cpi_index::{ChainedLevel, Index};
+
+/// A row of the table of a month: a node of the plan with its title, its weight in parts per million, its index
+/// within the year and its chained level, how much that changed against the month and the year before, in tenths of a
+/// percent, and whether a price at or below it was imputed.
+#[derive(Debug, Drop)]
+pub struct Level {
+    pub code: Code,
+    pub title: Name,
+    pub weight: u32,
+    pub within: Index,
+    pub chained: ChainedLevel,
+    pub month_change: i64,
+    pub year_change: Option<i64>,
+    pub imputed: bool,
+}
