@@ -72,23 +72,37 @@ class Records:
     def code(self):
         return self.mostly(CODES, OTHER_CODES)
 
+    def drop(self, rows):
+        rows.remove(self.one(rows))
+
+    def double(self, rows):
+        rows.append(self.one(rows)[:])
+
+    def change(self, rows):
+        texts = [self.code(), self.item(), self.one(TEXTS), self.one(NUMBERS)]
+        self.one(rows)[self.drawn.randrange(1, 3)] = self.one(texts)
+
+    def add(self, rows):
+        weight = self.one(["0", "1", "400000", "1000000", "1000001"])
+        rows.append(self.one([["W", self.code(), weight], ["I", self.mostly(OTHER_ITEMS, ITEMS), self.code()]]))
+
+    def unweigh(self, rows):
+        for row in rows:
+            if row[0] == "W":
+                row[2] = self.one([row[2], "0"])
+
+    def displace(self, rows):
+        """Places items at an aggregate without weight."""
+        for row in rows:
+            if row[0] == "I":
+                row[2] = self.one([row[2], "01.1.1.1-02"])
+
     def plan_body(self):
         """The plan, with up to two changes."""
         rows = [row[:] for row in PLAN]
-        for _ in range(self.one([0, 0, 1, 1, 1, 2])):
-            row, at = self.one(rows), self.drawn.randrange(1, 3)
-            change = self.drawn.randrange(5)
-            if change == 0:
-                rows.remove(row)
-            elif change == 1:
-                rows.append(row[:])
-            elif change == 2:
-                self.drawn.shuffle(rows)
-            elif change == 3:
-                row[at] = self.one([self.code(), self.item(), self.one(TEXTS), self.one(NUMBERS)])
-            else:
-                weight = self.one(["0", "1", "400000", "1000000", "1000001"])
-                rows.append(self.one([["W", self.code(), weight], ["I", self.item(), self.code()]]))
+        changes = [self.drop, self.double, self.drawn.shuffle, self.change, self.add, self.unweigh, self.displace]
+        for change in self.drawn.choices(changes, k=self.one([0, 0, 1, 1, 1, 2])):
+            change(rows)
         return text_of(rows, self.one(["\n", "\r\n"]))
 
     def quote(self):
