@@ -1,5 +1,7 @@
 //! The time of a month's index: `cpi_index_speed national` takes 200,000 series in 20,000 elementary aggregates,
-//! without that word 400 in 40. What was computed goes to standard output, the times to standard error.
+//! without that word 400 in 40. What was computed goes to standard output, the times to standard error: how many
+//! bases, carried prices, indices and levels there are, the index of all items, and of each list the sum of its numbers
+//! by their places, so that another program can tell whether it computes the same.
 #![tactic(auto)]
 
 ghost use Rattle.std.specs.Prelude.{◌≤◌, IfSome};
@@ -7,7 +9,10 @@ ghost use Rattle.std.specs.Ordering.{nat_cmp};
 ghost use Rattle.cpi_rows.specs.Keyed.{IsInOrder};
 
 use cpi_codes::{Code, CollectorId, ItemCode, Month, Name, Price, SeriesId, Slot};
-use cpi_index::{CarriedPrice, FrozenQuote, bases_of_year, carry_month, elementary, upper};
+use cpi_index::{
+    CarriedPrice, FrozenQuote, NodeIndex, NodeLevel, bases_of_year, carry_month, chain, elementary,
+    upper,
+};
 use cpi_plan::{HighTolerance, Item, LowTolerance, Place, Title, Weight, YearPlan};
 use cpi_rows::put_row;
 use cpi_survey::{Mark, Reason};
@@ -150,29 +155,99 @@ fn quotes(alloc: Global, count: u32, turn: u32) -> Option<Vec<FrozenQuote>>
     Some(quotes)
 }
 
-// One month: its carried prices, its elementary indices and those of all nodes. Tells how many there are, and the time.
+// The sum with one number more: the number times its place, the first being 1.
+fn one_more(sum: u128, place: usize, number: u64) -> Option<u128> {
+    let place = u128::from((place as u64).checked_add(1)?);
+    sum.checked_add(place.checked_mul(u128::from(number))?)
+}
+
+fn sum_of_prices(prices: &[CarriedPrice]) -> Option<u128> {
+    let mut sum = 0;
+    for place in 0..prices.len() {
+        sum = one_more(sum, place, prices[place].ticks())?;
+    }
+    Some(sum)
+}
+
+fn sum_of_indices(indices: &[NodeIndex]) -> Option<u128> {
+    let mut sum = 0;
+    for place in 0..indices.len() {
+        sum = one_more(sum, place, indices[place].index.millionths())?;
+    }
+    Some(sum)
+}
+
+fn sum_of_levels(levels: &[NodeLevel]) -> Option<u128> {
+    let mut sum = 0;
+    for place in 0..levels.len() {
+        sum = one_more(sum, place, levels[place].level.millionths())?;
+    }
+    Some(sum)
+}
+
+// What a month's computation gives.
+#[derive(Drop)]
+struct Computed {
+    carried: Vec<CarriedPrice>,
+    indices: Vec<NodeIndex>,
+    nodes: Vec<NodeIndex>,
+    levels: Vec<NodeLevel>,
+}
+
+fn tell(rt: &HostRuntime, month: &Computed) -> Option<()> {
+    println!(rt;
+        "{} carried prices: {}",
+        month.carried.len(),
+        sum_of_prices(&month.carried)?
+    )
+    .ok()?;
+    println!(rt;
+        "{} aggregates: {}",
+        month.indices.len(),
+        sum_of_indices(&month.indices)?
+    )
+    .ok()?;
+    println!(rt;
+        "{} nodes: {}",
+        month.nodes.len(),
+        sum_of_indices(&month.nodes)?
+    )
+    .ok()?;
+    println!(rt;
+        "{} levels: {}",
+        month.levels.len(),
+        sum_of_levels(&month.levels)?
+    )
+    .ok()?;
+    println!(rt; "all items: {}", month.nodes.first()?.index.millionths()).ok()
+}
+
+// One month: its carried prices, its elementary indices, those of all nodes, and their levels, linked to the levels
+// that are given. Tells what was computed, and the time.
 fn month(
     rt: &HostRuntime,
     plan: &YearPlan,
     bases: &[CarriedPrice],
     prev: &[CarriedPrice],
     frozen: &[FrozenQuote],
-) -> Option<Vec<CarriedPrice>> {
+    links: &[NodeLevel],
+) -> Option<Computed> {
     let alloc = rt.alloc();
     let start = Instant::now(rt).ok()?;
     let carried = carry_month(alloc, plan, bases, prev, frozen, &[]).ok()?;
     let indices = elementary(alloc, plan, bases, &carried).ok()?;
     let nodes = upper(alloc, plan, &indices).ok()?;
+    let levels = chain(alloc, links, &nodes).ok()?;
     let time = start.elapsed(rt).ok()?;
-    println!(rt;
-        "{} carried prices, {} aggregates, {} nodes",
-        carried.len(),
-        indices.len(),
-        nodes.len()
-    )
-    .ok()?;
+    let month = Computed {
+        carried,
+        indices,
+        nodes,
+        levels,
+    };
+    tell(rt, &month)?;
     eprintln!(rt; "a month: {time:?}").ok()?;
-    Some(carried)
+    Some(month)
 }
 
 fn run(rt: &HostRuntime, count: u32) -> Option<()>
@@ -184,10 +259,12 @@ fn run(rt: &HostRuntime, count: u32) -> Option<()>
     let start = Instant::now(rt).ok()?;
     let bases = bases_of_year(alloc, &plan, &[], &december).ok()?;
     let time = start.elapsed(rt).ok()?;
-    println!(rt; "{} bases", bases.len()).ok()?;
+    println!(rt; "{} bases: {}", bases.len(), sum_of_prices(&bases)?).ok()?;
     eprintln!(rt; "the bases: {time:?}").ok()?;
-    let january = month(rt, &plan, &bases, &bases, &quotes(alloc, count, 1)?)?;
-    month(rt, &plan, &bases, &january, &quotes(alloc, count, 2)?)?;
+    let frozen = quotes(alloc, count, 1)?;
+    let first = month(rt, &plan, &bases, &bases, &frozen, &[])?;
+    let frozen = quotes(alloc, count, 2)?;
+    month(rt, &plan, &bases, &first.carried, &frozen, &first.levels)?;
     Some(())
 }
 
