@@ -1,1 +1,1 @@
-"""A second office, written from docs/OFFICE.md and docs/FORMATS.md alone: slow and plain, to compare `cpi` with."""
+"""A second office by the rules of docs/OFFICE.md and docs/FORMATS.md: slow and plain, to compare `cpi` with."""
