@@ -46,10 +46,3 @@ pub use series::SeriesId;
 pub use slots::Slot;
 pub use years::Year;
 pub use zone::{MomentFault, Zone, moment_at, one_answer, picks_as_stated, zone_of};
-
-#[cfg(test)]
-mod code_tests;
-#[cfg(test)]
-mod tests;
-#[cfg(test)]
-mod zone_tests;

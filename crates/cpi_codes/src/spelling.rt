@@ -1,7 +1,10 @@
 //! The numbers that a text of a code spells.
-ghost use Rattle.std.specs.Prelude.{◌≡◌, ◌+◌, ◌-◌, ◌*◌, ◌≤◌, SomeIff, MatchOption, MatchResult, IsTrue};
+ghost use Rattle.std.specs.Prelude.{◌≡◌, ◌+◌, ◌-◌, ◌*◌, ◌≤◌, ◌<◌, length, SomeIff, MatchOption, MatchResult, IsTrue};
 ghost use Rattle.cpi_codes.specs.CodeSpelling.{IsSpelled, is_numbered};
 ghost use Rattle.cpi_codes.specs.declared.spelling.Parts.{Parts};
+
+// How many bytes the text of a class has, as `01.1.1`.
+const CLASS_LEN: usize = 6;
 
 /// The numbers of a code's text.
 #[derive(Clone, Copy)]
@@ -47,8 +50,9 @@ fn three(group: u8, class: u8, subclass: u8) -> Option<(u8, u8, u8)>
     Some((digit(group)?, digit(class)?, digit(subclass)?))
 }
 
-/// The numbers of a code's text; none where it has another shape.
-pub fn read(text: &[u8]) -> Option<Parts>
+// Of a text of a division, a group or a class.
+fn read_to_class(text: &[u8]) -> Option<Parts>
+    requires { length text.now ≤ 6 }
     ensures { MatchOption result ((p : Parts) → IsSpelled p text.now → ⊥) (λ p. IsSpelled p text.now) }
 {
     match *text {
@@ -73,6 +77,16 @@ pub fn read(text: &[u8]) -> Option<Parts>
             subclass: None,
             aggregate: None,
         }),
+        _ => None,
+    }
+}
+
+// Of a text of a subclass or an elementary aggregate.
+fn read_below_class(text: &[u8]) -> Option<Parts>
+    requires { 6 < length text.now }
+    ensures { MatchOption result ((p : Parts) → IsSpelled p text.now → ⊥) (λ p. IsSpelled p text.now) }
+{
+    match *text {
         [a, b, b'.', g, b'.', c, b'.', s] => {
             let (group, class, subclass) = three(g, c, s)?;
             numbered(Parts {
@@ -94,5 +108,16 @@ pub fn read(text: &[u8]) -> Option<Parts>
             })
         }
         _ => None,
+    }
+}
+
+/// The numbers of a code's text; none where it has another shape.
+pub fn read(text: &[u8]) -> Option<Parts>
+    ensures { MatchOption result ((p : Parts) → IsSpelled p text.now → ⊥) (λ p. IsSpelled p text.now) }
+{
+    if text.len() <= CLASS_LEN {
+        read_to_class(text)
+    } else {
+        read_below_class(text)
     }
 }

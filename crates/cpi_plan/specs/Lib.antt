@@ -4,4 +4,5 @@ pub mod Plan
 pub mod Steps
 pub mod Sums
 pub mod Planned
+pub mod Weighing
 pub mod SamePlan

@@ -12,17 +12,13 @@ mod plans;
 mod same_rows;
 mod sums;
 mod tolerances;
+mod weighing;
 
 pub use calendar::CalendarRow;
 pub use items::Item;
 pub use plan_bodies::PlanBody;
 pub use plan_faults::PlanFault;
 pub use plan_rows::{Node, Place, Title, Weight};
-pub use plans::{YearPlan, has_one_fault, makes_one_plan};
+pub use plans::{YearPlan, has_one_fault, makes_one_plan, nodes_are_in_order};
 pub use sums::add_path;
 pub use tolerances::{HighTolerance, LowTolerance};
-
-#[cfg(test)]
-mod plan_tests;
-#[cfg(test)]
-mod tests;

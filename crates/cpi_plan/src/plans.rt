@@ -1,30 +1,26 @@
 //! Yearly plans.
-ghost use Rattle.std.specs.Prelude.{◌≡◌, ◌≢◌, ◌↔◌, ℕ, ◌≤◌, IsTrue, SomeIff, option_map};
+ghost use Rattle.std.specs.Prelude.{◌≡◌, ◌≢◌, ◌↔◌, ℕ, ◌≤◌, IfOk, IsTrue, SomeIff, option_map};
 ghost use Rattle.std.specs.Option.{option_copied};
 ghost use Rattle.std.specs.Ordering.{nat_cmp};
 ghost use Rattle.cpi_codes.specs.CodeOrder.{code_cmp};
 ghost use Rattle.cpi_rows.specs.Keyed.{row_at, IsInOrder};
-ghost use Rattle.cpi_plan.specs.Plan.{Body, IsBuilt, IsOneFault, IsOnePlan, IsPlan};
+ghost use Rattle.cpi_plan.specs.Plan.{Body, Plan, IsBuilt, IsOneFault, IsOnePlan, IsPlan};
 ghost use Rattle.cpi_plan.specs.Planned.{planned};
 ghost use Rattle.cpi_plan.specs.SamePlan.{same_plan};
 ghost use Rattle.cpi_plan.specs.Sums.{weight_under, is_node};
 ghost use Rattle.cpi_plan.specs.declared.plan_faults.PlanFault.TheVariants.{NoMemory};
 
-use crate::checks::{
-    are_elementary, first_untitled, has_unknown, has_unplaced, has_zero, nodes_of, total,
-    weight_sums,
-};
+use crate::checks::{has_unknown, has_unplaced, nodes_of};
 use crate::items::Item;
 use crate::once::put_in_order;
 use crate::plan_faults::PlanFault;
 use crate::plan_rows::{Node, Place, Title, Weight};
 use crate::same_rows::are_same;
+use crate::weighing::weighed;
 use cpi_codes::{Code, ItemCode, Name};
 use cpi_rows::{Keyed, find_row};
-use std::alloc::Global;
+use std::alloc::{AllocError, Global};
 use std::marker::Model;
-
-const WHOLE: u128 = 1_000_000;
 
 /// The plan of a year.
 #[derive(Debug, Drop)]
@@ -59,20 +55,7 @@ fn of_ordered(
     requires weights_in_order { IsInOrder code_cmp (λ w. w.code) weights.items }
     ensures { IsBuilt year (record { known = known_items.now; titles = titles.items; weights = weights.items; places = places.items }) result }
 {
-    if !are_elementary(&weights, &places) {
-        return Err(PlanFault::NotElementary);
-    }
-    if has_zero(&weights) {
-        return Err(PlanFault::ZeroWeight);
-    }
-    let found = total(&weights);
-    if found != WHOLE {
-        return Err(PlanFault::WeightSum(found));
-    }
-    let sums = weight_sums(alloc, &weights).map_err(|_| PlanFault::NoMemory)?;
-    if let Some(code) = first_untitled(&sums, &titles) {
-        return Err(PlanFault::TitleMissing(code));
-    }
+    let sums = weighed(alloc, &titles, &weights, &places)?;
     if has_unknown(known_items, &places) {
         return Err(PlanFault::UnknownItem);
     }
@@ -89,6 +72,21 @@ fn of_ordered(
         weights,
         places,
     })
+}
+
+// A copy of each node, in the same order.
+fn copy_nodes(alloc: Global, nodes: &[Node]) -> Result<Vec<Node>, AllocError>
+    ensures { IfOk result (λ copies. copies.items ≡ nodes.now) }
+{
+    let mut copies = Vec::new(alloc);
+    for node in nodes {
+        copies.push(Node {
+            code: node.code,
+            title: node.title.copy(alloc)?,
+            weight: node.weight,
+        })?;
+    }
+    Ok(copies)
 }
 
 // Whether the two plans have one content.
@@ -158,6 +156,21 @@ impl YearPlan {
         &self.places
     }
 
+    /// The plan once more.
+    pub fn copy(&self, alloc: Global) -> Result<YearPlan, AllocError>
+        ensures { IfOk result (λ p. p ≡ self.now) }
+    {
+        let nodes = copy_nodes(alloc, &self.nodes)?;
+        let weights = Vec::from_slice(alloc, &self.weights)?;
+        let places = Vec::from_slice(alloc, &self.places)?;
+        Ok(YearPlan {
+            year: self.year,
+            nodes,
+            weights,
+            places,
+        })
+    }
+
     /// Whether the two plans are one: the year, the nodes with their titles, the weights and the places.
     pub fn is_same(&self, other: &YearPlan) -> bool
         ensures content { result ≡ same_plan self.now other.now }
@@ -206,4 +219,9 @@ pub fn makes_one_plan()
 /// A law: what is sent has one first fault.
 pub fn has_one_fault()
     ensures { (b : Body) → IsOneFault b }
+{}
+
+/// A law: a plan that is made of what was sent has its nodes in the order of codes.
+pub fn nodes_are_in_order()
+    ensures { (year : ℕ) (b : Body) (plan : Plan) → planned year b ≡ Ok plan → IsInOrder code_cmp (λ n. n.code) plan.nodes }
 {}

@@ -19,6 +19,3 @@ pub use list::Rows;
 pub use lookup::{find_row, place_of};
 pub use order::are_in_order;
 pub use put::put_row;
-
-#[cfg(test)]
-mod tests;

@@ -1,0 +1,14 @@
+-- What the weights and the titles that were sent come to.
+use Rattle.std.specs.Prelude.{ℕ, ◌≡◌, Result, MatchResult}
+use Rattle.std.specs.BTreeMap.{BTreeMap}
+use Rattle.cpi_codes.specs.declared.codes.Code.{Code}
+use Rattle.cpi_plan.specs.Plan.{Body, Passes5, IsFirstFault}
+use Rattle.cpi_plan.specs.Sums.{sum_at, weight_under}
+use Rattle.cpi_plan.specs.declared.plan_faults.PlanFault.{PlanFault}
+
+-- where none of their tests fails, the sums at and below each code, else the first fault
+abbrev pub IsWeighed : Body → Result (BTreeMap Code ℕ) PlanFault → Type 0
+IsWeighed b result =
+    MatchResult result
+    (λ sums. Passes5 b × ((code : Code) → sum_at sums code ≡ weight_under code b.weights))
+    (λ fault. IsFirstFault fault b)

@@ -1,0 +1,44 @@
+//! The weights of a plan, tested and summed.
+ghost use Rattle.std.specs.Prelude.{List};
+ghost use Rattle.cpi_codes.specs.CodeOrder.{code_cmp};
+ghost use Rattle.cpi_rows.specs.Keyed.{IsInOrder};
+ghost use Rattle.cpi_plan.specs.Weighing.{IsWeighed};
+ghost use Rattle.cpi_plan.specs.declared.items.Item.{Item};
+
+use crate::checks::{are_elementary, first_untitled, has_zero, total, weight_sums};
+use crate::plan_faults::PlanFault;
+use crate::plan_rows::{Place, Title, Weight};
+use cpi_codes::Code;
+use std::alloc::Global;
+use std::collections::BTreeMap;
+
+const WHOLE: u128 = 1_000_000;
+
+// The sums of the weights, or the first fault of aggregates, weights and titles, whatever items are known.
+pub(crate) fn weighed(
+    alloc: Global,
+    titles: &[Title],
+    weights: &[Weight],
+    places: &[Place],
+) -> Result<BTreeMap<Code, u128>, PlanFault>
+    requires titles_in_order { IsInOrder code_cmp (λ t. t.code) titles.now }
+    requires weights_in_order { IsInOrder code_cmp (λ w. w.code) weights.now }
+    ensures { (known : List Item) →
+        IsWeighed (record { known = known; titles = titles.now; weights = weights.now; places = places.now }) result }
+{
+    if !are_elementary(weights, places) {
+        return Err(PlanFault::NotElementary);
+    }
+    if has_zero(weights) {
+        return Err(PlanFault::ZeroWeight);
+    }
+    let found = total(weights);
+    if found != WHOLE {
+        return Err(PlanFault::WeightSum(found));
+    }
+    let sums = weight_sums(alloc, weights).map_err(|_| PlanFault::NoMemory)?;
+    if let Some(code) = first_untitled(&sums, titles) {
+        return Err(PlanFault::TitleMissing(code));
+    }
+    Ok(sums)
+}
