@@ -11,3 +11,7 @@ pub mod Faults
 pub mod Sums
 pub mod Outside
 pub mod MeanLemmas
+pub mod Gather
+pub mod BySeries
+pub mod CarryRise
+pub mod OneTable

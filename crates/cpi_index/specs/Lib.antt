@@ -7,8 +7,11 @@ pub mod Sample
 pub mod Month
 pub mod Places
 pub mod Indices
+pub mod Group
+pub mod MonthGroups
 pub mod Totals
 pub mod Means
 pub mod Level
 pub mod Chaining
+pub mod OneTable
 pub mod Examples

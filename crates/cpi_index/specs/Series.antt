@@ -1,8 +1,10 @@
 -- Series in their order: by collector, and then by slot.
-use Rattle.std.specs.Prelude.{ℕ, ◌≡◌, ◌≤◌, ◌+◌, ◌*◌, ◌-◌, ◌==◌, Bool, true, ◌&&◌, nat_le, List, [], ◌∷◌, Option, map, find}
+use Rattle.std.specs.Prelude.{ℕ, ◌≡◌, ◌≤◌, ◌+◌, ◌*◌, ◌-◌, ◌==◌, Bool, true, ◌&&◌, nat_le, List, [], ◌∷◌, Option}
+use Rattle.std.specs.Prelude.{map, find}
 use Rattle.cpi_codes.specs.declared.series.SeriesId.{SeriesId}
 use Rattle.cpi_index.specs.Carried.{Carried}
 use Rattle.cpi_index.specs.Frozen.{Frozen}
+use Rattle.cpi_index.specs.Row.{Row}
 
 -- the number of a series among all that there can be: at most 9,999 collectors with 400 slots each
 abbrev pub serial : SeriesId → ℕ
@@ -13,6 +15,9 @@ carried_serial c = serial c.series
 
 abbrev pub frozen_serial : Frozen → ℕ
 frozen_serial q = serial q.series
+
+abbrev pub row_serial : Row → ℕ
+row_serial r = serial r.link.series
 
 -- strictly rising, with none below n
 abbrev pub rises_from : ℕ → List ℕ → Bool

@@ -2,7 +2,9 @@
 ghost use Rattle.std.specs.Prelude.{◌≡◌, ◌≤◌, length, true, false, is_none, MatchOption, SomeIff};
 ghost use Rattle.std.specs.List.{list_any};
 ghost use Rattle.cpi_index.specs.Carried.{IsTicks};
-ghost use Rattle.cpi_index.specs.Aggregate.{compared, is_matched, is_matched_in_limits, movement_now, movement_before, carried_row, are_in_limits, lacks_match as lacks_a_match};
+ghost use Rattle.cpi_index.specs.Aggregate.{compared, is_matched, is_matched_in_limits, movement_now};
+ghost use Rattle.cpi_index.specs.Aggregate.{movement_before, carried_row, are_in_limits};
+ghost use Rattle.cpi_index.specs.Aggregate.{lacks_match as lacks_a_match};
 ghost use Rattle.std.specs.List.{list_all};
 
 use crate::carried::CarriedPrice;
@@ -36,7 +38,7 @@ impl GroupRow {
 }
 
 // The movement of the matched rows; none where one of their carried prices is past its limit.
-fn movement(rows: &[GroupRow]) -> Option<Movement>
+pub(crate) fn movement(rows: &[GroupRow]) -> Option<Movement>
     requires { length rows.now ≤ 3999600 }
     ensures { MatchOption result
         (list_all is_matched_in_limits rows.now ≡ false)
@@ -87,7 +89,8 @@ pub(crate) fn movement_in_limits(rows: &[GroupRow]) -> Option<Movement>
     requires { length rows.now ≤ 3999600 }
     ensures { MatchOption result
         (are_in_limits rows.now ≡ false)
-        (λ m. (are_in_limits rows.now ≡ true) × (m.current ≡ movement_now rows.now) × (m.previous ≡ movement_before rows.now)) }
+        (λ m. (are_in_limits rows.now ≡ true) × (m.current ≡ movement_now rows.now)
+        × (m.previous ≡ movement_before rows.now)) }
 {
     let Some(movement) = movement(rows) else {
         return None;

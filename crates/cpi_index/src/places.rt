@@ -51,7 +51,8 @@ pub(crate) fn place_rows(
 // The marks with that of a place set, if there is such a place.
 fn marked(mut marks: Vec<bool>, place: Option<usize>) -> Vec<bool>
     ensures count { length result.items ≡ length marks.items }
-    ensures each { (k : ℕ) → k < length marks.items → slice_index_or result.items k false ≡ (slice_index_or marks.items k false || is_place k place) }
+    ensures each { (k : ℕ) → k < length marks.items → slice_index_or result.items k false
+        ≡ (slice_index_or marks.items k false || is_place k place) }
 {
     if let Some(place) = place
         && place < marks.len()
@@ -61,15 +62,17 @@ fn marked(mut marks: Vec<bool>, place: Option<usize>) -> Vec<bool>
     marks
 }
 
-// For each weight, whether its aggregate is listed.
-pub(crate) fn unchanged_of(
+/// For each weight, whether its aggregate is listed. The caller owes that the weights are in code order.
+/// O(n log m) for n listed and m weights.
+pub fn unchanged_of(
     alloc: Global,
     weights: &[Weight],
     carry: &[Code],
 ) -> Result<Vec<bool>, AllocError>
     requires { IsInOrder code_cmp (λ w. w.code) weights.now }
     ensures count { IfOk result (λ v. length v.items ≡ length weights.now) }
-    ensures each { IfOk result (λ v. (k : ℕ) (d : Weight) → k < length weights.now → slice_index_or v.items k false ≡ is_listed carry.now (slice_index_or weights.now k d).code) }
+    ensures each { IfOk result (λ v. (k : ℕ) (d : Weight) → k < length weights.now → slice_index_or v.items k false
+        ≡ is_listed carry.now (slice_index_or weights.now k d).code) }
 {
     let mut unchanged = vec![in alloc; false; weights.len()]?;
     for code in carry {

@@ -1,10 +1,12 @@
 //! Lists in the order of their series.
 ghost use Rattle.std.specs.Prelude.{◌≡◌, ℕ, ◌≤◌, ◌<◌, map, length, true};
 ghost use Rattle.cpi_codes.specs.declared.series.SeriesId.{SeriesId};
-ghost use Rattle.cpi_index.specs.Series.{serial, rises_from, at, is_by_series as are_by_series, carried_serial, frozen_serial, IsOneSeries};
+ghost use Rattle.cpi_index.specs.Series.{serial, rises_from, at, is_by_series as are_by_series, carried_serial};
+ghost use Rattle.cpi_index.specs.Series.{frozen_serial, row_serial, IsOneSeries};
 
 use crate::carried::CarriedPrice;
 use crate::frozen::FrozenQuote;
+use crate::row::GroupRow;
 use cpi_codes::SeriesId;
 
 const SLOTS: u32 = 400;
@@ -40,6 +42,14 @@ impl InSeries for FrozenQuote {
 
     fn serial(&self) -> u32 {
         serial_of(self.series)
+    }
+}
+
+impl InSeries for GroupRow {
+    ghost serial_in = { row_serial };
+
+    fn serial(&self) -> u32 {
+        serial_of(self.link.series())
     }
 }
 

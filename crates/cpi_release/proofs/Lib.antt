@@ -1,3 +1,14 @@
 pub mod Padding
 pub mod Writing
 pub mod Lines
+pub mod PassLemmas
+pub mod PassedLemmas
+pub mod FaultLaw
+pub mod LevelLemmas
+pub mod Summing
+pub mod MakeLemmas
+pub mod Sound
+pub mod GroupAt
+pub mod Walks
+pub mod Late
+pub mod Texts

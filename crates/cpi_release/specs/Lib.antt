@@ -1,5 +1,17 @@
 pub mod Change
+pub mod Releases
+pub mod MonthTable
+pub mod Publishing
+pub mod GroupCalls
+pub mod Passing
+pub mod Asking
+pub mod Summed
+pub mod Cached
 pub mod Figures
 pub mod TextTable
+pub mod Texts
 pub mod CsvTable
 pub mod Examples
+pub mod HistoryExamples
+pub mod FrozenMonths
+pub mod PublishedTables

@@ -1,6 +1,7 @@
 //! A row of the table of a month.
 use cpi_codes::{Code, Name};
 use cpi_index::{ChainedLevel, Index};
+use cpi_rows::Keyed;
 
 /// A row of the table of a month: a node of the plan with its title, its weight in parts per million, its index
 /// within the year and its chained level, how much that changed against the month and the year before, in tenths of a
@@ -9,10 +10,20 @@ use cpi_index::{ChainedLevel, Index};
 pub struct Level {
     pub code: Code,
     pub title: Name,
-    pub weight: u32,
+    pub weight: u64,
     pub within: Index,
     pub chained: ChainedLevel,
     pub month_change: i64,
     pub year_change: Option<i64>,
     pub imputed: bool,
+}
+
+impl Keyed for Level {
+    type Key = Code;
+
+    ghost key = { λ l. l.code };
+
+    fn key(&self) -> Code {
+        self.code
+    }
 }

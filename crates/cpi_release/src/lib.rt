@@ -1,20 +1,49 @@
 //! The table of a month: its rows, its changes, and how it is printed, as text and as CSV.
 #![tactic(auto)]
 
+mod before;
+mod by_group;
+mod cached;
 mod changes;
+mod compute;
 mod csv_table;
 mod examples;
+mod failures;
 mod fault;
+mod faults;
 mod figures;
+mod form;
+mod freeze_fault;
+mod frozen_month;
+mod group_fault;
+mod groups;
+mod history_groups;
+mod kept_groups;
 mod level;
+mod levels;
+mod month_rows;
+mod pass;
+mod passing;
+mod printed_table;
+mod release;
 mod text_table;
+mod whole;
 
+pub use cached::Cached;
 pub use changes::change;
 pub use csv_table::table_csv;
-pub use examples::worked_tables;
+pub use examples::{worked_histories, worked_tables};
+pub use failures::Failures;
 pub use fault::PrintFault;
+pub use form::Form;
+pub use freeze_fault::FreezeFault;
+pub use frozen_month::FrozenMonth;
+pub use group_fault::GroupFault;
+pub use groups::Groups;
+pub use history_groups::HistoryGroups;
+pub use kept_groups::{group_rows, month_groups};
 pub use level::Level;
+pub use month_rows::level_in;
+pub use printed_table::{PrintedTable, printed};
+pub use release::{History, Release};
 pub use text_table::table_text;
-
-#[cfg(test)]
-mod tests;

@@ -1,0 +1,29 @@
+-- One table: whether taken from lists of carried prices and of indices, or from the rows of each aggregate's sample.
+use Rattle.std.specs.Prelude.{◌≡◌, List}
+use Rattle.std.specs.List.{AllByRecursion}
+use Rattle.cpi_codes.specs.declared.codes.Code.{Code}
+use Rattle.cpi_plan.specs.Plan.{Plan, IsPlan}
+use Rattle.cpi_index.specs.Carried.{Carried}
+use Rattle.cpi_index.specs.Frozen.{Frozen}
+use Rattle.cpi_index.specs.Row.{Row}
+use Rattle.cpi_index.specs.Month.{rows_of, sample_rows, carry_month}
+use Rattle.cpi_index.specs.Indices.{elementary_index, elementary}
+use Rattle.cpi_index.specs.Means.{mean_index, upper_index}
+use Rattle.cpi_index.specs.Group.{group_index}
+
+-- each series has the item that it had at its base
+abbrev pub KeepItems : List Row → Type 0
+KeepItems rows = AllByRecursion (λ (r : Row). r.before.item ≡ r.link.item) rows
+
+-- the index of an aggregate from the year's bases and the month's carried prices is that of its sample's rows
+abbrev pub IndicesAreOfRows : Type 0
+IndicesAreOfRows = (plan : Plan) (bases before : List Carried) (frozen : List Frozen) →
+    let rows = rows_of bases before frozen in KeepItems rows → (aggregate : Code) →
+    elementary_index plan bases (carry_month plan rows) aggregate ≡ group_index (sample_rows plan aggregate rows)
+
+-- so is the mean of each node
+abbrev pub MeansAreOfRows : Type 0
+MeansAreOfRows = (plan : Plan) → IsPlan plan → (bases before : List Carried) (frozen : List Frozen) →
+    let rows = rows_of bases before frozen in KeepItems rows → (node : Code) →
+    upper_index plan (elementary plan bases (carry_month plan rows)) node
+    ≡ mean_index plan (λ e. group_index (sample_rows plan e rows)) node

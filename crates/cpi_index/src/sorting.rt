@@ -1,0 +1,45 @@
+//! Carried prices put in the order of their series.
+ghost use Rattle.std.specs.Prelude.{◌≡◌, List, true, IfOk, MatchBool};
+ghost use Rattle.std.specs.List.{IsDistinct};
+ghost use Rattle.std.specs.List.Sorted.{IsPermutation};
+ghost use Rattle.std.specs.Ordering.{nat_cmp, is_eq};
+ghost use Rattle.cpi_rows.specs.Keyed.{IsInOrder};
+ghost use Rattle.cpi_index.specs.Carried.{Carried};
+ghost use Rattle.cpi_index.specs.Series.{is_by_series, carried_serial};
+
+use crate::carried::CarriedPrice;
+use crate::series::InSeries;
+use cpi_rows::{Keyed, are_in_order};
+use std::alloc::AllocError;
+
+impl Keyed for CarriedPrice {
+    type Key = u32;
+
+    ghost key = { carried_serial };
+
+    fn key(&self) -> u32 {
+        self.serial()
+    }
+}
+
+// Puts carried prices in the order of their series, and says whether no series comes twice.
+fn put_in_order(carried: &mut Vec<CarriedPrice>) -> Result<bool, AllocError>
+    ensures moved { IsPermutation carried.old.items carried.new.items }
+    ensures order { IfOk result (λ b. MatchBool b
+        (IsInOrder nat_cmp carried_serial carried.new.items)
+        (IsDistinct (λ a b. is_eq (nat_cmp (carried_serial a) (carried_serial b))) carried.old.items → ⊥)) }
+{
+    carried.sort_by_key(|price| price.key())?;
+    Ok(are_in_order(carried))
+}
+
+/// Puts carried prices in the order of their series, and says whether no series comes twice. Where they are those of a
+/// list by series, they are that list then. O(n log n) for n prices.
+pub fn put_by_series(carried: &mut Vec<CarriedPrice>) -> Result<bool, AllocError>
+    ensures { IfOk result (λ b. (all : List Carried) → is_by_series carried_serial all ≡ true →
+        IsPermutation all carried.old.items →
+        (b ≡ true) × (carried.new.items ≡ all)) }
+{
+    let once = put_in_order(carried)?;
+    Ok(once)
+}

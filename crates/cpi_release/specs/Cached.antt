@@ -1,0 +1,43 @@
+-- A holder of groups over a history, with the groups of one month kept.
+use Rattle.std.specs.Prelude.{◌≡◌, ℕ, ◌≤◌, ⊤, true, List, Option, Some, None}
+use Rattle.cpi_codes.specs.Month.{year_of}
+use Rattle.cpi_rows.specs.Keyed.{at}
+use Rattle.cpi_plan.specs.Plan.{Plan}
+use Rattle.cpi_index.specs.Frozen.{Frozen}
+use Rattle.cpi_index.specs.Series.{is_by_series, frozen_serial}
+use Rattle.std.specs.Global.{Vec}
+use Rattle.cpi_index.specs.Row.{Row}
+use Rattle.cpi_index.specs.MonthGroups.{AreGroups}
+use Rattle.cpi_release.specs.Releases.{rows_in}
+use Rattle.cpi_release.specs.Publishing.{AreInOrder}
+use Rattle.cpi_release.specs.GroupCalls.{Sources}
+use Rattle.cpi_release.specs.declared.cached.Cached.{Cached}
+use Rattle.cpi_release.specs.declared.release.Release.{Release}
+
+-- what is read from, and how often a read failed
+pub record KeptGroups : Type 0 where
+  pub plans : List Plan
+  pub releases : List Release
+  pub frozen : List Frozen
+  pub failures : ℕ
+
+abbrev pub sources_of : List Plan → List Release → List Frozen → Sources
+sources_of plans releases frozen = record { plans = plans; releases = releases; quotes = λ _. frozen }
+
+-- releases in their order, and quotes by series
+abbrev pub IsFit : Sources → Type 0
+IsFit s = AreInOrder s.releases × ((month : ℕ) → is_by_series frozen_serial (s.quotes month) ≡ true)
+
+-- the source of what a holder holds
+abbrev pub sources_in : KeptGroups → Sources
+sources_in k = sources_of k.plans k.releases k.frozen
+
+-- lists of rows that are the month's samples
+abbrev pub AreGroupsOf : Sources → ℕ → List (Vec Row) → Type 0
+AreGroupsOf s month groups =
+    (p : Plan) → IsFit s → 12 ≤ month → at (λ p. p.year) (year_of month) s.plans ≡ Some p →
+    AreGroups p (rows_in p s.releases month (s.quotes month)) groups
+
+abbrev pub AreKept : Sources → Option Cached → Type 0
+AreKept s None = ⊤
+AreKept s (Some c) = AreGroupsOf s c.month c.groups.items

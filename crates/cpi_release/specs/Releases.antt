@@ -1,0 +1,76 @@
+-- Releases of earlier months, and what a month reads from them.
+use Rattle.std.specs.Prelude.{ℕ, ◌*◌, ◌-◌, ◌/◌, ◌%◌, ◌==◌, Bool, List, [], Option, Some, option_map, unwrap_or}
+use Rattle.std.specs.Prelude.{if◌then◌else◌}
+use Rattle.std.specs.Option.{option_map_or}
+use Rattle.cpi_codes.specs.CodeOrder.{code_cmp}
+use Rattle.cpi_codes.specs.declared.codes.Code.{Code}
+use Rattle.cpi_rows.specs.Keyed.{row_at, at}
+use Rattle.cpi_plan.specs.Plan.{Plan}
+use Rattle.cpi_index.specs.Carried.{Carried}
+use Rattle.cpi_index.specs.Frozen.{Frozen}
+use Rattle.cpi_index.specs.Row.{Row}
+use Rattle.cpi_index.specs.Sample.{bases_of_year}
+use Rattle.cpi_index.specs.Month.{rows_of}
+use Rattle.cpi_release.specs.declared.level.Level.{Level}
+use Rattle.cpi_release.specs.declared.release.Release.{Release}
+
+-- ---- months
+-- December of the year before a month's
+abbrev pub link_month : ℕ → ℕ
+link_month month = 12 * (month / 12) - 1
+
+abbrev pub is_january : ℕ → Bool
+is_january month = month % 12 == 0
+
+abbrev pub is_december : ℕ → Bool
+is_december month = month % 12 == 11
+
+-- ---- what stands in the releases
+-- the release of a month, by which every earlier month is read
+abbrev pub release_of : List Release → ℕ → Option Release
+release_of releases month = at (λ r. r.month) month releases
+
+abbrev pub frozen_of : List Release → ℕ → List Frozen
+frozen_of releases month = option_map_or (λ r. r.frozen) (release_of releases month) []
+
+abbrev pub carried_of : List Release → ℕ → List Carried
+carried_of releases month = option_map_or (λ r. r.carried) (release_of releases month) []
+
+abbrev pub levels_of : List Release → ℕ → List Level
+levels_of releases month = option_map_or (λ r. r.levels) (release_of releases month) []
+
+-- the chained level of a node in a month's table
+abbrev pub level_at : List Release → ℕ → Code → Option ℕ
+level_at releases month node =
+    option_map (λ l. l.chained) (row_at code_cmp (λ l. l.code) node (levels_of releases month))
+
+-- ---- the sample of a month
+abbrev pub bases_in : Plan → List Release → ℕ → List Carried
+bases_in plan releases month = let december = link_month month in
+    bases_of_year plan (carried_of releases december) (frozen_of releases december)
+
+-- the carried prices of the month before: in January the bases
+abbrev pub before_in : Plan → List Release → ℕ → List Carried
+before_in plan releases month =
+    if is_january month then bases_in plan releases month else carried_of releases (month - 1)
+
+-- one row for each base, by series
+abbrev pub rows_in : Plan → List Release → ℕ → List Frozen → List Row
+rows_in plan releases month frozen = rows_of (bases_in plan releases month) (before_in plan releases month) frozen
+
+-- ---- the levels that a month's level is linked to and compared with
+-- the link level: the chained level of the link month, or 100 where it had none
+abbrev pub link_of : List Release → ℕ → Code → ℕ
+link_of releases month node = unwrap_or (level_at releases (link_month month) node) 100000000
+
+-- the level that the monthly change is from: in January the link level
+abbrev pub month_before : List Release → ℕ → Code → ℕ
+month_before releases month node =
+    let link = link_of releases month node in
+    if is_january month then link else unwrap_or (level_at releases (month - 1) node) link
+
+-- the level that the annual change is from: in December the link level, else that of twelve months before, if there
+-- is one
+abbrev pub year_before : List Release → ℕ → Code → Option ℕ
+year_before releases month node =
+    if is_december month then Some (link_of releases month node) else level_at releases (month - 12) node

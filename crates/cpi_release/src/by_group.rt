@@ -1,0 +1,83 @@
+//! A month's carried prices and table, read one aggregate at a time.
+ghost use Rattle.std.specs.Prelude.{◌≡◌, ◌≤◌, ◌<◌, List, None, true, IfErr, MatchResult};
+ghost use Rattle.cpi_codes.specs.declared.codes.Code.{Code};
+ghost use Rattle.cpi_index.specs.Row.{Row};
+ghost use Rattle.cpi_index.specs.Series.{is_by_series, carried_serial};
+ghost use Rattle.cpi_index.specs.Month.{carry_month, sample_rows};
+ghost use Rattle.cpi_release.specs.GroupCalls.{Leaves, group_of};
+ghost use Rattle.cpi_release.specs.Asking.{CanAsk};
+ghost use Rattle.cpi_release.specs.MonthTable.{table_fault, table_of};
+ghost use Rattle.cpi_release.specs.Summed.{IsFreezeFault};
+ghost use Rattle.cpi_release.specs.declared.freeze_fault.FreezeFault.TheVariants.{Group};
+
+use crate::freeze_fault::FreezeFault;
+use crate::groups::Groups;
+use crate::level::Level;
+use crate::levels::levels_of;
+use crate::pass::Pass;
+use crate::passing::{first_fault, pass_over};
+use cpi_codes::{Code, Month};
+use cpi_index::{CarriedPrice, IndexFault, put_by_series, unchanged_of};
+use cpi_plan::YearPlan;
+use std::alloc::Global;
+
+// The carried prices of a month, by series, and its table, by code.
+#[derive(Debug, Drop)]
+pub(crate) struct Made {
+    pub(crate) carried: Vec<CarriedPrice>,
+    pub(crate) levels: Vec<Level>,
+}
+
+fn carried_of(pass: Pass) -> Vec<CarriedPrice>
+    ensures { result.items ≡ pass.carried.items }
+{
+    pass.carried
+}
+
+// The carried prices and the table of a month after the first release, each aggregate's sample read once; else the
+// first fault.
+pub(crate) fn make<G: Groups>(
+    alloc: Global,
+    groups: &mut G,
+    plan: &YearPlan,
+    month: Month,
+    carry: &[Code],
+) -> Result<Made, FreezeFault>
+    ensures leaves { Leaves G.is_clean G.held G.failures groups.old groups.new }
+    ensures group { IfErr result (λ f. f ≡ Group → G.failures groups.old < G.failures groups.new) }
+    ensures exact { G.is_clean groups.new → G.is_sound (G.held groups.old) → 12 ≤ month →
+        CanAsk (G.sources (G.held groups.old)) month →
+        (rows : List Row) →
+        ((code : Code) → group_of (G.sources (G.held groups.old)) month code ≡ sample_rows plan.now code rows) →
+        is_by_series carried_serial (carry_month plan.now rows) ≡ true →
+        let releases = (G.sources (G.held groups.old)).releases in
+        let fault = table_fault plan.now releases month carry.now rows in
+        MatchResult result
+        (λ m. (fault ≡ None) × (m.carried.items ≡ carry_month plan.now rows)
+        × (m.levels.items ≡ table_of plan.now releases month rows))
+        (IsFreezeFault fault) }
+{
+    let weights = plan.weights();
+    let Ok(unchanged) = unchanged_of(alloc, weights, carry) else {
+        return Err(FreezeFault::Index(IndexFault::NoMemory));
+    };
+    let pass = match pass_over(alloc, groups, plan, month, &unchanged) {
+        Ok(pass) => pass,
+        Err(fault) => return Err(fault),
+    };
+    if let Some(fault) = first_fault(&pass.faults) {
+        return Err(FreezeFault::Index(fault));
+    }
+    let levels = match levels_of(alloc, groups, plan, month, &pass) {
+        Ok(levels) => levels,
+        Err(fault) => return Err(fault),
+    };
+    let mut carried = carried_of(pass);
+    let Ok(once) = put_by_series(&mut carried) else {
+        return Err(FreezeFault::Index(IndexFault::NoMemory));
+    };
+    if !once {
+        return Err(FreezeFault::Index(IndexFault::OutOfRange(weights[0].code)));
+    }
+    Ok(Made { carried, levels })
+}

@@ -1,0 +1,94 @@
+//! The release of a month, read one aggregate at a time.
+ghost use Rattle.std.specs.Prelude.{◌≡◌, ◌<◌, None, Some, IfOk, IfErr, MatchResult};
+ghost use Rattle.std.specs.Option.{option_copied};
+ghost use Rattle.cpi_release.specs.GroupCalls.{Leaves};
+ghost use Rattle.cpi_release.specs.Asking.{IsAsked};
+ghost use Rattle.cpi_release.specs.Publishing.{Freeze, fault_of, published};
+ghost use Rattle.cpi_release.specs.Summed.{IsFreezeFault};
+ghost use Rattle.cpi_release.specs.declared.freeze_fault.FreezeFault.TheVariants.{Group};
+
+use crate::by_group::{Made, make};
+use crate::freeze_fault::FreezeFault;
+use crate::groups::Groups;
+use crate::release::Release;
+use cpi_codes::{Code, Moment, Month};
+use cpi_index::FrozenQuote;
+use cpi_plan::YearPlan;
+use cpi_rows::Rows;
+use std::alloc::Global;
+
+// The release of what is frozen and what was made of it.
+fn release_with(
+    month: Month,
+    frozen_at: Moment,
+    publishes: Moment,
+    frozen: Vec<FrozenQuote>,
+    carry: Vec<Code>,
+    made: Made,
+) -> Release
+    ensures { result ≡ record {
+      month = month;
+      frozen_at = frozen_at;
+      publishes = publishes;
+      frozen = frozen.items;
+      carry = carry.items;
+      carried = made.carried.items;
+      levels = made.levels.items;
+    } }
+{
+    Release {
+        month,
+        frozen_at,
+        publishes,
+        frozen: Rows::of(frozen),
+        carry: Rows::of(carry),
+        carried: Rows::of(made.carried),
+        levels: Rows::of(made.levels),
+    }
+}
+
+impl Release {
+    /// The release of a month, or its first fault. Each aggregate's sample is read once, in code order; `Group` where
+    /// a read failed. The caller owes the plan of the month's year, none at the first release alone, which has no rows;
+    /// that `frozen` is what `groups` has as the month's quotes, by series; and that the month before was frozen.
+    pub fn compute_by_group<G: Groups>(
+        alloc: Global,
+        groups: &mut G,
+        plan: Option<&YearPlan>,
+        month: Month,
+        frozen_at: Moment,
+        publishes: Moment,
+        frozen: Vec<FrozenQuote>,
+        carry: Vec<Code>,
+    ) -> Result<Release, FreezeFault>
+        ensures leaves { Leaves G.is_clean G.held G.failures groups.old groups.new }
+        ensures group { IfErr result (λ f. f ≡ Group → G.failures groups.old < G.failures groups.new) }
+        ensures month { IfOk result (λ r. r.month ≡ month) }
+        ensures exact { G.is_clean groups.new → G.is_sound (G.held groups.old) →
+            let s = G.sources (G.held groups.old) in
+            let x : Freeze = record {
+              month = month;
+              frozen_at = frozen_at;
+              publishes = publishes;
+              frozen = frozen.items;
+              carry = carry.items;
+            } in
+            IsAsked s (option_copied plan.entry) x → let fault = fault_of (option_copied plan.entry) s.releases x in
+            MatchResult result
+            (λ r. (fault ≡ None) × (r ≡ published (option_copied plan.entry) s.releases x))
+            (IsFreezeFault fault) }
+    {
+        let Some(plan) = plan else {
+            let nothing = Made {
+                carried: Vec::new(alloc),
+                levels: Vec::new(alloc),
+            };
+            return Ok(release_with(month, frozen_at, publishes, frozen, carry, nothing));
+        };
+        let made = match make(alloc, groups, plan, month, &carry) {
+            Ok(made) => made,
+            Err(fault) => return Err(fault),
+        };
+        Ok(release_with(month, frozen_at, publishes, frozen, carry, made))
+    }
+}

@@ -1,0 +1,10 @@
+//! The forms of a printed table.
+
+/// How a table is printed.
+#[derive(Clone, Copy, Debug, PartialEq, Eq)]
+pub enum Form {
+    /// In columns.
+    Text,
+    /// As CSV.
+    Csv,
+}

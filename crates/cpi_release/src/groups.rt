@@ -1,0 +1,49 @@
+//! The samples of a month, read one elementary aggregate at a time.
+ghost use Rattle.std.specs.Prelude.{◌≡◌, ℕ};
+
+use crate::group_fault::GroupFault;
+use cpi_codes::{Code, Month};
+use cpi_index::{ChainedLevel, GroupRow};
+
+/// What a month's samples and the levels of earlier tables are read from. Both reads change nothing; each answers a
+/// `GroupFault` only where the count of failures rose during the call. What they show holds where what is read is
+/// clean as the call ends, and sound.
+pub trait Groups {
+    ghost use Rattle.cpi_codes.specs.Month.{year_of};
+    ghost use Rattle.cpi_release.specs.Releases.{level_at};
+    ghost use Rattle.cpi_release.specs.Publishing.{AreInOrder};
+    ghost use Rattle.cpi_release.specs.GroupCalls.{Sources, group_of, IsAfterFrozen, ReadsGroup};
+
+    /// What is held: what a read leaves as it was.
+    ghost Held: { Type 0 };
+
+    /// What this holder holds.
+    ghost held: { Self → Held };
+
+    /// What is read of it: plans, releases and quotes.
+    ghost sources: { Held → Sources };
+
+    /// Whether it is sound: releases in their order, and quotes that fit them.
+    ghost is_sound: { Held → Type 0 };
+
+    /// How often a call has failed: a number of any size, since it stands in contracts alone.
+    ghost failures: { Self → ℕ };
+
+    /// Whether what is said of what is held holds.
+    ghost is_clean: { Self → Type 0 };
+
+    /// The rows of an aggregate's sample in a month after the last frozen one, by series: each with its quote's mark,
+    /// its base, and its carried price of the month before. `year` is the month's.
+    fn rows(&mut self, year: u16, month: Month, code: Code) -> Result<Vec<GroupRow>, GroupFault>
+        ensures { ReadsGroup is_clean held failures self.old self.new result (λ rows.
+            is_sound (held self.old) → year ≡ year_of month → IsAfterFrozen (sources (held self.old)) month →
+            rows.items ≡ group_of (sources (held self.old)) month code) };
+
+    /// The chained level of a code in the table of a month, if it has a row there.
+    fn chained(&mut self, month: Month, code: Code) -> Result<Option<ChainedLevel>, GroupFault>
+        ensures { ReadsGroup is_clean held failures self.old self.new result (λ level.
+            is_sound (held self.old) → level ≡ level_at (sources (held self.old)).releases month code) };
+
+    // what is sound has releases in their order
+    ghost has_sound: { (h : Held) → is_sound h → AreInOrder (sources h).releases };
+}

@@ -1,0 +1,96 @@
+//! The rows of a month's table.
+ghost use Rattle.std.specs.Prelude.{◌≡◌, ◌*◌, ◌≤◌, ◌<◌, List, None, SomeIff, IfOk, IfErr, MatchResult};
+ghost use Rattle.cpi_codes.specs.declared.codes.Code.{Code};
+ghost use Rattle.cpi_plan.specs.Sums.{sum_at, weight_under};
+ghost use Rattle.cpi_index.specs.Level.{IsLevel, chained_from};
+ghost use Rattle.cpi_index.specs.Row.{Row};
+ghost use Rattle.cpi_release.specs.GroupCalls.{Leaves};
+ghost use Rattle.cpi_release.specs.MonthTable.{level_with, level_fault, table_of};
+ghost use Rattle.cpi_release.specs.Summed.{IsSummed, IsFreezeFault};
+ghost use Rattle.cpi_release.specs.declared.freeze_fault.FreezeFault.TheVariants.{Group};
+
+use crate::before::{Before, levels_before};
+use crate::changes::change;
+use crate::freeze_fault::FreezeFault;
+use crate::groups::Groups;
+use crate::level::Level;
+use crate::pass::Pass;
+use cpi_codes::Month;
+use cpi_index::{Index, IndexFault};
+use cpi_plan::{Node, YearPlan};
+use std::alloc::{AllocError, Global};
+
+// The row of a node; none where its chained level is outside its limits.
+fn row_of(
+    alloc: Global,
+    node: &Node,
+    within: Index,
+    before: Before,
+    imputed: bool,
+) -> Result<Option<Level>, AllocError>
+    ensures { IfOk result (λ o. SomeIff o
+        (IsLevel (chained_from before.link within))
+        (level_with node.now within before.link before.month before.year imputed)) }
+{
+    let Some(chained) = before.link.moved(within) else {
+        return Ok(None);
+    };
+    let year_change = match before.year {
+        Some(year) => Some(change(year, chained)),
+        None => None,
+    };
+    Ok(Some(Level {
+        code: node.code,
+        title: node.title.copy(alloc)?,
+        weight: u64::from(node.weight),
+        within,
+        chained,
+        month_change: change(before.month, chained),
+        year_change,
+        imputed,
+    }))
+}
+
+// The rows of a table, by code, from the sums of a pass; else the first node whose chained level is outside its
+// limits.
+pub(crate) fn levels_of<G: Groups>(
+    alloc: Global,
+    groups: &mut G,
+    plan: &YearPlan,
+    month: Month,
+    pass: &Pass,
+) -> Result<Vec<Level>, FreezeFault>
+    requires most { (q : Code) → sum_at pass.now.sums q ≤ 10000000000000 * weight_under q plan.now.weights }
+    ensures leaves { Leaves G.is_clean G.held G.failures groups.old groups.new }
+    ensures group { IfErr result (λ f. f ≡ Group → G.failures groups.old < G.failures groups.new) }
+    ensures exact { G.is_clean groups.new → G.is_sound (G.held groups.old) → 12 ≤ month → (rows : List Row) →
+        IsSummed plan.now rows pass.now →
+        let releases = (G.sources (G.held groups.old)).releases in
+        let fault = level_fault plan.now releases month rows plan.now.nodes in
+        MatchResult result
+        (λ v. (fault ≡ None) × (v.items ≡ table_of plan.now releases month rows))
+        (IsFreezeFault fault) }
+{
+    let nodes = plan.nodes();
+    let mut levels = Vec::new(alloc);
+    for node in nodes {
+        let Ok(before) = levels_before(groups, month, node.code) else {
+            return Err(FreezeFault::Group);
+        };
+        let sum = pass.sums.get(&node.code).copied().unwrap_or(0);
+        let Some(within) = Index::mean(sum, node.weight) else {
+            return Err(FreezeFault::Index(IndexFault::OutOfRange(node.code)));
+        };
+        let imputed = 0 < pass.imputed.get(&node.code).copied().unwrap_or(0);
+        let Ok(row) = row_of(alloc, node, within, before, imputed) else {
+            return Err(FreezeFault::Index(IndexFault::NoMemory));
+        };
+        let Some(level) = row else {
+            return Err(FreezeFault::Index(IndexFault::OutOfRange(node.code)));
+        };
+        let Ok(()) = levels.push(level) else {
+            return Err(FreezeFault::Index(IndexFault::NoMemory));
+        };
+    }
+    Ok(levels)
+}

@@ -1,0 +1,138 @@
+//! What a month reads from the releases before it.
+ghost use Rattle.std.specs.Prelude.{◌≡◌, ◌≤◌, ◌-◌, List, true, option_map, IfOk};
+ghost use Rattle.std.specs.Option.{option_copied};
+ghost use Rattle.cpi_codes.specs.CodeOrder.{code_cmp};
+ghost use Rattle.cpi_rows.specs.Keyed.{IsInOrder, at, row_at};
+ghost use Rattle.cpi_index.specs.Row.{Row};
+ghost use Rattle.cpi_index.specs.Series.{is_by_series, carried_serial, frozen_serial};
+ghost use Rattle.cpi_index.specs.Month.{sample_rows};
+ghost use Rattle.cpi_index.specs.MonthGroups.{AreGroups};
+ghost use Rattle.cpi_release.specs.Releases.{release_of as release_in, carried_of, frozen_of, levels_of};
+ghost use Rattle.cpi_release.specs.Releases.{link_month, rows_in, level_at as level_at_in};
+
+use crate::level::Level;
+use crate::release::Release;
+use cpi_codes::{Code, Month};
+use cpi_index::{
+    CarriedPrice, ChainedLevel, FrozenQuote, GroupRow, groups_of_january, groups_of_month,
+};
+use cpi_plan::YearPlan;
+use cpi_rows::place_of;
+use std::alloc::{AllocError, Global};
+
+const JANUARY: u8 = 1;
+
+// The release of a month.
+fn release_of(releases: &[Release], month: Month) -> Option<&Release>
+    ensures { option_copied result ≡ release_in releases.now month }
+{
+    for release in releases {
+        if release.month == month {
+            return Some(release);
+        }
+    }
+    None
+}
+
+// The carried prices of a month.
+fn carried_at(releases: &[Release], month: Month) -> &[CarriedPrice]
+    ensures { result.now ≡ carried_of releases.now month }
+{
+    match release_of(releases, month) {
+        Some(release) => release.carried.as_slice(),
+        None => &[],
+    }
+}
+
+// The frozen quotes of a month.
+fn frozen_at(releases: &[Release], month: Month) -> &[FrozenQuote]
+    ensures { result.now ≡ frozen_of releases.now month }
+{
+    match release_of(releases, month) {
+        Some(release) => release.frozen.as_slice(),
+        None => &[],
+    }
+}
+
+// The samples of a month, one list for each weight of the plan.
+pub(crate) fn groups_in(
+    alloc: Global,
+    plan: &YearPlan,
+    releases: &[Release],
+    month: Month,
+    frozen: &[FrozenQuote],
+) -> Result<Vec<Vec<GroupRow>>, AllocError>
+    ensures { 12 ≤ month → is_by_series carried_serial (carried_of releases.now (link_month month)) ≡ true →
+        is_by_series frozen_serial (frozen_of releases.now (link_month month)) ≡ true →
+        is_by_series carried_serial (carried_of releases.now (month - 1)) ≡ true →
+        is_by_series frozen_serial frozen.now ≡ true →
+        IfOk result (λ v. AreGroups plan.now (rows_in plan.now releases.now month frozen.now) v.items) }
+{
+    let Some(december) = month.link() else {
+        return Ok(Vec::new(alloc));
+    };
+    let prev = carried_at(releases, december);
+    let link = frozen_at(releases, december);
+    if month.month() == JANUARY {
+        return groups_of_january(alloc, plan, prev, link, frozen);
+    }
+    let Some(last) = month.prev() else {
+        return Ok(Vec::new(alloc));
+    };
+    let before = carried_at(releases, last);
+    groups_of_month(alloc, plan, prev, link, before, frozen)
+}
+
+// The rows of one aggregate, copied.
+pub(crate) fn group_at(
+    alloc: Global,
+    plan: &YearPlan,
+    groups: &[Vec<GroupRow>],
+    code: Code,
+) -> Result<Vec<GroupRow>, AllocError>
+    ensures { (rows : List Row) → AreGroups plan.now rows groups.now →
+        IfOk result (λ v. v.items ≡ sample_rows plan.now code rows) }
+{
+    let weights = plan.weights();
+    let place = match place_of(weights, &code) {
+        Ok(place) => place,
+        Err(_) => return Ok(Vec::new(alloc)),
+    };
+    if groups.len() <= place {
+        return Ok(Vec::new(alloc));
+    }
+    let rows = Vec::from_slice(alloc, &groups[place])?;
+    Ok(rows)
+}
+
+// The plan of a year.
+pub(crate) fn plan_of(plans: &[YearPlan], year: u16) -> Option<&YearPlan>
+    ensures { option_copied result ≡ at (λ p. p.year) year plans.now }
+{
+    for plan in plans {
+        if plan.year() == year {
+            return Some(plan);
+        }
+    }
+    None
+}
+
+// The row of a code, by halving; nothing is said of rows that aren't in code order.
+fn row_in(levels: &[Level], code: Code) -> Option<ChainedLevel>
+    ensures { IsInOrder code_cmp (λ l. l.code) levels.now →
+        result ≡ option_map (λ l. l.chained) (row_at code_cmp (λ l. l.code) code levels.now) }
+{
+    match levels.binary_search_by_key(&code, |level| level.code) {
+        Ok(place) => Some(levels[place].chained),
+        Err(_) => None,
+    }
+}
+
+/// The chained level of a code in the table of a month; nothing is said of a table that isn't in code order.
+pub fn level_in(releases: &[Release], month: Month, code: Code) -> Option<ChainedLevel>
+    ensures { IsInOrder code_cmp (λ l. l.code) (levels_of releases.now month) →
+        result ≡ level_at_in releases.now month code }
+{
+    let release = release_of(releases, month)?;
+    row_in(release.levels.as_slice(), code)
+}

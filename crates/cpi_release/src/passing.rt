@@ -1,0 +1,141 @@
+//! One pass over the aggregates of a plan.
+ghost use Rattle.std.specs.Prelude.{◌≡◌, ◌+◌, ◌*◌, ◌≤◌, ◌<◌, ◌^◌, ℕ, [], List, Some, None, true, length};
+ghost use Rattle.std.specs.Prelude.{IsSome, IfOk, IfErr, OnOk, option_map, if◌then◌else◌};
+ghost use Rattle.std.specs.Option.{option_or};
+ghost use Rattle.cpi_codes.specs.CodeText.{is_at_or_below};
+ghost use Rattle.cpi_codes.specs.declared.codes.Code.{Code};
+ghost use Rattle.cpi_plan.specs.Sums.{sum_at, weight_under};
+ghost use Rattle.cpi_index.specs.Month.{is_listed};
+ghost use Rattle.cpi_index.specs.Series.{is_by_series, row_serial};
+ghost use Rattle.cpi_index.specs.declared.fault.IndexFault.TheVariants.{NoSample, NoMatch, OutOfRange};
+ghost use Rattle.cpi_release.specs.Passing.{noted, IsStep, IsPassed};
+ghost use Rattle.cpi_release.specs.GroupCalls.{Leaves, group_of};
+ghost use Rattle.cpi_release.specs.Asking.{AreListed, CanAsk, IsReadFault};
+
+use crate::faults::Faults;
+use crate::freeze_fault::FreezeFault;
+use crate::groups::Groups;
+use crate::pass::Pass;
+use cpi_codes::{Code, Month};
+use cpi_index::{GroupLack, GroupRow, IndexFault, carry_group};
+use cpi_plan::{Weight, YearPlan, add_path};
+use std::alloc::{AllocError, Global};
+use std::collections::BTreeMap;
+
+// Notes what an aggregate lacks, where it is the first to lack that.
+fn note(faults: &mut Faults, lack: GroupLack, code: Code)
+    ensures { faults.new ≡ noted (Some lack) code faults.old }
+{
+    match lack {
+        GroupLack::NoSample => faults.no_sample = faults.no_sample.or(Some(code)),
+        GroupLack::NoMatch => faults.no_match = faults.no_match.or(Some(code)),
+        GroupLack::PriceOutOfRange => faults.price = faults.price.or(Some(code)),
+        GroupLack::IndexOutOfRange => faults.index = faults.index.or(Some(code)),
+    }
+}
+
+// The first fault in the order of kinds.
+pub(crate) fn first_fault(faults: &Faults) -> Option<IndexFault>
+    ensures { result ≡ option_or (option_map NoSample faults.now.no_sample)
+        (option_or (option_map NoMatch faults.now.no_match)
+        (option_or (option_map OutOfRange faults.now.price) (option_map OutOfRange faults.now.index))) }
+{
+    if let Some(code) = faults.no_sample {
+        return Some(IndexFault::NoSample(code));
+    }
+    if let Some(code) = faults.no_match {
+        return Some(IndexFault::NoMatch(code));
+    }
+    if let Some(code) = faults.price {
+        return Some(IndexFault::OutOfRange(code));
+    }
+    match faults.index {
+        Some(code) => Some(IndexFault::OutOfRange(code)),
+        None => None,
+    }
+}
+
+// A pass over no aggregate.
+pub(crate) fn empty_pass(alloc: Global) -> Pass
+    ensures faults { result.faults ≡ record { no_sample = None; no_match = None; price = None; index = None } }
+    ensures sums { (q : Code) → sum_at result.sums q ≡ 0 }
+    ensures imputed { (q : Code) → sum_at result.imputed q ≡ 0 }
+    ensures carried { result.carried.items ≡ [] }
+{
+    Pass {
+        faults: Faults {
+            no_sample: None,
+            no_match: None,
+            price: None,
+            index: None,
+        },
+        sums: BTreeMap::new(alloc),
+        imputed: BTreeMap::new(alloc),
+        carried: Vec::new(alloc),
+    }
+}
+
+// One more aggregate: its carried prices behind the others, its weighted index in the sums of all codes above it, or
+// what it lacks.
+pub(crate) fn add(
+    pass: &mut Pass,
+    weight: Weight,
+    rows: &[GroupRow],
+    unchanged: bool,
+) -> Result<(), AllocError>
+    requires elementary { IsSome weight.code.aggregate }
+    requires parts { weight.parts ≤ 1000000 }
+    requires sums { (q : Code) → sum_at pass.old.sums q ≤ 10000000000000000000 }
+    requires imputed { (q : Code) → sum_at pass.old.imputed q < 2 ^ 64 }
+    ensures most { OnOk result ((q : Code) → sum_at pass.new.sums q ≤ sum_at pass.old.sums q
+        + (if is_at_or_below q weight.code then 10000000000000 * weight.parts else 0)) }
+    ensures few { OnOk result ((q : Code) → sum_at pass.new.imputed q ≤ sum_at pass.old.imputed q + 1) }
+    ensures step { OnOk result (is_by_series row_serial rows.now ≡ true →
+        IsStep unchanged rows.now weight pass.old pass.new) }
+{
+    match carry_group(rows, unchanged, &mut pass.carried)? {
+        Ok(group) => {
+            let index = u128::from(group.index.millionths());
+            add_path(
+                &mut pass.sums,
+                weight.code,
+                u128::from(weight.parts) * index,
+            )?;
+            let imputed = u128::from(group.imputed);
+            add_path(&mut pass.imputed, weight.code, imputed)?;
+        }
+        Err(lack) => note(&mut pass.faults, lack, weight.code),
+    }
+    Ok(())
+}
+
+// A pass over all aggregates of a plan, each read once.
+pub(crate) fn pass_over<G: Groups>(
+    alloc: Global,
+    groups: &mut G,
+    plan: &YearPlan,
+    month: Month,
+    unchanged: &[bool],
+) -> Result<Pass, FreezeFault>
+    requires { length unchanged.now ≡ length plan.now.weights }
+    ensures leaves { Leaves G.is_clean G.held G.failures groups.old groups.new }
+    ensures most { IfOk result (λ p. (q : Code) → sum_at p.sums q ≤ 10000000000000 * weight_under q plan.now.weights) }
+    ensures exact { (carry : List Code) → AreListed plan.now.weights carry unchanged.now → G.is_clean groups.new →
+        G.is_sound (G.held groups.old) → CanAsk (G.sources (G.held groups.old)) month →
+        let own = group_of (G.sources (G.held groups.old)) month in
+        IfOk result (λ p. IsPassed own (is_listed carry) plan.now.weights p) }
+    ensures fault { IfErr result (λ f. IsReadFault (G.failures groups.old) (G.failures groups.new) f) }
+{
+    let weights = plan.weights();
+    let mut pass = empty_pass(alloc);
+    for i in 0..weights.len() {
+        let weight = weights[i];
+        let Ok(rows) = groups.rows(month.year(), month, weight.code) else {
+            return Err(FreezeFault::Group);
+        };
+        let Ok(()) = add(&mut pass, weight, &rows, unchanged[i]) else {
+            return Err(FreezeFault::Index(IndexFault::NoMemory));
+        };
+    }
+    Ok(pass)
+}

@@ -1,0 +1,130 @@
+//! The release of a month, over a whole history.
+ghost use Rattle.std.specs.Prelude.{◌≡◌, ◌≢◌, Option, None, Some, true, nat_lt, IsSome, MatchResult};
+ghost use Rattle.std.specs.List.{list_any};
+ghost use Rattle.cpi_index.specs.Series.{is_by_series, frozen_serial};
+ghost use Rattle.cpi_index.specs.declared.fault.IndexFault.{IndexFault};
+ghost use Rattle.cpi_index.specs.declared.fault.IndexFault.TheVariants.{NoMemory};
+ghost use Rattle.cpi_release.specs.Summed.{IsFreezeFault};
+ghost use Rattle.cpi_release.specs.Cached.{sources_of};
+ghost use Rattle.cpi_release.specs.GroupCalls.{IsAfterFrozen};
+ghost use Rattle.cpi_release.specs.Publishing.{Freeze, AreInOrder, has_earlier as has_an_earlier};
+ghost use Rattle.cpi_release.specs.Publishing.{plan_of as plan_in, fault_of, published};
+
+use crate::freeze_fault::FreezeFault;
+use crate::history_groups::HistoryGroups;
+use crate::month_rows::plan_of;
+use crate::release::{History, Release};
+use cpi_codes::{Code, Moment, Month};
+use cpi_index::{FrozenQuote, IndexFault};
+use std::alloc::Global;
+
+// Whether an earlier month was frozen.
+fn has_earlier(releases: &[Release], month: Month) -> bool
+    ensures { result ≡ has_an_earlier releases.now month }
+{
+    releases.iter().any(|release| release.month < month)
+}
+
+// Over a history that is at hand, a read fails for want of memory alone.
+fn index_fault(fault: FreezeFault) -> IndexFault
+    ensures { (wanted : Option IndexFault) → IsFreezeFault wanted fault → result ≢ NoMemory → wanted ≡ Some result }
+{
+    match fault {
+        FreezeFault::Index(fault) => fault,
+        FreezeFault::Group => IndexFault::NoMemory,
+    }
+}
+
+// The release of a month over a history, with the quotes lent to its groups.
+fn over(
+    alloc: Global,
+    history: &History,
+    lent: &[FrozenQuote],
+    month: Month,
+    frozen_at: Moment,
+    publishes: Moment,
+    frozen: Vec<FrozenQuote>,
+    carry: Vec<Code>,
+) -> Result<Release, FreezeFault>
+    ensures { let plans = history.now.plans in let releases = history.now.releases in
+        let plan = plan_in plans releases month in
+        let x : Freeze = record {
+          month = month;
+          frozen_at = frozen_at;
+          publishes = publishes;
+          frozen = frozen.items;
+          carry = carry.items;
+        } in
+        lent.now ≡ frozen.items → AreInOrder releases → is_by_series frozen_serial frozen.items ≡ true →
+        (IsSome plan → IsAfterFrozen (sources_of plans releases frozen.items) month) →
+        let fault = fault_of plan releases x in
+        MatchResult result (λ r. (fault ≡ None) × (r ≡ published plan releases x)) (IsFreezeFault fault) }
+{
+    let mut groups = HistoryGroups::new(alloc, history, lent);
+    if has_earlier(history.releases.as_slice(), month) {
+        let plan = plan_of(history.plans.as_slice(), month.year());
+        Release::compute_by_group(
+            alloc,
+            &mut groups,
+            plan,
+            month,
+            frozen_at,
+            publishes,
+            frozen,
+            carry,
+        )
+    } else {
+        Release::compute_by_group(
+            alloc,
+            &mut groups,
+            None,
+            month,
+            frozen_at,
+            publishes,
+            frozen,
+            carry,
+        )
+    }
+}
+
+impl Release {
+    /// The release of a month, or its first fault, over the releases before it. The caller owes releases that follow
+    /// month by month from a December, with their lists in order; that the month comes after the last of them or is
+    /// the first; and quotes by series. O(n log m) for n series and m aggregates.
+    pub fn compute(
+        alloc: Global,
+        history: &History,
+        month: Month,
+        frozen_at: Moment,
+        publishes: Moment,
+        frozen: Vec<FrozenQuote>,
+        carry: Vec<Code>,
+    ) -> Result<Release, IndexFault>
+        ensures { let plans = history.now.plans in let releases = history.now.releases in
+            let plan = plan_in plans releases month in
+            let x : Freeze = record {
+              month = month;
+              frozen_at = frozen_at;
+              publishes = publishes;
+              frozen = frozen.items;
+              carry = carry.items;
+            } in
+            AreInOrder releases → is_by_series frozen_serial frozen.items ≡ true →
+            (IsSome plan → IsAfterFrozen (sources_of plans releases frozen.items) month) →
+            let fault = fault_of plan releases x in
+            MatchResult result
+            (λ r. (fault ≡ None) × (r ≡ published plan releases x))
+            (λ f. f ≢ NoMemory → fault ≡ Some f) }
+    {
+        let Ok(lent) = Vec::from_slice(alloc, &frozen) else {
+            return Err(IndexFault::NoMemory);
+        };
+        let computed = over(
+            alloc, history, &lent, month, frozen_at, publishes, frozen, carry,
+        );
+        match computed {
+            Ok(release) => Ok(release),
+            Err(fault) => Err(index_fault(fault)),
+        }
+    }
+}
