@@ -1,20 +1,22 @@
 -- What is known of the office where a change is accepted.
-use Rattle.std.proofs.Common.{◌≡◌, Some, None, Option}
+use Rattle.std.proofs.Common.{◌≡◌, Some, None, Option, false}
 use Rattle.std.specs.Prelude.{IsSome, ⊤}
-use Rattle.cpi_rows.specs.Keyed.{row_at}
+use Rattle.cpi_release.specs.FrozenMonths.{release_cmp, release_key, frozen_months, is_year_frozen}
+use Rattle.cpi_store.specs.PublishedReleases.{IsPublished}
+use Rattle.cpi_store.specs.Sound.{IsWellMade, HasNodesInOrder}
+use Rattle.cpi_rows.specs.Keyed.{row_at, at}
 use Rattle.cpi_rows.specs.Held.{held_by}
-use Rattle.cpi_rows.specs.Keyed.{at}
 use Rattle.cpi_store.specs.Bearer.{bearer_of}
 use Rattle.cpi_survey.specs.Quote.{quote_key, quote_cmp}
-use Rattle.cpi_store.specs.Office.{Office}
+use Rattle.cpi_store.specs.Office.{Office, Change, PutsItem, PutsPlan, PutsCalendar, Registers, PutsOutlet, Assigns, Quotes, Freezes, month_rows}
 use Rattle.cpi_store.specs.Outlet.{with_name}
-use Rattle.cpi_store.specs.Office.{Change, PutsItem, PutsPlan, PutsCalendar, Registers, PutsOutlet, Assigns, Quotes}
 use Rattle.cpi_office.specs.Verdicts.{Verdict, Refuses, Stands, Makes}
 
--- a change that is made: what is never replaced is new, what it speaks of is there, and a release is computed
+-- a change that is made: what is never replaced is new, a plan is in order, what it speaks of is there, and a release
+-- is computed
 abbrev pub Fits : Change → Office → Type 0
 Fits (PutsItem i) o = at (λ i. i.code) i.code o.items ≡ None
-Fits (PutsPlan p) o = ⊤
+Fits (PutsPlan p) o = (is_year_frozen p.year (frozen_months o.releases) ≡ false) × HasNodesInOrder p
 Fits (PutsCalendar r) o = ⊤
 Fits (Registers b) o = (at (λ b. b.number) b.number o.collectors ≡ None) × (bearer_of b.key o.collectors ≡ None)
 Fits (PutsOutlet u) o = at (λ u. u.number) u.number o.outlets ≡ None
@@ -24,7 +26,9 @@ Fits (Assigns b a) o =
     × IsSome (at (λ u. u.number) a.assignment.outlet o.outlets)
     × IsSome (at (λ i. i.code) a.assignment.item o.items)
     × (a ≡ with_name o.outlets a.assignment)
+    × IsWellMade (b.number, a.assignment)
 Fits (Quotes b q) o = (at (λ b. b.number) b.number o.collectors ≡ Some b) × IsSome (at (λ a. a.slot) q.slot (held_by b.number o.assignments))
+Fits (Freezes r) o = (row_at release_cmp release_key (release_key r) o.releases ≡ None) × IsPublished o.plans o.releases r × (r.frozen ≡ month_rows r.month o)
 
 -- a change whose row stands already
 abbrev pub Stood : Change → Office → Type 0
@@ -40,6 +44,7 @@ Stood (Assigns b a) o =
 Stood (Quotes b q) o =
     (at (λ b. b.number) b.number o.collectors ≡ Some b)
     × (row_at quote_cmp quote_key (q.slot, q.month) (held_by b.number o.quotes) ≡ Some q)
+Stood (Freezes r) o = ⊥
 
 abbrev pub Holds : Option Verdict → Office → Type 0
 Holds None o = ⊤

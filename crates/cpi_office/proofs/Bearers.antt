@@ -7,12 +7,11 @@ use Rattle.std.proofs.lemmas.Bool.{eq-eqb, false≢true}
 use Rattle.std.proofs.lemmas.Bool.Decides.{eqb_tells}
 use Rattle.std.proofs.lemmas.Cmp.{tied_itself, nat_cmp_total}
 use Rattle.std.proofs.lemmas.Map.Keys.{sorted_tail}
-use Rattle.cpi_rows.specs.Keyed.{IsInOrder}
+use Rattle.cpi_rows.specs.Keyed.{IsInOrder, at, put_by}
 use Rattle.cpi_rows.specs.Held.{held_by}
-use Rattle.cpi_rows.specs.Keyed.{at, put_by}
 use Rattle.cpi_store.specs.Bearer.{bearer_of}
 use Rattle.cpi_store.specs.Outlet.{with_name}
-use Rattle.cpi_office.specs.Sound.{BearOwnKeys, HasItsAssignment}
+use Rattle.cpi_store.specs.Sound.{BearOwnKeys, HasItsAssignment}
 use Rattle.cpi_store.specs.declared.bearer.Bearer.{Bearer}
 use Rattle.cpi_store.specs.declared.outlet.Outlet.{Outlet}
 use Rattle.cpi_survey.specs.declared.assignment.Assignment.{Assignment}

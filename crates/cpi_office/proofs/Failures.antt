@@ -1,6 +1,18 @@
 -- No reply that the definitions give says that the office is unavailable, and no verdict turns a caller away.
-use Rattle.std.proofs.Common.{◌≡◌, ℕ, Bool, true, false, Some, None, Option, Result, Ok, Err, refl}
-use Rattle.std.specs.Prelude.{if◌then◌else◌, is_none}
+use Rattle.std.proofs.Common.{◌≡◌, ℕ, Bool, true, false, List, Some, None, Option, Result, Ok, Err, refl}
+use Rattle.std.specs.Prelude.{if◌then◌else◌, is_none, nat_lt, not}
+use Rattle.cpi_rows.specs.Keyed.{at}
+use Rattle.cpi_codes.specs.declared.codes.Code.{Code}
+use Rattle.cpi_index.specs.declared.fault.IndexFault.{IndexFault}
+use Rattle.cpi_release.specs.FrozenMonths.{frozen_months, is_frozen, is_next, plan_for, lacks_plan}
+use Rattle.cpi_release.specs.PublishedTables.{PublishedTable}
+use Rattle.cpi_release.specs.declared.frozen_month.FrozenMonth.{FrozenMonth}
+use Rattle.cpi_release.specs.declared.form.Form.{Form}
+use Rattle.cpi_release.specs.declared.release.Release.{Release}
+use Rattle.cpi_office.specs.Freezing.{has_weightless, row_judged, judged_release, release_verdict, freeze_verdict, frozen}
+use Rattle.cpi_office.specs.declared.request.NewAssignment.{NewAssignment}
+use Rattle.cpi_office.specs.declared.refusal.Refusal.{Refusal}
+use Rattle.cpi_office.specs.declared.refusal.Refusal.TheVariants.{PlanFrozen, MonthFrozen}
 use Rattle.cpi_survey.specs.Decision.{decided}
 use Rattle.cpi_plan.specs.Plan.{Plan}
 use Rattle.cpi_plan.specs.Calendar.{CalendarPart}
@@ -19,10 +31,13 @@ use Rattle.cpi_survey.specs.declared.refusal.Refusal.TheVariants as entry
 use Rattle.cpi_survey.specs.declared.decision.Decision.TheVariants.{Again, Put}
 use Rattle.cpi_store.specs.Office.{Office, Change}
 use Rattle.cpi_office.specs.Views.{View, OwnView}
-use Rattle.cpi_office.specs.Verdicts.{Verdict}
-use Rattle.cpi_office.specs.Desk.{put_once, registered, to_collector, assigned, replaced, plan_put}
-use Rattle.cpi_office.specs.Answers.{decision_reply, known_answer, work_reply}
-use Rattle.cpi_office.specs.Verdicts.{verdict_reply}
+use Rattle.cpi_office.specs.Verdicts.{Verdict, Refuses, verdict_reply}
+use Rattle.cpi_office.specs.Standing.{put_once}
+use Rattle.cpi_office.specs.Assigning.{to_collector, assigned, if_assignable, is_assignable}
+use Rattle.cpi_office.specs.Replacing.{unless_frozen, replaced, plan_put, plan_standing, sent}
+use Rattle.cpi_office.specs.Desk.{registered}
+use Rattle.cpi_plan.specs.Planned.{planned}
+use Rattle.cpi_office.specs.Answers.{decision_reply, known_answer, work_reply, table_reply}
 use Rattle.cpi_office.specs.Runs.{reply_to}
 use Rattle.cpi_office.specs.Served.{is_failure}
 use Rattle.cpi_office.specs.Turned.{is_turned_away}
@@ -70,14 +85,42 @@ once_judges c Free = (refl, refl)
 once_judges c Same = (refl, refl)
 once_judges c Other = (refl, refl)
 
-pub replaced_judges : (c : Change) (s : Standing) → Judges (replaced c s)
-replaced_judges c Free = (refl, refl)
-replaced_judges c Same = (refl, refl)
-replaced_judges c Other = (refl, refl)
+pub unless_judges : (frozen : Bool) (f : Refusal) (c : Change) → Judges (Refuses f) → Judges (unless_frozen frozen f c)
+unless_judges true f c own = own
+unless_judges false f c own = (refl, refl)
 
-pub plan_judges : (r : Result (Plan × Standing) PlanFault) → Judges (plan_put r)
-plan_judges (Err fault) = (refl, refl)
-plan_judges (Ok judged) = replaced_judges _ judged.1
+pub replaced_judges : (frozen : Bool) (f : Refusal) (c : Change) (s : Standing) → Judges (Refuses f) → Judges (replaced frozen f c s)
+replaced_judges frozen f c Free own = unless_judges frozen f c own
+replaced_judges frozen f c Same own = (refl, refl)
+replaced_judges frozen f c Other own = unless_judges frozen f c own
+
+pub plan_judges : (months : List FrozenMonth) (r : Result (Plan × Standing) PlanFault) → Judges (plan_put months r)
+plan_judges months (Err fault) = (refl, refl)
+plan_judges months (Ok judged) = replaced_judges _ PlanFrozen _ judged.1 (refl, refl)
+
+-- a freeze
+pub release_judges : (r : Result Release IndexFault) → Judges (release_verdict r)
+release_judges (Err fault) = (refl, refl)
+release_judges (Ok r) = (refl, refl)
+
+module _ (now month : ℕ) (carry : List Code) (o : Office) where
+  abbrev already : List FrozenMonth
+  already = frozen_months o.releases
+
+  abbrev Fine : Result CalendarPart Refusal → Type 0
+  Fine judged = Judges (freeze_verdict (judged_release now carry o) judged)
+
+  row_judges : (w : Option CalendarPart) → Fine (row_judged now o.plans already carry w)
+  row_judges None = (refl, refl)
+  row_judges (Some row) =
+      if_holds Fine (nat_lt now row.closes) _ _ (λ e. (refl, refl)) (λ e.
+      if_holds Fine (lacks_plan o.plans already row.month) _ _ (λ e. (refl, refl)) (λ e.
+      if_holds Fine (has_weightless (plan_for o.plans already row.month) carry) _ _ (λ e. (refl, refl)) (λ e. release_judges (judged_release now carry o row))))
+
+  pub frozen_judges : Judges (frozen now month carry o)
+  frozen_judges =
+      if_holds Fine (is_frozen month already) _ _ (λ e. (refl, refl)) (λ e.
+      if_holds Fine (not (is_next month already)) _ _ (λ e. (refl, refl)) (λ e. row_judges (at (λ r. r.month) month o.calendar)))
 
 pub registered_judges : (b : Bearer) (w v : Option Bearer) → Judges (registered b w v)
 registered_judges b None None = (refl, refl)
@@ -96,9 +139,19 @@ assigned_judges a i u b Free =
     by None = (refl, refl)
     by (Some b) = (refl, refl)
 
+pub placed_judges : (n : ℕ) (p : NewAssignment) (v : Verdict) → Judges v → Judges (if_assignable n p v)
+placed_judges n p v own = if_holds Judges (is_assignable n p) _ _ (λ e. own) (λ e. (refl, refl))
+
+pub table_own : (form : Form) (month : ℕ) (i : Option PublishedTable) → IsOwn (table_reply form month i)
+table_own form month None = (refl, refl)
+table_own form month (Some i) = (refl, refl)
+
 known_told : (now : ℕ) (r : Request) (v : View) (own : Option OwnView) → is_failure (known_answer now r v own) ≡ false
 known_told now r v None = refl
 known_told now request.Items v (Some own) = refl
+known_told now request.Tables v (Some own) = refl
+known_told now (request.Table month form) v (Some own) = (table_own form month _).0
+known_told now (request.Freeze month carry) v (Some own) = refl
 known_told now (request.Work month) v (Some own) = (work_own month v.public own.part).0
 known_told now (request.Quotes first last) v (Some own) = refl
 known_told now (request.Submit entry) v (Some own) = (decision_own (decided now entry v.public own.part)).0
@@ -111,18 +164,24 @@ known_told now (request.PutCalendar row) v (Some own) = refl
 
 desk_told : (now : ℕ) (r : Request) (o : Office) → is_failure (reply_to now caller.Desk r o) ≡ false
 desk_told now request.Items o = refl
+desk_told now request.Tables o = refl
+desk_told now (request.Table month form) o = (table_own form month _).0
+desk_told now (request.Freeze month carry) o = (frozen_judges now month carry o).0
 desk_told now (request.Work month) o = refl
 desk_told now (request.Quotes first last) o = refl
 desk_told now (request.Submit entry) o = refl
 desk_told now (request.PutItem i) o = (once_judges _ _).0
 desk_told now (request.Register b) o = (registered_judges b _ _).0
 desk_told now (request.PutOutlet u) o = (once_judges _ _).0
-desk_told now (request.Assign n a) o = (assigned_judges _ _ _ _ _).0
-desk_told now (request.PutPlan year body) o = (plan_judges _).0
-desk_told now (request.PutCalendar row) o = (replaced_judges _ _).0
+desk_told now (request.Assign n a) o = (placed_judges n a _ (assigned_judges _ _ _ _ _)).0
+desk_told now (request.PutPlan year body) o = (plan_judges (frozen_months o.releases) (plan_standing o.plans (planned year (sent o.items body)))).0
+desk_told now (request.PutCalendar row) o = (replaced_judges _ MonthFrozen _ _ (refl, refl)).0
 
 public_told : (now : ℕ) (r : Request) (o : Office) → is_failure (reply_to now caller.Public r o) ≡ false
 public_told now request.Items o = refl
+public_told now request.Tables o = refl
+public_told now (request.Table month form) o = (table_own form month _).0
+public_told now (request.Freeze month carry) o = refl
 public_told now (request.Work month) o = refl
 public_told now (request.Quotes first last) o = refl
 public_told now (request.Submit entry) o = refl

@@ -9,21 +9,22 @@ use Rattle.std.specs.List.Sorted.{IsStrictlySortedBy}
 use Rattle.std.proofs.lemmas.Bool.{false≢true}
 use Rattle.std.proofs.lemmas.Bool.Decides.{eqb_tells}
 use Rattle.std.proofs.lemmas.Cmp.{nat_cmp_total, tied_itself}
-use Rattle.cpi_rows.specs.Keyed.{put, IsInOrder}
+use Rattle.cpi_rows.specs.Keyed.{put, IsInOrder, at}
 use Rattle.cpi_rows.specs.Held.{held_by, held_cmp, held_key}
-use Rattle.cpi_rows.specs.Keyed.{at}
-use Rattle.cpi_store.specs.Office.{put_assignment}
-use Rattle.cpi_survey.specs.Quote.{quote_key, quote_cmp}
-use Rattle.cpi_store.specs.Office.{Office}
-use Rattle.cpi_store.specs.Office.{Change, changed, PutsItem, PutsPlan, PutsCalendar, Registers, PutsOutlet, Assigns, Quotes}
-use Rattle.cpi_office.specs.Sound.{IsSound, HasItsRows, HasItsAssignment}
+use Rattle.cpi_store.specs.Office.{put_assignment, Office, Change, changed, PutsItem, PutsPlan, PutsCalendar, Registers, PutsOutlet, Assigns, Quotes, Freezes}
+use Rattle.cpi_survey.specs.Quote.{quote_key, quote_cmp, QuoteRow}
+use Rattle.cpi_store.specs.FrozenLists.{HasFrozenList, IsOfAssignment}
+use Rattle.cpi_store.specs.Sound.{IsSound, HasItsRows, HasItsAssignment, IsWellMade, HasNodesInOrder}
 use Rattle.cpi_survey.specs.declared.assignment.Assignment.{Assignment}
-use Rattle.cpi_survey.specs.Quote.{QuoteRow}
 use Rattle.cpi_rows.proofs.Held.{puts_own, puts_other}
 use Rattle.cpi_rows.proofs.Places.{put_in_order}
 use Rattle.cpi_rows.proofs.Puts.{at-put_some, at-put_found}
 use Rattle.cpi_office.proofs.Bearers.{keys-put}
 use Rattle.cpi_office.proofs.Stood.{held_total, quote_total}
+use Rattle.cpi_release.specs.FrozenMonths.{release_cmp, release_key}
+use Rattle.cpi_release.specs.declared.release.Release.{Release}
+use Rattle.cpi_office.proofs.Sights.{release_total}
+use Rattle.cpi_store.proofs.Published.{newly_frozen, published_more, replanned}
 use Rattle.cpi_office.proofs.Accepted.{Fits}
 
 -- ---- what holds of each row
@@ -89,6 +90,12 @@ module _ (o : Office) (s : IsSound o) (n : ℕ) (a : Assignment) (new : at (λ a
       by None e some = absurd (false≢true some)
       by (Some x) e some = subst IsSome (sym (still_found row.0 row.1.slot x e)) refl
 
+  still_frozen : (r : Release) → HasFrozenList o.assignments r → HasFrozenList (put_assignment n a o.assignments) r
+  still_frozen r list = record {
+    in_order = list.in_order;
+    of_assignments = all_weaker (IsOfAssignment o.assignments) (IsOfAssignment (put_assignment n a o.assignments)) (λ f of. (of.0, still_found f.series.collector f.series.slot of.0 of.1, of.2, of.3)) r.frozen list.of_assignments;
+  }
+
 -- ---- each change
 
 pub stays_sound : (c : Change) (o : Office) → IsSound o → Fits c o → IsSound (changed c o)
@@ -103,6 +110,11 @@ stays_sound (PutsItem i) o s h = record {
   keys = s.keys;
   assigned = all_weaker (HasItsRows o) (HasItsRows (changed (PutsItem i) o)) (λ row has. (has.0, has.1, at-put_some (λ i. i.code) i o.items s.items h row.1.item has.2)) o.assignments s.assigned;
   quoted = s.quoted;
+  releases = s.releases;
+  made = s.made;
+  frozen = s.frozen;
+  nodes = s.nodes;
+  published = s.published;
 }
 stays_sound (PutsPlan p) o s h = record {
   plans = put_in_order nat_cmp_total (λ y. y.year) o.plans p s.plans;
@@ -115,6 +127,11 @@ stays_sound (PutsPlan p) o s h = record {
   keys = s.keys;
   assigned = s.assigned;
   quoted = s.quoted;
+  releases = s.releases;
+  made = s.made;
+  frozen = s.frozen;
+  nodes = all-put HasNodesInOrder nat_cmp (λ y. y.year) p o.plans h.1 s.nodes;
+  published = replanned o.plans p s.plans [] o.releases h.0 s.published;
 }
 stays_sound (PutsCalendar r) o s h = record {
   plans = s.plans;
@@ -127,6 +144,11 @@ stays_sound (PutsCalendar r) o s h = record {
   keys = s.keys;
   assigned = s.assigned;
   quoted = s.quoted;
+  releases = s.releases;
+  made = s.made;
+  frozen = s.frozen;
+  nodes = s.nodes;
+  published = s.published;
 }
 stays_sound (Registers b) o s h = record {
   collectors = put_in_order nat_cmp_total (λ b. b.number) o.collectors b s.collectors;
@@ -139,6 +161,11 @@ stays_sound (Registers b) o s h = record {
   assignments = s.assignments;
   quotes = s.quotes;
   quoted = s.quoted;
+  releases = s.releases;
+  made = s.made;
+  frozen = s.frozen;
+  nodes = s.nodes;
+  published = s.published;
 }
 stays_sound (PutsOutlet u) o s h = record {
   outlets = put_in_order nat_cmp_total (λ u. u.number) o.outlets u s.outlets;
@@ -151,6 +178,11 @@ stays_sound (PutsOutlet u) o s h = record {
   quotes = s.quotes;
   keys = s.keys;
   quoted = s.quoted;
+  releases = s.releases;
+  made = s.made;
+  frozen = s.frozen;
+  nodes = s.nodes;
+  published = s.published;
 }
 stays_sound (Assigns b a) o s h = record {
   assignments = put_in_order (held_total nat_cmp_total) (held_key (λ a. a.slot)) o.assignments (b.number, a.assignment) s.assignments;
@@ -163,6 +195,11 @@ stays_sound (Assigns b a) o s h = record {
   outlets = s.outlets;
   quotes = s.quotes;
   keys = s.keys;
+  releases = s.releases;
+  made = all-put IsWellMade (held_cmp nat_cmp) (held_key (λ a. a.slot)) (b.number, a.assignment) o.assignments h.5 s.made;
+  frozen = all_weaker (HasFrozenList o.assignments) (HasFrozenList (put_assignment b.number a.assignment o.assignments)) (still_frozen o s b.number a.assignment h.0) o.releases s.frozen;
+  nodes = s.nodes;
+  published = s.published;
 }
 stays_sound (Quotes b q) o s h = record {
   quotes = put_in_order (held_total quote_total) (held_key quote_key) o.quotes (b.number, q) s.quotes;
@@ -175,4 +212,26 @@ stays_sound (Quotes b q) o s h = record {
   assignments = s.assignments;
   keys = s.keys;
   assigned = s.assigned;
+  releases = s.releases;
+  made = s.made;
+  frozen = s.frozen;
+  nodes = s.nodes;
+  published = s.published;
+}
+stays_sound (Freezes r) o s h = record {
+  releases = put_in_order release_total release_key o.releases r s.releases;
+  items = s.items;
+  plans = s.plans;
+  calendar = s.calendar;
+  collectors = s.collectors;
+  outlets = s.outlets;
+  assignments = s.assignments;
+  quotes = s.quotes;
+  keys = s.keys;
+  assigned = s.assigned;
+  quoted = s.quoted;
+  made = s.made;
+  frozen = all-put (HasFrozenList o.assignments) release_cmp release_key r o.releases (newly_frozen o s r h.2) s.frozen;
+  nodes = s.nodes;
+  published = published_more o.plans o.releases s.releases r s.published h.1;
 }

@@ -1,6 +1,7 @@
 -- What is stored is what the verdict on a decision changes, and its receipt is above the greatest.
-use Rattle.std.proofs.Common.{◌≡◌, ℕ, Option, Some, None, Result, Ok, Err, refl, arith}
-use Rattle.std.specs.Prelude.{nat_lt, nat_le}
+use Rattle.std.proofs.Common.{◌≡◌, ℕ, Option, Some, None, Result, Ok, Err, refl, sym, subst, arith}
+use Rattle.std.specs.Prelude.{nat_lt, nat_le, IsSome}
+use Rattle.cpi_rows.specs.Keyed.{at}
 use Rattle.cpi_plan.specs.Calendar.{CalendarPart}
 use Rattle.cpi_survey.specs.Entry.{EntryRow}
 use Rattle.cpi_survey.specs.Quote.{QuoteRow, greatest_receipt}
@@ -26,12 +27,15 @@ stored_is b entry (Err f) o = refl
 stored_is b entry (Ok (Again receipt)) o = refl
 stored_is b entry (Ok (Put q)) o = refl
 
-module _ (entry : EntryRow) (greatest : ℕ) where
+module _ (entry : EntryRow) (own : OwnPart) (has : IsSome (at (λ a. a.assignment.slot) entry.slot own.assignments)) where
+  abbrev greatest : ℕ
+  greatest = greatest_receipt own.quotes
+
   abbrev New : Result Decision EntryRefusal → Type 0
-  New d = IsNew d greatest
+  New d = IsNew d own
 
   receipt_new : New (with_receipt entry greatest)
-  receipt_new = if_holds New (nat_le 1000000 greatest) _ _ (λ e. tt) (λ e. omega arith)
+  receipt_new = if_holds New (nat_le 1000000 greatest) _ _ (λ e. tt) (λ e. (omega arith, has))
 
   checked_new : (check : Result (Unit {0}) EntryRefusal) → New (once_checked entry check greatest)
   checked_new (Ok _) = receipt_new
@@ -51,10 +55,10 @@ module _ (entry : EntryRow) (greatest : ℕ) where
   over_new now row a None check = month_new now row a check
   over_new now row a (Some q) check = if_holds New (is_same_mark q.mark entry.mark) _ _ (λ same. tt) (λ other. month_new now row a check)
 
--- a new quote has a receipt above all of its collector's
-pub decided_new : (now : ℕ) (entry : EntryRow) (public : PublicPart) (own : OwnPart) → IsNew (decided now entry public own) (greatest_receipt own.quotes)
-decided_new now entry public own = by (assignment_of entry.slot own)
+-- a new quote has a receipt above all of its collector's, and its slot is the collector's
+pub decided_new : (now : ℕ) (entry : EntryRow) (public : PublicPart) (own : OwnPart) → IsNew (decided now entry public own) own
+decided_new now entry public own = by (assignment_of entry.slot own) refl
   where
-    by : (a : Option Assigned) → IsNew (in_slot now entry public a own) (greatest_receipt own.quotes)
-    by None = tt
-    by (Some a) = over_new entry (greatest_receipt own.quotes) now _ a.assignment _ _
+    by : (a : Option Assigned) → assignment_of entry.slot own ≡ a → IsNew (in_slot now entry public a own) own
+    by None e = tt
+    by (Some a) e = over_new entry own (subst IsSome (sym e) refl) now _ a.assignment _ _

@@ -5,15 +5,12 @@ use Rattle.std.specs.Cmp.Lexicographic.{bytes_decides}
 use Rattle.std.proofs.lemmas.Bool.{eqb-true, false≢true}
 use Rattle.cpi_codes.specs.Text.{same_text}
 use Rattle.cpi_plan.specs.Items.{same_item}
-use Rattle.cpi_store.specs.Outlet.{same_outlet}
-use Rattle.cpi_plan.specs.Calendar.{same_calendar}
+use Rattle.cpi_plan.specs.Calendar.{same_calendar, CalendarPart}
 use Rattle.cpi_store.specs.Bearer.{same_bearer}
 use Rattle.cpi_survey.specs.Assignment.{same_assignment}
 use Rattle.cpi_survey.specs.Mark.{is_same_mark, is_same_reason}
 use Rattle.cpi_plan.specs.declared.items.Item.{Item}
-use Rattle.cpi_plan.specs.Calendar.{CalendarPart}
 use Rattle.cpi_store.specs.declared.bearer.Bearer.{Bearer}
-use Rattle.cpi_store.specs.declared.outlet.Outlet.{Outlet}
 use Rattle.cpi_survey.specs.declared.assignment.Assignment.{Assignment}
 use Rattle.cpi_survey.specs.declared.mark.Mark.{Mark}
 use Rattle.cpi_survey.specs.declared.mark.Mark.TheVariants.{Price, Missing, Comparable, Other}
@@ -86,11 +83,6 @@ pub bearer_equal : (a b : Bearer) → same_bearer a b ≡ true → a ≡ b
 bearer_equal a b e =
     let h = both (a.number == b.number) (a.key == b.key) e in
     λ n. record { number = same_number a.number b.number h.0 n; key = same_number a.key b.key h.1 n }
-
-pub outlet_equal : (a b : Outlet) → same_outlet a b ≡ true → a ≡ b
-outlet_equal a b e =
-    let h = both (a.number == b.number) (same_text a.name b.name) e in
-    λ n. record { number = same_number a.number b.number h.0 n; name = text_equal a.name b.name h.1 n }
 
 pub assignment_equal : (a b : Assignment) → same_assignment a b ≡ true → a ≡ b
 assignment_equal a b e =

@@ -4,7 +4,9 @@ use Rattle.std.proofs.lemmas.List.{append-nil}
 use Rattle.cpi_store.specs.Office.{Office}
 use Rattle.cpi_office.specs.Runs.{replies, reply_to, after, next}
 use Rattle.cpi_office.specs.Served.{served, told, all_served, all_told, IsRun, Ran, is_failure}
-use Rattle.cpi_office.specs.Calls.{Serves}
+use Rattle.cpi_office.specs.Calls.{ServesWhere}
+use Rattle.cpi_store.specs.Sound.{IsSound}
+use Rattle.cpi_office.proofs.Rebuilt.{sound_runs}
 use Rattle.cpi_office.proofs.Failures.{never_failure}
 use Rattle.cpi_office.specs.declared.request.Ask.{Ask}
 use Rattle.cpi_office.specs.declared.reply.Reply.{Reply}
@@ -48,6 +50,10 @@ module _ (o u w : Office) (front : List Ask) (rs : List Reply) (a : Ask) (r : Re
         ∙ ap (λ xs. after xs o) (sym (served_more front rs a r same));
   }
 
+-- a run leaves a sound office sound
+pub run_sound : (o u : Office) (asks : List Ask) (rs : List Reply) → IsRun o asks rs u → IsSound o → IsSound u
+run_sound o u asks rs run s = rw run.office (sound_runs (all_served asks rs) o s)
+
 -- one call of the office is a run of the one request, or of none
 module _ {B : Type 0} (is_clean : B → Type 0) (lists : B → Office) (failures : B → ℕ) where
   run_one : (a : Ask) (r : Reply) (o u : Office) → (r ≡ reply_to a.now a.caller a.request o) → (u ≡ next a o) → (replies (served a r) o ≡ told r) × (u ≡ after (served a r) o)
@@ -59,10 +65,12 @@ module _ {B : Type 0} (is_clean : B → Type 0) (lists : B → Office) (failures
   run_none a r o u e f = rw e (refl, f)
 
   pub ran_more : (old mid new : B) (front : List Ask) (rs : List Reply) (a : Ask) (r : Reply) → length rs ≡ length front → Ran is_clean lists old mid front rs →
-      Serves is_clean lists failures mid new r (reply_to a.now a.caller a.request (lists mid)) (next a (lists mid)) → Ran is_clean lists old new (front ++ a ∷ []) (rs ++ r ∷ [])
+      ServesWhere is_clean lists failures (IsSound (lists mid)) mid new r (reply_to a.now a.caller a.request (lists mid)) (next a (lists mid)) → Ran is_clean lists old new (front ++ a ∷ []) (rs ++ r ∷ [])
   ran_more old mid new front rs a r same ran serves = record {
     was_clean = λ clean. ran.was_clean (serves.was_clean clean);
-    run = λ clean. by (serves.served clean) (ran.run (serves.was_clean clean));
+    run = λ clean s.
+        let so_far = ran.run (serves.was_clean clean) s in
+        by (serves.served clean (run_sound (lists old) (lists mid) front rs so_far s)) so_far;
   }
     where
       by : ((r ≡ reply_to a.now a.caller a.request (lists mid)) × (lists new ≡ next a (lists mid))) ⊎ ((r ≡ Refused Unavailable) × (lists new ≡ lists mid)) → IsRun (lists old) front rs (lists mid) → IsRun (lists old) (front ++ a ∷ []) (rs ++ r ∷ []) (lists new)

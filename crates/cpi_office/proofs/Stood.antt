@@ -7,16 +7,14 @@ use Rattle.std.specs.Ordering.{nat_cmp, is_eq, ordering_then}
 use Rattle.std.specs.Cmp.{IsTotalOrder}
 use Rattle.std.proofs.lemmas.Bool.Decides.{eqb_tells}
 use Rattle.std.proofs.lemmas.Cmp.{nat_cmp_total, tied_itself, ranked, on_total, then_total}
-use Rattle.cpi_rows.specs.Keyed.{row_at}
+use Rattle.cpi_rows.specs.Keyed.{row_at, at}
 use Rattle.cpi_rows.specs.Held.{held_by, held_cmp, held_key}
-use Rattle.cpi_rows.specs.Keyed.{at}
 use Rattle.cpi_store.specs.Bearer.{bearer_of}
 use Rattle.cpi_survey.specs.Quote.{quote_key, quote_cmp}
-use Rattle.cpi_store.specs.Office.{Office}
+use Rattle.cpi_store.specs.Office.{Office, Change, changed, PutsItem, PutsPlan, PutsCalendar, Registers, PutsOutlet, Assigns, Quotes, Freezes}
 use Rattle.cpi_office.specs.Views.{view}
-use Rattle.cpi_store.specs.Office.{Change, changed, PutsItem, PutsPlan, PutsCalendar, Registers, PutsOutlet, Assigns, Quotes}
 use Rattle.cpi_office.specs.Sights.{sights, build}
-use Rattle.cpi_office.specs.Sound.{IsSound}
+use Rattle.cpi_store.specs.Sound.{IsSound}
 use Rattle.cpi_store.specs.declared.bearer.Bearer.{Bearer}
 use Rattle.cpi_office.specs.declared.caller.Caller.{Caller}
 use Rattle.cpi_office.specs.declared.caller.Caller.TheVariants.{Public, Collector, Desk}
@@ -54,34 +52,35 @@ row_held cmp key n k x (r ∷ rows) found = by (eqb_tells r.0 n) (row_held cmp k
     by (inl same) rest = mine (is_eq (cmp (key r.1) k)) refl same.0 same.1 rest
     by (inr apart) rest = rw (other (nat_cmp r.0 n) refl apart.1) (rest (rw apart.0 at found))
 
-module _ (k : Caller) (o : Office) (s : IsSound o) where
+module _ (k : Caller) (t : ℕ) (o : Office) (s : IsSound o) where
   -- a change that leaves the office shows nothing new
-  unmoved : (c : Change) → changed c o ≡ o → Shows k o c → view k o ≡ build (view k o) (sights k c)
-  unmoved c same shows = sym (ap (view k) same) ∙ shows
+  unmoved : (c : Change) → changed c o ≡ o → Shows k t o c → view k t o ≡ build (view k t o) (sights k t c)
+  unmoved c same shows = sym (ap (view k t) same) ∙ shows
 
-registered_stands : (k : Caller) (o : Office) → IsSound o → (b : Bearer) → at (λ b. b.number) b.number o.collectors ≡ Some b → view k o ≡ build (view k o) (sights k (Registers b))
-registered_stands Public o s b found = refl
-registered_stands Desk o s b found = refl
-registered_stands (Collector key) o s b found = by (eqb_tells b.key key)
+registered_stands : (k : Caller) (t : ℕ) (o : Office) → IsSound o → (b : Bearer) → at (λ b. b.number) b.number o.collectors ≡ Some b → view k t o ≡ build (view k t o) (sights k t (Registers b))
+registered_stands Public t o s b found = refl
+registered_stands Desk t o s b found = refl
+registered_stands (Collector key) t o s b found = by (eqb_tells b.key key)
   where
-    by : ((eqb b.key key ≡ true) × (b.key ≡ key)) ⊎ ((eqb b.key key ≡ false) × (b.key ≢ key)) → view (Collector key) o ≡ build (view (Collector key) o) (sights (Collector key) (Registers b))
+    by : ((eqb b.key key ≡ true) × (b.key ≡ key)) ⊎ ((eqb b.key key ≡ false) × (b.key ≢ key)) → view (Collector key) t o ≡ build (view (Collector key) t o) (sights (Collector key) t (Registers b))
     by (inl same) = rw (same.0, ap (λ k. bearer_of k o.collectors) (sym same.1) ∙ s.keys b.number b found) refl
     by (inr apart) = rw apart.0 refl
 
-pub stood_shows : (k : Caller) (o : Office) → IsSound o → (c : Change) → Stood c o → view k o ≡ build (view k o) (sights k c)
-stood_shows k o s (PutsItem i) h =
-    unmoved k o s (PutsItem i) (ap (λ rows. record o { items = rows }) (put_standing nat_cmp_total (λ i. i.code) i o.items s.items h)) (shows_item k o i)
-stood_shows k o s (PutsPlan p) h =
-    unmoved k o s (PutsPlan p) (ap (λ rows. record o { plans = rows }) (put_standing nat_cmp_total (λ y. y.year) p o.plans s.plans h)) (shows_plan k o p)
-stood_shows k o s (PutsCalendar r) h =
-    unmoved k o s (PutsCalendar r) (ap (λ rows. record o { calendar = rows }) (put_standing nat_cmp_total (λ r. r.month) r o.calendar s.calendar h)) (shows_calendar k o r)
-stood_shows k o s (Registers b) h = registered_stands k o s b h
-stood_shows k o s (PutsOutlet u) h = refl
-stood_shows k o s (Assigns b a) h =
-    unmoved k o s (Assigns b a)
+pub stood_shows : (k : Caller) (t : ℕ) (o : Office) → IsSound o → (c : Change) → Stood c o → view k t o ≡ build (view k t o) (sights k t c)
+stood_shows k t o s (PutsItem i) h =
+    unmoved k t o s (PutsItem i) (ap (λ rows. record o { items = rows }) (put_standing nat_cmp_total (λ i. i.code) i o.items s.items h)) (shows_item k t o i)
+stood_shows k t o s (PutsPlan p) h =
+    unmoved k t o s (PutsPlan p) (ap (λ rows. record o { plans = rows }) (put_standing nat_cmp_total (λ y. y.year) p o.plans s.plans h)) (shows_plan k t o p)
+stood_shows k t o s (PutsCalendar r) h =
+    unmoved k t o s (PutsCalendar r) (ap (λ rows. record o { calendar = rows }) (put_standing nat_cmp_total (λ r. r.month) r o.calendar s.calendar h)) (shows_calendar k t o r)
+stood_shows k t o s (Registers b) h = registered_stands k t o s b h
+stood_shows k t o s (PutsOutlet u) h = refl
+stood_shows k t o s (Assigns b a) h =
+    unmoved k t o s (Assigns b a)
     (ap (λ rows. record o { assignments = rows }) (put_standing (held_total nat_cmp_total) (held_key (λ a. a.slot)) (b.number, a.assignment) o.assignments s.assignments (row_held nat_cmp (λ a. a.slot) b.number a.assignment.slot a.assignment o.assignments h.0)))
-    (shows_assignment k o s b a h.1 h.2)
-stood_shows k o s (Quotes b q) h =
-    unmoved k o s (Quotes b q)
+    (shows_assignment k t o s b a h.1 h.2)
+stood_shows k t o s (Quotes b q) h =
+    unmoved k t o s (Quotes b q)
     (ap (λ rows. record o { quotes = rows }) (put_standing (held_total quote_total) (held_key quote_key) (b.number, q) o.quotes s.quotes (row_held quote_cmp quote_key b.number (q.slot, q.month) q o.quotes h.1)))
-    (shows_quote k o s b q h.0)
+    (shows_quote k t o s b q h.0)
+stood_shows k t o s (Freezes r) h = absurd h

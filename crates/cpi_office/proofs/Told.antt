@@ -1,33 +1,42 @@
 -- What a run over a book tells one collector.
-use Rattle.std.proofs.Common.{◌≡◌, ℕ, List, [], ◌∷◌, ◌++◌, length, refl, sym, ap, ◌∙◌, arith, inl, inr}
+use Rattle.std.proofs.Common.{◌≡◌, ℕ, List, [], ◌∷◌, ◌++◌, length, refl, sym, ap, ◌∙◌, arith, inl, inr, Bool, true, false}
 use Rattle.std.specs.Prelude.{◌⊎◌, if◌then◌else◌}
 use Rattle.cpi_store.specs.Office.{Office}
 use Rattle.cpi_office.specs.Runs.{replies, reply_to, next}
-use Rattle.cpi_office.specs.Calls.{Serves}
-use Rattle.cpi_office.specs.Sound.{IsSound}
-use Rattle.cpi_office.specs.Served.{all_served, all_told, IsRun}
-use Rattle.cpi_office.specs.Alone.{is_bearer, told_to, without_others, OthersMayDiffer}
+use Rattle.cpi_office.specs.Calls.{ServesWhere}
+use Rattle.cpi_store.specs.Sound.{IsSound}
+use Rattle.cpi_office.specs.Served.{all_served, all_told, IsRun, is_failure}
+use Rattle.cpi_office.specs.Alone.{is_bearer, told_to, without_others, NoneFreezes, OthersMayDiffer}
 use Rattle.cpi_office.specs.Told.{replies_to, AreToldAlone, NoneFails, IsWhole, RunsTellAlike}
 use Rattle.cpi_office.specs.declared.request.Ask.{Ask}
 use Rattle.cpi_office.specs.declared.reply.Reply.{Reply}
 use Rattle.cpi_office.specs.declared.reply.Reply.TheVariants.{Refused}
 use Rattle.cpi_office.specs.declared.refusal.Refusal.TheVariants.{Unavailable}
-use Rattle.cpi_office.proofs.Rebuilt.{next_sound, sound_runs}
+use Rattle.cpi_office.proofs.Rebuilt.{next_sound}
 use Rattle.cpi_office.proofs.Alone.{others_do_not_matter}
 
 pub others_may_differ : OthersMayDiffer
-others_may_differ key asks others o s same =
-    others_do_not_matter key asks o s ∙ ap (λ xs. told_to key xs o) same ∙ sym (others_do_not_matter key others o s)
+others_may_differ key asks others o s none none' same =
+    others_do_not_matter key asks o s none ∙ ap (λ xs. told_to key xs o) same ∙ sym (others_do_not_matter key others o s none')
 
 -- the replies of a run, beside its requests
 told_is : (key : ℕ) (asks : List Ask) (o : Office) → replies_to key asks (replies asks o) ≡ told_to key asks o
 told_is key [] o = refl
 told_is key (a ∷ asks) o = ap (λ rs. (if is_bearer key a.caller then reply_to a.now a.caller a.request o ∷ [] else []) ++ rs) (told_is key asks (next a o))
 
+none_served : (asks : List Ask) (rs : List Reply) → NoneFreezes asks → NoneFreezes (all_served asks rs)
+none_served [] rs none = tt
+none_served (a ∷ asks) [] none = tt
+none_served (a ∷ asks) (r ∷ rs) none = by (is_failure r) refl (none_served asks rs none.1)
+  where
+    by : (w : Bool) → is_failure r ≡ w → NoneFreezes (all_served asks rs) → NoneFreezes (all_served (a ∷ asks) (r ∷ rs))
+    by true e rest = rw e rest
+    by false e rest = rw e (none.0, rest)
+
 pub told_alone : (o u : Office) (asks : List Ask) (rs : List Reply) → IsSound o → IsRun o asks rs u → AreToldAlone o asks rs
-told_alone o u asks rs s run key =
+told_alone o u asks rs s run none key =
     let front = all_served asks rs in
-    ap (replies_to key front) (sym run.answers) ∙ told_is key front o ∙ others_do_not_matter key front o s
+    ap (replies_to key front) (sym run.answers) ∙ told_is key front o ∙ others_do_not_matter key front o s (none_served asks rs none)
 
 -- where none fails, all requests are served
 all_are_served : (asks : List Ask) (rs : List Reply) → length rs ≡ length asks → NoneFails rs → all_served asks rs ≡ asks
@@ -40,31 +49,27 @@ all_are_told [] none = refl
 all_are_told (r ∷ rs) none = rw none.0 (ap (λ xs. r ∷ xs) (all_are_told rs none.1))
 
 module _ {B : Type 0} (is_clean : B → Type 0) (lists : B → Office) (old new : B) (asks : List Ask) (rs : List Reply) where
-  whole_told : IsWhole is_clean lists old new asks rs → (key : ℕ) → replies_to key asks rs ≡ told_to key (without_others key asks) (lists old)
-  whole_told whole key =
+  whole_told : IsWhole is_clean lists old new asks rs → NoneFreezes asks → (key : ℕ) → replies_to key asks rs ≡ told_to key (without_others key asks) (lists old)
+  whole_told whole none key =
       let served = all_are_served asks rs whole.each whole.served in
       let told = all_are_told rs whole.served in
       ap (λ xs. replies_to key xs rs) (sym served)
       ∙ ap (replies_to key (all_served asks rs)) (sym told)
-      ∙ told_alone (lists old) (lists new) asks rs whole.sound (whole.ran.run whole.clean) key
+      ∙ told_alone (lists old) (lists new) asks rs whole.sound (whole.ran.run whole.clean whole.sound) none key
       ∙ ap (λ xs. told_to key (without_others key xs) (lists old)) served
 
 pub runs_tell_alike : {B C : Type 0} (clean : B → Type 0) (lists : B → Office) (clean' : C → Type 0) (lists' : C → Office) → RunsTellAlike clean lists clean' lists'
-runs_tell_alike clean lists clean' lists' key asks others rs ss old new old' new' whole whole' start same =
-    whole_told clean lists old new asks rs whole key
+runs_tell_alike clean lists clean' lists' key asks others rs ss old new old' new' whole whole' start none none' same =
+    whole_told clean lists old new asks rs whole none key
     ∙ ap (λ xs. told_to key xs (lists old)) same
     ∙ ap (told_to key (without_others key others)) start
-    ∙ sym (whole_told clean' lists' old' new' others ss whole' key)
+    ∙ sym (whole_told clean' lists' old' new' others ss whole' none' key)
 
 -- a request that is served leaves a sound office sound
 pub serves_sound : {B : Type 0} (is_clean : B → Type 0) (lists : B → Office) (failures : B → ℕ) (old new : B) (reply wanted : Reply) (a : Ask) →
-    Serves is_clean lists failures old new reply wanted (next a (lists old)) → is_clean new → IsSound (lists old) → IsSound (lists new)
-serves_sound is_clean lists failures old new reply wanted a serves clean s = by (serves.served clean)
+    ServesWhere is_clean lists failures (IsSound (lists old)) old new reply wanted (next a (lists old)) → is_clean new → IsSound (lists old) → IsSound (lists new)
+serves_sound is_clean lists failures old new reply wanted a serves clean s = by (serves.served clean s)
   where
     by : ((reply ≡ wanted) × (lists new ≡ next a (lists old))) ⊎ ((reply ≡ Refused Unavailable) × (lists new ≡ lists old)) → IsSound (lists new)
     by (inl done) = rw done.1 (next_sound a (lists old) s)
     by (inr failed) = rw failed.1 s
-
--- and so does a run
-pub run_sound : (o u : Office) (asks : List Ask) (rs : List Reply) → IsRun o asks rs u → IsSound o → IsSound u
-run_sound o u asks rs run s = rw run.office (sound_runs (all_served asks rs) o s)

@@ -11,13 +11,16 @@ use Rattle.cpi_office.specs.declared.request.Request.{Request}
 use Rattle.cpi_office.specs.declared.request.Request.TheVariants as request
 use Rattle.cpi_office.specs.declared.reply.Reply.TheVariants.{Refused}
 use Rattle.cpi_office.specs.declared.refusal.Refusal.TheVariants.{NotForCaller}
-use Rattle.cpi_office.proofs.Failures.{decision_own, work_own}
+use Rattle.cpi_office.proofs.Failures.{decision_own, work_own, table_own}
 
 no : {A : Type 0} (t : Bool) → t ≡ false → IsTrue t → A
 no t e turned = absurd (false≢true (sym e ∙ turned))
 
 pub turned_is : (now : ℕ) (r : Request) (v : View) (own : OwnPart) → IsTrue (is_turned_away (collector_answer now r v own)) → collector_answer now r v own ≡ Refused NotForCaller
 turned_is now request.Items v own turned = no false refl turned
+turned_is now request.Tables v own turned = no false refl turned
+turned_is now (request.Table month form) v own turned = no _ (table_own form month _).1 turned
+turned_is now (request.Freeze month carry) v own turned = refl
 turned_is now (request.Work month) v own turned = no _ (work_own month v.public own).1 turned
 turned_is now (request.Quotes first last) v own turned = no false refl turned
 turned_is now (request.Submit entry) v own turned = no _ (decision_own (decided now entry v.public own)).1 turned

@@ -1,52 +1,59 @@
 -- What becomes of a request holds of the office: a change that is made fits, and one that stands is there.
-use Rattle.std.proofs.Common.{◌≡◌, ℕ, Bool, true, false, Some, None, Option, Result, Ok, Err, refl, sym, ap, ◌∙◌, subst, inl, inr}
-use Rattle.std.specs.Prelude.{◌⊎◌, IsSome, nat_lt, nat_le, is_none, option_map}
+use Rattle.std.proofs.Common.{◌≡◌, ℕ, Bool, true, false, List, Some, None, Option, Result, Ok, Err, refl, sym, ap, ◌∙◌, subst, inl, inr}
+use Rattle.std.specs.Prelude.{◌⊎◌, IsSome, nat_lt, nat_le, is_none, option_map, not, ◌&&◌}
 use Rattle.std.specs.Ordering.{nat_cmp}
-use Rattle.std.proofs.lemmas.Bool.{false≢true}
+use Rattle.std.proofs.lemmas.Bool.{false≢true, leb-true}
 use Rattle.std.proofs.lemmas.Map.Lookups.{exact_pairs, exact_unsigned}
 use Rattle.cpi_rows.specs.Keyed.{at, row_at}
 use Rattle.cpi_rows.specs.Held.{held_by}
 use Rattle.cpi_rows.proofs.Found.{row_key, at_key, at-map}
-use Rattle.cpi_survey.specs.Quote.{QuoteRow}
+use Rattle.cpi_survey.specs.Quote.{QuoteRow, quote_cmp, quote_key}
 use Rattle.cpi_survey.specs.Entry.{EntryRow}
-use Rattle.cpi_survey.specs.Assignment.{is_active}
+use Rattle.cpi_survey.specs.Assignment.{is_active, same_assignment}
 use Rattle.cpi_survey.specs.Decision.{decided, in_slot, over_quote, in_month, in_window, once_checked, with_receipt}
 use Rattle.cpi_survey.specs.Mark.{is_same_mark}
-use Rattle.cpi_store.specs.Outlet.{with_name}
-use Rattle.cpi_survey.specs.Quote.{quote_cmp, quote_key}
+use Rattle.cpi_store.specs.Outlet.{with_name, same_outlet}
 use Rattle.cpi_plan.specs.Items.{same_item}
-use Rattle.cpi_store.specs.Outlet.{same_outlet}
 use Rattle.cpi_plan.specs.Plan.{Plan}
 use Rattle.cpi_plan.specs.Planned.{planned}
 use Rattle.cpi_plan.specs.SamePlan.{same_plan}
 use Rattle.cpi_plan.specs.declared.plan_faults.PlanFault.{PlanFault}
 use Rattle.cpi_plan.proofs.SamePlans.{plan_decides}
-use Rattle.cpi_plan.specs.Calendar.{same_calendar}
-use Rattle.cpi_store.specs.Bearer.{same_bearer}
-use Rattle.cpi_survey.specs.Assignment.{same_assignment}
+use Rattle.cpi_plan.specs.Calendar.{same_calendar, CalendarPart}
+use Rattle.cpi_store.specs.Bearer.{same_bearer, bearer_of}
 use Rattle.cpi_plan.specs.declared.items.Item.{Item}
-use Rattle.cpi_plan.specs.Calendar.{CalendarPart}
 use Rattle.cpi_store.specs.declared.bearer.Bearer.{Bearer}
 use Rattle.cpi_store.specs.declared.outlet.Outlet.{Outlet}
 use Rattle.cpi_survey.specs.declared.assignment.Assignment.{Assignment}
 use Rattle.cpi_survey.specs.declared.assignment.Assigned.{Assigned}
 use Rattle.cpi_survey.specs.declared.decision.Decision.{Decision}
 use Rattle.cpi_survey.specs.declared.refusal.Refusal.{Refusal as EntryRefusal}
-use Rattle.cpi_store.specs.Office.{Office, PutsPlan, own_part, public_part}
-use Rattle.cpi_store.specs.Bearer.{bearer_of}
+use Rattle.cpi_store.specs.Office.{Office, Change, PutsPlan, PutsCalendar, own_part, public_part}
+use Rattle.cpi_codes.specs.declared.codes.Code.{Code}
+use Rattle.cpi_index.specs.declared.fault.IndexFault.{IndexFault}
+use Rattle.cpi_release.specs.FrozenMonths.{release_cmp, release_key, frozen_months, is_frozen, is_year_frozen, is_next, plan_for, lacks_plan}
+use Rattle.cpi_release.specs.Publishing.{fault_of}
+use Rattle.cpi_office.specs.Freezing.{has_weightless, row_judged, frozen_with, judged_release, release_verdict, freeze_verdict, frozen}
+use Rattle.cpi_store.specs.Sound.{IsWellMade, HasNodesInOrder, IsSound}
+use Rattle.cpi_plan.proofs.PlanNodes.{planned_nodes}
+use Rattle.cpi_office.specs.declared.request.NewAssignment.{NewAssignment}
+use Rattle.cpi_office.specs.declared.refusal.Refusal.{Refusal}
+use Rattle.cpi_office.specs.declared.refusal.Refusal.TheVariants.{PlanFrozen, MonthFrozen}
 use Rattle.cpi_office.specs.Views.{view, own_view}
-use Rattle.cpi_office.specs.Verdicts.{Verdict}
-use Rattle.cpi_office.specs.Desk.{standing, item_put, outlet_put, registered, to_collector, standing_for, assigned, replaced, calendar_put, sent, plan_standing, plan_put}
-use Rattle.cpi_office.specs.Desk.{commanded}
+use Rattle.cpi_office.specs.Verdicts.{Verdict, Makes}
+use Rattle.cpi_office.specs.Standing.{standing}
+use Rattle.cpi_office.specs.Assigning.{assigned_in, to_collector, standing_for, assigned, first_of_series, is_assignable}
+use Rattle.cpi_office.specs.Replacing.{unless_frozen, replaced, calendar_put, sent, plan_standing, plan_put}
+use Rattle.cpi_office.specs.Desk.{item_put, outlet_put, registered, commanded}
 use Rattle.cpi_office.specs.Entries.{of_collector, decision_verdict, entered, quoted}
 use Rattle.cpi_office.specs.Runs.{verdict}
-use Rattle.cpi_office.specs.Sound.{IsSound}
 use Rattle.cpi_office.specs.declared.request.Request.{Request}
 use Rattle.cpi_office.specs.declared.request.Request.TheVariants as request
 use Rattle.cpi_office.specs.declared.caller.Caller.{Caller}
 use Rattle.cpi_office.specs.declared.caller.Caller.TheVariants as caller
 use Rattle.cpi_office.proofs.Accepted.{Holds}
 use Rattle.cpi_office.proofs.Failures.{if_holds}
+use Rattle.cpi_office.proofs.Judged.{not_there}
 use Rattle.cpi_office.proofs.Bearers.{bearer_listed}
 use Rattle.cpi_office.proofs.Same.{item_equal, calendar_equal, bearer_equal, assignment_equal, mark_equal}
 
@@ -70,32 +77,37 @@ module _ (o : Office) where
       by true f = rw f tt
       by false f = rw f tt
 
-  calendar_fair : (r : CalendarPart) (w : Option CalendarPart) → at (λ r. r.month) r.month o.calendar ≡ w → Fair (calendar_put r w)
-  calendar_fair r None e = tt
+  -- what may be put unless it was frozen
+  unless_fair : (frozen : Bool) (f : Refusal) (c : Change) → (frozen ≡ false → Fair (Makes c)) → Fair (unless_frozen frozen f c)
+  unless_fair true f c fair = tt
+  unless_fair false f c fair = fair refl
+
+  calendar_fair : (r : CalendarPart) (w : Option CalendarPart) → at (λ r. r.month) r.month o.calendar ≡ w → Fair (calendar_put (frozen_months o.releases) r w)
+  calendar_fair r None e = unless_fair _ _ _ (λ free. tt)
   calendar_fair r (Some old) e = by (same_calendar old r) refl
     where
-      by : (t : Bool) → same_calendar old r ≡ t → Fair (calendar_put r (Some old))
+      by : (t : Bool) → same_calendar old r ≡ t → Fair (calendar_put (frozen_months o.releases) r (Some old))
       by true f = rw f (e ∙ ap Some (calendar_equal old r f))
-      by false f = rw f tt
+      by false f = rw f (unless_fair (is_frozen r.month (frozen_months o.releases)) MonthFrozen (PutsCalendar r) (λ free. tt))
 
-  plan_fair : (p : Plan) (w : Option Plan) → at (λ y. y.year) p.year o.plans ≡ w → Fair (replaced (PutsPlan p) (standing same_plan p w))
-  plan_fair p None e = tt
-  plan_fair p (Some old) e = by (same_plan old p) refl
+  plan_fair : (p : Plan) (w : Option Plan) → HasNodesInOrder p → at (λ y. y.year) p.year o.plans ≡ w → Fair (replaced (is_year_frozen p.year (frozen_months o.releases)) PlanFrozen (PutsPlan p) (standing same_plan p w))
+  plan_fair p None nodes e = unless_fair _ _ _ (λ free. (free, nodes))
+  plan_fair p (Some old) nodes e = by (same_plan old p) refl
     where
-      by : (t : Bool) → same_plan old p ≡ t → Fair (replaced (PutsPlan p) (standing same_plan p (Some old)))
+      by : (t : Bool) → same_plan old p ≡ t → Fair (replaced (is_year_frozen p.year (frozen_months o.releases)) PlanFrozen (PutsPlan p) (standing same_plan p (Some old)))
       by true f = rw f (e ∙ ap Some ((plan_decides old p).0 f))
-      by false f = rw f tt
+      by false f = rw f (unless_fair (is_year_frozen p.year (frozen_months o.releases)) PlanFrozen (PutsPlan p) (λ free. (free, nodes)))
 
-  planned_fair : (r : Result Plan PlanFault) → Fair (plan_put (plan_standing o.plans r))
-  planned_fair (Err fault) = tt
-  planned_fair (Ok p) = plan_fair p (at (λ y. y.year) p.year o.plans) refl
+  planned_fair : (r : Result Plan PlanFault) → ((p : Plan) → r ≡ Ok p → HasNodesInOrder p) → Fair (plan_put (frozen_months o.releases) (plan_standing o.plans r))
+  planned_fair (Err fault) nodes = tt
+  planned_fair (Ok p) nodes = plan_fair p (at (λ y. y.year) p.year o.plans) (nodes p refl) refl
 
   registered_fair : (b : Bearer) (w v : Option Bearer) → at (λ b. b.number) b.number o.collectors ≡ w → bearer_of b.key o.collectors ≡ v → Fair (registered b w v)
   registered_fair b None None e f = (e, f)
   registered_fair b None (Some other) e f = tt
   registered_fair b (Some old) v e f = if_holds Fair (same_bearer old b) _ _ (λ same. e ∙ ap Some (bearer_equal old b same)) (λ other. tt)
 
-  module _ (n : ℕ) (x : Assignment) where
+  module _ (n : ℕ) (x : Assignment) (made : IsWellMade (n, x)) where
     abbrev slot_free : Type 0
     slot_free = at (λ a. a.slot) x.slot (held_by n o.assignments) ≡ None
 
@@ -103,7 +115,7 @@ module _ (o : Office) where
     to_collector_fair None e free outlet item = tt
     to_collector_fair (Some b) e free outlet item =
         let same : b.number ≡ n = at_key (λ b. b.number) n b o.collectors e in
-        (ap (λ k. at (λ a. a.slot) x.slot (held_by k o.assignments)) same ∙ free, ap (λ k. at (λ b. b.number) k o.collectors) same ∙ e, outlet, item, refl)
+        (ap (λ k. at (λ a. a.slot) x.slot (held_by k o.assignments)) same ∙ free, ap (λ k. at (λ b. b.number) k o.collectors) same ∙ e, outlet, item, refl, subst (λ k. IsWellMade (k, x)) (sym same) made)
 
     standing_fair : (w : Option Bearer) → at (λ b. b.number) n o.collectors ≡ w → at (λ a. a.slot) x.slot (held_by n o.assignments) ≡ Some x → Fair (standing_for (with_name o.outlets x) w)
     standing_fair None e there = tt
@@ -126,6 +138,63 @@ module _ (o : Office) where
         by : (t : Bool) → same_assignment old x ≡ t → Fair (assigned (with_name o.outlets x) (at (λ i. i.code) x.item o.items) (at (λ u. u.number) x.outlet o.outlets) w (standing same_assignment x (Some old)))
         by true f = rw f (standing_fair w e (there ∙ ap Some (assignment_equal old x f)))
         by false f = rw f tt
+
+  -- ---- an assignment that is sent
+
+  both : (a b : Bool) → (a && b) ≡ true → (a ≡ true) × (b ≡ true)
+  both true b e = (refl, e)
+  both false b e = absurd (false≢true e)
+
+  well_made : (n : ℕ) (p : NewAssignment) → is_assignable n p ≡ true → IsWellMade (n, first_of_series n p)
+  well_made n p e =
+      let last = both (nat_le p.first_month p.last_month && nat_le 1 n && nat_le 1 p.slot) (nat_le p.slot 400) e in
+      let slot = both (nat_le p.first_month p.last_month && nat_le 1 n) (nat_le 1 p.slot) last.0 in
+      let number = both (nat_le p.first_month p.last_month) (nat_le 1 n) slot.0 in
+      record {
+        series = refl;
+        months = leb-true p.first_month p.last_month number.0;
+        collector = leb-true 1 n number.1;
+        slot = (leb-true 1 p.slot slot.1, leb-true p.slot 400 last.1);
+      }
+
+  placed_fair : (n : ℕ) (p : NewAssignment) → Fair (assigned_in n p o)
+  placed_fair n p =
+      if_holds Fair (is_assignable n p) _ _ (λ e.
+      assigned_fair n (first_of_series n p) (well_made n p e) (at (λ b. b.number) n o.collectors) (at (λ a. a.slot) p.slot (held_by n o.assignments)) refl refl) (λ e. tt)
+
+  -- ---- a freeze
+
+  passes : (w : Bool) → not w ≡ false → w ≡ true
+  passes true e = refl
+  passes false e = absurd (false≢true (sym e))
+
+  module _ (now : ℕ) (carry : List Code) where
+    release_fair : (row : CalendarPart) → row_at release_cmp release_key row.month o.releases ≡ None → is_next row.month (frozen_months o.releases) ≡ true → lacks_plan o.plans (frozen_months o.releases) row.month ≡ false →
+        Fair (release_verdict (judged_release now carry o row))
+    release_fair row new follows planned = by (fault_of (plan_for o.plans (frozen_months o.releases) row.month) o.releases (frozen_with now row carry o)) refl
+      where
+        by : (w : Option IndexFault) → fault_of (plan_for o.plans (frozen_months o.releases) row.month) o.releases (frozen_with now row carry o) ≡ w → Fair (release_verdict (judged_release now carry o row))
+        by (Some fault) e = rw e tt
+        by None e = rw e (new, record { follows = follows; planned = planned; faultless = e; computed = refl }, refl)
+
+    abbrev Fairly : Result CalendarPart Refusal → Type 0
+    Fairly judged = Fair (freeze_verdict (judged_release now carry o) judged)
+
+    row_fair : (month : ℕ) (w : Option CalendarPart) → at (λ r. r.month) month o.calendar ≡ w → row_at release_cmp release_key month o.releases ≡ None → is_next month (frozen_months o.releases) ≡ true →
+        Fairly (row_judged now o.plans (frozen_months o.releases) carry w)
+    row_fair month None e new follows = tt
+    row_fair month (Some row) e new follows =
+        let same : row.month ≡ month = at_key (λ r. r.month) month row o.calendar e in
+        if_holds Fairly (nat_lt now row.closes) _ _ (λ f. tt) (λ f.
+        if_holds Fairly (lacks_plan o.plans (frozen_months o.releases) row.month) _ _ (λ f. tt) (λ planned.
+        if_holds Fairly (has_weightless (plan_for o.plans (frozen_months o.releases) row.month) carry) _ _ (λ f. tt) (λ f.
+        release_fair row (ap (λ k. row_at release_cmp release_key k o.releases) same ∙ new) (ap (λ k. is_next k (frozen_months o.releases)) same ∙ follows) planned)))
+
+    frozen_fair : (month : ℕ) → Fair (frozen now month carry o)
+    frozen_fair month =
+        if_holds Fairly (is_frozen month (frozen_months o.releases)) _ _ (λ e. tt) (λ e.
+        if_holds Fairly (not (is_next month (frozen_months o.releases))) _ _ (λ f. tt) (λ f.
+        row_fair month (at (λ r. r.month) month o.calendar) refl (not_there month o.releases e) (passes (is_next month (frozen_months o.releases)) f)))
 
   -- ---- an entry
 
@@ -181,29 +250,32 @@ module _ (o : Office) where
         by None e = slot_meets (at (λ a. a.assignment.slot) entry.slot (own_part b.number o).assignments) (inl (named ∙ ap (option_map (with_name o.outlets)) e))
         by (Some x) e = slot_meets (at (λ a. a.assignment.slot) entry.slot (own_part b.number o).assignments) (inr (subst IsSome (sym e) refl))
 
-entered_holds : (o : Office) → IsSound o → (key now : ℕ) (entry : EntryRow) → Holds (of_collector key now (request.Submit entry) (view (caller.Collector key) o)) o
+entered_holds : (o : Office) → IsSound o → (key now : ℕ) (entry : EntryRow) → Holds (of_collector key now (request.Submit entry) (view (caller.Collector key) now o)) o
 entered_holds o s key now entry = by (bearer_of key o.collectors) refl
   where
-    by : (w : Option Bearer) → bearer_of key o.collectors ≡ w → Holds (entered key now entry (view (caller.Collector key) o) (option_map (own_view o) w)) o
+    by : (w : Option Bearer) → bearer_of key o.collectors ≡ w → Holds (entered key now entry (view (caller.Collector key) now o) (option_map (own_view o) w)) o
     by None e = tt
     by (Some b) e =
         let listed = bearer_listed key b o.collectors s.collectors e in
         subst (λ k. Holds (Some (decision_verdict (record { number = b.number; key = k }) entry (decided now entry (public_part o) (own_part b.number o)))) o) listed.bears (decided_meets o b listed.found now entry)
 
 module _ (now : ℕ) (o : Office) where
-  command_holds : (r : Request) → Holds (commanded r o) o
+  command_holds : (r : Request) → Holds (commanded now r o) o
   command_holds (request.PutItem i) = item_fair o i (at (λ i. i.code) i.code o.items) refl
-  command_holds (request.PutPlan year body) = planned_fair o (planned year (sent o.items body))
+  command_holds (request.PutPlan year body) = planned_fair o (planned year (sent o.items body)) (planned_nodes year (sent o.items body))
   command_holds (request.PutCalendar row) = calendar_fair o row (at (λ r. r.month) row.month o.calendar) refl
   command_holds (request.Register b) = registered_fair o b (at (λ b. b.number) b.number o.collectors) (bearer_of b.key o.collectors) refl refl
   command_holds (request.PutOutlet u) = outlet_fair o u (at (λ u. u.number) u.number o.outlets) refl
-  command_holds (request.Assign n a) = assigned_fair o n a (at (λ b. b.number) n o.collectors) (at (λ a. a.slot) a.slot (held_by n o.assignments)) refl refl
+  command_holds (request.Assign n a) = placed_fair o n a
+  command_holds (request.Freeze month carry) = frozen_fair o now carry month
+  command_holds request.Tables = tt
+  command_holds (request.Table month form) = tt
   command_holds request.Items = tt
   command_holds (request.Work month) = tt
   command_holds (request.Quotes first last) = tt
   command_holds (request.Submit entry) = tt
 
-  collector_holds : IsSound o → (key : ℕ) (r : Request) → Holds (of_collector key now r (view (caller.Collector key) o)) o
+  collector_holds : IsSound o → (key : ℕ) (r : Request) → Holds (of_collector key now r (view (caller.Collector key) now o)) o
   collector_holds s key (request.Submit entry) = entered_holds o s key now entry
   collector_holds s key (request.PutItem i) = tt
   collector_holds s key (request.PutPlan year body) = tt
@@ -212,6 +284,9 @@ module _ (now : ℕ) (o : Office) where
   collector_holds s key (request.PutOutlet u) = tt
   collector_holds s key (request.Assign n a) = tt
   collector_holds s key request.Items = tt
+  collector_holds s key request.Tables = tt
+  collector_holds s key (request.Table month form) = tt
+  collector_holds s key (request.Freeze month carry) = tt
   collector_holds s key (request.Work month) = tt
   collector_holds s key (request.Quotes first last) = tt
 

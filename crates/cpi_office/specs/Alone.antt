@@ -1,9 +1,13 @@
--- What one collector is told, whatever other collectors ask.
-use Rattle.std.specs.Prelude.{◌≡◌, ℕ, Bool, false, not, ◌==◌, List, [], ◌∷◌, ◌++◌, filter, if◌then◌else◌}
+-- What one collector is told, whatever other collectors ask: where no freeze is among the requests, since the table of
+-- a frozen month is made of everybody's quotes.
+use Rattle.std.specs.List.{AllByRecursion}
+use Rattle.std.specs.Prelude.{◌≡◌, ℕ, Bool, true, IsFalse, false, not, ◌==◌, List, [], ◌∷◌, ◌++◌, filter, if◌then◌else◌}
 use Rattle.cpi_store.specs.Office.{Office}
 use Rattle.cpi_office.specs.Runs.{reply_to, next}
-use Rattle.cpi_office.specs.Sound.{IsSound}
+use Rattle.cpi_store.specs.Sound.{IsSound}
 use Rattle.cpi_office.specs.declared.request.Ask.{Ask}
+use Rattle.cpi_office.specs.declared.request.Request.{Request}
+use Rattle.cpi_office.specs.declared.request.Request.TheVariants.{Freeze}
 use Rattle.cpi_office.specs.declared.reply.Reply.{Reply}
 use Rattle.cpi_office.specs.declared.caller.Caller.{Caller}
 use Rattle.cpi_office.specs.declared.caller.Caller.TheVariants.{Public, Collector, Desk}
@@ -25,14 +29,28 @@ without_others key asks = filter (λ a. not (is_other key a.caller)) asks
 -- the replies of a run to the requests that come with the key, in order
 abbrev pub told_to : ℕ → List Ask → Office → List Reply
 told_to key [] o = []
-told_to key (a ∷ asks) o = (if is_bearer key a.caller then reply_to a.now a.caller a.request o ∷ [] else []) ++ told_to key asks (next a o)
+told_to key (a ∷ asks) o =
+    (if is_bearer key a.caller then reply_to a.now a.caller a.request o ∷ [] else []) ++ told_to key asks (next a o)
 
--- A collector is told the same if all requests of all other collectors are left out.
+abbrev pub freezes : Request → Bool
+freezes (Freeze month carry) = true
+freezes _ = false
+
+-- no freeze is among the requests
+abbrev pub NoneFreezes : List Ask → Type 0
+NoneFreezes asks = AllByRecursion (λ a. IsFalse (freezes a.request)) asks
+
+-- Where no freeze is among the requests, a collector is told the same if all requests of all other collectors are left
+-- out.
 abbrev pub OthersDoNotMatter : Type 0
-OthersDoNotMatter = (key : ℕ) (asks : List Ask) (o : Office) → IsSound o → told_to key asks o ≡ told_to key (without_others key asks) o
+OthersDoNotMatter =
+    (key : ℕ) (asks : List Ask) (o : Office) → IsSound o → NoneFreezes asks →
+    told_to key asks o ≡ told_to key (without_others key asks) o
 
--- A collector is told the same by two lists of requests that differ in the requests of other collectors alone.
+-- Where no freeze is among the requests, a collector is told the same by two lists of requests that differ in the
+-- requests of other collectors alone.
 abbrev pub OthersMayDiffer : Type 0
 OthersMayDiffer =
-    (key : ℕ) (asks others : List Ask) (o : Office) → IsSound o → without_others key asks ≡ without_others key others →
+    (key : ℕ) (asks others : List Ask) (o : Office) → IsSound o → NoneFreezes asks → NoneFreezes others →
+    without_others key asks ≡ without_others key others →
     told_to key asks o ≡ told_to key others o

@@ -26,7 +26,9 @@ decision_verdict b entry (Ok (Put q)) = Makes (Quotes b q)
 
 abbrev pub entered : ℕ → ℕ → EntryRow → View → Option OwnView → Option Verdict
 entered key now entry v None = None
-entered key now entry v (Some own) = Some (decision_verdict (record { number = own.number; key = key }) entry (decided now entry v.public own.part))
+entered key now entry v (Some own) =
+    let bearer : Bearer = record { number = own.number; key = key } in
+    Some (decision_verdict bearer entry (decided now entry v.public own.part))
 
 -- a collector changes something by an entry alone
 abbrev pub of_collector : ℕ → ℕ → Request → View → Option Verdict

@@ -1,7 +1,8 @@
--- The same answer and change for a collector who is, or is not, known by the key.
+-- Answer and change for a collector, by who was found to bear the key.
 use Rattle.std.specs.Prelude.{ℕ, Option, option_map}
 use Rattle.cpi_store.specs.declared.bearer.Bearer.{Bearer}
 use Rattle.cpi_store.specs.Office.{Office, public_part}
+use Rattle.cpi_release.specs.PublishedTables.{published_until}
 use Rattle.cpi_office.specs.Views.{View, own_view}
 use Rattle.cpi_office.specs.declared.request.Request.{Request}
 use Rattle.cpi_office.specs.declared.reply.Reply.{Reply}
@@ -9,12 +10,16 @@ use Rattle.cpi_office.specs.Verdicts.{after_verdict}
 use Rattle.cpi_office.specs.Entries.{of_collector}
 use Rattle.cpi_office.specs.Answers.{known_answer}
 
--- the same for a collector who is, or is not, known by the key
-abbrev pub collector_view : Office → Option Bearer → View
-collector_view o bearer = record { public = public_part o; own = option_map (own_view o) bearer }
+-- the view of whoever was found, or of one whom nobody knows
+abbrev pub collector_view : ℕ → Office → Option Bearer → View
+collector_view now o bearer = record {
+  public = public_part o;
+  own = option_map (own_view o) bearer;
+  tables = published_until now o.releases;
+}
 
 abbrev pub collector_reply : ℕ → Request → Office → Option Bearer → Reply
-collector_reply now r o bearer = known_answer now r (collector_view o bearer) (option_map (own_view o) bearer)
+collector_reply now r o bearer = known_answer now r (collector_view now o bearer) (option_map (own_view o) bearer)
 
 abbrev pub collector_after : ℕ → ℕ → Request → Office → Option Bearer → Office
-collector_after key now r o bearer = after_verdict (of_collector key now r (collector_view o bearer)) o
+collector_after key now r o bearer = after_verdict (of_collector key now r (collector_view now o bearer)) o

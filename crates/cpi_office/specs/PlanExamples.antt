@@ -20,7 +20,13 @@ use Rattle.cpi_office.specs.declared.reply.Reply.TheVariants.{Done, Refused}
 use Rattle.cpi_office.specs.declared.refusal.Refusal.TheVariants as refusal
 
 abbrev pub flour : Item
-flour = record { code = 21756203690618982306406203392; text = codes "Flour, wheat"; unit = codes "1 kg"; low = 500; high = 2000 }
+flour = record {
+  code = 21756203690618982306406203392;
+  text = codes "Flour, wheat";
+  unit = codes "1 kg";
+  low = 500;
+  high = 2000;
+}
 
 -- ---- codes
 
@@ -44,17 +50,20 @@ abbrev pub of_rice : Code
 of_rice = record { division = 1; group = Some 1; class = Some 1; subclass = Some 1; aggregate = None; valid = refl }
 
 abbrev pub packed_rice : Code
-packed_rice = record { division = 1; group = Some 1; class = Some 1; subclass = Some 1; aggregate = Some 1; valid = refl }
+packed_rice =
+    record { division = 1; group = Some 1; class = Some 1; subclass = Some 1; aggregate = Some 1; valid = refl }
 
 -- 01.1.1.2, 01.1.1.2-01 and 01.1.1.2-02
 abbrev pub of_flour : Code
 of_flour = record { division = 1; group = Some 1; class = Some 1; subclass = Some 2; aggregate = None; valid = refl }
 
 abbrev pub wheat_flour : Code
-wheat_flour = record { division = 1; group = Some 1; class = Some 1; subclass = Some 2; aggregate = Some 1; valid = refl }
+wheat_flour =
+    record { division = 1; group = Some 1; class = Some 1; subclass = Some 2; aggregate = Some 1; valid = refl }
 
 abbrev pub other_flour : Code
-other_flour = record { division = 1; group = Some 1; class = Some 1; subclass = Some 2; aggregate = Some 2; valid = refl }
+other_flour =
+    record { division = 1; group = Some 1; class = Some 1; subclass = Some 2; aggregate = Some 2; valid = refl }
 
 -- ---- what is sent
 
@@ -109,8 +118,10 @@ abbrev pub plan : ℕ → List ℕ → Plan
 plan year words = record {
   year = year;
   nodes =
-      node all_items (codes "All items") 1000000 ∷ node food_and_drink (codes "Food and drink") 1000000 ∷ node food words 1000000 ∷ node cereals (codes "Cereals") 1000000
-      ∷ node of_rice (codes "Rice") 600000 ∷ node packed_rice (codes "Rice, packed") 600000 ∷ node of_flour (codes "Flour") 400000 ∷ node wheat_flour (codes "Flour, wheat") 400000 ∷ [];
+      node all_items (codes "All items") 1000000 ∷ node food_and_drink (codes "Food and drink") 1000000
+      ∷ node food words 1000000 ∷ node cereals (codes "Cereals") 1000000
+      ∷ node of_rice (codes "Rice") 600000 ∷ node packed_rice (codes "Rice, packed") 600000
+      ∷ node of_flour (codes "Flour") 400000 ∷ node wheat_flour (codes "Flour, wheat") 400000 ∷ [];
   weights = weight packed_rice 600000 ∷ weight wheat_flour 400000 ∷ [];
   places = place flour.code wheat_flour ∷ place rice.code packed_rice ∷ [];
 }
@@ -141,9 +152,12 @@ broken =
 abbrev pub EachFault : Type 0
 EachFault =
     replies (broken ++ put_plan 2026 body ∷ []) shelf
-    ≡ Refused (refusal.PlanFault fault.DuplicateCode) ∷ Refused (refusal.PlanFault fault.NotElementary) ∷ Refused (refusal.PlanFault fault.ZeroWeight)
-    ∷ Refused (refusal.PlanFault (fault.WeightSum 999999)) ∷ Refused (refusal.PlanFault (fault.WeightSum 0)) ∷ Refused (refusal.PlanFault (fault.TitleMissing food))
-    ∷ Refused (refusal.PlanFault fault.UnknownItem) ∷ Refused (refusal.PlanFault fault.ItemTwice) ∷ Refused (refusal.PlanFault fault.UnknownAggregate)
+    ≡ Refused (refusal.PlanFault fault.DuplicateCode) ∷ Refused (refusal.PlanFault fault.NotElementary)
+    ∷ Refused (refusal.PlanFault fault.ZeroWeight)
+    ∷ Refused (refusal.PlanFault (fault.WeightSum 999999)) ∷ Refused (refusal.PlanFault (fault.WeightSum 0))
+    ∷ Refused (refusal.PlanFault (fault.TitleMissing food))
+    ∷ Refused (refusal.PlanFault fault.UnknownItem) ∷ Refused (refusal.PlanFault fault.ItemTwice)
+    ∷ Refused (refusal.PlanFault fault.UnknownAggregate)
     ∷ Done ∷ []
 
 -- what is refused changes nothing, also where a plan of the year stands
@@ -155,19 +169,46 @@ abbrev pub FirstFault : Type 0
 FirstFault =
     let twice = title all_items (codes "All items") in
     replies
-    (put_plan 2026 (record { titles = twice ∷ twice ∷ []; weights = weight food 0 ∷ []; places = place tea_code food ∷ place tea_code food ∷ [] })
-    ∷ put_plan 2026 (record { titles = twice ∷ []; weights = weight food 0 ∷ []; places = place tea_code food ∷ place tea_code food ∷ [] })
-    ∷ put_plan 2026 (record { titles = twice ∷ []; weights = weight packed_rice 0 ∷ []; places = place tea_code wheat_flour ∷ place tea_code wheat_flour ∷ [] })
-    ∷ put_plan 2026 (record { titles = twice ∷ []; weights = weight packed_rice 1 ∷ []; places = place tea_code wheat_flour ∷ place tea_code wheat_flour ∷ [] })
-    ∷ put_plan 2026 (record { titles = twice ∷ []; weights = weight packed_rice 1000000 ∷ []; places = place tea_code wheat_flour ∷ place tea_code wheat_flour ∷ [] })
+    (put_plan 2026 (record {
+      titles = twice ∷ twice ∷ [];
+      weights = weight food 0 ∷ [];
+      places = place tea_code food
+          ∷ place tea_code food ∷ [];
+    })
+    ∷ put_plan 2026 (record {
+      titles = twice ∷ [];
+      weights = weight food 0 ∷ [];
+      places = place tea_code food
+          ∷ place tea_code food ∷ [];
+    })
+    ∷ put_plan 2026 (record {
+      titles = twice ∷ [];
+      weights = weight packed_rice 0
+          ∷ [];
+      places = place tea_code wheat_flour ∷ place tea_code wheat_flour ∷ [];
+    })
+    ∷ put_plan 2026 (record {
+      titles = twice ∷ [];
+      weights = weight packed_rice 1
+          ∷ [];
+      places = place tea_code wheat_flour ∷ place tea_code wheat_flour ∷ [];
+    })
+    ∷ put_plan 2026 (record {
+      titles = twice ∷ [];
+      weights = weight packed_rice 1000000
+          ∷ [];
+      places = place tea_code wheat_flour ∷ place tea_code wheat_flour ∷ [];
+    })
     ∷ put_plan 2026 (record body { places = place tea_code other_flour ∷ place tea_code other_flour ∷ [] })
     ∷ put_plan 2026 (record body { places = place rice.code other_flour ∷ place rice.code other_flour ∷ [] })
     ∷ []) shelf
-    ≡ Refused (refusal.PlanFault fault.DuplicateCode) ∷ Refused (refusal.PlanFault fault.NotElementary) ∷ Refused (refusal.PlanFault fault.ZeroWeight)
+    ≡ Refused (refusal.PlanFault fault.DuplicateCode) ∷ Refused (refusal.PlanFault fault.NotElementary)
+    ∷ Refused (refusal.PlanFault fault.ZeroWeight)
     ∷ Refused (refusal.PlanFault (fault.WeightSum 1)) ∷ Refused (refusal.PlanFault (fault.TitleMissing food_and_drink))
     ∷ Refused (refusal.PlanFault fault.UnknownItem) ∷ Refused (refusal.PlanFault fault.ItemTwice) ∷ []
 
--- A plan that stands is done and changes nothing, in whatever order its rows come, and with titles of no nodes. Another title of a node replaces it.
+-- A plan that stands is done and changes nothing, in whatever order its rows come, and with titles of no nodes. Another
+-- title of a node replaces it.
 abbrev pub again : List Ask
 again = put_plan 2026 body ∷ put_plan 2026 turned ∷ put_plan 2026 retitled ∷ []
 
@@ -179,20 +220,27 @@ PlanStands =
 
 -- everybody sees the plans that were accepted
 abbrev pub PlansAreSeen : Type 0
-PlansAreSeen = seen Public (trace again shelf) ≡ SeesPlan (plan 2026 (codes "Food")) ∷ SeesPlan (plan 2026 (codes "Food")) ∷ SeesPlan (plan 2026 (codes "Foods")) ∷ []
+PlansAreSeen =
+    seen Public 0 (trace again shelf) ≡ SeesPlan (plan 2026 (codes "Food")) ∷ SeesPlan (plan 2026 (codes "Food"))
+    ∷ SeesPlan (plan 2026 (codes "Foods")) ∷ []
 
 -- each year has a plan of its own
 abbrev pub PlansByYear : Type 0
-PlansByYear = after (put_plan 2026 body ∷ put_plan 2025 turned ∷ put_plan 2026 retitled ∷ []) shelf ≡ record shelf { plans = plan 2025 (codes "Food") ∷ plan 2026 (codes "Foods") ∷ [] }
+PlansByYear =
+    after (put_plan 2026 body ∷ put_plan 2025 turned ∷ put_plan 2026 retitled
+    ∷ []) shelf ≡ record shelf { plans = plan 2025 (codes "Food") ∷ plan 2026 (codes "Foods") ∷ [] }
 
 -- a plan places the items that are known by then
 abbrev pub ItemsFirst : Type 0
 ItemsFirst =
-    replies (put_plan 2026 body ∷ by_desk (request.PutItem rice) ∷ put_plan 2026 body ∷ by_desk (request.PutItem flour) ∷ put_plan 2026 body ∷ []) empty_office
-    ≡ Refused (refusal.PlanFault fault.UnknownItem) ∷ Done ∷ Refused (refusal.PlanFault fault.UnknownItem) ∷ Done ∷ Done ∷ []
+    replies (put_plan 2026 body ∷ by_desk (request.PutItem rice) ∷ put_plan 2026 body
+    ∷ by_desk (request.PutItem flour) ∷ put_plan 2026 body ∷ []) empty_office
+    ≡ Refused (refusal.PlanFault fault.UnknownItem) ∷ Done ∷ Refused (refusal.PlanFault fault.UnknownItem) ∷ Done
+    ∷ Done ∷ []
 
 -- a plan is the desk's to put
 abbrev pub PlansOfTheDesk : Type 0
 PlansOfTheDesk =
-    replies (by_desk (register 7 key_a) ∷ by_public 0 (request.PutPlan 2026 nothing) ∷ by_key 0 key_a (request.PutPlan 2026 nothing) ∷ by_key 0 key_c (request.PutPlan 2026 nothing) ∷ []) shelf
+    replies (by_desk (register 7 key_a) ∷ by_public 0 (request.PutPlan 2026 nothing)
+    ∷ by_key 0 key_a (request.PutPlan 2026 nothing) ∷ by_key 0 key_c (request.PutPlan 2026 nothing) ∷ []) shelf
     ≡ Done ∷ Refused refusal.NotForCaller ∷ Refused refusal.NotForCaller ∷ Refused refusal.UnknownKey ∷ []

@@ -15,8 +15,8 @@ use Rattle.cpi_office.specs.Answers.{answer}
 -- what becomes of a request; None of one that changes nothing
 abbrev pub verdict : ℕ → Caller → Request → Office → Option Verdict
 verdict now caller.Public r o = None
-verdict now caller.Desk r o = commanded r o
-verdict now (caller.Collector key) r o = of_collector key now r (view (caller.Collector key) o)
+verdict now caller.Desk r o = commanded now r o
+verdict now (caller.Collector key) r o = of_collector key now r (view (caller.Collector key) now o)
 
 abbrev pub desk_reply : Reply → Option Verdict → Reply
 desk_reply told None = told
@@ -24,9 +24,9 @@ desk_reply told (Some v) = verdict_reply v
 
 -- The reply. To a collector and to the public it is the answer from the view.
 abbrev pub reply_to : ℕ → Caller → Request → Office → Reply
-reply_to now caller.Public r o = answer now caller.Public r (view caller.Public o)
-reply_to now (caller.Collector key) r o = answer now (caller.Collector key) r (view (caller.Collector key) o)
-reply_to now caller.Desk r o = desk_reply (answer now caller.Desk r (view caller.Desk o)) (commanded r o)
+reply_to now caller.Public r o = answer now caller.Public r (view caller.Public now o)
+reply_to now (caller.Collector key) r o = answer now (caller.Collector key) r (view (caller.Collector key) now o)
+reply_to now caller.Desk r o = desk_reply (answer now caller.Desk r (view caller.Desk now o)) (commanded now r o)
 
 -- the office after a request
 abbrev pub after_one : ℕ → Caller → Request → Office → Office

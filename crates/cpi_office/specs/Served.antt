@@ -4,6 +4,7 @@ use Rattle.cpi_office.specs.declared.refusal.Refusal.{Refusal}
 use Rattle.cpi_office.specs.declared.refusal.Refusal.TheVariants.{Unavailable}
 use Rattle.cpi_store.specs.Office.{Office}
 use Rattle.cpi_office.specs.Runs.{replies, after}
+use Rattle.cpi_store.specs.Sound.{IsSound}
 use Rattle.cpi_office.specs.declared.request.Ask.{Ask}
 use Rattle.cpi_office.specs.declared.reply.Reply.{Reply}
 use Rattle.cpi_office.specs.declared.reply.Reply.TheVariants.{Refused}
@@ -33,13 +34,14 @@ abbrev pub all_told : List Reply → List Reply
 all_told [] = []
 all_told (r ∷ rs) = told r ++ all_told rs
 
--- The office goes from o to u by these requests, each answered by the one reply in its place, apart from those that failed.
+-- The office goes from o to u by these requests, each answered by the one reply in its place, apart from those that
+-- failed.
 pub record IsRun (o : Office) (asks : List Ask) (rs : List Reply) (u : Office) : Type 0 where
   pub answers : replies (all_served asks rs) o ≡ all_told rs
   pub office : u ≡ after (all_served asks rs) o
 
 module _ {B : Type 0} (is_clean : B → Type 0) (lists : B → Office) where
-  -- the requests were carried out over a book
+  -- the requests were carried out over a book that held a sound office
   pub record Ran (old new : B) (asks : List Ask) (rs : List Reply) : Type 0 where
     pub was_clean : is_clean new → is_clean old
-    pub run : is_clean new → IsRun (lists old) asks rs (lists new)
+    pub run : is_clean new → IsSound (lists old) → IsRun (lists old) asks rs (lists new)

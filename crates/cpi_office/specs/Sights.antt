@@ -1,5 +1,5 @@
 -- What a caller sees of what was accepted, and the view with it.
-use Rattle.std.specs.Prelude.{[], ℕ, Bool, false, ◌==◌, List, ◌∷◌, Option, Some, None, option_map, if◌then◌else◌}
+use Rattle.std.specs.Prelude.{[], ℕ, Bool, false, ◌==◌, nat_le, List, ◌∷◌, Option, Some, None, option_map, if◌then◌else◌}
 use Rattle.std.specs.List.{flat_map}
 use Rattle.cpi_rows.specs.Keyed.{put, put_by}
 use Rattle.cpi_survey.specs.Quote.{QuoteRow, quote_cmp, quote_key}
@@ -8,7 +8,9 @@ use Rattle.cpi_plan.specs.Plan.{Plan}
 use Rattle.cpi_plan.specs.Calendar.{CalendarPart}
 use Rattle.cpi_survey.specs.declared.assignment.Assigned.{Assigned}
 use Rattle.cpi_store.specs.declared.bearer.Bearer.{Bearer}
-use Rattle.cpi_store.specs.Office.{Change, PutsItem, PutsPlan, PutsCalendar, Registers, PutsOutlet, Assigns, Quotes}
+use Rattle.cpi_store.specs.Office.{Change, PutsItem, PutsPlan, PutsCalendar, Registers, PutsOutlet, Assigns, Quotes, Freezes}
+use Rattle.cpi_release.specs.FrozenMonths.{release_cmp}
+use Rattle.cpi_release.specs.PublishedTables.{PublishedTable, published_table, published_key}
 use Rattle.cpi_office.specs.Views.{View, OwnView}
 use Rattle.cpi_office.specs.declared.caller.Caller.{Caller}
 use Rattle.cpi_office.specs.declared.caller.Caller.TheVariants as caller
@@ -22,6 +24,7 @@ pub data Sight : Type 0 where
   IsRegistered : ℕ → Sight
   IsAssigned : Assigned → Sight
   HasQuoted : QuoteRow → Sight
+  SeesTable : PublishedTable → Sight
 
 abbrev pub is_borne : Caller → Bearer → Bool
 is_borne (caller.Collector key) b = b.key == key
@@ -31,34 +34,39 @@ is_borne caller.Desk b = false
 abbrev pub seen_if : Bool → Sight → List Sight
 seen_if sees s = if sees then s ∷ [] else []
 
--- Of what was accepted, a caller sees the public specification, and what was accepted from or for that caller.
-abbrev pub sights : Caller → Change → List Sight
-sights k (PutsItem i) = SeesItem i ∷ []
-sights k (PutsPlan p) = SeesPlan p ∷ []
-sights k (PutsCalendar r) = SeesCalendar r ∷ []
-sights k (PutsOutlet u) = []
-sights k (Registers b) = seen_if (is_borne k b) (IsRegistered b.number)
-sights k (Assigns b a) = seen_if (is_borne k b) (IsAssigned a)
-sights k (Quotes b q) = seen_if (is_borne k b) (HasQuoted q)
+-- Of what was accepted, a caller sees at t the public specification, what was accepted from or for that caller, and the
+-- tables that are published by t.
+abbrev pub sights : Caller → ℕ → Change → List Sight
+sights k t (PutsItem i) = SeesItem i ∷ []
+sights k t (PutsPlan p) = SeesPlan p ∷ []
+sights k t (PutsCalendar r) = SeesCalendar r ∷ []
+sights k t (PutsOutlet u) = []
+sights k t (Registers b) = seen_if (is_borne k b) (IsRegistered b.number)
+sights k t (Assigns b a) = seen_if (is_borne k b) (IsAssigned a)
+sights k t (Quotes b q) = seen_if (is_borne k b) (HasQuoted q)
+sights k t (Freezes r) = seen_if (nat_le r.publishes t) (SeesTable (published_table r))
 
-abbrev pub seen : Caller → List Change → List Sight
-seen k changes = flat_map (sights k) changes
+abbrev pub seen : Caller → ℕ → List Change → List Sight
+seen k t changes = flat_map (sights k t) changes
 
 abbrev pub with_number : ℕ → Option OwnView → OwnView
 with_number n None = record { number = n; part = record { assignments = []; quotes = [] } }
 with_number n (Some own) = record { number = n; part = own.part }
 
 abbrev pub with_assigned : Assigned → OwnView → OwnView
-with_assigned a own = record { number = own.number; part = record { assignments = put_by (λ a. a.assignment.slot) a own.part.assignments; quotes = own.part.quotes } }
+with_assigned a own =
+    record own { part = record own.part { assignments = put_by (λ a. a.assignment.slot) a own.part.assignments } }
 
 abbrev pub with_quote : QuoteRow → OwnView → OwnView
-with_quote q own = record { number = own.number; part = record { assignments = own.part.assignments; quotes = put quote_cmp quote_key q own.part.quotes } }
+with_quote q own = record own { part = record own.part { quotes = put quote_cmp quote_key q own.part.quotes } }
 
 -- the view with one more row in its place
 abbrev pub shown : Sight → View → View
 shown (SeesItem i) v = record v { public = record v.public { items = put_by (λ i. i.code) i v.public.items } }
 shown (SeesPlan p) v = record v { public = record v.public { plans = put_by (λ y. y.year) p v.public.plans } }
-shown (SeesCalendar r) v = record v { public = record v.public { calendar = put_by (λ r. r.month) r v.public.calendar } }
+shown (SeesCalendar r) v =
+    record v { public = record v.public { calendar = put_by (λ r. r.month) r v.public.calendar } }
+shown (SeesTable i) v = record v { tables = put release_cmp published_key i v.tables }
 shown (IsRegistered n) v = record v { own = Some (with_number n v.own) }
 shown (IsAssigned a) v = record v { own = option_map (with_assigned a) v.own }
 shown (HasQuoted q) v = record v { own = option_map (with_quote q) v.own }

@@ -29,7 +29,9 @@ module _ {B : Type 0} (failures : B → ℕ) (finds_always : Type 0) where
     pub can_fail : finds_always → ⊥
 
 module _ {B : Type 0} (is_clean : B → Type 0) (failures : B → ℕ) (finds_always : Type 0) where
-  -- A caller who is to be turned away is told so. The public and the desk are told without the book; with a key it is so unless a look-up failed.
+  -- A caller who is to be turned away is told so. The public and the desk are told without the book; with a key it is
+  -- so unless a look-up failed.
   pub record TurnsAway (old new : B) (caller : Caller) (reply wanted : Reply) : Type 0 where
     pub keyless : IsFalse (has_key caller) → IsTrue (is_turned_away wanted) → (reply ≡ wanted) × (new ≡ old)
-    pub keyed : is_clean new → IsTrue (is_turned_away wanted) → (reply ≡ wanted) ⊎ Fails failures finds_always old new reply
+    pub keyed :
+        is_clean new → IsTrue (is_turned_away wanted) → (reply ≡ wanted) ⊎ Fails failures finds_always old new reply

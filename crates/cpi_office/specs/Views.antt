@@ -1,10 +1,11 @@
 -- What one caller may see of an office.
-use Rattle.std.specs.Prelude.{ℕ, Option, None, option_map}
+use Rattle.std.specs.Prelude.{ℕ, List, Option, None, option_map}
 use Rattle.cpi_survey.specs.Public.{PublicPart}
 use Rattle.cpi_survey.specs.Own.{OwnPart}
 use Rattle.cpi_store.specs.declared.bearer.Bearer.{Bearer}
 use Rattle.cpi_store.specs.Office.{Office, public_part, own_part}
 use Rattle.cpi_store.specs.Bearer.{bearer_of}
+use Rattle.cpi_release.specs.PublishedTables.{PublishedTable, published_until}
 use Rattle.cpi_office.specs.declared.caller.Caller.{Caller}
 use Rattle.cpi_office.specs.declared.caller.Caller.TheVariants.{Public, Collector, Desk}
 
@@ -13,10 +14,11 @@ pub record OwnView : Type 0 where
   pub number : ℕ
   pub part : OwnPart
 
--- the public specification, and the caller's own part
+-- the public specification, the caller's own part, and the tables that are published
 pub record View : Type 0 where
   pub public : PublicPart
   pub own : Option OwnView
+  pub tables : List PublishedTable  -- by month
 
 abbrev pub own_view : Office → Bearer → OwnView
 own_view o b = record { number = b.number; part = own_part b.number o }
@@ -27,5 +29,6 @@ own (Collector key) o = option_map (own_view o) (bearer_of key o.collectors)
 own Public o = None
 own Desk o = None
 
-abbrev pub view : Caller → Office → View
-view k o = record { public = public_part o; own = own k o }
+-- what a caller may see of the office at a moment
+abbrev pub view : Caller → ℕ → Office → View
+view k t o = record { public = public_part o; own = own k o; tables = published_until t o.releases }

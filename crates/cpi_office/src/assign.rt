@@ -3,31 +3,84 @@ ghost use Rattle.std.specs.Option.{option_copied};
 ghost use Rattle.cpi_rows.specs.Keyed.{at};
 ghost use Rattle.cpi_rows.specs.Held.{held_by};
 ghost use Rattle.cpi_store.specs.Calls.{Reads};
-ghost use Rattle.cpi_store.specs.Office.{own_part};
 ghost use Rattle.cpi_store.specs.Outlet.{with_name};
-ghost use Rattle.cpi_survey.specs.Assignment.{same_assignment};
-ghost use Rattle.cpi_office.specs.Desk.{standing, to_collector, assigned, outlet_judged};
+ghost use Rattle.cpi_store.specs.Sound.{IsWellMade};
+ghost use Rattle.cpi_office.specs.Standing.{standing};
+ghost use Rattle.cpi_office.specs.Assigning.{assigned_in, slot_given, to_collector, outlet_judged, is_assignable as assignable_is, first_of_series as series_of};
 ghost use Rattle.cpi_office.specs.Verdicts.{with_verdict, verdict_reply};
-ghost use Rattle.cpi_office.specs.Named.{again_reply, same_assigned, IsNamed};
+ghost use Rattle.cpi_office.specs.Named.{slot_given_by_name, slot_standing, again_reply, same_assigned, IsNamed};
 ghost use Rattle.cpi_office.specs.Calls.{Serves};
 
 use crate::refusal::Refusal;
 use crate::reply::Reply;
+use crate::request::NewAssignment;
 use crate::standing::Standing;
-use cpi_codes::CollectorId;
+use cpi_codes::{CollectorId, SeriesId};
 use cpi_store::{Book, Outlet, StoreFault};
 use cpi_survey::{Assigned, Assignment};
 use std::alloc::{AllocError, Global};
 
-/// Gives a slot of a collector an assignment.
+/// Gives a slot of a collector what is sent for it, as a series of its own. A first month after the last is a bad
+/// request.
 pub fn assign<B: Book>(
+    alloc: Global,
+    book: &mut B,
+    collector: CollectorId,
+    new_assignment: NewAssignment,
+) -> Reply
+    ensures { let o = B.lists book.old in let v = assigned_in collector new_assignment o in
+        Serves B.is_clean B.lists B.failures book.old book.new result (verdict_reply v) (with_verdict v o) }
+{
+    if is_assignable(collector, &new_assignment) {
+        assign_series(
+            alloc,
+            book,
+            collector,
+            first_of_series(collector, new_assignment),
+        )
+    } else {
+        Reply::Refused(Refusal::BadRequest)
+    }
+}
+
+/// Whether the first month isn't after the last. Number and slot are within their limits by their types.
+fn is_assignable(collector: CollectorId, new_assignment: &NewAssignment) -> bool
+    ensures { result ≡ assignable_is collector new_assignment.now }
+{
+    let number = collector.number();
+    let slot = new_assignment.slot.number();
+    new_assignment.first_month <= new_assignment.last_month
+        && 1 <= number
+        && 1 <= slot
+        && slot <= 400
+}
+
+/// The assignment whose series is named by the collector's slot.
+fn first_of_series(collector: CollectorId, new_assignment: NewAssignment) -> Assignment
+    ensures { result ≡ series_of collector new_assignment }
+{
+    Assignment {
+        slot: new_assignment.slot,
+        outlet: new_assignment.outlet,
+        item: new_assignment.item,
+        first_month: new_assignment.first_month,
+        last_month: new_assignment.last_month,
+        series: SeriesId {
+            collector,
+            slot: new_assignment.slot,
+        },
+    }
+}
+
+/// Gives a slot of a collector an assignment.
+fn assign_series<B: Book>(
     alloc: Global,
     book: &mut B,
     collector: CollectorId,
     assignment: Assignment,
 ) -> Reply
-    ensures { let o = B.lists book.old in let v = assigned (with_name o.outlets assignment) (at (λ i. i.code) assignment.item o.items) (at (λ u. u.number) assignment.outlet o.outlets) (at (λ b. b.number) collector o.collectors)
-        (standing same_assignment assignment (at (λ a. a.slot) assignment.slot (held_by collector o.assignments))) in
+    requires made { IsWellMade (collector, assignment) }
+    ensures { let o = B.lists book.old in let v = slot_given collector assignment o in
         Serves B.is_clean B.lists B.failures book.old book.new result (verdict_reply v) (with_verdict v o) }
 {
     assign_judged(alloc, book, collector, assignment)
@@ -40,8 +93,8 @@ fn assign_judged<B: Book>(
     collector: CollectorId,
     assignment: Assignment,
 ) -> Reply
-    ensures { let o = B.lists book.old in let v = assigned (with_name o.outlets assignment) (at (λ i. i.code) assignment.item o.items) (at (λ u. u.number) assignment.outlet o.outlets) (at (λ b. b.number) collector o.collectors)
-        (standing same_assigned assignment (at (λ a. a.assignment.slot) assignment.slot (own_part collector o).assignments)) in
+    requires made { IsWellMade (collector, assignment) }
+    ensures { let o = B.lists book.old in let v = slot_given_by_name collector assignment o in
         Serves B.is_clean B.lists B.failures book.old book.new result (verdict_reply v) (with_verdict v o) }
 {
     match find_slot(book, collector, &assignment) {
@@ -60,7 +113,7 @@ fn find_slot<B: Book>(
     assignment: &Assignment,
 ) -> Result<(Standing, bool), StoreFault>
     ensures { Reads B.is_clean B.lists B.failures B.may_leave book.old book.new result (λ found.
-        (found.0 ≡ standing same_assigned assignment.now (at (λ a. a.assignment.slot) assignment.now.slot (own_part collector (B.lists book.old)).assignments))
+        (found.0 ≡ slot_standing collector assignment.now (B.lists book.old))
         × (found.1 ≡ is_none (at (λ i. i.code) assignment.now.item (B.lists book.old).items))) }
 {
     let parts = book.parts(collector)?;
@@ -86,7 +139,8 @@ fn standing_assignment(assignment: &Assignment, old: Option<&Assigned>) -> Stand
 /// Answers an assignment that stands, if there is the collector.
 fn assign_again<B: Book>(book: &mut B, collector: CollectorId) -> Reply
     ensures { let o = B.lists book.old in
-        Serves B.is_clean B.lists B.failures book.old book.new result (again_reply (at (λ b. b.number) collector o.collectors)) o }
+        Serves B.is_clean B.lists B.failures book.old book.new result
+        (again_reply (at (λ b. b.number) collector o.collectors)) o }
 {
     match book.bearer_at(collector) {
         Err(StoreFault) => Reply::Refused(Refusal::Unavailable),
@@ -102,9 +156,14 @@ fn assign_new<B: Book>(
     collector: CollectorId,
     assignment: Assignment,
 ) -> Reply
-    requires free { B.is_clean book.old → at (λ a. a.slot) assignment.slot (held_by collector (B.lists book.old).assignments) ≡ None }
+    requires made { IsWellMade (collector, assignment) }
+    requires free { B.is_clean book.old →
+        at (λ a. a.slot) assignment.slot (held_by collector (B.lists book.old).assignments) ≡ None }
     requires item { B.is_clean book.old → IsSome (at (λ i. i.code) assignment.item (B.lists book.old).items) }
-    ensures { let o = B.lists book.old in let v = outlet_judged (with_name o.outlets assignment) (at (λ u. u.number) assignment.outlet o.outlets) (at (λ b. b.number) collector o.collectors) in
+    ensures { let o = B.lists book.old in
+        let outlet = at (λ u. u.number) assignment.outlet o.outlets in
+        let bearer = at (λ b. b.number) collector o.collectors in
+        let v = outlet_judged (with_name o.outlets assignment) outlet bearer in
         Serves B.is_clean B.lists B.failures book.old book.new result (verdict_reply v) (with_verdict v o) }
 {
     match name_outlet(alloc, book, assignment) {
@@ -120,7 +179,8 @@ fn name_outlet<B: Book>(
     book: &mut B,
     assignment: Assignment,
 ) -> Result<Result<Option<Assigned>, AllocError>, StoreFault>
-    ensures { Reads B.is_clean B.lists B.failures B.may_leave book.old book.new result (λ found. IfOk found (λ named. IsNamed (B.lists book.old).outlets assignment named)) }
+    ensures { Reads B.is_clean B.lists B.failures B.may_leave book.old book.new result (λ found.
+        IfOk found (λ named. IsNamed (B.lists book.old).outlets assignment named)) }
 {
     let outlet = book.outlet(assignment.outlet)?;
     Ok(with_name(alloc, assignment, outlet))
@@ -132,7 +192,9 @@ fn with_name(
     assignment: Assignment,
     outlet: Option<&Outlet>,
 ) -> Result<Option<Assigned>, AllocError>
-    ensures { IfOk result (λ named. named ≡ option_map (λ u. record { assignment = assignment; outlet_name = u.name }) (option_copied outlet.entry)) }
+    ensures { IfOk result (λ named.
+        named
+        ≡ option_map (λ u. record { assignment = assignment; outlet_name = u.name }) (option_copied outlet.entry)) }
 {
     match outlet {
         None => Ok(None),
@@ -145,9 +207,12 @@ fn with_name(
 
 /// Puts a new assignment, if there is the collector.
 fn assign_to<B: Book>(book: &mut B, collector: CollectorId, assigned: Assigned) -> Reply
-    requires free { B.is_clean book.old → at (λ a. a.slot) assigned.assignment.slot (held_by collector (B.lists book.old).assignments) ≡ None }
+    requires made { B.is_clean book.old → IsWellMade (collector, assigned.assignment) }
+    requires free { B.is_clean book.old →
+        at (λ a. a.slot) assigned.assignment.slot (held_by collector (B.lists book.old).assignments) ≡ None }
     requires item { B.is_clean book.old → IsSome (at (λ i. i.code) assigned.assignment.item (B.lists book.old).items) }
-    requires outlet { B.is_clean book.old → IsSome (at (λ u. u.number) assigned.assignment.outlet (B.lists book.old).outlets) }
+    requires outlet { B.is_clean book.old →
+        IsSome (at (λ u. u.number) assigned.assignment.outlet (B.lists book.old).outlets) }
     requires name { B.is_clean book.old → assigned ≡ with_name (B.lists book.old).outlets assigned.assignment }
     ensures { let o = B.lists book.old in let v = to_collector assigned (at (λ b. b.number) collector o.collectors) in
         Serves B.is_clean B.lists B.failures book.old book.new result (verdict_reply v) (with_verdict v o) }

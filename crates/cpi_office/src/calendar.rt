@@ -2,12 +2,15 @@ ghost use Rattle.std.specs.Prelude.{◌≡◌, Some, None};
 ghost use Rattle.std.specs.Option.{option_copied};
 ghost use Rattle.cpi_rows.specs.Keyed.{at};
 ghost use Rattle.cpi_store.specs.Calls.{Reads};
-ghost use Rattle.cpi_store.specs.Office.{public_part};
+ghost use Rattle.cpi_store.specs.Office.{public_part, PutsCalendar};
 ghost use Rattle.cpi_plan.specs.Calendar.{same_calendar};
-ghost use Rattle.cpi_office.specs.Desk.{standing, calendar_put};
+ghost use Rattle.cpi_release.specs.FrozenMonths.{frozen_months, is_frozen};
+ghost use Rattle.cpi_office.specs.Standing.{standing};
+ghost use Rattle.cpi_office.specs.Replacing.{scheduled_in, unless_frozen};
 ghost use Rattle.cpi_office.specs.Verdicts.{with_verdict, verdict_reply};
 ghost use Rattle.cpi_office.specs.Calls.{Serves};
 
+use crate::months::is_month_frozen;
 use crate::refusal::Refusal;
 use crate::reply::Reply;
 use crate::standing::Standing;
@@ -16,13 +19,26 @@ use cpi_store::{Book, StoreFault};
 
 /// Puts a month's row, over the one that stands if there is one.
 pub fn put_calendar<B: Book>(book: &mut B, row: CalendarRow) -> Reply
-    ensures { let o = B.lists book.old in let v = calendar_put row (at (λ r. r.month) row.month o.calendar) in
+    ensures { let o = B.lists book.old in let v = scheduled_in row o in
         Serves B.is_clean B.lists B.failures book.old book.new result (verdict_reply v) (with_verdict v o) }
 {
     match find_calendar(book, &row) {
         Err(StoreFault) => Reply::Refused(Refusal::Unavailable),
         Ok(Standing::Same) => Reply::Done,
-        Ok(_) => match book.put_calendar(row) {
+        Ok(_) => store_calendar(book, row),
+    }
+}
+
+/// Stores a month's row, unless the month was frozen.
+fn store_calendar<B: Book>(book: &mut B, row: CalendarRow) -> Reply
+    ensures { let o = B.lists book.old in
+        let v = unless_frozen (is_frozen row.month (frozen_months o.releases)) Refusal.MonthFrozen (PutsCalendar row) in
+        Serves B.is_clean B.lists B.failures book.old book.new result (verdict_reply v) (with_verdict v o) }
+{
+    match is_month_frozen(book, row.month()) {
+        Err(StoreFault) => Reply::Refused(Refusal::Unavailable),
+        Ok(true) => Reply::Refused(Refusal::MonthFrozen),
+        Ok(false) => match book.put_calendar(row) {
             Ok(()) => Reply::Done,
             Err(StoreFault) => Reply::Refused(Refusal::Unavailable),
         },
@@ -31,7 +47,8 @@ pub fn put_calendar<B: Book>(book: &mut B, row: CalendarRow) -> Reply
 
 /// What stands at the month of the row.
 fn find_calendar<B: Book>(book: &mut B, row: &CalendarRow) -> Result<Standing, StoreFault>
-    ensures { Reads B.is_clean B.lists B.failures B.may_leave book.old book.new result (λ found. found ≡ standing same_calendar row.now (at (λ r. r.month) row.now.month (B.lists book.old).calendar)) }
+    ensures { Reads B.is_clean B.lists B.failures B.may_leave book.old book.new result (λ found.
+        found ≡ standing same_calendar row.now (at (λ r. r.month) row.now.month (B.lists book.old).calendar)) }
 {
     let public = book.public_part()?;
     Ok(standing_calendar(row, public.calendar_row(row.month())))

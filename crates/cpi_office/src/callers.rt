@@ -5,12 +5,14 @@ ghost use Rattle.cpi_store.specs.Bearer.{bearer_of};
 ghost use Rattle.cpi_office.specs.Known.{collector_reply, collector_after};
 ghost use Rattle.cpi_office.specs.Runs.{reply_to, after_one};
 ghost use Rattle.cpi_office.specs.declared.caller.Caller.{Caller};
-ghost use Rattle.cpi_office.specs.Calls.{Serves};
+ghost use Rattle.cpi_office.specs.Calls.{Serves, ServesWhere};
+ghost use Rattle.cpi_store.specs.Sound.{IsSound};
 ghost use Rattle.cpi_office.specs.Turned.{TurnsAway, is_turned_away};
 
 use crate::assign::assign;
 use crate::calendar::put_calendar;
 use crate::collectors::register;
+use crate::freeze::freeze;
 use crate::items::{items, put_item};
 use crate::outlets::put_outlet;
 use crate::plans::put_plan;
@@ -19,6 +21,7 @@ use crate::refusal::Refusal;
 use crate::reply::Reply;
 use crate::request::Request;
 use crate::submit::enter;
+use crate::tables::{table, tables};
 use crate::work::work;
 use cpi_codes::{Key, Moment};
 use cpi_store::{Bearer, Book, StoreFault};
@@ -27,11 +30,15 @@ use std::alloc::Global;
 /// Answers the public.
 pub fn serve_public<B: Book>(alloc: Global, book: &mut B, now: Moment, request: Request) -> Reply
     ensures serves { let o = B.lists book.old in
-        Serves B.is_clean B.lists B.failures book.old book.new result (reply_to now Caller.Public request o) (after_one now Caller.Public request o) }
-    ensures turns { TurnsAway B.is_clean B.failures B.finds_always book.old book.new Caller.Public result (reply_to now Caller.Public request (B.lists book.old)) }
+        Serves B.is_clean B.lists B.failures book.old book.new result
+        (reply_to now Caller.Public request o) (after_one now Caller.Public request o) }
+    ensures turns { TurnsAway B.is_clean B.failures B.finds_always book.old book.new Caller.Public result
+        (reply_to now Caller.Public request (B.lists book.old)) }
 {
     match request {
         Request::Items => items(alloc, book),
+        Request::Tables => tables(book, now),
+        Request::Table(month, form) => table(alloc, book, now, month, form),
         _ => Reply::Refused(Refusal::NotForCaller),
     }
 }
@@ -45,8 +52,10 @@ pub fn serve_collector<B: Book>(
     request: Request,
 ) -> Reply
     ensures serves { let o = B.lists book.old in
-        Serves B.is_clean B.lists B.failures book.old book.new result (reply_to now (Caller.Collector key) request o) (after_one now (Caller.Collector key) request o) }
-    ensures turns { TurnsAway B.is_clean B.failures B.finds_always book.old book.new (Caller.Collector key) result (reply_to now (Caller.Collector key) request (B.lists book.old)) }
+        Serves B.is_clean B.lists B.failures book.old book.new result
+        (reply_to now (Caller.Collector key) request o) (after_one now (Caller.Collector key) request o) }
+    ensures turns { TurnsAway B.is_clean B.failures B.finds_always book.old book.new (Caller.Collector key) result
+        (reply_to now (Caller.Collector key) request (B.lists book.old)) }
 {
     match book.bearer_of(key) {
         Err(StoreFault) => Reply::Refused(Refusal::Unavailable),
@@ -65,11 +74,16 @@ fn serve_known<B: Book>(
 ) -> Reply
     requires known { B.is_clean book.old → IsSome (at (λ b. b.number) bearer.number (B.lists book.old).collectors) }
     ensures serves { let o = B.lists book.old in
-        Serves B.is_clean B.lists B.failures book.old book.new result (collector_reply now request o (Some bearer)) (collector_after bearer.key now request o (Some bearer)) }
-    ensures turns { B.is_clean book.new → IsTrue (is_turned_away (collector_reply now request (B.lists book.old) (Some bearer))) → result ≡ collector_reply now request (B.lists book.old) (Some bearer) }
+        Serves B.is_clean B.lists B.failures book.old book.new result
+        (collector_reply now request o (Some bearer)) (collector_after bearer.key now request o (Some bearer)) }
+    ensures turns { B.is_clean book.new →
+        let wanted = collector_reply now request (B.lists book.old) (Some bearer) in
+        IsTrue (is_turned_away wanted) → result ≡ wanted }
 {
     match request {
         Request::Items => items(alloc, book),
+        Request::Tables => tables(book, now),
+        Request::Table(month, form) => table(alloc, book, now, month, form),
         Request::Submit(entry) => enter(book, now, bearer, entry),
         Request::Work(month) => work(alloc, book, bearer.number, month),
         Request::Quotes(first, last) => quotes(alloc, book, bearer.number, first, last),
@@ -80,17 +94,27 @@ fn serve_known<B: Book>(
 /// Answers the desk.
 pub fn serve_desk<B: Book>(alloc: Global, book: &mut B, now: Moment, request: Request) -> Reply
     ensures serves { let o = B.lists book.old in
-        Serves B.is_clean B.lists B.failures book.old book.new result (reply_to now Caller.Desk request o) (after_one now Caller.Desk request o) }
-    ensures turns { TurnsAway B.is_clean B.failures B.finds_always book.old book.new Caller.Desk result (reply_to now Caller.Desk request (B.lists book.old)) }
+        ServesWhere B.is_clean B.lists B.failures (IsSound o) book.old book.new result
+        (reply_to now Caller.Desk request o) (after_one now Caller.Desk request o) }
+    ensures turns { TurnsAway B.is_clean B.failures B.finds_always book.old book.new Caller.Desk result
+        (reply_to now Caller.Desk request (B.lists book.old)) }
 {
     match request {
         Request::Items => items(alloc, book),
+        Request::Tables => tables(book, now),
+        Request::Table(month, form) => table(alloc, book, now, month, form),
         Request::PutItem(item) => put_item(book, item),
         Request::PutPlan(year, body) => put_plan(alloc, book, year, body),
         Request::PutCalendar(row) => put_calendar(book, row),
         Request::Register(bearer) => register(book, bearer),
         Request::PutOutlet(outlet) => put_outlet(book, outlet),
-        Request::Assign(collector, assignment) => assign(alloc, book, collector, assignment),
+        Request::Assign(collector, new_assignment) => assign(
+            alloc,
+            book,
+            collector,
+            new_assignment,
+        ),
+        Request::Freeze(month, carry) => freeze(alloc, book, now, month, carry),
         Request::Work(_) | Request::Quotes(_, _) | Request::Submit(_) => {
             Reply::Refused(Refusal::NotForCaller)
         }

@@ -12,7 +12,8 @@ use cpi_store::{Bearer, Book, StoreFault};
 
 /// Registers a collector, unless the number or the key stands and not both together.
 pub fn register<B: Book>(book: &mut B, bearer: Bearer) -> Reply
-    ensures { let o = B.lists book.old in let v = registered bearer (at (λ b. b.number) bearer.number o.collectors) (bearer_of bearer.key o.collectors) in
+    ensures { let o = B.lists book.old in
+        let v = registered bearer (at (λ b. b.number) bearer.number o.collectors) (bearer_of bearer.key o.collectors) in
         Serves B.is_clean B.lists B.failures book.old book.new result (verdict_reply v) (with_verdict v o) }
 {
     match find_bearers(book, bearer) {
@@ -37,7 +38,9 @@ fn find_bearers<B: Book>(
     book: &mut B,
     bearer: Bearer,
 ) -> Result<(Option<Bearer>, Option<Bearer>), StoreFault>
-    ensures { Reads B.is_clean B.lists B.failures B.may_leave book.old book.new result (λ found. (found.0 ≡ at (λ b. b.number) bearer.number (B.lists book.old).collectors) × (found.1 ≡ bearer_of bearer.key (B.lists book.old).collectors)) }
+    ensures { Reads B.is_clean B.lists B.failures B.may_leave book.old book.new result (λ found.
+        (found.0 ≡ at (λ b. b.number) bearer.number (B.lists book.old).collectors)
+        × (found.1 ≡ bearer_of bearer.key (B.lists book.old).collectors)) }
 {
     let at_number = book.bearer_at(bearer.number)?;
     let of_key = book.bearer_of(bearer.key)?;

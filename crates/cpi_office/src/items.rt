@@ -4,7 +4,8 @@ ghost use Rattle.cpi_rows.specs.Keyed.{at};
 ghost use Rattle.cpi_store.specs.Calls.{Reads};
 ghost use Rattle.cpi_store.specs.Office.{public_part};
 ghost use Rattle.cpi_plan.specs.Items.{same_item};
-ghost use Rattle.cpi_office.specs.Desk.{standing, item_put};
+ghost use Rattle.cpi_office.specs.Standing.{standing};
+ghost use Rattle.cpi_office.specs.Desk.{item_put};
 ghost use Rattle.cpi_office.specs.Verdicts.{with_verdict, verdict_reply};
 ghost use Rattle.cpi_office.specs.Calls.{Serves};
 
@@ -34,7 +35,8 @@ pub fn put_item<B: Book>(book: &mut B, item: Item) -> Reply
 
 /// Lists the items in the order of their codes.
 pub fn items<B: Book>(alloc: Global, book: &mut B) -> Reply
-    ensures { Serves B.is_clean B.lists B.failures book.old book.new result (Reply.Items (B.lists book.old).items) (B.lists book.old) }
+    ensures { Serves B.is_clean B.lists B.failures book.old book.new result
+        (Reply.Items (B.lists book.old).items) (B.lists book.old) }
 {
     match read_items(alloc, book) {
         Ok(Ok(items)) => Reply::Items(Rows::of(items)),
@@ -44,7 +46,8 @@ pub fn items<B: Book>(alloc: Global, book: &mut B) -> Reply
 
 /// What stands at the code of the item.
 fn find_item<B: Book>(book: &mut B, item: &Item) -> Result<Standing, StoreFault>
-    ensures { Reads B.is_clean B.lists B.failures B.may_leave book.old book.new result (λ found. found ≡ standing same_item item.now (at (λ i. i.code) item.now.code (B.lists book.old).items)) }
+    ensures { Reads B.is_clean B.lists B.failures B.may_leave book.old book.new result (λ found.
+        found ≡ standing same_item item.now (at (λ i. i.code) item.now.code (B.lists book.old).items)) }
 {
     let public = book.public_part()?;
     Ok(standing_item(item, public.item(item.code)))
@@ -69,7 +72,8 @@ fn read_items<B: Book>(
     alloc: Global,
     book: &mut B,
 ) -> Result<Result<Vec<Item>, AllocError>, StoreFault>
-    ensures { Reads B.is_clean B.lists B.failures B.may_leave book.old book.new result (λ found. IfOk found (λ items. items.items ≡ (B.lists book.old).items)) }
+    ensures { Reads B.is_clean B.lists B.failures B.may_leave book.old book.new result (λ found.
+        IfOk found (λ items. items.items ≡ (B.lists book.old).items)) }
 {
     let public = book.public_part()?;
     Ok(public.copy_items(alloc))

@@ -1,8 +1,13 @@
 ghost use Rattle.cpi_store.specs.Office.{empty_office};
-ghost use Rattle.cpi_office.specs.Sound.{IsSound};
+ghost use Rattle.cpi_store.specs.Sound.{IsSound};
 ghost use Rattle.cpi_office.specs.Laws.{StaysSound, ViewsAreRebuilt, ChangesAreEnough, AnswersAreAlike, RepliesAreFromViews};
+ghost use Rattle.cpi_office.specs.Releases.{ReleasesStay};
+ghost use Rattle.cpi_office.specs.Asked.{JudgedIsOwed};
+ghost use Rattle.cpi_store.specs.Stored.{FrozenAreStored};
+ghost use Rattle.cpi_store.specs.History.{ReleasesAreComputed, ReleasesAreSound, SourcesAreFit};
 ghost use Rattle.cpi_office.specs.Alone.{OthersDoNotMatter, OthersMayDiffer};
 ghost use Rattle.cpi_office.specs.Told.{RunsTellAlike};
+ghost use Rattle.cpi_office.specs.AnsweredAlike.{RepliesAreAlike};
 
 use cpi_store::Book;
 
@@ -20,7 +25,21 @@ pub fn views_are_rebuilt()
     ensures replies { RepliesAreFromViews }
 {}
 
-/// What a collector is told doesn't hang on what other collectors ask.
+/// Each table of a sound office is the index of what was frozen with it and before it.
+///
+/// A freeze takes the stored quotes of its month, each with its mark, and no others. Publishing what was frozen anew,
+/// month by month, gives the releases that stand; and whatever is asked, a release stays as it was frozen.
+pub fn tables_are_computed()
+    ensures computed { ReleasesAreComputed }
+    ensures history { ReleasesAreSound }
+    ensures stored { FrozenAreStored }
+    ensures releases { ReleasesStay }
+    ensures fit { SourcesAreFit }
+    ensures owed { JudgedIsOwed }
+{}
+
+/// What a collector is told doesn't hang on what other collectors ask, where no freeze is among the requests. (The
+/// table of a frozen month is made of everybody's quotes, so what is published of it may differ.)
 ///
 /// From a sound office a collector is told the same, reply by reply, if all requests of all other collectors are left
 /// out of the list. So it is told the same by two lists that differ in other collectors' requests alone, whether
@@ -33,13 +52,24 @@ pub fn others_do_not_matter()
     ensures differ { OthersMayDiffer }
 {}
 
-/// What `Office::run` tells a collector doesn't hang on what other collectors ask.
+/// What `Office::run` tells a collector doesn't hang on what other collectors ask, where no freeze is among the
+/// requests.
 ///
-/// Take two runs, over books of any two kinds that hold the same sound lists, with two lists of requests that differ
-/// in other collectors' requests alone. Where no reply of either run says that the office is unavailable, and both
-/// stores are clean at the end, the replies to the collector are the same in both, one by one.
+/// Take two runs, over books of any two kinds that hold the same sound lists, with two lists of requests without a
+/// freeze that differ in other collectors' requests alone. Where no reply of either run says that the office is
+/// unavailable, and both stores are clean at the end, the replies to the collector are the same in both, one by one.
 ///
 /// Nothing is said of time, nor of runs in which memory or a store fails a request.
 pub fn runs_tell_alike<B: Book, C: Book>()
     ensures { RunsTellAlike B.is_clean B.lists C.is_clean C.lists }
+{}
+
+/// Two offices that a caller sees alike answer that caller alike.
+///
+/// Take two runs, over books of any two kinds, from sound offices, freezes and embargoed tables included. Where a
+/// caller's view at a moment was the same at the start of both, and the caller has seen the same accepted rows since,
+/// a request of that caller at that moment gets the same reply from both, as long as neither reply says that the
+/// office is unavailable.
+pub fn replies_are_alike<B: Book, C: Book>()
+    ensures { RepliesAreAlike B.is_clean B.lists B.failures C.is_clean C.lists C.failures }
 {}

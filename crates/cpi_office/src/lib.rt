@@ -7,8 +7,11 @@ mod caller;
 mod callers;
 mod collectors;
 mod examples;
+mod freeze;
+mod freeze_examples;
 mod items;
 mod laws;
+mod months;
 mod office;
 mod outlets;
 mod plan_examples;
@@ -20,18 +23,18 @@ mod request;
 mod run;
 mod standing;
 mod submit;
+mod tables;
 mod work;
 
 pub use caller::Caller;
 pub use examples::worked_runs;
-pub use laws::{empty_is_sound, others_do_not_matter, runs_tell_alike, views_are_rebuilt};
+pub use freeze_examples::worked_freezes;
+pub use laws::{
+    empty_is_sound, others_do_not_matter, replies_are_alike, runs_tell_alike, tables_are_computed,
+    views_are_rebuilt,
+};
 pub use office::Office;
 pub use plan_examples::worked_plans;
 pub use refusal::Refusal;
 pub use reply::Reply;
-pub use request::{Ask, Request};
-
-#[cfg(test)]
-mod plan_tests;
-#[cfg(test)]
-mod tests;
+pub use request::{Ask, NewAssignment, Request};

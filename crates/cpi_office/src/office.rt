@@ -1,7 +1,7 @@
 ghost use Rattle.std.specs.Prelude.{◌≡◌};
 ghost use Rattle.cpi_office.specs.Runs.{reply_to, after_one};
-ghost use Rattle.cpi_office.specs.Calls.{Serves};
-ghost use Rattle.cpi_office.specs.Sound.{IsSound};
+ghost use Rattle.cpi_office.specs.Calls.{ServesWhere};
+ghost use Rattle.cpi_store.specs.Sound.{IsSound};
 ghost use Rattle.cpi_office.specs.Turned.{TurnsAway};
 
 use crate::caller::Caller;
@@ -41,13 +41,16 @@ impl<B: Book> Office<B> {
 
     /// Answers a request at a moment, in seconds since 1970 UTC.
     ///
-    /// The reply and the change are those of the definitions, or the reply is [`Refusal::Unavailable`] and nothing is
-    /// changed. The public and the desk are never told that in place of [`Refusal::NotForCaller`], and in place of it
-    /// or of [`Refusal::UnknownKey`] a collector is told it only where a look-up of the book failed during the call.
+    /// From a sound office the reply and the change are those of the definitions, or the reply is
+    /// [`Refusal::Unavailable`] and nothing is changed. The public and the desk are never told that in place of
+    /// [`Refusal::NotForCaller`], and in place of it or of [`Refusal::UnknownKey`] a collector is told it only where a
+    /// look-up of the book failed during the call.
     pub fn handle(&mut self, now: Moment, caller: Caller, request: Request) -> Reply
         ensures serves { let o = B.lists self.old.book in
-            Serves B.is_clean B.lists B.failures self.old.book self.new.book result (reply_to now caller request o) (after_one now caller request o) }
-        ensures turns { TurnsAway B.is_clean B.failures B.finds_always self.old.book self.new.book caller result (reply_to now caller request (B.lists self.old.book)) }
+            ServesWhere B.is_clean B.lists B.failures (IsSound o) self.old.book self.new.book result
+            (reply_to now caller request o) (after_one now caller request o) }
+        ensures turns { TurnsAway B.is_clean B.failures B.finds_always self.old.book self.new.book caller result
+            (reply_to now caller request (B.lists self.old.book)) }
         ensures sound { B.is_clean self.new.book → IsSound (B.lists self.old.book) → IsSound (B.lists self.new.book) }
     {
         match caller {

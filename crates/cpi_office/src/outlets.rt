@@ -3,7 +3,8 @@ ghost use Rattle.std.specs.Option.{option_copied};
 ghost use Rattle.cpi_rows.specs.Keyed.{at};
 ghost use Rattle.cpi_store.specs.Calls.{Reads};
 ghost use Rattle.cpi_store.specs.Outlet.{same_outlet};
-ghost use Rattle.cpi_office.specs.Desk.{standing, outlet_put};
+ghost use Rattle.cpi_office.specs.Standing.{standing};
+ghost use Rattle.cpi_office.specs.Desk.{outlet_put};
 ghost use Rattle.cpi_office.specs.Verdicts.{with_verdict, verdict_reply};
 ghost use Rattle.cpi_office.specs.Calls.{Serves};
 
@@ -30,7 +31,8 @@ pub fn put_outlet<B: Book>(book: &mut B, outlet: Outlet) -> Reply
 
 /// What stands at the number of the outlet.
 fn find_outlet<B: Book>(book: &mut B, outlet: &Outlet) -> Result<Standing, StoreFault>
-    ensures { Reads B.is_clean B.lists B.failures B.may_leave book.old book.new result (λ found. found ≡ standing same_outlet outlet.now (at (λ u. u.number) outlet.now.number (B.lists book.old).outlets)) }
+    ensures { Reads B.is_clean B.lists B.failures B.may_leave book.old book.new result (λ found.
+        found ≡ standing same_outlet outlet.now (at (λ u. u.number) outlet.now.number (B.lists book.old).outlets)) }
 {
     let old = book.outlet(outlet.number)?;
     Ok(standing_outlet(outlet, old))

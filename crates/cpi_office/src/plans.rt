@@ -3,13 +3,16 @@ ghost use Rattle.std.specs.Option.{option_copied};
 ghost use Rattle.std.specs.Ordering.{nat_cmp};
 ghost use Rattle.cpi_rows.specs.Keyed.{IsInOrder};
 ghost use Rattle.cpi_store.specs.Calls.{Reads};
-ghost use Rattle.cpi_store.specs.Office.{changed, PutsPlan};
+ghost use Rattle.cpi_store.specs.Office.{PutsPlan};
 ghost use Rattle.cpi_plan.specs.Planned.{planned};
 ghost use Rattle.cpi_plan.specs.SamePlan.{same_plan};
-ghost use Rattle.cpi_office.specs.Desk.{sent, standing, plan_standing, plan_put};
+ghost use Rattle.cpi_office.specs.Standing.{standing};
+ghost use Rattle.cpi_office.specs.Replacing.{sent, body_judged, planned_in, unless_frozen};
+ghost use Rattle.cpi_release.specs.FrozenMonths.{frozen_months, is_year_frozen as year_frozen_in};
 ghost use Rattle.cpi_office.specs.Verdicts.{with_verdict, verdict_reply};
 ghost use Rattle.cpi_office.specs.Calls.{Serves};
 
+use crate::months::is_year_frozen;
 use crate::refusal::Refusal;
 use crate::reply::Reply;
 use crate::standing::Standing;
@@ -20,7 +23,7 @@ use std::alloc::{AllocError, Global};
 
 /// Puts the plan of what was sent for a year, over the one that stands if there is one.
 pub fn put_plan<B: Book>(alloc: Global, book: &mut B, year: Year, body: PlanBody) -> Reply
-    ensures { let o = B.lists book.old in let v = plan_put (plan_standing o.plans (planned year (sent o.items body))) in
+    ensures { let o = B.lists book.old in let v = planned_in year body o in
         Serves B.is_clean B.lists B.failures book.old book.new result (verdict_reply v) (with_verdict v o) }
 {
     match find_plan(alloc, book, year, body) {
@@ -38,7 +41,8 @@ fn find_plan<B: Book>(
     year: Year,
     body: PlanBody,
 ) -> Result<Result<Result<(YearPlan, Standing), PlanFault>, AllocError>, StoreFault>
-    ensures { Reads B.is_clean B.lists B.failures B.may_leave book.old book.new result (λ found. IfOk found (λ judged. judged ≡ plan_standing (B.lists book.old).plans (planned year (sent (B.lists book.old).items body)))) }
+    ensures { Reads B.is_clean B.lists B.failures B.may_leave book.old book.new result (λ found.
+        IfOk found (λ judged. judged ≡ body_judged year body (B.lists book.old))) }
 {
     let public = book.public_part()?;
     match build(alloc, year, public.items(), body) {
@@ -86,12 +90,19 @@ fn standing_plan(plan: &YearPlan, old: Option<&YearPlan>) -> Standing
     }
 }
 
-/// Stores a plan.
+/// Stores a plan, unless a month of its year was frozen.
 fn store_plan<B: Book>(book: &mut B, plan: YearPlan) -> Reply
-    ensures { Serves B.is_clean B.lists B.failures book.old book.new result Reply.Done (changed (PutsPlan plan) (B.lists book.old)) }
+    ensures { let o = B.lists book.old in
+        let frozen = year_frozen_in plan.year (frozen_months o.releases) in
+        let v = unless_frozen frozen Refusal.PlanFrozen (PutsPlan plan) in
+        Serves B.is_clean B.lists B.failures book.old book.new result (verdict_reply v) (with_verdict v o) }
 {
-    match book.put_plan(plan) {
-        Ok(()) => Reply::Done,
+    match is_year_frozen(book, plan.year()) {
         Err(StoreFault) => Reply::Refused(Refusal::Unavailable),
+        Ok(true) => Reply::Refused(Refusal::PlanFrozen),
+        Ok(false) => match book.put_plan(plan) {
+            Ok(()) => Reply::Done,
+            Err(StoreFault) => Reply::Refused(Refusal::Unavailable),
+        },
     }
 }

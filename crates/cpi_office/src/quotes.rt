@@ -21,7 +21,8 @@ pub fn quotes<B: Book>(
     first: Month,
     last: Month,
 ) -> Reply
-    ensures { Serves B.is_clean B.lists B.failures book.old book.new result (Reply.Quotes (quotes_within first last (held_by collector (B.lists book.old).quotes))) (B.lists book.old) }
+    ensures { Serves B.is_clean B.lists B.failures book.old book.new result
+        (Reply.Quotes (quotes_within first last (held_by collector (B.lists book.old).quotes))) (B.lists book.old) }
 {
     match read_quotes(alloc, book, collector, first, last) {
         Ok(Ok(quotes)) => Reply::Quotes(Rows::of(quotes)),
@@ -36,7 +37,8 @@ fn read_quotes<B: Book>(
     first: Month,
     last: Month,
 ) -> Result<Result<Vec<Quote>, AllocError>, StoreFault>
-    ensures { Reads B.is_clean B.lists B.failures B.may_leave book.old book.new result (λ found. IfOk found (λ quotes. quotes.items ≡ quotes_within first last (held_by collector (B.lists book.old).quotes))) }
+    ensures { Reads B.is_clean B.lists B.failures B.may_leave book.old book.new result (λ found.
+        IfOk found (λ quotes. quotes.items ≡ quotes_within first last (held_by collector (B.lists book.old).quotes))) }
 {
     let parts = book.parts(collector)?;
     Ok(parts.own.quotes(alloc, first, last))

@@ -2,6 +2,7 @@ ghost use Rattle.std.specs.Prelude.{◌≡◌};
 ghost use Rattle.cpi_office.specs.Refusal.{of_survey, number_of};
 
 use cpi_codes::Price;
+use cpi_index::IndexFault;
 use cpi_plan::PlanFault;
 
 /// Why a request is refused. Each refusal has a number, by which it is told.
@@ -37,6 +38,8 @@ pub enum Refusal {
     },
     /// The collector's greatest receipt is 1,000,000.
     ReceiptsUsedUp,
+    /// No table of the month is published by now.
+    NoTable,
     /// The code, number, key or slot stands with other content.
     Taken,
     /// An assignment's item isn't known.
@@ -47,6 +50,18 @@ pub enum Refusal {
     UnknownCollector,
     /// What was sent for a year is no plan: its first fault, which is never want of memory.
     PlanFault(PlanFault),
+    /// A month of the year was frozen.
+    PlanFrozen,
+    /// The month isn't the one after the last frozen one, or the first isn't a December.
+    FreezeOrder,
+    /// The month's window hasn't closed yet.
+    FreezeTooEarly,
+    /// There is no plan of the month's year.
+    NoPlan,
+    /// There is no index of the month: its first fault, which is never want of memory.
+    Index(IndexFault),
+    /// The month was frozen.
+    MonthFrozen,
     /// Memory was refused, or the store failed during the request.
     Unavailable,
 }
@@ -68,11 +83,18 @@ impl Refusal {
             Refusal::NoLastPrice => 25,
             Refusal::OutOfTolerance { .. } => 26,
             Refusal::ReceiptsUsedUp => 27,
+            Refusal::NoTable => 30,
             Refusal::Taken => 40,
             Refusal::UnknownItem => 41,
             Refusal::UnknownOutlet => 42,
             Refusal::UnknownCollector => 43,
             Refusal::PlanFault(_) => 44,
+            Refusal::PlanFrozen => 45,
+            Refusal::FreezeOrder => 46,
+            Refusal::FreezeTooEarly => 47,
+            Refusal::NoPlan => 48,
+            Refusal::Index(_) => 49,
+            Refusal::MonthFrozen => 50,
             Refusal::Unavailable => 90,
         }
     }

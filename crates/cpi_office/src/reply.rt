@@ -1,5 +1,6 @@
 use crate::refusal::Refusal;
 use cpi_plan::Item;
+use cpi_release::{FrozenMonth, PrintedTable};
 use cpi_rows::Rows;
 use cpi_survey::{Quote, WorkRow};
 
@@ -16,6 +17,10 @@ pub enum Reply {
     Quotes(Rows<Quote>),
     /// Items in the order of their codes.
     Items(Rows<Item>),
+    /// The months whose tables are published, by month.
+    Tables(Rows<FrozenMonth>),
+    /// A printed table.
+    Table(PrintedTable),
     /// Nothing was changed.
     Refused(Refusal),
 }

@@ -1,14 +1,30 @@
 use crate::caller::Caller;
-use cpi_codes::{CollectorId, Moment, Month, Year};
+use cpi_codes::{Code, CollectorId, ItemCode, Moment, Month, OutletId, Slot, Year};
 use cpi_plan::{CalendarRow, Item, PlanBody};
+use cpi_release::Form;
+use cpi_rows::Rows;
 use cpi_store::{Bearer, Outlet};
-use cpi_survey::{Assignment, Entry};
+use cpi_survey::Entry;
+
+/// What a free slot is given: an item to be priced in an outlet, from the first month to the last.
+#[derive(Clone, Copy, Debug, PartialEq, Eq)]
+pub struct NewAssignment {
+    pub slot: Slot,
+    pub outlet: OutletId,
+    pub item: ItemCode,
+    pub first_month: Month,
+    pub last_month: Month,
+}
 
 /// What is asked of the office.
 #[derive(Debug, Drop)]
 pub enum Request {
     /// The items; of all callers.
     Items,
+    /// The months whose tables are published; of all callers.
+    Tables,
+    /// The table of a month, printed; of all callers.
+    Table(Month, Form),
     /// The caller's own quotes from the first month to the last, none where the first is after the last; of collectors.
     Quotes(Month, Month),
     /// The caller's own work list of a month; of collectors.
@@ -22,11 +38,13 @@ pub enum Request {
     /// A new outlet.
     PutOutlet(Outlet),
     /// What a free slot of the collector is for.
-    Assign(CollectorId, Assignment),
+    Assign(CollectorId, NewAssignment),
     /// What there is for the plan of a year: titles, weights, and the aggregates of items.
     PutPlan(Year, PlanBody),
     /// The window and the publishing moment of a month.
     PutCalendar(CalendarRow),
+    /// The freeze of a month, with the aggregates that may be carried unchanged.
+    Freeze(Month, Rows<Code>),
 }
 
 /// One request, with who makes it and when.

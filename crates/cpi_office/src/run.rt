@@ -1,7 +1,10 @@
 ghost use Rattle.std.specs.Prelude.{◌≡◌, ◌++◌, List, IfOk, OnErr, length};
 ghost use Rattle.cpi_office.specs.Served.{Ran};
-ghost use Rattle.cpi_office.specs.Sound.{IsSound};
+ghost use Rattle.cpi_store.specs.Sound.{IsSound};
+ghost use Rattle.cpi_store.specs.History.{HasComputedTables};
 ghost use Rattle.cpi_office.specs.Told.{AreToldAlone};
+ghost use Rattle.cpi_office.specs.Releases.{KeepsReleases};
+ghost use Rattle.cpi_office.specs.Rebuilt.{AreRebuilt, AreFromViews};
 ghost use Rattle.cpi_office.specs.declared.request.Ask.{Ask as TheAsk};
 ghost use Rattle.cpi_office.specs.declared.reply.Reply.{Reply as TheReply};
 
@@ -15,7 +18,14 @@ impl<B: Book> Office<B> {
     /// Answers requests in order, each reply in the place of its request. Requests that are answered
     /// [`Refusal::Unavailable`] change nothing, and the others are answered as if these had not been sent.
     ///
-    /// Each collector is told what would be told without the requests of all other collectors.
+    /// From a sound office, whatever was asked by whom: what each caller may see at each moment is what that caller
+    /// could see before, with the accepted rows that the caller sees; and each reply to a collector or to the public
+    /// is the answer from that view as it was then. Each release that stands afterwards has the table that the
+    /// definitions of the index give over the quotes and weights frozen with it and before it, and each that stood
+    /// before stands as it was.
+    ///
+    /// Where no freeze is among the requests, each collector is told what would be told without the requests of all
+    /// other collectors. Where one is, a published table may tell of them all.
     ///
     /// # Errors
     ///
@@ -24,9 +34,20 @@ impl<B: Book> Office<B> {
     pub fn run(&mut self, asks: Vec<Ask>) -> Result<Vec<Reply>, AllocError>
         ensures each { IfOk result (λ rs. length rs.items ≡ length asks.items) }
         ensures ok { IfOk result (λ rs. Ran B.is_clean B.lists self.old.book self.new.book asks.items rs.items) }
-        ensures told { IfOk result (λ rs. B.is_clean self.new.book → IsSound (B.lists self.old.book) → AreToldAlone (B.lists self.old.book) asks.items rs.items) }
+        ensures told { let before = B.lists self.old.book in
+            IfOk result (λ rs. B.is_clean self.new.book → IsSound before → AreToldAlone before asks.items rs.items) }
+        ensures views { let before = B.lists self.old.book in let after = B.lists self.new.book in
+            IfOk result (λ rs. B.is_clean self.new.book → IsSound before →
+            AreRebuilt before asks.items rs.items after) }
+        ensures answers { let before = B.lists self.old.book in
+            IfOk result (λ rs. B.is_clean self.new.book → IsSound before → AreFromViews before asks.items rs.items) }
         ensures sound { B.is_clean self.new.book → IsSound (B.lists self.old.book) → IsSound (B.lists self.new.book) }
-        ensures err { OnErr result ((front : List TheAsk) × (rest : List TheAsk) × (rs : List TheReply) × (asks.items ≡ front ++ rest) × Ran B.is_clean B.lists self.old.book self.new.book front rs) }
+        ensures computed { B.is_clean self.new.book → IsSound (B.lists self.old.book) →
+            HasComputedTables (B.lists self.new.book) }
+        ensures stay { B.is_clean self.new.book → IsSound (B.lists self.old.book) →
+            KeepsReleases (B.lists self.old.book) (B.lists self.new.book) }
+        ensures err { OnErr result ((front : List TheAsk) × (rest : List TheAsk) × (rs : List TheReply)
+            × (asks.items ≡ front ++ rest) × Ran B.is_clean B.lists self.old.book self.new.book front rs) }
     {
         let mut told = Vec::new(self.allocator());
         let mut rest = asks.into_iter();

@@ -21,7 +21,8 @@ use cpi_survey::{Decision, Entry, Quote};
 pub fn enter<B: Book>(book: &mut B, now: Moment, bearer: Bearer, entry: Entry) -> Reply
     requires known { B.is_clean book.old → IsSome (at (λ b. b.number) bearer.number (B.lists book.old).collectors) }
     ensures { let o = B.lists book.old in let decision = decided now entry (public_part o) (own_part bearer.number o) in
-        Serves B.is_clean B.lists B.failures book.old book.new result (decision_reply decision) (with_verdict (decision_verdict bearer entry decision) o) }
+        Serves B.is_clean B.lists B.failures book.old book.new result
+        (decision_reply decision) (with_verdict (decision_verdict bearer entry decision) o) }
 {
     submit(book, now, bearer, entry)
 }
@@ -30,7 +31,8 @@ pub fn enter<B: Book>(book: &mut B, now: Moment, bearer: Bearer, entry: Entry) -
 fn submit<B: Book>(book: &mut B, now: Moment, bearer: Bearer, entry: Entry) -> Reply
     requires known { B.is_clean book.old → IsSome (at (λ b. b.number) bearer.number (B.lists book.old).collectors) }
     ensures { let o = B.lists book.old in let decision = decided now entry (public_part o) (own_part bearer.number o) in
-        Serves B.is_clean B.lists B.failures book.old book.new result (decision_reply decision) (stored bearer decision o) }
+        Serves B.is_clean B.lists B.failures book.old book.new result
+        (decision_reply decision) (stored bearer decision o) }
 {
     match decide(book, now, bearer.number, entry) {
         Err(StoreFault) => Reply::Refused(Refusal::Unavailable),
@@ -45,7 +47,8 @@ fn decide<B: Book>(
     collector: CollectorId,
     entry: Entry,
 ) -> Result<Result<Decision, cpi_survey::Refusal>, StoreFault>
-    ensures { Reads B.is_clean B.lists B.failures B.may_leave book.old book.new result (λ decision. decision ≡ decided now entry (public_part (B.lists book.old)) (own_part collector (B.lists book.old))) }
+    ensures { Reads B.is_clean B.lists B.failures B.may_leave book.old book.new result (λ decision.
+        decision ≡ decided now entry (public_part (B.lists book.old)) (own_part collector (B.lists book.old))) }
 {
     let parts = book.parts(collector)?;
     Ok(parts.own.submit(parts.public, now, entry))
@@ -58,8 +61,9 @@ fn carry_out<B: Book>(
     decision: &Result<Decision, cpi_survey::Refusal>,
 ) -> Reply
     requires known { B.is_clean book.old → IsSome (at (λ b. b.number) bearer.number (B.lists book.old).collectors) }
-    requires new { B.is_clean book.old → IsNew decision.now (greatest_receipt (held_by bearer.number (B.lists book.old).quotes)) }
-    ensures { Serves B.is_clean B.lists B.failures book.old book.new result (decision_reply decision.now) (stored bearer decision.now (B.lists book.old)) }
+    requires new { B.is_clean book.old → IsNew decision.now (own_part bearer.number (B.lists book.old)) }
+    ensures { Serves B.is_clean B.lists B.failures book.old book.new result
+        (decision_reply decision.now) (stored bearer decision.now (B.lists book.old)) }
 {
     match decision {
         Err(refusal) => Reply::Refused(Refusal::of_survey(refusal)),
@@ -71,8 +75,12 @@ fn carry_out<B: Book>(
 /// Stores a new quote.
 fn store_quote<B: Book>(book: &mut B, bearer: Bearer, quote: Quote) -> Reply
     requires known { B.is_clean book.old → IsSome (at (λ b. b.number) bearer.number (B.lists book.old).collectors) }
-    requires receipt { B.is_clean book.old → greatest_receipt (held_by bearer.number (B.lists book.old).quotes) < quote.receipt }
-    ensures { Serves B.is_clean B.lists B.failures book.old book.new result (Reply.Receipt quote.receipt) (changed (Quotes bearer quote) (B.lists book.old)) }
+    requires slot { B.is_clean book.old →
+        IsSome (at (λ a. a.assignment.slot) quote.slot (own_part bearer.number (B.lists book.old)).assignments) }
+    requires receipt { B.is_clean book.old →
+        greatest_receipt (held_by bearer.number (B.lists book.old).quotes) < quote.receipt }
+    ensures { Serves B.is_clean B.lists B.failures book.old book.new result
+        (Reply.Receipt quote.receipt) (changed (Quotes bearer quote) (B.lists book.old)) }
 {
     let receipt = quote.receipt();
     match book.put_quote(bearer, quote) {

@@ -16,7 +16,8 @@ use std::alloc::{AllocError, Global};
 /// Lists what the collector has to price in the month, by slot.
 pub fn work<B: Book>(alloc: Global, book: &mut B, collector: CollectorId, month: Month) -> Reply
     ensures { let o = B.lists book.old in
-        Serves B.is_clean B.lists B.failures book.old book.new result (work_reply (work month (public_part o) (own_part collector o))) o }
+        Serves B.is_clean B.lists B.failures book.old book.new result
+        (work_reply (work month (public_part o) (own_part collector o))) o }
 {
     match read_work(alloc, book, collector, month) {
         Ok(Ok(answer)) => work_reply(answer),
@@ -30,7 +31,9 @@ fn read_work<B: Book>(
     collector: CollectorId,
     month: Month,
 ) -> Result<Result<Result<Rows<WorkRow>, cpi_survey::Refusal>, AllocError>, StoreFault>
-    ensures { Reads B.is_clean B.lists B.failures B.may_leave book.old book.new result (λ found. IfOk found (λ answer. answer ≡ work month (public_part (B.lists book.old)) (own_part collector (B.lists book.old)))) }
+    ensures { Reads B.is_clean B.lists B.failures B.may_leave book.old book.new result (λ found.
+        IfOk found (λ answer.
+        answer ≡ work month (public_part (B.lists book.old)) (own_part collector (B.lists book.old)))) }
 {
     let parts = book.parts(collector)?;
     Ok(parts.own.work(alloc, parts.public, month))

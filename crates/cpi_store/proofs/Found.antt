@@ -13,8 +13,7 @@ use Rattle.cpi_rows.proofs.Places.{row_found, put_at_row, put_in_order}
 use Rattle.cpi_rows.proofs.Puts.{map-put}
 use Rattle.cpi_survey.specs.declared.assignment.Assigned.{Assigned}
 use Rattle.cpi_rows.proofs.Gathered.{held_gathered, put_gathered}
-use Rattle.cpi_survey.specs.Quote.{QuoteRow}
-use Rattle.cpi_survey.specs.Quote.{quote_cmp, quote_key}
+use Rattle.cpi_survey.specs.Quote.{QuoteRow, quote_cmp, quote_key}
 use Rattle.cpi_store.specs.Outlet.{with_name}
 use Rattle.cpi_survey.specs.Own.{OwnPart}
 use Rattle.cpi_store.specs.declared.outlet.Outlet.{Outlet}

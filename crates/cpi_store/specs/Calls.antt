@@ -1,11 +1,13 @@
--- What a call of a book does, whichever book it is. The four words are the book's: whether its store is clean, the office's lists, how often it failed, and which lists a crash may leave.
+-- What a call of a book does, whichever book it is. The four words are the book's: whether its store is clean, the
+-- office's lists, how often it failed, and which lists a crash may leave.
 use Rattle.std.specs.Prelude.{◌≡◌, ℕ, ◌<◌, ◌≤◌, Result, IfOk, OnOk, OnErr, ⊤}
 use Rattle.std.specs.Borrow.{follows_so, MutBor, Fml, RattleType}
 use mathlib.Core.Option.{none}
 use Rattle.cpi_store.specs.Office.{Office}
 use Rattle.cpi_store.specs.declared.book.StoreFault.{StoreFault}
 
-module _ {B : Type 0} (is_clean : B → Type 0) (lists : B → Office) (failures : B → ℕ) (may_leave : B → Office → Type 0) where
+module _ {B : Type 0} (is_clean : B → Type 0) (lists : B → Office) (failures : B → ℕ)
+    (may_leave : B → Office → Type 0) where
   -- a call that shows something of the office and leaves it as it was
   pub record Reads {T : Type 0} (old new : B) (result : Result T StoreFault) (Shown : T → Type 0) : Type 0 where
     pub was_clean : is_clean new → is_clean old

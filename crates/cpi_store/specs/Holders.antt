@@ -1,9 +1,11 @@
 -- A collector with all that is the collector's, as the book in memory keeps it.
-use Rattle.std.specs.Prelude.{ℕ, List, map, IsSome, Result, ⊤}
-use Rattle.std.specs.List.{AllByRecursion}
-use Rattle.cpi_rows.specs.Keyed.{at}
+use Rattle.std.specs.Prelude.{ℕ, List, map, Option, option_map, IsSome, Result, ⊤}
+use Rattle.std.specs.List.{AllByRecursion, filter_map, flat_map}
+use Rattle.cpi_rows.specs.Keyed.{at, row_at}
 use Rattle.cpi_rows.specs.Gathered.{gathered}
-use Rattle.cpi_survey.specs.Quote.{QuoteRow}
+use Rattle.cpi_survey.specs.Quote.{QuoteRow, quote_cmp, quote_key}
+use Rattle.cpi_survey.specs.Own.{OwnPart}
+use Rattle.cpi_index.specs.Frozen.{Frozen}
 use Rattle.cpi_survey.specs.declared.assignment.Assignment.{Assignment}
 use Rattle.cpi_survey.specs.declared.assignment.Assigned.{Assigned}
 use Rattle.cpi_survey.specs.Public.{PublicPart}
@@ -12,8 +14,9 @@ use Rattle.cpi_store.specs.declared.outlet.Outlet.{Outlet}
 use Rattle.cpi_store.specs.declared.bearer.Bearer.{Bearer}
 use Rattle.cpi_store.specs.declared.book.StoreFault.{StoreFault}
 use Rattle.cpi_store.specs.Calls.{Reads, Writes}
-use Rattle.cpi_store.specs.Office.{Office}
+use Rattle.cpi_store.specs.Office.{Office, frozen_quote}
 use Rattle.cpi_store.specs.declared.holder.Holder.{Holder}
+use Rattle.cpi_release.specs.declared.release.Release.{Release}
 
 abbrev pub collector_of_holder : Holder → Bearer
 collector_of_holder h = record { number = h.number; key = h.key }
@@ -33,9 +36,21 @@ all_assignments hs = gathered (λ h. h.number) assignments_of hs
 abbrev pub all_quotes : List Holder → List (ℕ × QuoteRow)
 all_quotes hs = gathered (λ h. h.number) quotes_of hs
 
--- the office that a public part, the outlets and the holders make up
-abbrev pub office_of : PublicPart → List Outlet → List Holder → Office
-office_of public outlets holders = record {
+-- the stored quotes of a month of one collector, by slot
+abbrev pub own_row : ℕ → List QuoteRow → Assigned → Option Frozen
+own_row month quotes a =
+    option_map (frozen_quote a.assignment) (row_at quote_cmp quote_key (a.assignment.slot, month) quotes)
+
+abbrev pub own_rows : ℕ → OwnPart → List Frozen
+own_rows month own = filter_map (own_row month own.quotes) own.assignments
+
+-- the same of all holders
+abbrev pub rows_of_holders : ℕ → List Holder → List Frozen
+rows_of_holders month hs = flat_map (λ h. own_rows month h.own) hs
+
+-- the office that a public part, the outlets, the holders and the releases make up
+abbrev pub office_of : PublicPart → List Outlet → List Release → List Holder → Office
+office_of public outlets releases holders = record {
   items = public.items;
   plans = public.plans;
   calendar = public.calendar;
@@ -43,6 +58,7 @@ office_of public outlets holders = record {
   outlets = outlets;
   assignments = all_assignments holders;
   quotes = all_quotes holders;
+  releases = releases;
 }
 
 -- the office that a book in memory holds, and how often it failed
@@ -52,10 +68,12 @@ pub record Kept : Type 0 where
 
 -- a call of a book in memory, whose store is always clean and which a crash leaves nowhere
 abbrev pub KeptReads : {T : Type 0} → Kept → Kept → Result T StoreFault → (T → Type 0) → Type 0
-KeptReads old new result Shown = Reads (λ _. ⊤) (λ (k : Kept). k.office) (λ (k : Kept). k.failures) (λ _ _. ⊥) old new result Shown
+KeptReads old new result Shown =
+    Reads (λ _. ⊤) (λ (k : Kept). k.office) (λ (k : Kept). k.failures) (λ _ _. ⊥) old new result Shown
 
 abbrev pub KeptWrites : {T : Type 0} → Kept → Kept → Result T StoreFault → Office → Type 0
-KeptWrites old new result after = Writes (λ _. ⊤) (λ (k : Kept). k.office) (λ (k : Kept). k.failures) (λ _ _. ⊥) old new result after
+KeptWrites old new result after =
+    Writes (λ _. ⊤) (λ (k : Kept). k.office) (λ (k : Kept). k.failures) (λ _ _. ⊥) old new result after
 
 -- the assignments of each holder, with the names that the outlets have
 abbrev pub named_by : List Outlet → List (List Assigned) → List (List Assigned)

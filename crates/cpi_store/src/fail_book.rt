@@ -1,9 +1,11 @@
 use crate::bearer::Bearer;
 use crate::book::{Book, Parts, StoreFault};
-use crate::failures::Failures;
 use crate::outlet::Outlet;
-use cpi_codes::{CollectorId, Key, OutletId};
+use cpi_codes::{Code, CollectorId, Key, Moment, Month, OutletId};
+use cpi_index::{ChainedLevel, FrozenQuote, GroupRow};
 use cpi_plan::{CalendarRow, Item, YearPlan};
+use cpi_release::{Failures, FrozenMonth, GroupFault, Groups, Level, Release};
+use cpi_rows::Rows;
 use cpi_survey::{Assigned, Own, Public, Quote};
 
 /// A book that passes each call on to another book, but for the n-th, which it fails without passing it on. It shows
@@ -43,7 +45,7 @@ impl<B: Book> FailBook<B> {
             0 => Ok(()),
             1 => {
                 self.left = 0;
-                Err(self.own_failures.fault())
+                Err(self.own_failures.counted(StoreFault))
             }
             left => {
                 self.left = left - 1;
@@ -53,18 +55,50 @@ impl<B: Book> FailBook<B> {
     }
 }
 
-impl<B: Book> Book for FailBook<B> {
+impl<B: Book> Groups for FailBook<B> {
     ghost use Rattle.std.specs.Prelude.{◌+◌};
 
-    ghost lists = { λ f. B.lists f.inner };
+    ghost Held = { B.Held };
+
+    ghost held = { λ f. B.held f.inner };
+
+    ghost sources = { B.sources };
+
+    ghost is_sound = { B.is_sound };
 
     ghost failures = { λ f. B.failures f.inner + f.own_failures.count };
 
     ghost is_clean = { λ f. B.is_clean f.inner };
 
+    ghost has_sound = { λ h s. B.has_sound h s };
+
+    fn rows(&mut self, year: u16, month: Month, code: Code) -> Result<Vec<GroupRow>, GroupFault> {
+        match self.count() {
+            Ok(()) => self.inner.rows(year, month, code),
+            Err(_) => Err(GroupFault),
+        }
+    }
+
+    fn chained(&mut self, month: Month, code: Code) -> Result<Option<ChainedLevel>, GroupFault> {
+        match self.count() {
+            Ok(()) => self.inner.chained(month, code),
+            Err(_) => Err(GroupFault),
+        }
+    }
+}
+
+impl<B: Book> Book for FailBook<B> {
+    ghost lists = { λ f. B.lists f.inner };
+
     ghost may_leave = { λ f. B.may_leave f.inner };
 
     ghost finds_always = { ⊥ };
+
+    ghost lists_kept = { λ a b e. B.lists_kept a.inner b.inner e };
+
+    ghost sources_are = { λ f. B.sources_are f.inner };
+
+    ghost sound_is = { λ f s. B.sound_is f.inner s };
 
     fn bearer_of(&mut self, key: Key) -> Result<Option<Bearer>, StoreFault> {
         self.count()?;
@@ -106,6 +140,26 @@ impl<B: Book> Book for FailBook<B> {
         self.inner.parts(collector)
     }
 
+    fn frozen_months(&mut self) -> Result<Vec<FrozenMonth>, StoreFault> {
+        self.count()?;
+        self.inner.frozen_months()
+    }
+
+    fn month_rows(&mut self, month: Month) -> Result<Vec<FrozenQuote>, StoreFault> {
+        self.count()?;
+        self.inner.month_rows(month)
+    }
+
+    fn tables_until(&mut self, until: Moment) -> Result<Vec<FrozenMonth>, StoreFault> {
+        self.count()?;
+        self.inner.tables_until(until)
+    }
+
+    fn table(&mut self, month: Month, until: Moment) -> Result<Option<&Rows<Level>>, StoreFault> {
+        self.count()?;
+        self.inner.table(month, until)
+    }
+
     fn put_item(&mut self, item: Item) -> Result<(), StoreFault> {
         self.count()?;
         self.inner.put_item(item)
@@ -139,5 +193,10 @@ impl<B: Book> Book for FailBook<B> {
     fn put_quote(&mut self, bearer: Bearer, quote: Quote) -> Result<(), StoreFault> {
         self.count()?;
         self.inner.put_quote(bearer, quote)
+    }
+
+    fn put_release(&mut self, release: Release) -> Result<(), StoreFault> {
+        self.count()?;
+        self.inner.put_release(release)
     }
 }

@@ -17,7 +17,8 @@ pub struct Holder {
 impl Holder {
     /// A collector who has nothing yet.
     pub fn new(alloc: Global, bearer: Bearer) -> Holder
-        ensures { result ≡ record { number = bearer.number; key = bearer.key; own = record { assignments = []; quotes = [] } } }
+        ensures { result
+            ≡ record { number = bearer.number; key = bearer.key; own = record { assignments = []; quotes = [] } } }
     {
         Holder {
             number: bearer.number,

@@ -1,14 +1,20 @@
 use crate::bearer::Bearer;
 use crate::book::{Book, Parts, StoreFault};
-use crate::failures::Failures;
+use crate::frozen::month_rows;
 use crate::holder::Holder;
 use crate::holders::{put_assignment_of, put_holder, put_quote_of};
 use crate::outlet::Outlet;
-use cpi_codes::{CollectorId, Key, OutletId};
+use crate::releases::{frozen_months, published_months, table_until};
+use cpi_codes::{Code, CollectorId, Key, Moment, Month, OutletId, Year};
+use cpi_index::{ChainedLevel, FrozenQuote, GroupRow};
 use cpi_plan::{CalendarRow, Item, YearPlan};
-use cpi_rows::{find_row, put_row};
+use cpi_release::{
+    Cached, Failures, FrozenMonth, GroupFault, Groups, Level, Release, group_rows, level_in,
+    month_groups,
+};
+use cpi_rows::{Rows, find_row, put_row};
 use cpi_survey::{Assigned, Own, Public, Quote};
-use std::alloc::Global;
+use std::alloc::{AllocError, Global};
 use std::collections::BTreeMap;
 use std::marker::Model;
 
@@ -23,11 +29,15 @@ pub struct VecBook {
     holders: Vec<Holder>,
     // by number
     outlets: Vec<Outlet>,
+    // by month
+    releases: Vec<Release>,
     // the holders, by the key that each bears
     bearers: BTreeMap<Key, Bearer>,
     // what a number that nobody has, has
     nobody: Own,
     failed: Failures,
+    // the samples of the month that is being frozen; none once anything is written
+    cached: Option<Cached>,
     alloc: Global,
 }
 
@@ -37,19 +47,28 @@ impl Model for VecBook {
     ghost use Rattle.std.specs.BTreeMap.{get};
     ghost use Rattle.cpi_rows.specs.Keyed.{IsInOrder};
     ghost use Rattle.cpi_store.specs.Bearer.{bearer_of};
+    ghost use Rattle.cpi_release.specs.FrozenMonths.{release_cmp, release_key};
     ghost use Rattle.cpi_store.specs.Holders.{Kept, ArePlaced, collectors_of, named_by, office_of};
+    ghost use Rattle.cpi_store.specs.Sources.{office_sources};
+    ghost use Rattle.cpi_release.specs.Cached.{AreKept};
 
     ghost Value = { Kept };
 
-    ghost view = { λ b. record { office = office_of b.public b.outlets.items b.holders.items; failures = b.failed.count } };
+    ghost view = { λ b. record {
+      office = office_of b.public b.outlets.items b.releases.items b.holders.items;
+      failures = b.failed.count;
+    } };
 
     ghost invariant = { λ b. record {
       holders : IsInOrder nat_cmp (λ h. h.number) b.holders.items;
       bearers : (key : ℕ) → get nat_cmp b.bearers key ≡ bearer_of key (collectors_of b.holders.items);
       outlets : IsInOrder nat_cmp (λ u. u.number) b.outlets.items;
+      releases : IsInOrder release_cmp release_key b.releases.items;
       placed : ArePlaced b.outlets.items (map (λ h. h.own.assignments) b.holders.items);
       nobody : b.nobody ≡ record { assignments = []; quotes = [] };
-      names : named_by b.outlets.items (map (λ h. h.own.assignments) b.holders.items) ≡ map (λ h. h.own.assignments) b.holders.items;
+      names : named_by b.outlets.items (map (λ h. h.own.assignments) b.holders.items)
+          ≡ map (λ h. h.own.assignments) b.holders.items;
+      kept : AreKept (office_sources (office_of b.public b.outlets.items b.releases.items b.holders.items)) b.cached;
     } };
 }
 
@@ -66,9 +85,11 @@ impl VecBook {
             public: Public::new(alloc),
             holders: Vec::new(alloc),
             outlets: Vec::new(alloc),
+            releases: Vec::new(alloc),
             bearers: BTreeMap::new(alloc),
             nobody: Own::new(alloc),
             failed: Failures::none(),
+            cached: None,
             alloc,
         }
     }
@@ -105,8 +126,90 @@ impl VecBook {
     }
 }
 
+impl VecBook {
+    ghost use Rattle.std.specs.Prelude.{◌≡◌, ◌≤◌, IfOk, IfSome};
+    ghost use Rattle.std.specs.Option.{option_copied};
+    ghost use Rattle.cpi_codes.specs.Month.{year_of};
+    ghost use Rattle.cpi_rows.specs.Keyed.{at};
+    ghost use Rattle.cpi_release.specs.Cached.{IsFit};
+    ghost use Rattle.cpi_release.specs.GroupCalls.{group_of};
+    ghost use Rattle.cpi_store.specs.Sources.{office_sources};
+
+    // The plan of the month's year.
+    fn plan_of(&self, month: Month) -> Option<&YearPlan>
+        ensures { option_copied result ≡ at (λ p. p.year) (year_of month) self.now.office.plans }
+    {
+        find_row(self.public.plans(), &month.year())
+    }
+
+    // The rows of one aggregate, where the month's samples are kept.
+    fn kept_rows(&self, month: Month, code: Code) -> Result<Option<Vec<GroupRow>>, AllocError>
+        ensures { IfOk result (λ o.
+            IfSome o (λ v. let s = office_sources self.now.office in
+            IsFit s → 12 ≤ month → v.items ≡ group_of s month code)) }
+    {
+        let Some(cached) = &self.cached else {
+            return Ok(None);
+        };
+        if cached.month != month {
+            return Ok(None);
+        }
+        let rows = group_rows(self.alloc, self.plan_of(month), &cached.groups, month, code)?;
+        Ok(Some(rows))
+    }
+
+    // The rows of one aggregate; the month's samples are kept from then on.
+    fn read_rows(&mut self, month: Month, code: Code) -> Result<Vec<GroupRow>, AllocError>
+        ensures same { self.new ≡ self.old }
+        ensures shown { IfOk result (λ v.
+            let s = office_sources self.old.office in IsFit s → 12 ≤ month → v.items ≡ group_of s month code) }
+    {
+        if let Some(rows) = self.kept_rows(month, code)? {
+            return Ok(rows);
+        }
+        let frozen = month_rows(self.alloc, month, &self.holders)?;
+        let plan = self.plan_of(month);
+        let groups = month_groups(self.alloc, plan, &self.releases, month, &frozen)?;
+        let rows = group_rows(self.alloc, plan, &groups, month, code)?;
+        self.cached = Some(Cached { month, groups });
+        Ok(rows)
+    }
+}
+
+impl Groups for VecBook {
+    ghost use Rattle.std.specs.Prelude.{⊤};
+    ghost use Rattle.cpi_store.specs.Office.{Office};
+    ghost use Rattle.cpi_store.specs.Sources.{office_sources};
+    ghost use Rattle.cpi_release.specs.Cached.{IsFit};
+
+    ghost Held = { Office };
+
+    ghost held = { λ b. b.office };
+
+    ghost sources = { office_sources };
+
+    ghost is_sound = { λ o. IsFit (office_sources o) };
+
+    ghost failures = { λ b. b.failures };
+
+    ghost is_clean = { λ _. ⊤ };
+
+    ghost has_sound = { λ o s. s.0 };
+
+    fn rows(&mut self, _year: u16, month: Month, code: Code) -> Result<Vec<GroupRow>, GroupFault> {
+        match self.read_rows(month, code) {
+            Ok(rows) => Ok(rows),
+            Err(_) => Err(self.failed.counted(GroupFault)),
+        }
+    }
+
+    fn chained(&mut self, month: Month, code: Code) -> Result<Option<ChainedLevel>, GroupFault> {
+        Ok(level_in(&self.releases, month, code))
+    }
+}
+
 impl Book for VecBook {
-    ghost use Rattle.std.specs.Prelude.{◌≡◌, ◌<◌, ⊤, IsOk, IsSome};
+    ghost use Rattle.std.specs.Prelude.{◌≡◌, ◌<◌, ⊤, refl, IsOk, IsSome};
     ghost use Rattle.cpi_rows.specs.Keyed.{row_at, at};
     ghost use Rattle.cpi_rows.specs.Held.{held_by};
     ghost use Rattle.cpi_survey.specs.Quote.{greatest_receipt, quote_cmp, quote_key};
@@ -116,13 +219,15 @@ impl Book for VecBook {
 
     ghost lists = { λ b. b.office };
 
-    ghost failures = { λ b. b.failures };
-
-    ghost is_clean = { λ _. ⊤ };
-
     ghost may_leave = { λ _ _. ⊥ };
 
     ghost finds_always = { ⊤ };
+
+    ghost lists_kept = { λ a b e. e };
+
+    ghost sources_are = { λ b. refl };
+
+    ghost sound_is = { λ b s. s };
 
     fn bearer_of(&mut self, key: Key) -> Result<Option<Bearer>, StoreFault>
         ensures reads { KeptReads self.old self.new result (λ found. found ≡ bearer_of key self.old.office.collectors) }
@@ -132,21 +237,24 @@ impl Book for VecBook {
     }
 
     fn bearer_at(&mut self, number: CollectorId) -> Result<Option<Bearer>, StoreFault>
-        ensures reads { KeptReads self.old self.new result (λ found. found ≡ at (λ b. b.number) number self.old.office.collectors) }
+        ensures reads { KeptReads self.old self.new result (λ found.
+            found ≡ at (λ b. b.number) number self.old.office.collectors) }
         ensures always { IsOk result }
     {
         Ok(self.holder_at(number))
     }
 
     fn collector_of(&mut self, key: Key) -> Result<Option<CollectorId>, StoreFault>
-        ensures reads { KeptReads self.old self.new result (λ found. found ≡ collector_of key self.old.office.collectors) }
+        ensures reads { KeptReads self.old self.new result (λ found.
+            found ≡ collector_of key self.old.office.collectors) }
         ensures always { IsOk result }
     {
         Ok(self.bearers.get(&key).map(|bearer| bearer.number))
     }
 
     fn collector_key(&mut self, number: CollectorId) -> Result<Option<Key>, StoreFault>
-        ensures reads { KeptReads self.old self.new result (λ found. found ≡ collector_key number self.old.office.collectors) }
+        ensures reads { KeptReads self.old self.new result (λ found.
+            found ≡ collector_key number self.old.office.collectors) }
         ensures always { IsOk result }
     {
         Ok(self.holder_at(number).map(|bearer| bearer.key))
@@ -168,10 +276,36 @@ impl Book for VecBook {
         Ok(self.parts_of(collector))
     }
 
+    fn frozen_months(&mut self) -> Result<Vec<FrozenMonth>, StoreFault> {
+        match frozen_months(self.alloc, &self.releases) {
+            Ok(found) => Ok(found),
+            Err(_) => Err(self.failed.counted(StoreFault)),
+        }
+    }
+
+    fn month_rows(&mut self, month: Month) -> Result<Vec<FrozenQuote>, StoreFault> {
+        match month_rows(self.alloc, month, &self.holders) {
+            Ok(found) => Ok(found),
+            Err(_) => Err(self.failed.counted(StoreFault)),
+        }
+    }
+
+    fn tables_until(&mut self, until: Moment) -> Result<Vec<FrozenMonth>, StoreFault> {
+        match published_months(self.alloc, until, &self.releases) {
+            Ok(found) => Ok(found),
+            Err(_) => Err(self.failed.counted(StoreFault)),
+        }
+    }
+
+    fn table(&mut self, month: Month, until: Moment) -> Result<Option<&Rows<Level>>, StoreFault> {
+        Ok(table_until(&self.releases, month, until))
+    }
+
     fn put_item(&mut self, item: Item) -> Result<(), StoreFault> {
+        self.cached = None;
         match self.public.put_item(item) {
             Ok(()) => Ok(()),
-            Err(_) => Err(self.failed.fault()),
+            Err(_) => Err(self.failed.counted(StoreFault)),
         }
     }
 
@@ -179,9 +313,10 @@ impl Book for VecBook {
         ensures writes { KeptWrites self.old self.new result (changed (PutsPlan plan) self.old.office) }
         ensures replaced { IsSome (at (λ y. y.year) plan.year self.old.office.plans) → IsOk result }
     {
+        self.cached = None;
         match self.public.put_plan(plan) {
             Ok(()) => Ok(()),
-            Err(_) => Err(self.failed.fault()),
+            Err(_) => Err(self.failed.counted(StoreFault)),
         }
     }
 
@@ -189,31 +324,35 @@ impl Book for VecBook {
         ensures writes { KeptWrites self.old self.new result (changed (PutsCalendar row) self.old.office) }
         ensures replaced { IsSome (at (λ r. r.month) row.month self.old.office.calendar) → IsOk result }
     {
+        self.cached = None;
         match self.public.put_calendar(row) {
             Ok(()) => Ok(()),
-            Err(_) => Err(self.failed.fault()),
+            Err(_) => Err(self.failed.counted(StoreFault)),
         }
     }
 
     fn put_collector(&mut self, bearer: Bearer) -> Result<(), StoreFault> {
+        self.cached = None;
         let holder = Holder::new(self.alloc, bearer);
         match put_holder(&mut self.holders, &mut self.bearers, holder) {
             Ok(()) => Ok(()),
-            Err(_) => Err(self.failed.fault()),
+            Err(_) => Err(self.failed.counted(StoreFault)),
         }
     }
 
     fn put_outlet(&mut self, outlet: Outlet) -> Result<(), StoreFault> {
+        self.cached = None;
         match put_row(&mut self.outlets, outlet) {
             Ok(()) => Ok(()),
-            Err(_) => Err(self.failed.fault()),
+            Err(_) => Err(self.failed.counted(StoreFault)),
         }
     }
 
     fn put_assignment(&mut self, bearer: Bearer, assigned: Assigned) -> Result<(), StoreFault> {
+        self.cached = None;
         match put_assignment_of(&mut self.holders, bearer.number, assigned) {
             Ok(()) => Ok(()),
-            Err(_) => Err(self.failed.fault()),
+            Err(_) => Err(self.failed.counted(StoreFault)),
         }
     }
 
@@ -221,11 +360,21 @@ impl Book for VecBook {
         requires known { IsSome (at (λ b. b.number) bearer.number self.old.office.collectors) }
         requires receipt { greatest_receipt (held_by bearer.number self.old.office.quotes) < quote.receipt }
         ensures writes { KeptWrites self.old self.new result (changed (Quotes bearer quote) self.old.office) }
-        ensures replaced { IsSome (row_at quote_cmp quote_key (quote.slot, quote.month) (held_by bearer.number self.old.office.quotes)) → IsOk result }
+        ensures replaced { IsSome (row_at quote_cmp quote_key (quote.slot, quote.month) (held_by bearer.number self.old.office.quotes)) →
+            IsOk result }
     {
+        self.cached = None;
         match put_quote_of(&mut self.holders, bearer.number, quote) {
             Ok(()) => Ok(()),
-            Err(_) => Err(self.failed.fault()),
+            Err(_) => Err(self.failed.counted(StoreFault)),
+        }
+    }
+
+    fn put_release(&mut self, release: Release) -> Result<(), StoreFault> {
+        self.cached = None;
+        match put_row(&mut self.releases, release) {
+            Ok(()) => Ok(()),
+            Err(_) => Err(self.failed.counted(StoreFault)),
         }
     }
 }

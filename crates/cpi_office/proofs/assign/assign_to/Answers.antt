@@ -20,3 +20,11 @@ put_assignment-requires-clause-new g c = λ clean.
     let b = c.in-Ok-Some.bearer in
     let found : at (λ (b : Bearer). b.number) c.args.collector o.collectors ≡ Some b = sym (reads.shown clean) ∙ c.in-Ok-Some.field-0-is in
     rw (reads.kept clean) (ap (λ n. at (λ a. a.slot) c.args.assigned.assignment.slot (held_by n o.assignments)) (at_key (λ (b : Bearer). b.number) c.args.collector b o.collectors found) ∙ c.requires.free (reads.was_clean clean))
+
+pub put_assignment-requires-clause-series : goal.put_assignment-requires-clause-series
+put_assignment-requires-clause-series g c = λ clean.
+    let reads = c.in-Ok-Some.ensures.reads in
+    let o = g.B.Book.lists c.args.book.now in
+    let b = c.in-Ok-Some.bearer in
+    let found : at (λ (b : Bearer). b.number) c.args.collector o.collectors ≡ Some b = sym (reads.shown clean) ∙ c.in-Ok-Some.field-0-is in
+    (c.requires.made (reads.was_clean clean)).series ∙ ap (λ n. record { collector = n; slot = c.args.assigned.assignment.slot }) (sym (at_key (λ (b : Bearer). b.number) c.args.collector b o.collectors found))

@@ -21,7 +21,7 @@ returns-in-Ok-Some-clause-serves g c =
     let r = c.args.request in
     let b = c.in-Ok-Some.bearer in
     let mid = c.bearer_of.new.self in
-    serves_after g.B.Book.is_clean g.B.Book.lists g.B.Book.failures c.args.book.now mid c.serve_known.new.book _ _ c.serve_known.result
+    serves_after g.B.Groups.is_clean g.B.Book.lists g.B.Groups.failures c.args.book.now mid c.serve_known.new.book _ _ c.serve_known.result
     (collector_reply now r (g.B.Book.lists mid) (Some b)) (collector_reply now r o (bearer_of key o.collectors))
     (collector_after b.key now r (g.B.Book.lists mid) (Some b)) (collector_after key now r o (bearer_of key o.collectors))
     reads c.serve_known.ensures.serves

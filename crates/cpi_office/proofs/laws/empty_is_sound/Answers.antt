@@ -3,6 +3,7 @@ use Rattle.std.specs.Ordering.{nat_cmp}
 use Rattle.cpi_rows.specs.Held.{held_cmp, held_key}
 use Rattle.cpi_rows.proofs.Places.{none_in_order}
 use Rattle.cpi_survey.specs.Quote.{quote_cmp, quote_key}
+use Rattle.cpi_release.specs.FrozenMonths.{release_cmp, release_key}
 use Rattle.cpi_office.proofs.laws.empty_is_sound.Goals as goal
 
 pub returns : goal.returns
@@ -14,6 +15,11 @@ returns c = record {
   outlets = none_in_order nat_cmp (λ u. u.number);
   assignments = none_in_order (held_cmp nat_cmp) (held_key (λ a. a.slot));
   quotes = none_in_order (held_cmp quote_cmp) (held_key quote_key);
+  releases = none_in_order release_cmp release_key;
+  made = tt;
+  frozen = tt;
+  nodes = tt;
+  published = tt;
   keys = λ n b found. let no : None ≡ Some b = found in cc;
   assigned = tt;
   quoted = tt;

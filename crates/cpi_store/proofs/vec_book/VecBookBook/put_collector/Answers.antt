@@ -30,9 +30,11 @@ invariant_of-self c =
       holders = rw after (put_in_order nat_cmp_total (λ (h : Holder). h.number) hs h c.self.invariant.holders);
       bearers = λ key. bearer_added c.args.bearer (collectors_of hs) (collectors_in_order hs c.self.invariant.holders) missing free key _ _ (c.self.invariant.bearers key) (updates.0 key ∙ ap (λ (g : Holder). cond (is_eq (nat_cmp g.key key)) (Some (collector_of_holder g)) (get nat_cmp c.self.inside.bearers key)) c.new-holder.ensures) ∙ ap (bearer_of key) (sym (collectors_added h hs c.self.invariant.holders none) ∙ ap collectors_of (sym after));
       outlets = c.self.invariant.outlets;
+      releases = c.self.invariant.releases;
       placed = rw after (placed_added h hs c.self.invariant.holders none refl us c.self.invariant.placed);
       nobody = c.self.invariant.nobody;
       names = rw after (names_added h hs c.self.invariant.holders none refl us c.self.invariant.names);
+      kept = tt;
     }
 
 pub returns-in-Ok : goal.returns-in-Ok
@@ -46,7 +48,7 @@ returns-in-Ok c =
     (record {
       writes = record {
         was_clean = λ k. tt;
-        done = λ k. ap (office_of c.self.inside.public us) after ∙ office_added h hs c.self.invariant.holders (no_holder c.args.bearer.number hs missing) refl c.self.inside.public us;
+        done = λ k. ap (office_of c.self.inside.public us c.self.inside.releases.items) after ∙ office_added h hs c.self.invariant.holders (no_holder c.args.bearer.number hs missing) refl c.self.inside.public us c.self.inside.releases.items;
         kept = λ k. tt;
         count = omega arith;
         fault = tt;

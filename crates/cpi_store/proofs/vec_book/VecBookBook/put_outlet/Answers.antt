@@ -17,9 +17,11 @@ invariant_of-self c =
       holders = c.self.invariant.holders;
       bearers = c.self.invariant.bearers;
       outlets = c.put_row.ensures.order;
+      releases = c.self.invariant.releases;
       placed = rw after (still_placed c.args.outlet us c.self.invariant.outlets new lists c.self.invariant.placed);
       nobody = c.self.invariant.nobody;
       names = ap (λ vs. named_by vs lists) after ∙ names_stay c.args.outlet us c.self.invariant.outlets new lists c.self.invariant.placed ∙ c.self.invariant.names;
+      kept = tt;
     }
 
 pub invariant_of-self-in-Err : goal.invariant_of-self-in-Err
@@ -29,9 +31,11 @@ invariant_of-self-in-Err c =
       holders = c.self.invariant.holders;
       bearers = c.self.invariant.bearers;
       outlets = c.put_row.ensures.order;
+      releases = c.self.invariant.releases;
       placed = rw same c.self.invariant.placed;
       nobody = c.self.invariant.nobody;
       names = rw same c.self.invariant.names;
+      kept = tt;
     }
 
 pub returns-in-Ok : goal.returns-in-Ok
@@ -42,7 +46,7 @@ returns-in-Ok c =
     (record {
       writes = record {
         was_clean = λ k. tt;
-        done = λ k. ap (λ us. record { items = c.self.inside.public.items; plans = c.self.inside.public.plans; calendar = c.self.inside.public.calendar; collectors = collectors_of hs; outlets = us; assignments = all_assignments hs; quotes = all_quotes hs }) after;
+        done = λ k. ap (λ us. record { items = c.self.inside.public.items; plans = c.self.inside.public.plans; calendar = c.self.inside.public.calendar; collectors = collectors_of hs; outlets = us; assignments = all_assignments hs; quotes = all_quotes hs; releases = c.self.inside.releases.items }) after;
         kept = λ k. tt;
         count = omega arith;
         fault = tt;

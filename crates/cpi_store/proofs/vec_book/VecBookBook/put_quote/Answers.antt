@@ -10,9 +10,11 @@ put_quote_of-requires-clause-known c = known_holder c.args.bearer.number c.self.
 pub invariant_of-self : goal.invariant_of-self
 invariant_of-self c = record {
   outlets = c.self.invariant.outlets;
+  releases = c.self.invariant.releases;
   placed = rw c.put_quote_of.ensures.own_assignments c.self.invariant.placed;
   nobody = c.self.invariant.nobody;
   holders = c.put_quote_of.ensures.order;
   bearers = λ key. c.self.invariant.bearers key ∙ ap (bearer_of key) (sym c.put_quote_of.ensures.collectors);
   names = rw c.put_quote_of.ensures.own_assignments c.self.invariant.names;
+  kept = tt;
 }

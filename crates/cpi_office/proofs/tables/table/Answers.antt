@@ -1,0 +1,17 @@
+use Rattle.std.proofs.Common.{◌≡◌, Result, Ok, Err, IfOk, subst, sym, ◌∙◌, inl}
+use Rattle.cpi_office.proofs.Tabled.{printed_found}
+use Rattle.cpi_office.proofs.tables.table.Goals as goal
+
+if_ok : {A E : Type 0} (r : Result A E) (x : A) (P : A → Type 0) → r ≡ Ok x → IfOk r P → P x
+if_ok (Ok y) x P e p = let is : y ≡ x = cc in subst P is p
+if_ok (Err f) x P e p = let no : Err f ≡ Ok x = e in cc
+
+pub returns-in-Ok-Ok-Some : goal.returns-in-Ok-Ok-Some
+returns-in-Ok-Ok-Some g c =
+    let reads = c.in-Ok-Ok-Some.ensures in
+    let shown = if_ok c.in-Ok-Ok-Some.field-0 c.in-Ok-Ok-Some.field-0-0 _ c.in-Ok-Ok-Some.field-0-is in
+    record {
+      was_clean = reads.was_clean;
+      served = λ clean. inl (printed_found c.args.form c.args.month _ c.in-Ok-Ok-Some.printed_table (sym c.in-Ok-Ok-Some.field-0-0-is ∙ shown (reads.shown clean)), reads.kept clean);
+      count = reads.count;
+    }

@@ -1,0 +1,86 @@
+-- How a freeze is judged, from what was looked up: the months that were frozen, the calendar row, the plan of the year;
+-- and the release that is made of a month that may be frozen.
+use Rattle.std.specs.Prelude.{ℕ, Bool, false, not, is_some, nat_lt, List, Option, Some, None, Result, Ok, Err, if◌then◌else◌}
+use Rattle.std.specs.List.{list_any}
+use Rattle.cpi_codes.specs.CodeOrder.{code_cmp}
+use Rattle.cpi_codes.specs.declared.codes.Code.{Code}
+use Rattle.cpi_rows.specs.Keyed.{at, row_at}
+use Rattle.cpi_plan.specs.Plan.{Plan}
+use Rattle.cpi_plan.specs.Calendar.{CalendarPart}
+use Rattle.cpi_plan.specs.declared.plan_faults.PlanFault.TheVariants.{UnknownAggregate}
+use Rattle.cpi_index.specs.declared.fault.IndexFault.{IndexFault}
+use Rattle.cpi_release.specs.FrozenMonths.{is_frozen, is_next, frozen_months, plan_for, lacks_plan}
+use Rattle.cpi_release.specs.Publishing.{Freeze, published, fault_of}
+use Rattle.cpi_release.specs.declared.frozen_month.FrozenMonth.{FrozenMonth}
+use Rattle.cpi_release.specs.declared.release.Release.{Release}
+use Rattle.cpi_store.specs.Office.{Office, Freezes, month_rows}
+use Rattle.cpi_office.specs.declared.refusal.Refusal.{Refusal}
+use Rattle.cpi_office.specs.declared.refusal.Refusal.TheVariants.{UnknownMonth, PlanFault, FreezeOrder, FreezeTooEarly, NoPlan, Index, MonthFrozen}
+use Rattle.cpi_office.specs.Verdicts.{Verdict, Refuses, Makes}
+
+-- ---- what is refused, in order
+abbrev pub has_weight : Option Plan → Code → Bool
+has_weight None code = false
+has_weight (Some p) code = is_some (row_at code_cmp (λ w. w.code) code p.weights)
+
+-- a carry code without weight in the plan; without a plan, any code
+abbrev pub has_weightless : Option Plan → List Code → Bool
+has_weightless plan carry = list_any (λ code. not (has_weight plan code)) carry
+
+abbrev pub carry_judged : List Code → Option Plan → CalendarPart → Result CalendarPart Refusal
+carry_judged carry plan row = if has_weightless plan carry then Err (PlanFault UnknownAggregate) else Ok row
+
+abbrev pub plan_judged : List Plan → List FrozenMonth → List Code → CalendarPart → Result CalendarPart Refusal
+plan_judged plans frozen carry row =
+    if lacks_plan plans frozen row.month then Err NoPlan else carry_judged carry (plan_for plans frozen row.month) row
+
+abbrev pub row_judged : ℕ → List Plan → List FrozenMonth → List Code → Option CalendarPart → Result CalendarPart Refusal
+row_judged now plans frozen carry None = Err UnknownMonth
+row_judged now plans frozen carry (Some row) =
+    if nat_lt now row.closes then Err FreezeTooEarly else plan_judged plans frozen carry row
+
+-- the calendar row of a month that may be frozen
+abbrev pub freeze_judged :
+    ℕ → ℕ → List Code → List FrozenMonth → Option CalendarPart → List Plan → Result CalendarPart Refusal
+freeze_judged now month carry frozen row plans =
+    if is_frozen month frozen then Err MonthFrozen
+    else if not (is_next month frozen) then Err FreezeOrder
+    else row_judged now plans frozen carry row
+
+-- the same in an office
+abbrev pub freeze_judged_in : ℕ → ℕ → List Code → Office → Result CalendarPart Refusal
+freeze_judged_in now month carry o =
+    freeze_judged now month carry (frozen_months o.releases) (at (λ r. r.month) month o.calendar) o.plans
+
+-- ---- what the index makes of what is frozen
+abbrev pub unless_fault : Option IndexFault → Release → Result Release IndexFault
+unless_fault None r = Ok r
+unless_fault (Some fault) r = Err fault
+
+abbrev pub made_release : Option Plan → List Release → Freeze → Result Release IndexFault
+made_release plan releases what = unless_fault (fault_of plan releases what) (published plan releases what)
+
+-- what is frozen of the row's month: its stored quotes as they are now
+abbrev pub frozen_with : ℕ → CalendarPart → List Code → Office → Freeze
+frozen_with now row carry o = record {
+  month = row.month;
+  frozen_at = now;
+  publishes = row.publishes;
+  frozen = month_rows row.month o;
+  carry = carry;
+}
+
+abbrev pub judged_release : ℕ → List Code → Office → CalendarPart → Result Release IndexFault
+judged_release now carry o row =
+    made_release (plan_for o.plans (frozen_months o.releases) row.month) o.releases (frozen_with now row carry o)
+
+abbrev pub release_verdict : Result Release IndexFault → Verdict
+release_verdict (Err fault) = Refuses (Index fault)
+release_verdict (Ok r) = Makes (Freezes r)
+
+abbrev pub freeze_verdict : (CalendarPart → Result Release IndexFault) → Result CalendarPart Refusal → Verdict
+freeze_verdict made (Err f) = Refuses f
+freeze_verdict made (Ok row) = release_verdict (made row)
+
+abbrev pub frozen : ℕ → ℕ → List Code → Office → Verdict
+frozen now month carry o = freeze_verdict (judged_release now carry o) (freeze_judged_in now month carry o)

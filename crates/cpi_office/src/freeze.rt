@@ -1,0 +1,303 @@
+ghost use Rattle.std.specs.Prelude.{◌≡◌, ◌≢◌, ℕ, true, Option, None, Some, Err, IfOk, IfErr, OnErr, IsOk, IsErr, MatchResult};
+ghost use Rattle.std.specs.Option.{option_copied};
+ghost use Rattle.cpi_codes.specs.Month.{year_of};
+ghost use Rattle.cpi_rows.specs.Keyed.{at, row_at};
+ghost use Rattle.cpi_release.specs.FrozenMonths.{frozen_months, release_cmp, release_key, is_next as next_after, is_after_first as after_first, plan_for};
+ghost use Rattle.cpi_index.specs.declared.fault.IndexFault.{IndexFault};
+ghost use Rattle.cpi_index.specs.declared.fault.IndexFault.TheVariants.{NoMemory};
+ghost use Rattle.cpi_release.specs.Summed.{IsFreezeFault};
+ghost use Rattle.cpi_release.specs.declared.freeze_fault.FreezeFault.TheVariants.{Group};
+ghost use Rattle.cpi_release.specs.declared.release.Release.{Release};
+ghost use Rattle.cpi_store.specs.Calls.{Reads};
+ghost use Rattle.cpi_office.specs.Freezing.{frozen, freeze_judged, freeze_judged_in, plan_judged, carry_judged, has_weight as weighs, has_weightless as weightless_in, judged_release, release_verdict, unless_fault};
+ghost use Rattle.cpi_store.specs.Sound.{IsSound};
+ghost use Rattle.cpi_office.specs.Verdicts.{with_verdict, verdict_reply};
+ghost use Rattle.cpi_office.specs.Calls.{ServesWhere};
+
+use crate::months::is_frozen;
+use crate::refusal::Refusal;
+use crate::reply::Reply;
+use cpi_codes::{Code, Moment, Month, Year};
+use cpi_index::IndexFault;
+use cpi_plan::{CalendarRow, PlanFault, YearPlan};
+use cpi_release::{FreezeFault, FrozenMonth, Release};
+use cpi_rows::{Rows, find_row};
+use cpi_store::{Book, StoreFault};
+use cpi_survey::Public;
+use std::alloc::{AllocError, Global};
+
+/// Freezes a month: its release is made and put.
+pub fn freeze<B: Book>(
+    alloc: Global,
+    book: &mut B,
+    now: Moment,
+    month: Month,
+    carry: Rows<Code>,
+) -> Reply
+    ensures { let o = B.lists book.old in let v = frozen now month carry o in
+        ServesWhere B.is_clean B.lists B.failures (IsSound o) book.old book.new result
+        (verdict_reply v) (with_verdict v o) }
+{
+    match judge(book, now, month, carry.as_slice()) {
+        Err(StoreFault) => Reply::Refused(Refusal::Unavailable),
+        Ok(Err(refusal)) => Reply::Refused(refusal),
+        Ok(Ok(row)) => publish(alloc, book, now, row, carry),
+    }
+}
+
+/// The calendar row of a month that may be frozen, or why it may not.
+fn judge<B: Book>(
+    book: &mut B,
+    now: Moment,
+    month: Month,
+    carry: &[Code],
+) -> Result<Result<CalendarRow, Refusal>, StoreFault>
+    ensures { let o = B.lists book.old in
+        Reads B.is_clean B.lists B.failures B.may_leave book.old book.new result (λ judged.
+        judged ≡ freeze_judged_in now month carry.now o) }
+{
+    let frozen = book.frozen_months()?;
+    let public = book.public_part()?;
+    Ok(judge_month(now, month, carry, &frozen, public))
+}
+
+fn judge_month(
+    now: Moment,
+    month: Month,
+    carry: &[Code],
+    frozen: &[FrozenMonth],
+    public: &Public,
+) -> Result<CalendarRow, Refusal>
+    ensures { let row = at (λ r. r.month) month public.now.calendar in
+        result ≡ freeze_judged now month carry.now frozen.now row public.now.plans }
+{
+    if is_frozen(frozen, month) {
+        return Err(Refusal::MonthFrozen);
+    }
+    if !is_next(frozen, month) {
+        return Err(Refusal::FreezeOrder);
+    }
+    match public.calendar_row(month) {
+        None => Err(Refusal::UnknownMonth),
+        Some(row) => {
+            if now < row.closes() {
+                Err(Refusal::FreezeTooEarly)
+            } else {
+                judge_plan(carry, frozen, public, *row)
+            }
+        }
+    }
+}
+
+/// Whether there is a plan of the month's year, and each code of the list has weight in it. The first release has no
+/// plan.
+fn judge_plan(
+    carry: &[Code],
+    frozen: &[FrozenMonth],
+    public: &Public,
+    row: CalendarRow,
+) -> Result<CalendarRow, Refusal>
+    ensures { result ≡ plan_judged public.now.plans frozen.now carry.now row }
+{
+    if !is_after_first(frozen, row.month()) {
+        return judge_carry(carry, None, row);
+    }
+    match year_plan(public, row.month()) {
+        None => Err(Refusal::NoPlan),
+        Some(plan) => judge_carry(carry, Some(plan), row),
+    }
+}
+
+/// Whether each code of the list has weight in the plan.
+fn judge_carry(
+    carry: &[Code],
+    plan: Option<&YearPlan>,
+    row: CalendarRow,
+) -> Result<CalendarRow, Refusal>
+    ensures { result ≡ carry_judged carry.now (option_copied plan.entry) row }
+{
+    if has_weightless(carry, plan) {
+        Err(Refusal::PlanFault(PlanFault::UnknownAggregate))
+    } else {
+        Ok(row)
+    }
+}
+
+/// Whether a code of the list has no weight in the plan.
+fn has_weightless(carry: &[Code], plan: Option<&YearPlan>) -> bool
+    ensures { result ≡ weightless_in (option_copied plan.entry) carry.now }
+{
+    carry.iter().any(|code| !has_weight(plan, code))
+}
+
+/// Whether the code has weight in the plan.
+fn has_weight(plan: Option<&YearPlan>, code: &Code) -> bool
+    ensures { result ≡ weighs (option_copied plan.entry) code.now }
+{
+    match plan {
+        None => false,
+        Some(plan) => find_row(plan.weights(), code).is_some(),
+    }
+}
+
+/// The plan of the month's year.
+fn year_plan(public: &Public, month: Month) -> Option<&YearPlan>
+    ensures { option_copied result ≡ at (λ y. y.year) (year_of month) public.now.plans }
+{
+    match Year::new(month.year()) {
+        Some(year) => public.plan(year),
+        None => unreachable!(),
+    }
+}
+
+/// Whether a month before this one was frozen.
+fn is_after_first(frozen: &[FrozenMonth], month: Month) -> bool
+    ensures { result ≡ after_first month frozen.now }
+{
+    frozen.iter().any(|frozen_month| frozen_month.month < month)
+}
+
+/// Whether the month is the one after the last frozen one, or a December where there is none.
+fn is_next(frozen: &[FrozenMonth], month: Month) -> bool
+    ensures { result ≡ next_after month frozen.now }
+{
+    match frozen.last() {
+        None => month.index() % 12 == 11,
+        Some(last) => month.index() == last.month.index() + 1,
+    }
+}
+
+/// Makes the release of a month that may be frozen, and puts it.
+fn publish<B: Book>(
+    alloc: Global,
+    book: &mut B,
+    now: Moment,
+    row: CalendarRow,
+    carry: Rows<Code>,
+) -> Reply
+    requires new { B.is_clean book.old →
+        row_at release_cmp release_key row.month (B.lists book.old).releases ≡ None }
+    requires next { B.is_clean book.old → next_after row.month (frozen_months (B.lists book.old).releases) ≡ true }
+    ensures { let o = B.lists book.old in let v = release_verdict (judged_release now carry o row) in
+        ServesWhere B.is_clean B.lists B.failures (IsSound o) book.old book.new result
+        (verdict_reply v) (with_verdict v o) }
+{
+    match make(alloc, book, now, row, carry) {
+        Ok(Ok(Ok(release))) => match book.put_release(release) {
+            Ok(()) => Reply::Done,
+            Err(StoreFault) => Reply::Refused(Refusal::Unavailable),
+        },
+        Ok(Ok(Err(fault))) => Reply::Refused(Refusal::Index(fault)),
+        _ => Reply::Refused(Refusal::Unavailable),
+    }
+}
+
+/// The release of what is to be frozen, or its first fault, read from the book one aggregate at a time. From a sound
+/// office it is the one that the definitions give; from any, it is of the row's month.
+fn make<B: Book>(
+    alloc: Global,
+    book: &mut B,
+    now: Moment,
+    row: CalendarRow,
+    carry: Rows<Code>,
+) -> Result<Result<Result<Release, IndexFault>, AllocError>, StoreFault>
+    requires next { B.is_clean book.old → next_after row.month (frozen_months (B.lists book.old).releases) ≡ true }
+    ensures reads { let o = B.lists book.old in
+        Reads B.is_clean B.lists B.failures B.may_leave book.old book.new result (λ found.
+        IfOk found (λ made. IsSound o → made ≡ judged_release now carry o row)) }
+    ensures month { IfOk result (λ found. IfOk found (λ made. IfOk made (λ release. release.month ≡ row.month))) }
+{
+    let month = row.month();
+    let publishes = row.publishes();
+    let Ok(plan) = publishing_plan(alloc, book, month)? else {
+        return Ok(Err(AllocError));
+    };
+    let rows = book.month_rows(month)?;
+    let carry = carry.into_vec();
+    let made = Release::compute_by_group(
+        alloc,
+        book,
+        plan.as_ref(),
+        month,
+        now,
+        publishes,
+        rows,
+        carry,
+    );
+    answer_made(made)
+}
+
+/// A copy of the plan by which a month is published: none for the first release.
+fn publishing_plan<B: Book>(
+    alloc: Global,
+    book: &mut B,
+    month: Month,
+) -> Result<Result<Option<YearPlan>, AllocError>, StoreFault>
+    ensures { let o = B.lists book.old in
+        Reads B.is_clean B.lists B.failures B.may_leave book.old book.new result (λ found.
+        IfOk found (λ plan. plan ≡ plan_for o.plans (frozen_months o.releases) month)) }
+{
+    let frozen = book.frozen_months()?;
+    let public = book.public_part()?;
+    Ok(copy_plan(alloc, &frozen, public, month))
+}
+
+fn copy_plan(
+    alloc: Global,
+    frozen: &[FrozenMonth],
+    public: &Public,
+    month: Month,
+) -> Result<Option<YearPlan>, AllocError>
+    ensures { IfOk result (λ plan. plan ≡ plan_for public.now.plans frozen.now month) }
+{
+    if !is_after_first(frozen, month) {
+        return Ok(None);
+    }
+    match year_plan(public, month) {
+        None => Ok(None),
+        Some(plan) => Ok(Some(plan.copy(alloc)?)),
+    }
+}
+
+/// What the making of a release came to: failed reads and want of memory aside, the release or its fault.
+fn answer_made(
+    made: Result<Release, FreezeFault>,
+) -> Result<Result<Result<Release, IndexFault>, AllocError>, StoreFault>
+    ensures made { (fault : Option IndexFault) (release : Release) →
+        MatchResult made (λ r. (fault ≡ None) × (r ≡ release)) (IsFreezeFault fault) →
+        IfOk result (λ found. IfOk found (λ made. made ≡ unless_fault fault release)) }
+    ensures group { OnErr result (made ≡ Err Group) }
+    ensures month { (month : ℕ) → IfOk made (λ r. r.month ≡ month) →
+        IfOk result (λ found. IfOk found (λ made. IfOk made (λ r. r.month ≡ month))) }
+{
+    match made {
+        Ok(release) => Ok(Ok(Ok(release))),
+        Err(fault) => answer_fault(fault),
+    }
+}
+
+fn answer_fault(
+    fault: FreezeFault,
+) -> Result<Result<Result<Release, IndexFault>, AllocError>, StoreFault>
+    ensures fault { (wanted : Option IndexFault) → IsFreezeFault wanted fault →
+        IfOk result (λ found. IfOk found (λ made. IfErr made (λ f. wanted ≡ Some f))) }
+    ensures none { IfOk result (λ found. IfOk found (λ made. IsErr made)) }
+    ensures group { OnErr result (fault ≡ Group) }
+{
+    match fault {
+        FreezeFault::Index(fault) => answer_index(fault),
+        FreezeFault::Group => Err(StoreFault),
+    }
+}
+
+fn answer_index(
+    fault: IndexFault,
+) -> Result<Result<Result<Release, IndexFault>, AllocError>, StoreFault>
+    ensures made { IfOk result (λ found. IfOk found (λ made. (made ≡ Err fault) × (fault ≢ NoMemory))) }
+    ensures ok { IsOk result }
+{
+    match fault {
+        IndexFault::NoMemory => Ok(Err(AllocError)),
+        fault => Ok(Ok(Err(fault))),
+    }
+}

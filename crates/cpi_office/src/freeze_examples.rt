@@ -1,0 +1,10 @@
+ghost use Rattle.cpi_office.specs.FreezeExamples.{OneMonth, FreezeRefusals, WithoutRows, FrozenRows, Backwards};
+
+/// Small runs with freezes, computed by the definitions: a month from its quotes to its table, and what is refused.
+pub fn worked_freezes()
+    ensures one_month { OneMonth }
+    ensures freeze_refusals { FreezeRefusals }
+    ensures without_rows { WithoutRows }
+    ensures frozen_rows { FrozenRows }
+    ensures backwards { Backwards }
+{}

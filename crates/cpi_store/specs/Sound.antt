@@ -1,0 +1,67 @@
+-- What holds of an office at all times: its lists are in order, what a row names is there, and its releases are
+-- published one after the other.
+use Rattle.std.specs.Prelude.{◌≡◌, ℕ, ◌≤◌, List, [], Some, IsSome}
+use Rattle.std.specs.List.{AllByRecursion}
+use Rattle.std.specs.Ordering.{nat_cmp}
+use Rattle.cpi_rows.specs.Keyed.{IsInOrder, at}
+use Rattle.cpi_rows.specs.Held.{held_cmp, held_key, held_by}
+use Rattle.cpi_codes.specs.CodeOrder.{code_cmp}
+use Rattle.cpi_plan.specs.Plan.{Plan}
+use Rattle.cpi_survey.specs.Quote.{QuoteRow, quote_cmp, quote_key}
+use Rattle.cpi_survey.specs.declared.assignment.Assignment.{Assignment}
+use Rattle.cpi_release.specs.FrozenMonths.{release_cmp, release_key}
+use Rattle.cpi_store.specs.declared.bearer.Bearer.{Bearer}
+use Rattle.cpi_store.specs.Bearer.{bearer_of}
+use Rattle.cpi_store.specs.Office.{Office}
+use Rattle.cpi_store.specs.FrozenLists.{HasFrozenList}
+use Rattle.cpi_store.specs.PublishedReleases.{ArePublished}
+
+-- whoever has a number is the only one to bear that key
+abbrev pub BearOwnKeys : List Bearer → Type 0
+BearOwnKeys bearers =
+    (number : ℕ) (b : Bearer) → at (λ b. b.number) number bearers ≡ Some b → bearer_of b.key bearers ≡ Some b
+
+-- the collector, the outlet and the item of an assignment are there
+abbrev pub HasItsRows : Office → ℕ × Assignment → Type 0
+HasItsRows o row =
+    IsSome (at (λ b. b.number) row.0 o.collectors)
+    × IsSome (at (λ u. u.number) row.1.outlet o.outlets)
+    × IsSome (at (λ i. i.code) row.1.item o.items)
+
+-- the quote's slot is one that its collector has
+abbrev pub HasItsAssignment : List (ℕ × Assignment) → ℕ × QuoteRow → Type 0
+HasItsAssignment assignments row = IsSome (at (λ a. a.slot) row.1.slot (held_by row.0 assignments))
+
+-- an assignment's series is named by its collector and slot, which are within their limits, and its first month isn't
+-- after its last
+pub record IsWellMade (row : ℕ × Assignment) : Type 0 where
+  pub series : row.1.series ≡ record { collector = row.0; slot = row.1.slot }
+  pub months : row.1.first_month ≤ row.1.last_month
+  pub collector : 1 ≤ row.0
+  pub slot : (1 ≤ row.1.slot) × (row.1.slot ≤ 400)
+
+-- a plan has its nodes in the order of codes
+abbrev pub HasNodesInOrder : Plan → Type 0
+HasNodesInOrder p = IsInOrder code_cmp (λ n. n.code) p.nodes
+
+pub record IsSound (o : Office) : Type 0 where
+  -- no two rows of a list agree in what it is listed by
+  pub items : IsInOrder nat_cmp (λ i. i.code) o.items
+  pub plans : IsInOrder nat_cmp (λ y. y.year) o.plans
+  pub calendar : IsInOrder nat_cmp (λ r. r.month) o.calendar
+  pub collectors : IsInOrder nat_cmp (λ b. b.number) o.collectors
+  pub outlets : IsInOrder nat_cmp (λ u. u.number) o.outlets
+  pub assignments : IsInOrder (held_cmp nat_cmp) (held_key (λ a. a.slot)) o.assignments
+  pub quotes : IsInOrder (held_cmp quote_cmp) (held_key quote_key) o.quotes
+  pub releases : IsInOrder release_cmp release_key o.releases
+  pub keys : BearOwnKeys o.collectors
+  -- each assignment has its collector, outlet and item, each quote its assignment
+  pub assigned : AllByRecursion (HasItsRows o) o.assignments
+  pub quoted : AllByRecursion (HasItsAssignment o.assignments) o.quotes
+  -- each series is named by its slot
+  pub made : AllByRecursion IsWellMade o.assignments
+  -- the nodes of each plan are by code
+  pub nodes : AllByRecursion HasNodesInOrder o.plans
+  -- each release has the frozen quotes of the office's series, and is what is published after those before it
+  pub frozen : AllByRecursion (HasFrozenList o.assignments) o.releases
+  pub published : ArePublished o.plans [] o.releases
