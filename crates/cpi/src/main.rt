@@ -4,6 +4,8 @@
 mod fault;
 
 use crate::fault::Fault;
+use clap::Error;
+use clap::error::ErrorKind;
 use cpi_app::{Job, job_of_words};
 use cpi_codes::zone_of;
 use cpi_office::Office;
@@ -13,16 +15,36 @@ use std::io::BufReader;
 use std::process::ExitCode;
 use std::{env, io};
 
-// The words after the program's name; none where one of them isn't UTF-8.
-fn words_of(rt: &HostRuntime) -> Result<Option<Vec<String>>, WireFault> {
-    let Ok(all) = env::args(rt) else {
-        return Ok(None);
+// The words after the program's name.
+fn words_of(rt: &HostRuntime) -> Result<Vec<String>, Fault> {
+    let all = match env::args(rt) {
+        Ok(all) => all,
+        Err(error) if error.kind() == io::ErrorKind::OutOfMemory => {
+            return Err(Fault::Wire(WireFault::NoMemory));
+        }
+        Err(_) => return Err(Fault::BadWord),
     };
     let mut words = Vec::new(rt.alloc());
     for word in all.skip(1) {
         words.push(word)?;
     }
-    Ok(Some(words))
+    Ok(words)
+}
+
+// Prints why the words give no job, and answers the exit status: 2 where they are refused, whether or not that could
+// be written, and 0 after help that was asked for.
+fn tell_refused(rt: &HostRuntime, error: &Error) -> Result<u8, Fault> {
+    if error.kind() == ErrorKind::OutOfMemory {
+        return Err(Fault::Wire(WireFault::NoMemory));
+    }
+    let printed = error.print(rt);
+    if error.use_stderr() {
+        return Ok(2);
+    }
+    match printed {
+        Ok(()) => Ok(0),
+        Err(_) => Err(Fault::Wire(WireFault::Write)),
+    }
 }
 
 // Records from standard input, each answered before the next one is carried out. The zone is read once.
@@ -46,13 +68,9 @@ fn run_job(rt: &HostRuntime, job: Job) -> Result<(), Fault> {
     }
 }
 
-// Does the job of the words, and answers the exit status: 0 at its end, or after help that was asked for, and 2
-// where the words are refused.
+// Does the job of the words, and answers the exit status where nothing failed.
 fn run(rt: &HostRuntime) -> Result<u8, Fault> {
-    let Some(owned) = words_of(rt)? else {
-        let _ = eprintln!(rt; "cpi: a word isn't UTF-8");
-        return Ok(2);
-    };
+    let owned = words_of(rt)?;
     let mut words: Vec<&str> = Vec::new(rt.alloc());
     for word in &owned {
         words.push(word.as_str())?;
@@ -62,11 +80,7 @@ fn run(rt: &HostRuntime) -> Result<u8, Fault> {
             run_job(rt, job)?;
             Ok(0)
         }
-        Err(error) => match error.print(rt) {
-            Ok(()) if error.use_stderr() => Ok(2),
-            Ok(()) => Ok(0),
-            Err(_) => Err(Fault::Wire(WireFault::Write)),
-        },
+        Err(error) => tell_refused(rt, &error),
     }
 }
 
@@ -75,7 +89,7 @@ fn main(rt: HostRuntime) -> ExitCode {
         Ok(status) => ExitCode::from(status),
         Err(fault) => {
             let _ = eprintln!(rt; "cpi: {fault}");
-            ExitCode::from(1)
+            ExitCode::from(fault.status())
         }
     }
 }

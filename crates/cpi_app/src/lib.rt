@@ -6,6 +6,3 @@ mod job;
 
 pub use command::job_of_words;
 pub use job::Job;
-
-#[cfg(test)]
-mod tests;

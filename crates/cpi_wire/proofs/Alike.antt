@@ -9,9 +9,9 @@ use Rattle.cpi_office.specs.Answers.{answer as answer_from}
 use Rattle.cpi_office.specs.Entries.{of_collector}
 use Rattle.cpi_office.specs.Verdicts.{accepted}
 use Rattle.cpi_office.specs.Sights.{seen, build}
-use Rattle.cpi_office.specs.Calls.{Serves}
+use Rattle.cpi_office.specs.Calls.{ServesWhere}
 use Rattle.cpi_office.specs.Served.{is_failure, all_served}
-use Rattle.cpi_office.specs.Sound.{IsSound}
+use Rattle.cpi_store.specs.Sound.{IsSound}
 use Rattle.cpi_office.specs.Told.{NoneFails}
 use Rattle.cpi_office.specs.declared.caller.Caller.{Caller}
 use Rattle.cpi_office.specs.declared.caller.Caller.TheVariants.{Public, Collector, Desk}
@@ -28,18 +28,18 @@ use Rattle.cpi_wire.specs.declared.asks.Ask.TheVariants as ask
 use Rattle.cpi_wire.specs.Answers.{Answers, RowsAnswer}
 use Rattle.cpi_wire.specs.Input.{Record}
 use Rattle.cpi_wire.specs.Laws.{requests, replies_of}
-use Rattle.cpi_wire.specs.Lines.{IsFrom, IsTold, all_replies, seen_before, LinesAreAlike}
+use Rattle.cpi_wire.specs.Lines.{IsFrom, moment_of, IsTold, all_replies, seen_before, LinesAreAlike}
 use Rattle.cpi_wire.specs.Record.{ask_of}
 use Rattle.cpi_wire.specs.Rows.{answer_line}
 use Rattle.cpi_wire.proofs.Runs.{are_a_run}
 
 -- ---- one request, over two offices that show the caller the same
 
-module _ (t : ℕ) (k : Caller) (other : k ≢ Desk) (o u : Office) (same : view k o ≡ view k u) where
+module _ (t : ℕ) (k : Caller) (other : k ≢ Desk) (o u : Office) (same : view k t o ≡ view k t u) where
   reply-alike : (r : Request) → reply_to t k r o ≡ reply_to t k r u
   reply-alike r = by k other same
     where
-      by : (c : Caller) → c ≢ Desk → view c o ≡ view c u → reply_to t c r o ≡ reply_to t c r u
+      by : (c : Caller) → c ≢ Desk → view c t o ≡ view c t u → reply_to t c r o ≡ reply_to t c r u
       by Public h e = ap (answer_from t Public r) e
       by (Collector key) h e = ap (answer_from t (Collector key) r) e
       by Desk h e = absurd (h refl)
@@ -47,26 +47,27 @@ module _ (t : ℕ) (k : Caller) (other : k ≢ Desk) (o u : Office) (same : view
   accepted-alike : (r : Request) → accepted (verdict t k r o) ≡ accepted (verdict t k r u)
   accepted-alike r = by k other same
     where
-      by : (c : Caller) → c ≢ Desk → view c o ≡ view c u → accepted (verdict t c r o) ≡ accepted (verdict t c r u)
+      by : (c : Caller) → c ≢ Desk → view c t o ≡ view c t u → accepted (verdict t c r o) ≡ accepted (verdict t c r u)
       by Public h e = refl
       by (Collector key) h e = ap (λ v. accepted (of_collector key t r v)) e
       by Desk h e = absurd (h refl)
 
-  view-alike : (r : Request) → IsSound o → IsSound u → view k (after_one t k r o) ≡ view k (after_one t k r u)
+  view-alike : (r : Request) → IsSound o → IsSound u → view k t (after_one t k r o) ≡ view k t (after_one t k r u)
   view-alike r s z =
       let a : Asking = record { now = t; caller = k; request = r } in
-      rebuilt (a ∷ []) o k s
-      ∙ ap₂ (λ v c. build v (seen k (c ++ []))) same (accepted-alike r)
-      ∙ sym (rebuilt (a ∷ []) u k z)
+      rebuilt (a ∷ []) o k t s
+      ∙ ap₂ (λ v c. build v (seen k t (c ++ []))) same (accepted-alike r)
+      ∙ sym (rebuilt (a ∷ []) u k t z)
 
 -- ---- one request over a book
 
 module _ {B : Type 0} (is_clean : B → Type 0) (lists : B → Office) (failures : B → ℕ) where
   -- where it isn't told that the office is unavailable, it is served
   is-served : (t : ℕ) (k : Caller) (r : Request) (p q : B) (reply : Reply)
-      → Serves is_clean lists failures p q reply (reply_to t k r (lists p)) (after_one t k r (lists p)) → is_clean q → IsFalse (is_failure reply)
+      → ServesWhere is_clean lists failures (IsSound (lists p)) p q reply (reply_to t k r (lists p)) (after_one t k r (lists p))
+      → is_clean q → IsSound (lists p) → IsFalse (is_failure reply)
       → (reply ≡ reply_to t k r (lists p)) × (lists q ≡ after_one t k r (lists p))
-  is-served t k r p q reply serves clean fair = by (serves.served clean)
+  is-served t k r p q reply serves clean sound fair = by (serves.served clean sound)
     where
       by : ((reply ≡ reply_to t k r (lists p)) × (lists q ≡ after_one t k r (lists p))) ⊎ ((reply ≡ Refused Unavailable) × (lists q ≡ lists p))
           → (reply ≡ reply_to t k r (lists p)) × (lists q ≡ after_one t k r (lists p))
@@ -90,13 +91,15 @@ module _ {B : Type 0} (is_clean : B → Type 0) (lists : B → Office) (failures
 
   -- the office that a caller's record meets, and what it shows the caller
   meets : (zone : ZoneRule) (k : Caller) (start : B) (row : Record) (told : Answer) (is : IsTold is_clean lists failures zone k start row told)
-      → IsSound (lists is.mid) × (view k (lists is.mid) ≡ build (view k (lists start)) (seen_before is_clean lists failures zone k start row told is))
+      → IsSound (lists is.mid)
+      × (view k (moment_of (ask_of zone row)) (lists is.mid)
+      ≡ build (view k (moment_of (ask_of zone row)) (lists start)) (seen_before is_clean lists failures zone k start row told is))
   meets zone k start row told is =
       let ran = are_a_run is_clean lists failures zone start is.mid is.rows is.replies is.before in
-      let run = ran.run (record-clean is.mid is.end (ask_of zone row) told is.one is.clean) in
+      let run = ran.run (record-clean is.mid is.end (ask_of zone row) told is.one is.clean) is.sound in
       let front = all_served (requests zone is.rows) (replies_of zone is.rows is.replies) in (
         subst IsSound (sym run.office) (sound_runs front (lists start) is.sound),
-        ap (view k) run.office ∙ rebuilt front (lists start) k is.sound,
+        ap (view k (moment_of (ask_of zone row))) run.office ∙ rebuilt front (lists start) k (moment_of (ask_of zone row)) is.sound,
       )
 
 -- ---- one record over two books
@@ -105,7 +108,7 @@ module _ {B C : Type 0} (clean : B → Type 0) (lists : B → Office) (failures 
     (k : Caller) (other : k ≢ Desk) where
   rows-alike : (t : ℕ) (p p' : B) (q q' : C) (rows : List (Option Request)) (rs ss : List Reply)
       → RowsAnswer clean lists failures t k p rows rs p' → RowsAnswer clean' lists' failures' t k q rows ss q' → clean p' → clean' q'
-      → IsSound (lists p) → IsSound (lists' q) → view k (lists p) ≡ view k (lists' q) → NoneFails rs → NoneFails ss → rs ≡ ss
+      → IsSound (lists p) → IsSound (lists' q) → view k t (lists p) ≡ view k t (lists' q) → NoneFails rs → NoneFails ss → rs ≡ ss
   rows-alike t p p' q q' [] [] [] a b c d s z e f g = refl
   rows-alike t p p' q q' [] (r ∷ rs) ss a b c d s z e f g = absurd a
   rows-alike t p p' q q' [] [] (x ∷ ss) a b c d s z e f g = absurd b
@@ -114,26 +117,30 @@ module _ {B C : Type 0} (clean : B → Type 0) (lists : B → Office) (failures 
   rows-alike t p p' q q' (None ∷ rows) (r ∷ rs) (x ∷ ss) a b c d s z e f g =
       ap₂ (λ y ys. y ∷ ys) (a.1.0 ∙ sym b.1.0)
       (rows-alike t a.0 p' b.0 q' rows rs ss a.2 b.2 c d (subst (λ y. IsSound (lists y)) (sym a.1.1) s) (subst (λ y. IsSound (lists' y)) (sym b.1.1) z)
-      (ap (λ y. view k (lists y)) a.1.1 ∙ e ∙ sym (ap (λ y. view k (lists' y)) b.1.1)) f.1 g.1)
+      (ap (λ y. view k t (lists y)) a.1.1 ∙ e ∙ sym (ap (λ y. view k t (lists' y)) b.1.1)) f.1 g.1)
   rows-alike t p p' q q' (Some row ∷ rows) (r ∷ rs) (x ∷ ss) a b c d s z e f g =
-      let here = is-served clean lists failures t k row p a.0 r a.1 (rows-clean clean lists failures t k a.0 p' rows rs a.2 c) f.0 in
-      let there = is-served clean' lists' failures' t k row q b.0 x b.1 (rows-clean clean' lists' failures' t k b.0 q' rows ss b.2 d) g.0 in
+      let here = is-served clean lists failures t k row p a.0 r a.1 (rows-clean clean lists failures t k a.0 p' rows rs a.2 c) s f.0 in
+      let there = is-served clean' lists' failures' t k row q b.0 x b.1 (rows-clean clean' lists' failures' t k b.0 q' rows ss b.2 d) z g.0 in
       let one : Asking = record { now = t; caller = k; request = row } in
       ap₂ (λ y ys. y ∷ ys) (here.0 ∙ reply-alike t k other (lists p) (lists' q) e row ∙ sym there.0)
-      (rows-alike t a.0 p' b.0 q' rows rs ss a.2 b.2 c d (subst IsSound (sym here.1) (next_sound one (lists p) s)) (subst IsSound (sym there.1) (next_sound one (lists' q) z))
-      (ap (view k) here.1 ∙ view-alike t k other (lists p) (lists' q) e row s z ∙ sym (ap (view k) there.1)) f.1 g.1)
+      (rows-alike t a.0 p' b.0 q' rows rs ss a.2 b.2 c d
+      (subst IsSound (sym here.1) (next_sound one (lists p) s)) (subst IsSound (sym there.1) (next_sound one (lists' q) z))
+      (ap (view k t) here.1 ∙ view-alike t k other (lists p) (lists' q) e row s z ∙ sym (ap (view k t) there.1)) f.1 g.1)
 
   record-alike : (asked : Ask) (p p' : B) (q q' : C) (told told' : Answer) → IsFrom k asked
       → Answers clean lists failures p asked told p' → Answers clean' lists' failures' q asked told' q' → clean p' → clean' q'
-      → IsSound (lists p) → IsSound (lists' q) → view k (lists p) ≡ view k (lists' q) → NoneFails (all_replies told) → NoneFails (all_replies told') → told ≡ told'
+      → IsSound (lists p) → IsSound (lists' q) → view k (moment_of asked) (lists p) ≡ view k (moment_of asked) (lists' q)
+      → NoneFails (all_replies told) → NoneFails (all_replies told') → told ≡ told'
   record-alike ask.Bad p p' q q' (answer.One r) (answer.One x) by a b c d s z e f g = ap answer.One (a.0 ∙ sym b.0)
   record-alike ask.Bad p p' q q' (answer.One r) (answer.Rows ss) by a b c d s z e f g = absurd b
   record-alike ask.Bad p p' q q' (answer.Rows rs) told' by a b c d s z e f g = absurd a
   record-alike (ask.One t j row) p p' q q' (answer.One r) (answer.One x) by a b c d s z e f g =
-      let mine = subst (λ i. Serves clean lists failures p p' r (reply_to t i row (lists p)) (after_one t i row (lists p))) by a in
-      let yours = subst (λ i. Serves clean' lists' failures' q q' x (reply_to t i row (lists' q)) (after_one t i row (lists' q))) by b in
-      ap answer.One ((is-served clean lists failures t k row p p' r mine c f.0).0 ∙ reply-alike t k other (lists p) (lists' q) e row
-      ∙ sym (is-served clean' lists' failures' t k row q q' x yours d g.0).0)
+      let mine = subst (λ i. ServesWhere clean lists failures (IsSound (lists p)) p p' r
+      (reply_to t i row (lists p)) (after_one t i row (lists p))) by a in
+      let yours = subst (λ i. ServesWhere clean' lists' failures' (IsSound (lists' q)) q q' x
+      (reply_to t i row (lists' q)) (after_one t i row (lists' q))) by b in
+      ap answer.One ((is-served clean lists failures t k row p p' r mine c s f.0).0 ∙ reply-alike t k other (lists p) (lists' q) e row
+      ∙ sym (is-served clean' lists' failures' t k row q q' x yours d z g.0).0)
   record-alike (ask.One t j row) p p' q q' (answer.One r) (answer.Rows ss) by a b c d s z e f g = absurd b
   record-alike (ask.One t j row) p p' q q' (answer.Rows rs) told' by a b c d s z e f g = absurd a
   record-alike (ask.Import t j rows) p p' q q' (answer.Rows rs) (answer.Rows ss) by a b c d s z e f g =

@@ -1,5 +1,6 @@
 pub mod Answered
 pub mod Asked
+pub mod Carried
 pub mod Coded
 pub mod Codes
 pub mod Counted

@@ -13,14 +13,7 @@ use Rattle.csv.specs.declared.parser.State.TheVariants as st
 use Rattle.csv.specs.declared.reader.Reader.{Reader}
 use Rattle.csv.specs.declared.reader.Trim.TheVariants as trim
 use Rattle.csv.proofs.ReadFacts.{rows-more, rows-end}
-use Rattle.cpi_wire.specs.Input.{Record, AreFirst, records_of}
-
--- the reader has given these records of the input
-pub record IsAt {R : Type 0} (rem : R → Option (List ℕ)) (input : Option (List ℕ)) (rows : List Record) (s : Reader R) : Type 0 where
-  pub trim : s.trim ≡ trim.None
-  pub ready : Ready s
-  pub config : s.config ≡ default_config
-  pub reached : IfSome input (λ xs. (y : List ℕ) × (source_of rem s ≡ Some y) × Reached default_config st.StartRecord (strip_bom xs) rows s.state y)
+use Rattle.cpi_wire.specs.Input.{Record, AreFirst, records_of, IsAt, TakesNext}
 
 -- a step that ends a record leaves the machine outside one
 abbrev EndsWell : State × Action → Type 0
@@ -120,7 +113,7 @@ unfolding Reached
 at-start rem None s t r c e h = record { trim = t; ready = r; config = c; reached = tt }
 at-start rem (Some xs) s t r c e h = record { trim = t; ready = r; config = c; reached = (strip_bom xs, h, (sym e, refl)) }
 
-pub at-next : {R : Type 0} (rem : R → Option (List ℕ)) (input : Option (List ℕ)) (rows : List Record) (a b : Reader R) (f : Record)
+at-next : {R : Type 0} (rem : R → Option (List ℕ)) (input : Option (List ℕ)) (rows : List Record) (a b : Reader R) (f : Record)
     → IsAt rem input rows a → ReadRecord rem a b true f → ReadsOn a b → IsAt rem input (rows ++ f ∷ []) b
 at-next rem None rows a b f h r on = record {
   trim = r.3 ∙ h.trim;
@@ -140,8 +133,13 @@ pub at-front : {R : Type 0} (rem : R → Option (List ℕ)) (input : Option (Lis
 at-front rem None rows a h = tt
 at-front rem (Some xs) rows a h = reached-front _ _ _ rows _ _ (omega arith) refl h.reached.2
 
-pub at-end : {R : Type 0} (rem : R → Option (List ℕ)) (input : Option (List ℕ)) (rows : List Record) (a b : Reader R) (f : Record)
+at-end : {R : Type 0} (rem : R → Option (List ℕ)) (input : Option (List ℕ)) (rows : List Record) (a b : Reader R) (f : Record)
     → IsAt rem input rows a → ReadRecord rem a b false f → IfSome input (λ xs. rows ≡ records_of xs)
 at-end rem None rows a b f h r = tt
 at-end rem (Some xs) rows a b f h r =
     sym (reached-all _ _ _ rows _ _ (omega arith) refl h.reached.2 (rows-end rem a b f default_config h.reached.0 h.config h.reached.1 r))
+
+pub takes_next : {R : Type 0} (rem : R → Option (List ℕ)) (a b : Reader R) (f : Record) (found : Bool)
+    → (a.trim ≡ trim.None → Ready a → ReadRecord rem a b found f) → (found ≡ true → ReadsOn a b) → TakesNext rem a b f found
+takes_next rem a b f true read on = λ input rows h. at-next rem input rows a b f h (read h.trim h.ready) (on refl)
+takes_next rem a b f false read on = λ input rows h. at-end rem input rows a b f h (read h.trim h.ready)

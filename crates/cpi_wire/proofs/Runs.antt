@@ -25,7 +25,7 @@ module _ {B : Type 0} (is_clean : B → Type 0) (lists : B → Office) (failures
   IsRunSoFar start new front told = (length told ≡ length front) × Ran is_clean lists start new front told
 
   run-none : (old : B) → IsRunSoFar old old [] []
-  run-none old = (refl, record { was_clean = λ clean. clean; run = λ clean. record { answers = refl; office = refl } })
+  run-none old = (refl, record { was_clean = λ clean. clean; run = λ clean s. record { answers = refl; office = refl } })
 
   same-more : (front : List Asking) (told : List Reply) (a : Asking) (reply : Reply) → length told ≡ length front → length (told ++ reply ∷ []) ≡ length (front ++ a ∷ [])
   same-more front told a reply same = length-append told (reply ∷ []) ∙ omega (arith, same) ∙ sym (length-append front (a ∷ []))

@@ -317,7 +317,7 @@ replays_tell_alike clean lists failures clean' lists' failures' zone key old new
     sym (own-left zone key rows) ∙ ap (λ z. own_asks key (map (ask_of zone) z)) same ∙ own-left zone key others in
     let left = left-requests zone key rows ∙ ap (requests zone) same ∙ sym (left-requests zone key others) in
     let alike = runs_tell_alike clean lists clean' lists' key (requests zone rows) (requests zone others) (replies_of zone rows ans) (replies_of zone others bs)
-    old new old' new' (whole clean lists failures zone old new rows ans is) (whole clean' lists' failures' zone old' new' others bs is') start left in
+    old new old' new' (whole clean lists failures zone old new rows ans is) (whole clean' lists' failures' zone old' new' others bs is') start is.without_freeze is'.without_freeze left in
     let told : all_told (own_asks key mine) (own key mine ans) ≡ all_told (own_asks key mine) (own key yours bs) =
     sym (told-to clean lists failures zone old new rows ans is key) ∙ alike ∙ told-to clean' lists' failures' zone old' new' others bs is' key
     ∙ ap (λ ks. all_told ks (own key yours bs)) (sym asks) in

@@ -1,7 +1,8 @@
 -- What a record is answered, and what it does.
 use Rattle.std.specs.Prelude.{◌≡◌, ℕ, List, [], ◌∷◌, Option, Some, None}
 use Rattle.cpi_store.specs.Office.{Office}
-use Rattle.cpi_office.specs.Calls.{Serves}
+use Rattle.cpi_store.specs.Sound.{IsSound}
+use Rattle.cpi_office.specs.Calls.{ServesWhere}
 use Rattle.cpi_office.specs.Runs.{reply_to, after_one}
 use Rattle.cpi_office.specs.declared.caller.Caller.{Caller}
 use Rattle.cpi_office.specs.declared.request.Request.{Request}
@@ -29,7 +30,8 @@ module _ {B : Type 0} (is_clean : B → Type 0) (lists : B → Office) (failures
   -- a request is served
   abbrev pub IsServed : ℕ → Caller → B → Request → Reply → B → Type 0
   IsServed now caller old request reply new =
-      Serves is_clean lists failures old new reply (reply_to now caller request (lists old)) (after_one now caller request (lists old))
+      ServesWhere is_clean lists failures (IsSound (lists old)) old new reply
+      (reply_to now caller request (lists old)) (after_one now caller request (lists old))
 
   -- one row of an import
   abbrev pub RowAnswers : ℕ → Caller → B → Option Request → Reply → B → Type 0

@@ -1,6 +1,9 @@
 -- The records of an input.
-use Rattle.std.specs.Prelude.{◌≡◌, ℕ, List, ◌++◌}
-use Rattle.csv.specs.Reading.{records, default_config, strip_bom}
+use Rattle.std.specs.Prelude.{◌≡◌, ℕ, List, [], ◌∷◌, ◌++◌, Bool, true, false, Option, Some, IfSome}
+use Rattle.csv.specs.Reading.{records, default_config, strip_bom, source_of, Reached, Ready}
+use Rattle.csv.specs.declared.parser.State.TheVariants as st
+use Rattle.csv.specs.declared.reader.Reader.{Reader}
+use Rattle.csv.specs.declared.reader.Trim.TheVariants as trim
 
 -- a record, as its fields
 abbrev pub Record : Type 0
@@ -13,3 +16,15 @@ records_of input = records default_config (strip_bom input)
 -- these records are the first of the input
 abbrev pub AreFirst : List Record → List ℕ → Type 0
 AreFirst rows input = (more : List Record) × (records_of input ≡ rows ++ more)
+
+-- the reader has given these records of the input
+pub record IsAt {R : Type 0} (rem : R → Option (List ℕ)) (input : Option (List ℕ)) (rows : List Record) (s : Reader R) : Type 0 where
+  pub trim : s.trim ≡ trim.None
+  pub ready : Ready s
+  pub config : s.config ≡ default_config
+  pub reached : IfSome input (λ xs. (y : List ℕ) × (source_of rem s ≡ Some y) × Reached default_config st.StartRecord (strip_bom xs) rows s.state y)
+
+-- the reader gave one record more, or had given all of them
+abbrev pub TakesNext : {R : Type 0} (rem : R → Option (List ℕ)) (old new : Reader R) (row : Record) (found : Bool) → Type 0
+TakesNext rem old new row true = (input : Option (List ℕ)) (rows : List Record) → IsAt rem input rows old → IsAt rem input (rows ++ row ∷ []) new
+TakesNext rem old new row false = (input : Option (List ℕ)) (rows : List Record) → IsAt rem input rows old → IfSome input (λ xs. rows ≡ records_of xs)

@@ -3,6 +3,7 @@ pub mod Arguments
 pub mod Fault
 pub mod Import
 pub mod Input
+pub mod Json
 pub mod Laws
 pub mod Line
 pub mod Lines
@@ -10,6 +11,7 @@ pub mod PlanBody
 pub mod PlanRows
 pub mod Record
 pub mod Records
+pub mod Refusals
 pub mod Rows
 pub mod Values
 pub mod Words

@@ -6,8 +6,8 @@ use Rattle.cpi_office.specs.Views.{view}
 use Rattle.cpi_office.specs.Runs.{trace}
 use Rattle.cpi_office.specs.Sights.{Sight, seen}
 use Rattle.cpi_office.specs.Served.{all_served}
-use Rattle.cpi_office.specs.Sound.{IsSound}
-use Rattle.cpi_office.specs.Alone.{is_bearer, is_other}
+use Rattle.cpi_store.specs.Sound.{IsSound}
+use Rattle.cpi_office.specs.Alone.{is_bearer, is_other, NoneFreezes}
 use Rattle.cpi_office.specs.Told.{NoneFails}
 use Rattle.cpi_office.specs.declared.caller.Caller.{Caller}
 use Rattle.cpi_office.specs.declared.caller.Caller.TheVariants.{Desk}
@@ -29,6 +29,12 @@ IsFrom k ask.Bad = ⊤
 IsFrom k (ask.One t c r) = c ≡ k
 IsFrom k (ask.Import t c rows) = c ≡ k
 
+-- the moment of a record; what is told of one of no form hangs on none
+abbrev pub moment_of : Ask → ℕ
+moment_of ask.Bad = 0
+moment_of (ask.One t c r) = t
+moment_of (ask.Import t c rows) = t
+
 abbrev pub all_replies : Answer → List Reply
 all_replies (answer.One reply) = reply ∷ []
 all_replies (answer.Rows replies) = replies
@@ -49,16 +55,19 @@ module _ {B : Type 0} (is_clean : B → Type 0) (lists : B → Office) (failures
     pub served : NoneFails (all_replies told)
 
   -- what the caller has seen since the start of what was accepted before that record
-  abbrev pub seen_before : (zone : ZoneRule) (k : Caller) (start : B) (row : Record) (told : Answer) → IsTold zone k start row told → List Sight
-  seen_before zone k start row told is = seen k (trace (all_served (requests zone is.rows) (replies_of zone is.rows is.replies)) (lists start))
+  abbrev pub seen_before : (zone : ZoneRule) (k : Caller) (start : B) (row : Record) (told : Answer)
+      → IsTold zone k start row told → List Sight
+  seen_before zone k start row told is =
+      seen k (moment_of (ask_of zone row)) (trace (all_served (requests zone is.rows) (replies_of zone is.rows is.replies)) (lists start))
 
 -- Two replays under one zone, over books of any two kinds: where they show a collector, or the public, the same at the
--- start, and what was accepted since, the same record of that caller is told in the same bytes, whatever all others sent.
+-- moment of a record, at the start and of what was accepted since, the same record of that caller is told in the same
+-- bytes, whatever all others sent. The tables published by that moment are among what is shown.
 abbrev pub LinesAreAlike : {B C : Type 0} → (B → Type 0) → (B → Office) → (B → ℕ) → (C → Type 0) → (C → Office) → (C → ℕ) → Type 0
 LinesAreAlike {B} {C} clean lists failures clean' lists' failures' =
     (zone : ZoneRule) (k : Caller) (row : Record) (told told' : Answer) (start : B) (start' : C)
     (is : IsTold clean lists failures zone k start row told) (is' : IsTold clean' lists' failures' zone k start' row told') → k ≢ Desk →
-    view k (lists start) ≡ view k (lists' start') →
+    view k (moment_of (ask_of zone row)) (lists start) ≡ view k (moment_of (ask_of zone row)) (lists' start') →
     seen_before clean lists failures zone k start row told is ≡ seen_before clean' lists' failures' zone k start' row told' is' →
     answer_line told ≡ answer_line told'
 
@@ -88,15 +97,17 @@ abbrev pub lines_to : ZoneRule → ℕ → List Record → List Answer → List 
 lines_to zone key rows answers = map answer_line (own_answers zone key rows answers)
 
 module _ {B : Type 0} (is_clean : B → Type 0) (lists : B → Office) (failures : B → ℕ) where
-  -- a replay from a sound office, over a store that is clean at its end, in which no reply says that the office is unavailable
+  -- a replay from a sound office in which no record asks for a freeze and no reply says that the office is unavailable,
+  -- over a store that is clean at its end
   pub record IsReplayed (zone : ZoneRule) (old new : B) (rows : List Record) (answers : List Answer) : Type 0 where
     pub each : AnswersAll zone is_clean lists failures old rows answers new
     pub clean : is_clean new
     pub sound : IsSound (lists old)
+    pub without_freeze : NoneFreezes (requests zone rows)
     pub served : NoneFails (replies_of zone rows answers)
 
--- Two replays under one zone, over books of any two kinds that hold the same lists: where their records differ in those of
--- other collectors alone, the lines to a collector are the same, byte for byte.
+-- Two replays without a freeze under one zone, over books of any two kinds that hold the same lists: where their records
+-- differ in those of other collectors alone, the lines to a collector are the same, byte for byte.
 abbrev pub ReplaysTellAlike : {B C : Type 0} → (B → Type 0) → (B → Office) → (B → ℕ) → (C → Type 0) → (C → Office) → (C → ℕ) → Type 0
 ReplaysTellAlike {B} {C} clean lists failures clean' lists' failures' =
     (zone : ZoneRule) (key : ℕ) (old new : B) (old' new' : C) (rows others : List Record) (answers answers' : List Answer) →

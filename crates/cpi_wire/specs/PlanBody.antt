@@ -1,5 +1,5 @@
 -- The body of a plan: its rows, in any order.
-use Rattle.std.specs.Prelude.{List, [], ◌∷◌, if◌then◌else◌, nat_lt, length, Option, Some, None}
+use Rattle.std.specs.Prelude.{◌≡◌, List, [], ◌∷◌, ◌++◌, if◌then◌else◌, nat_lt, length, Bool, true, false, Option, Some, None}
 use Rattle.cpi_plan.specs.declared.plan_bodies.PlanBody.{PlanBody}
 use Rattle.cpi_plan.specs.declared.plan_rows.Title.{Title}
 use Rattle.cpi_plan.specs.declared.plan_rows.Weight.{Weight}
@@ -40,6 +40,12 @@ plan_rows (fields ∷ more) = do
   first ← plan_row fields
   rows ← plan_rows more
   Some (first ∷ rows)
+
+-- a record is a row more of the body, or of no form
+abbrev pub AddsRow : PlanBody → PlanBody → Record → Bool → Type 0
+AddsRow old new fields true =
+    (row : PlanRow) × (plan_row fields ≡ Some row) × ((rows : List PlanRow) → old ≡ told_by rows → new ≡ told_by (rows ++ row ∷ []))
+AddsRow old new fields false = plan_row fields ≡ None
 
 -- the body of at most 20,000 rows
 unfoldable pub body_of : Text → Option PlanBody

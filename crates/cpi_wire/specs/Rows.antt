@@ -5,7 +5,8 @@ use Rattle.serde_json.specs.Written.{compact_text}
 use Rattle.cpi_office.specs.declared.reply.Reply.{Reply}
 use Rattle.cpi_wire.specs.declared.asks.Answer.{Answer}
 use Rattle.cpi_wire.specs.declared.asks.Answer.TheVariants as answer
-use Rattle.cpi_wire.specs.Line.{list, only, data_of, line_of}
+use Rattle.cpi_wire.specs.Json.{list, only}
+use Rattle.cpi_wire.specs.Line.{data_of, line_of}
 
 -- the replies to the rows of an import, in one list
 abbrev pub rows_data : List Reply → Data

@@ -7,6 +7,11 @@ use Rattle.cpi_codes.specs.Following.{◌>>=◌}
 use Rattle.cpi_codes.specs.Zone.{ZoneRule}
 use Rattle.cpi_codes.specs.Month.{month_of}
 use Rattle.cpi_codes.specs.Name.{is_name}
+use Rattle.cpi_codes.specs.CodeOf.{code_of}
+use Rattle.cpi_codes.specs.CodeOrder.{is_elementary}
+use Rattle.cpi_codes.specs.declared.codes.Code.{Code}
+use Rattle.cpi_release.specs.declared.form.Form.{Form}
+use Rattle.cpi_release.specs.declared.form.Form.TheVariants as form
 use Rattle.cpi_survey.specs.declared.mark.Mark.{Mark}
 use Rattle.cpi_survey.specs.declared.mark.Mark.TheVariants.{Price, Missing, Comparable, Other}
 use Rattle.cpi_survey.specs.declared.mark.Reason.{Reason}
@@ -55,6 +60,17 @@ weight text = number_of 0 1000000 text
 
 abbrev pub name : Text → Option Text
 name text = if is_name text then Some text else None
+
+-- the code of an elementary aggregate
+abbrev pub elementary_code : Text → Option Code
+elementary_code text = code_of text >>= λ code. if is_elementary code then Some code else None
+
+-- the form of a printed table
+abbrev pub form_of : Text → Option Form
+form_of text =
+    if bytes_eq text (codes "text") then Some form.Text
+    else if bytes_eq text (codes "csv") then Some form.Csv
+    else None
 
 abbrev pub reason : Text → Option Reason
 reason text =

@@ -1,17 +1,19 @@
 -- The words of requests, each with its arguments.
-use Rattle.std.specs.Prelude.{ℕ, List, ◌&&◌, if◌then◌else◌, nat_lt, nat_le, Option, Some, None, bytes_eq, codes}
-use Rattle.cpi_codes.specs.Key.{key_of}
+use Rattle.std.specs.Prelude.{ℕ, List, [], ◌∷◌, ◌&&◌, if◌then◌else◌, nat_lt, nat_le, Option, Some, None, bytes_eq, codes}
+use Rattle.cpi_codes.specs.Following.{◌>>=◌}
 use Rattle.cpi_codes.specs.ItemCode.{item_code_of}
+use Rattle.cpi_codes.specs.Key.{key_of}
 use Rattle.cpi_codes.specs.Zone.{ZoneRule}
+use Rattle.cpi_codes.specs.declared.codes.Code.{Code}
 use Rattle.cpi_plan.specs.Calendar.{CalendarPart}
+use Rattle.cpi_office.specs.declared.request.NewAssignment.{NewAssignment}
 use Rattle.cpi_office.specs.declared.request.Request.{Request}
 use Rattle.cpi_office.specs.declared.request.Request.TheVariants as request
 use Rattle.cpi_wire.specs.declared.words.Word.{Word}
 use Rattle.cpi_wire.specs.declared.words.Word.TheVariants as word
 use Rattle.cpi_wire.specs.Arguments.{Text, none, one, two, four, four_and_confirm, five, six}
 use Rattle.cpi_wire.specs.PlanBody.{body_of}
-use Rattle.cpi_codes.specs.Following.{◌>>=◌}
-use Rattle.cpi_wire.specs.Values.{time, year, month, collector, slot, outlet, low_tolerance, high_tolerance, name, mark_of}
+use Rattle.cpi_wire.specs.Values.{time, year, month, collector, slot, outlet, low_tolerance, high_tolerance, name, mark_of, form_of, elementary_code}
 
 -- a row of the calendar opens before it closes, and is published no earlier
 abbrev pub calendar_row : ℕ → ℕ → ℕ → ℕ → Option CalendarPart
@@ -19,6 +21,10 @@ calendar_row m opens closes publishes =
     if nat_lt opens closes && nat_le closes publishes
     then Some (record { month = m; opens = opens; closes = closes; publishes = publishes })
     else None
+
+-- an assignment whose first month isn't after its last
+abbrev pub in_order : NewAssignment → Option NewAssignment
+in_order a = if nat_lt a.last_month a.first_month then None else Some a
 
 abbrev pub word_of : Text → Word
 word_of text =
@@ -32,13 +38,10 @@ word_of text =
     else if bytes_eq text (codes "assign") then word.Assign
     else if bytes_eq text (codes "calendar") then word.Calendar
     else if bytes_eq text (codes "plan") then word.Plan
+    else if bytes_eq text (codes "tables") then word.Tables
+    else if bytes_eq text (codes "table") then word.Table
+    else if bytes_eq text (codes "freeze") then word.Freeze
     else word.Unknown
-
--- an assignment of a slot, from its first month to its last
-abbrev pub assigned : ℕ → ℕ → ℕ → ℕ → ℕ → ℕ → Option Request
-assigned c s o i first last =
-    if nat_lt last first then None
-    else Some (request.Assign c (record { slot = s; outlet = o; item = i; first_month = first; last_month = last; series = record { collector = c; slot = s } }))
 
 abbrev pub items_request : List Text → Option Request
 items_request arguments = none arguments >>= λ _. Some request.Items
@@ -97,7 +100,8 @@ assign_request arguments = do
   i ← item_code_of a.3
   first ← month a.4
   last ← month a.5
-  assigned c s o i first last
+  assignment ← in_order (record { slot = s; outlet = o; item = i; first_month = first; last_month = last })
+  Some (request.Assign c assignment)
 
 abbrev pub calendar_request : ZoneRule → List Text → Option Request
 calendar_request zone arguments = do
@@ -116,6 +120,32 @@ plan_request arguments = do
   b ← body_of a.1
   Some (request.PutPlan y b)
 
+abbrev pub tables_request : List Text → Option Request
+tables_request arguments = none arguments >>= λ _. Some request.Tables
+
+abbrev pub table_request : List Text → Option Request
+table_request arguments = do
+  a ← two arguments
+  m ← month a.0
+  f ← form_of a.1
+  Some (request.Table m f)
+
+-- the elementary aggregates that the fields write, in the same order
+abbrev pub elementary_codes : List Text → Option (List Code)
+elementary_codes [] = Some []
+elementary_codes (text ∷ texts) = do
+  code ← elementary_code text
+  more ← elementary_codes texts
+  Some (code ∷ more)
+
+-- a month, and then any number of elementary aggregates that may be carried
+abbrev pub freeze_request : List Text → Option Request
+freeze_request [] = None
+freeze_request (first ∷ more) = do
+  m ← month first
+  carry ← elementary_codes more
+  Some (request.Freeze m carry)
+
 -- the request of a word with its arguments, where civil times are those of the clock
 abbrev pub request_of : ZoneRule → Word → List Text → Option Request
 request_of zone word.Items arguments = items_request arguments
@@ -128,4 +158,7 @@ request_of zone word.Collector arguments = collector_request arguments
 request_of zone word.Assign arguments = assign_request arguments
 request_of zone word.Calendar arguments = calendar_request zone arguments
 request_of zone word.Plan arguments = plan_request arguments
+request_of zone word.Tables arguments = tables_request arguments
+request_of zone word.Table arguments = table_request arguments
+request_of zone word.Freeze arguments = freeze_request arguments
 request_of zone word.Unknown arguments = None

@@ -1,13 +1,15 @@
 //! The rows of an import's body.
 ghost use Rattle.std.specs.Prelude.{◌≡◌, map, IfOk};
+ghost use Rattle.csv.specs.Records.{fields_of};
 ghost use Rattle.cpi_wire.specs.Import.{row_request as row_asks, rows_of};
 
 use crate::fields::field_list;
+use crate::input::{next_row, record_reader};
 use crate::requests::ImportRows;
 use crate::words::{request_of, word_of};
 use cpi_codes::Zone;
 use cpi_office::Request;
-use csv::{ByteRecord, ReaderBuilder};
+use csv::ByteRecord;
 use std::alloc::{AllocError, Global};
 
 /// How many rows one import has at most.
@@ -23,6 +25,18 @@ fn row_request(alloc: Global, zone: &Zone, fields: &[&[u8]]) -> Result<Option<Re
     }
 }
 
+// The request that a record asks.
+fn record_request(
+    alloc: Global,
+    zone: &Zone,
+    row: &ByteRecord,
+) -> Result<Option<Request>, AllocError>
+    ensures { IfOk result (λ r. r ≡ row_asks zone.now (fields_of row.now)) }
+{
+    let fields = field_list(alloc, row)?;
+    row_request(alloc, zone, &fields)
+}
+
 /// The rows of an import's body, which is CSV without a header row: a byte order mark at its start and empty lines
 /// are skipped. Each row is a word and its arguments, with civil times by the clock of the zone; one that is of no
 /// form, or outside the limits, is kept as none, and so is an import inside the import. A body of more than 20,000
@@ -34,25 +48,18 @@ pub fn import_rows(
 ) -> Result<Option<ImportRows>, AllocError>
     ensures { IfOk result (λ rows. rows ≡ rows_of zone.now body.now) }
 {
-    let mut reader = ReaderBuilder::new()
-        .has_headers(false)
-        .flexible(true)
-        .from_reader(alloc, body);
+    let mut reader = record_reader(alloc, body);
     let mut row = ByteRecord::new(alloc);
     let mut rows = Vec::new(alloc);
     for _ in 0..MAX_ROWS {
-        match reader.read_byte_record(&mut row) {
-            Ok(true) => {}
-            Ok(false) => return Ok(Some(ImportRows { rows })),
-            Err(_) => return Err(AllocError),
+        if !next_row(&mut reader, &mut row)? {
+            return Ok(Some(ImportRows { rows }));
         }
-        let fields = field_list(alloc, &row)?;
-        let request = row_request(alloc, zone, &fields)?;
-        rows.push(request)?;
+        rows.push(record_request(alloc, zone, &row)?)?;
     }
-    match reader.read_byte_record(&mut row) {
-        Ok(false) => Ok(Some(ImportRows { rows })),
-        Ok(true) => Ok(None),
-        Err(_) => Err(AllocError),
+    if next_row(&mut reader, &mut row)? {
+        Ok(None)
+    } else {
+        Ok(Some(ImportRows { rows }))
     }
 }

@@ -11,8 +11,9 @@ pub fn records_are_a_run<B: Book>()
 {}
 
 /// What a collector, or the public, is told of a record is the same bytes in two replays under one zone, over books of
-/// any two kinds, that show that caller the same: at the start, and of what was accepted since. What all others send
-/// doesn't matter otherwise.
+/// any two kinds, that show that caller the same at the record's moment: at the start, the tables published by then
+/// among it, and of what was accepted since, freezes among it. What all others send doesn't matter otherwise: a table
+/// that isn't published yet shows nothing.
 ///
 /// Both offices are sound at the start, both stores are clean once the record is answered, and none of its replies says
 /// that the office is unavailable. Nothing is said of time.
@@ -23,8 +24,9 @@ pub fn lines_are_alike<B: Book, C: Book>()
 /// The lines to a collector are the same, byte for byte, in two replays under one zone whose records differ in those of
 /// other collectors alone, whether these are added, dropped, changed or moved.
 ///
-/// The books, of any two kinds, hold the same sound lists at the start and are clean at the end, and no reply says that
-/// the office is unavailable. Nothing is said of time.
+/// No record of either replay asks for a freeze: a published table is made of the prices of all collectors, so it tells
+/// of them. The books, of any two kinds, hold the same sound lists at the start, tables among them, and are clean at
+/// the end, and no reply says that the office is unavailable. Nothing is said of time.
 pub fn replays_tell_alike<B: Book, C: Book>()
     ensures { ReplaysTellAlike B.is_clean B.lists B.failures C.is_clean C.lists C.failures }
 {}

@@ -7,6 +7,7 @@ mod asks;
 mod fault;
 mod fields;
 mod import;
+mod input;
 mod laws;
 mod line;
 mod plan_body;
@@ -14,6 +15,7 @@ mod plan_rows;
 mod reader;
 mod record;
 mod records;
+mod refusals;
 mod requests;
 mod rows;
 mod values;
@@ -29,6 +31,3 @@ pub use record::request_of_record;
 pub use records::replay;
 pub use requests::ImportRows;
 pub use rows::answer_line;
-
-#[cfg(test)]
-mod tests;

@@ -1,13 +1,15 @@
 //! From a reply to its line.
-ghost use Rattle.std.specs.Prelude.{◌≡◌, IfOk, option_map};
+ghost use Rattle.std.specs.Prelude.{◌≡◌, ◌++◌, map, IfOk, OnOk, option_map};
 ghost use Rattle.std.specs.Option.{option_copied};
 ghost use Rattle.std.specs.String.{string_bytes};
 ghost use Rattle.serde_json.specs.View.{view};
-ghost use Rattle.cpi_wire.specs.Line.{data_of, line_of, reason_name, mark_name as name_of_mark, mark_value as value_of_mark, quote_data, item_data, item_text, price_data, mark_data, receipt_data, work_row_data, refusal_data, fault_data, fault_number as number_of_fault, told_sum as sum_told, quotes_data, items_data, work_data};
+ghost use Rattle.cpi_wire.specs.Line.{data_of, line_of, reason_name, mark_name as name_of_mark, mark_value as value_of_mark, quote_data, item_data, item_text, price_data, mark_data, receipt_data, outlet_fields, item_fields, price_fields, work_row_data, quotes_data, items_data, work_data, frozen_month_data, tables_data, table_data};
 
+use crate::refusals::refusal_value;
 use cpi_codes::{ItemCode, Price};
-use cpi_office::{Refusal, Reply};
-use cpi_plan::{Item, PlanFault};
+use cpi_office::Reply;
+use cpi_plan::Item;
+use cpi_release::{FrozenMonth, PrintedTable};
 use cpi_survey::{Mark, Quote, Reason, WorkRow};
 use serde_json::{Value, json};
 use std::alloc::{AllocError, Global};
@@ -102,74 +104,44 @@ fn stored_receipt(alloc: Global, quote: Option<&Quote>) -> Result<Value, AllocEr
     }
 }
 
+// Adds the slot, the outlet and its name.
+fn add_outlet(alloc: Global, fields: &mut Vec<Value>, row: &WorkRow) -> Result<(), AllocError>
+    ensures { OnOk result (map view fields.new.items ≡ map view fields.old.items ++ outlet_fields row.now) }
+{
+    fields.push(Value::from(row.slot.number()))?;
+    fields.push(Value::from(row.outlet.number()))?;
+    fields.push(json!(in alloc; row.outlet_name.as_str())?)?;
+    Ok(())
+}
+
+// Adds the item, its text and its unit.
+fn add_item(alloc: Global, fields: &mut Vec<Value>, row: &WorkRow) -> Result<(), AllocError>
+    ensures { OnOk result (map view fields.new.items ≡ map view fields.old.items ++ item_fields row.now) }
+{
+    fields.push(json!(in alloc; code_text(alloc, row.item)?)?)?;
+    fields.push(json!(in alloc; row.text.as_str())?)?;
+    fields.push(json!(in alloc; row.unit.as_str())?)?;
+    Ok(())
+}
+
+// Adds the last price, and the mark and the receipt of the stored quote.
+fn add_prices(alloc: Global, fields: &mut Vec<Value>, row: &WorkRow) -> Result<(), AllocError>
+    ensures { OnOk result (map view fields.new.items ≡ map view fields.old.items ++ price_fields row.now) }
+{
+    fields.push(last_value(alloc, row.last)?)?;
+    fields.push(stored_mark(alloc, row.quote.as_ref())?)?;
+    fields.push(stored_receipt(alloc, row.quote.as_ref())?)?;
+    Ok(())
+}
+
 fn work_row_value(alloc: Global, row: &WorkRow) -> Result<Value, AllocError>
     ensures { IfOk result (λ v. view v ≡ work_row_data row.now) }
 {
-    let slot = row.slot.number();
-    let outlet = row.outlet.number();
-    let item = code_text(alloc, row.item)?;
-    let last = last_value(alloc, row.last)?;
-    let mark = stored_mark(alloc, row.quote.as_ref())?;
-    let receipt = stored_receipt(alloc, row.quote.as_ref())?;
-    let outlet_name = row.outlet_name.as_str();
-    let text = row.text.as_str();
-    let unit = row.unit.as_str();
-    json!(in alloc; [slot, outlet, outlet_name, item, text, unit, last, mark, receipt])
-}
-
-// The number of a fault of a plan.
-fn fault_number(fault: PlanFault) -> u8
-    ensures { result ≡ number_of_fault fault }
-{
-    match fault {
-        PlanFault::DuplicateCode => 1,
-        PlanFault::NotElementary => 2,
-        PlanFault::ZeroWeight => 3,
-        PlanFault::WeightSum(_) => 4,
-        PlanFault::TitleMissing(_) => 5,
-        PlanFault::UnknownItem => 6,
-        PlanFault::ItemTwice => 7,
-        PlanFault::UnknownAggregate => 8,
-        PlanFault::NoMemory => 9,
-    }
-}
-
-// A sum of weights, as far as 64 bits tell it.
-fn told_sum(found: u128) -> u64
-    ensures { result ≡ sum_told found }
-{
-    if found <= u128::from(u64::MAX) {
-        found as u64
-    } else {
-        u64::MAX
-    }
-}
-
-fn fault_value(alloc: Global, fault: PlanFault) -> Result<Value, AllocError>
-    ensures { IfOk result (λ v. view v ≡ fault_data fault) }
-{
-    match fault {
-        PlanFault::WeightSum(found) => {
-            json!(in alloc; {"fault": 4, "found": told_sum(found), "refused": 44})
-        }
-        PlanFault::TitleMissing(code) => {
-            let text = code.text(alloc)?;
-            json!(in alloc; {"code": text, "fault": 5, "refused": 44})
-        }
-        other => json!(in alloc; {"fault": fault_number(other), "refused": 44}),
-    }
-}
-
-fn refusal_value(alloc: Global, refusal: &Refusal) -> Result<Value, AllocError>
-    ensures { IfOk result (λ v. view v ≡ refusal_data refusal.now) }
-{
-    match refusal {
-        Refusal::OutOfTolerance { last, low, high } => {
-            json!(in alloc; {"high": *high, "last": last.units(), "low": *low, "refused": 26})
-        }
-        Refusal::PlanFault(fault) => fault_value(alloc, *fault),
-        other => json!(in alloc; {"refused": other.number()}),
-    }
+    let mut fields = Vec::with_capacity(alloc, 9)?;
+    add_outlet(alloc, &mut fields, row)?;
+    add_item(alloc, &mut fields, row)?;
+    add_prices(alloc, &mut fields, row)?;
+    Ok(Value::Array(fields))
 }
 
 fn work_value(alloc: Global, rows: &[WorkRow]) -> Result<Value, AllocError>
@@ -202,6 +174,31 @@ fn items_value(alloc: Global, items: &[Item]) -> Result<Value, AllocError>
     json!(in alloc; {"items": rows})
 }
 
+// The month of a table, and the moment at which it is published.
+fn frozen_month_value(alloc: Global, frozen_month: &FrozenMonth) -> Result<Value, AllocError>
+    ensures { IfOk result (λ v. view v ≡ frozen_month_data frozen_month.now) }
+{
+    let month = frozen_month.month.text(alloc)?;
+    json!(in alloc; [month, frozen_month.publishes.seconds()])
+}
+
+fn tables_value(alloc: Global, frozen_months: &[FrozenMonth]) -> Result<Value, AllocError>
+    ensures { IfOk result (λ v. view v ≡ tables_data frozen_months.now) }
+{
+    let mut rows = Vec::with_capacity(alloc, frozen_months.len())?;
+    for frozen_month in frozen_months {
+        rows.push(frozen_month_value(alloc, frozen_month)?)?;
+    }
+    json!(in alloc; {"tables": rows})
+}
+
+// The printed bytes as one text.
+fn table_value(alloc: Global, printed: &PrintedTable) -> Result<Value, AllocError>
+    ensures { IfOk result (λ v. view v ≡ table_data printed.now) }
+{
+    json!(in alloc; {"table": printed.as_str()})
+}
+
 pub(crate) fn reply_value(alloc: Global, reply: &Reply) -> Result<Value, AllocError>
     ensures { IfOk result (λ v. view v ≡ data_of reply.now) }
 {
@@ -211,6 +208,8 @@ pub(crate) fn reply_value(alloc: Global, reply: &Reply) -> Result<Value, AllocEr
         Reply::Work(rows) => work_value(alloc, rows.as_slice()),
         Reply::Quotes(quotes) => quotes_value(alloc, quotes.as_slice()),
         Reply::Items(items) => items_value(alloc, items.as_slice()),
+        Reply::Tables(frozen_months) => tables_value(alloc, frozen_months.as_slice()),
+        Reply::Table(printed) => table_value(alloc, printed),
         Reply::Refused(refusal) => refusal_value(alloc, refusal),
     }
 }

@@ -1,13 +1,15 @@
 //! The body of a plan.
 ghost use Rattle.std.specs.Prelude.{◌≡◌, ◌++◌, [], ◌∷◌, List, IfOk, OnOk};
-ghost use Rattle.cpi_wire.specs.PlanBody.{body_of, told_by};
+ghost use Rattle.csv.specs.Records.{fields_of};
+ghost use Rattle.cpi_wire.specs.PlanBody.{AddsRow, body_of, told_by};
 ghost use Rattle.cpi_wire.specs.declared.plan_rows.PlanRow.{PlanRow as Row};
 
 use crate::fields::field_list;
+use crate::input::{next_row, record_reader};
 use crate::plan_rows::{PlanRow, plan_row};
 use cpi_plan::PlanBody;
 use cpi_rows::Rows;
-use csv::{ByteRecord, ReaderBuilder};
+use csv::ByteRecord;
 use std::alloc::{AllocError, Global};
 
 /// How many rows the body of a plan has at most.
@@ -25,15 +27,24 @@ fn add(body: &mut PlanBody, row: PlanRow) -> Result<(), AllocError>
     Ok(())
 }
 
+// Puts the row of a record behind those of its kind, if the record is of a form.
+fn add_record(alloc: Global, body: &mut PlanBody, row: &ByteRecord) -> Result<bool, AllocError>
+    ensures { IfOk result (λ added. AddsRow body.old body.new (fields_of row.now) added) }
+{
+    let fields = field_list(alloc, row)?;
+    let Some(part) = plan_row(alloc, &fields)? else {
+        return Ok(false);
+    };
+    add(body, part)?;
+    Ok(true)
+}
+
 /// The body of a plan, which is CSV without a header row: a byte order mark at its start and empty lines are skipped.
 /// None where a row is of no form, or where there are more than 20,000.
 pub(crate) fn plan_body(alloc: Global, text: &[u8]) -> Result<Option<PlanBody>, AllocError>
     ensures { IfOk result (λ body. body ≡ body_of text.now) }
 {
-    let mut reader = ReaderBuilder::new()
-        .has_headers(false)
-        .flexible(true)
-        .from_reader(alloc, text);
+    let mut reader = record_reader(alloc, text);
     let mut row = ByteRecord::new(alloc);
     let mut body = PlanBody {
         titles: Rows::new(alloc),
@@ -41,20 +52,16 @@ pub(crate) fn plan_body(alloc: Global, text: &[u8]) -> Result<Option<PlanBody>, 
         places: Rows::new(alloc),
     };
     for _ in 0..MAX_ROWS {
-        match reader.read_byte_record(&mut row) {
-            Ok(true) => {}
-            Ok(false) => return Ok(Some(body)),
-            Err(_) => return Err(AllocError),
+        if !next_row(&mut reader, &mut row)? {
+            return Ok(Some(body));
         }
-        let fields = field_list(alloc, &row)?;
-        let Some(part) = plan_row(alloc, &fields)? else {
+        if !add_record(alloc, &mut body, &row)? {
             return Ok(None);
-        };
-        add(&mut body, part)?;
+        }
     }
-    match reader.read_byte_record(&mut row) {
-        Ok(false) => Ok(Some(body)),
-        Ok(true) => Ok(None),
-        Err(_) => Err(AllocError),
+    if next_row(&mut reader, &mut row)? {
+        Ok(None)
+    } else {
+        Ok(Some(body))
     }
 }

@@ -1,8 +1,9 @@
 //! The loop over the records of an input.
-ghost use Rattle.std.specs.Prelude.{◌≡◌, ◌≢◌, IfOk, OnOk, OnErr, IfErr};
+ghost use Rattle.std.specs.Prelude.{◌≡◌, ℕ, List, [], Option, IfOk, OnOk, OnErr, IfErr};
 ghost use Rattle.std.specs.Io.KnownBytes.{Appends};
 ghost use Rattle.csv.specs.Records.{fields_of};
 ghost use Rattle.cpi_wire.specs.Answers.{Answers};
+ghost use Rattle.cpi_wire.specs.Input.{IsAt};
 ghost use Rattle.cpi_wire.specs.Record.{ask_of};
 ghost use Rattle.cpi_wire.specs.Records.{AnsweredInput, GaveUp, LineUntil};
 ghost use Rattle.cpi_wire.specs.Rows.{answer_line as line_of};
@@ -11,6 +12,7 @@ use crate::answers::answer;
 use crate::asks::Answer;
 use crate::fault::WireFault;
 use crate::fields::field_list;
+use crate::input::{next_record, record_reader};
 use crate::reader::CallCountingReader;
 use crate::record::request_of_record;
 use crate::rows::answer_line;
@@ -18,7 +20,7 @@ use crate::write::write_whole;
 use cpi_codes::Zone;
 use cpi_office::Office;
 use cpi_store::Book;
-use csv::{ByteRecord, Error, ErrorKind, ReaderBuilder};
+use csv::{ByteRecord, Reader};
 use std::alloc::{AllocError, Global};
 use std::io::{Read, Write};
 
@@ -27,16 +29,6 @@ const MAX_RECORDS: u32 = 1_000_000;
 
 /// How many calls of `read` one replay makes.
 const MAX_CALLS: u32 = 20_000_000;
-
-// What an error of the reader is to the replay.
-fn fault_of(error: &Error) -> WireFault
-    ensures { result ≢ WireFault.Write }
-{
-    match error.kind() {
-        ErrorKind::OutOfMemory => WireFault::NoMemory,
-        _ => WireFault::Read,
-    }
-}
 
 // Carries out what the fields of the record ask. Without memory nothing is carried out.
 fn answer_row<B: Book>(
@@ -62,6 +54,31 @@ fn tell<W: Write>(alloc: Global, writer: &mut W, told: &Answer) -> Result<(), Wi
     write_whole(writer, &line)
 }
 
+// Answers the records that the reader has yet to give, one after the other.
+fn answer_records<R: Read, W: Write, B: Book>(
+    alloc: Global,
+    records: &mut Reader<R>,
+    writer: &mut W,
+    zone: &Zone,
+    office: &mut Office<B>,
+) -> Result<(), WireFault>
+    ensures ok { (input : Option (List ℕ)) → IsAt R.remaining input [] records.old → OnOk result (AnsweredInput zone.now B.is_clean B.lists B.failures input office.old.book office.new.book (W.contents writer.old) (W.contents writer.new)) }
+    ensures err { (input : Option (List ℕ)) → IsAt R.remaining input [] records.old → IfErr result (GaveUp zone.now B.is_clean B.lists B.failures input office.old.book office.new.book (W.contents writer.old) (W.contents writer.new)) }
+{
+    let mut row = ByteRecord::new(alloc);
+    for _ in 0..MAX_RECORDS {
+        if !next_record(records, &mut row)? {
+            return Ok(());
+        }
+        let told = answer_row(alloc, zone, office, &row)?;
+        tell(alloc, writer, &told)?;
+    }
+    if next_record(records, &mut row)? {
+        return Err(WireFault::Read);
+    }
+    Ok(())
+}
+
 /// Reads records from the reader, carries each out on the office in turn, and writes the line of its reply whole,
 /// before the next record is carried out. Civil times are read by the clock of the zone. The rows of an import are
 /// carried out in turn too, and their replies stand in the one line of the import. Of one input 1,000,000 records are
@@ -76,23 +93,6 @@ pub fn replay<R: Read + Drop, W: Write, B: Book>(
     ensures ok { OnOk result (AnsweredInput zone.now B.is_clean B.lists B.failures (R.remaining reader) office.old.book office.new.book (W.contents writer.old) (W.contents writer.new)) }
     ensures err { IfErr result (GaveUp zone.now B.is_clean B.lists B.failures (R.remaining reader) office.old.book office.new.book (W.contents writer.old) (W.contents writer.new)) }
 {
-    let mut records = ReaderBuilder::new()
-        .has_headers(false)
-        .flexible(true)
-        .from_reader(alloc, CallCountingReader::new(reader, MAX_CALLS));
-    let mut row = ByteRecord::new(alloc);
-    for _ in 0..MAX_RECORDS {
-        match records.read_byte_record(&mut row) {
-            Ok(true) => {}
-            Ok(false) => return Ok(()),
-            Err(error) => return Err(fault_of(&error)),
-        }
-        let told = answer_row(alloc, zone, office, &row)?;
-        tell(alloc, writer, &told)?;
-    }
-    match records.read_byte_record(&mut row) {
-        Ok(false) => Ok(()),
-        Ok(true) => Err(WireFault::Read),
-        Err(error) => Err(fault_of(&error)),
-    }
+    let mut records = record_reader(alloc, CallCountingReader::new(reader, MAX_CALLS));
+    answer_records(alloc, &mut records, writer, zone, office)
 }

@@ -1,9 +1,10 @@
 //! The value of one field.
 ghost use Rattle.std.specs.Prelude.{◌≡◌, IfOk};
 ghost use Rattle.cpi_codes.specs.CodeOf.{code_of as spelled_code};
-ghost use Rattle.cpi_wire.specs.Values.{time as spelled_time, month as spelled_month, name as spelled_name, weight as spelled_weight, mark_of as spelled_mark, reason as spelled_reason};
+ghost use Rattle.cpi_wire.specs.Values.{time as spelled_time, month as spelled_month, name as spelled_name, weight as spelled_weight, mark_of as spelled_mark, reason as spelled_reason, elementary_code as spelled_elementary_code, form_of as spelled_form};
 
 use cpi_codes::{Code, Moment, Month, Name, NameFault, Price, Zone, moment_at, number_of};
+use cpi_release::Form;
 use cpi_survey::{Mark, Reason};
 use std::alloc::{AllocError, Global};
 
@@ -32,6 +33,31 @@ pub(crate) fn code_of(text: &[u8]) -> Option<Code>
     ensures { result ≡ spelled_code text.now }
 {
     Code::parse(text).ok()
+}
+
+/// The code of the elementary aggregate that the field writes.
+pub(crate) fn elementary_code_of(text: &[u8]) -> Option<Code>
+    ensures { result ≡ spelled_elementary_code text.now }
+{
+    let code = code_of(text)?;
+    if code.is_elementary() {
+        Some(code)
+    } else {
+        None
+    }
+}
+
+/// The form of a printed table.
+pub(crate) fn form_of(text: &[u8]) -> Option<Form>
+    ensures { result ≡ spelled_form text.now }
+{
+    if text == b"text".as_slice() {
+        Some(Form::Text)
+    } else if text == b"csv".as_slice() {
+        Some(Form::Csv)
+    } else {
+        None
+    }
 }
 
 /// A weight in parts per million, up to 1,000,000.

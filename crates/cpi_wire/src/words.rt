@@ -1,15 +1,16 @@
 //! The words of requests, each with its arguments.
 ghost use Rattle.std.specs.Prelude.{◌≡◌, map, IfOk};
-ghost use Rattle.cpi_wire.specs.Words.{word_of as spelled_word, items_request, work_request, quotes_request, quote_request, item_request, outlet_request, collector_request, assign_request, calendar_request, plan_request, request_of as spelled_request};
+ghost use Rattle.cpi_wire.specs.Words.{word_of as spelled_word, items_request, work_request, quotes_request, quote_request, item_request, outlet_request, collector_request, assign_request, calendar_request, plan_request, tables_request, table_request, elementary_codes, freeze_request, request_of as spelled_request};
 
 use crate::arguments::{five, four, four_and_confirm, no_more, one, six, two};
 use crate::plan_body::plan_body;
-use crate::values::{mark_of, month_of, name_of, time_of};
-use cpi_codes::{CollectorId, ItemCode, Key, OutletId, SeriesId, Slot, Year, Zone};
-use cpi_office::Request;
+use crate::values::{elementary_code_of, form_of, mark_of, month_of, name_of, time_of};
+use cpi_codes::{Code, CollectorId, ItemCode, Key, OutletId, Slot, Year, Zone};
+use cpi_office::{NewAssignment, Request};
 use cpi_plan::{CalendarRow, HighTolerance, Item, LowTolerance};
+use cpi_rows::Rows;
 use cpi_store::{Bearer, Outlet};
-use cpi_survey::{Assignment, Entry};
+use cpi_survey::Entry;
 use std::alloc::{AllocError, Global};
 
 /// The word of a request.
@@ -25,6 +26,9 @@ pub(crate) enum Word {
     Assign,
     Calendar,
     Plan,
+    Tables,
+    Table,
+    Freeze,
     Unknown,
 }
 
@@ -51,6 +55,12 @@ pub(crate) fn word_of(text: &[u8]) -> Word
         Word::Calendar
     } else if text == b"plan".as_slice() {
         Word::Plan
+    } else if text == b"tables".as_slice() {
+        Word::Tables
+    } else if text == b"table".as_slice() {
+        Word::Table
+    } else if text == b"freeze".as_slice() {
+        Word::Freeze
     } else {
         Word::Unknown
     }
@@ -129,16 +139,14 @@ fn assign_of(arguments: &[&[u8]]) -> Option<Request>
     if last_month < first_month {
         return None;
     }
-    let series = SeriesId { collector, slot };
-    let assignment = Assignment {
+    let new_assignment = NewAssignment {
         slot,
         outlet,
         item,
         first_month,
         last_month,
-        series,
     };
-    Some(Request::Assign(collector, assignment))
+    Some(Request::Assign(collector, new_assignment))
 }
 
 fn outlet_of(alloc: Global, arguments: &[&[u8]]) -> Result<Option<Request>, AllocError>
@@ -201,6 +209,51 @@ fn plan_of(alloc: Global, arguments: &[&[u8]]) -> Result<Option<Request>, AllocE
     Ok(Some(Request::PutPlan(year, body)))
 }
 
+fn tables_of(arguments: &[&[u8]]) -> Option<Request>
+    ensures { result ≡ tables_request (map (λ a. a.now) arguments.now) }
+{
+    no_more(arguments)?;
+    Some(Request::Tables)
+}
+
+fn table_of(arguments: &[&[u8]]) -> Option<Request>
+    ensures { result ≡ table_request (map (λ a. a.now) arguments.now) }
+{
+    let (month, form) = two(arguments)?;
+    let month = month_of(month)?;
+    let form = form_of(form)?;
+    Some(Request::Table(month, form))
+}
+
+// The elementary aggregates that the fields write, in the same order.
+fn elementary_codes_of(alloc: Global, texts: &[&[u8]]) -> Result<Option<Rows<Code>>, AllocError>
+    ensures { IfOk result (λ r. r ≡ elementary_codes (map (λ t. t.now) texts.now)) }
+{
+    let mut found = Vec::new(alloc);
+    for text in texts {
+        let Some(code) = elementary_code_of(text) else {
+            return Ok(None);
+        };
+        found.push(code)?;
+    }
+    Ok(Some(Rows::of(found)))
+}
+
+fn freeze_of(alloc: Global, arguments: &[&[u8]]) -> Result<Option<Request>, AllocError>
+    ensures { IfOk result (λ r. r ≡ freeze_request (map (λ a. a.now) arguments.now)) }
+{
+    let Some((month, carry)) = arguments.split_first() else {
+        return Ok(None);
+    };
+    let Some(month) = month_of(month) else {
+        return Ok(None);
+    };
+    let Some(carry) = elementary_codes_of(alloc, carry)? else {
+        return Ok(None);
+    };
+    Ok(Some(Request::Freeze(month, carry)))
+}
+
 /// The request of a word with its arguments, if they are of its form and within the limits.
 pub(crate) fn request_of(
     alloc: Global,
@@ -221,6 +274,9 @@ pub(crate) fn request_of(
         Word::Assign => Ok(assign_of(arguments)),
         Word::Calendar => Ok(calendar_of(zone, arguments)),
         Word::Plan => plan_of(alloc, arguments),
+        Word::Tables => Ok(tables_of(arguments)),
+        Word::Table => Ok(table_of(arguments)),
+        Word::Freeze => freeze_of(alloc, arguments),
         Word::Unknown => Ok(None),
     }
 }

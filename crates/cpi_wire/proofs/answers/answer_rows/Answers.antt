@@ -8,7 +8,7 @@ pub loop-row-preserved : goal.loop-row-preserved
 loop-row-preserved g c =
     let n = c.loop-row.invariant in
     let row = c.in-Some.row in
-    let turn = RowAnswers g.B.Book.is_clean g.B.Book.lists g.B.Book.failures c.args.now c.args.caller.now in
+    let turn = RowAnswers g.B.Groups.is_clean g.B.Book.lists g.B.Groups.failures c.args.now c.args.caller.now in
     let room = n.4 in
     let wider = c.in-Ok.ensures.capacity in (
       n.0 ++ row ∷ [],

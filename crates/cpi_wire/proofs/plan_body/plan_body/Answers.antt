@@ -1,69 +1,53 @@
-use Rattle.std.proofs.Common.{◌≡◌, ◌∙◌, sym, refl, [], ◌∷◌, ◌++◌, Some, None, inr, arith, length-append}
+use Rattle.std.proofs.Common.{◌≡◌, rules, [], ◌∷◌, ◌++◌, Some, true, false, arith, length-append}
 use Rattle.csv.specs.Records.{fields_of}
-use Rattle.cpi_wire.specs.PlanRows.{plan_row}
 use Rattle.cpi_wire.proofs.PlanRead.{rows-more, body-whole, body-long, body-bad}
-use Rattle.cpi_wire.proofs.Reading.{at-start, at-next, at-front, at-end}
+use Rattle.cpi_wire.proofs.Reading.{at-front}
 use Rattle.cpi_wire.proofs.plan_body.plan_body.Goals as goal
 
-pub loop-init : goal.loop-init
-loop-init c =
-    let fr = c.from_reader-reader.ensures in
-    let f = c.flexible.ensures in
-    let h = c.has_headers.ensures in
-    let n = c.new.ensures in (
-      [],
-      [],
-      at-start _ _ _ (rw (f, h) at fr.trim ∙ n.trim) (inr (inr (rw (f, h) at fr.has_headers, fr.headers))) (rw (f, h) at fr.config ∙ n.config)
-          fr.state fr.source,
-      refl,
-      rw (c.new-2.ensures, c.new-3.ensures, c.new-4.ensures) refl,
-      refl,
-    )
-
-pub returns-in-Ok-false : goal.returns-in-Ok-false
-returns-in-Ok-false c =
+pub returns-then-not-branch : goal.returns-then-not-branch
+returns-then-not-branch c =
     let inv = c.loop.invariant in
-    let read = rw c.in-Ok-false.field-0-test at (c.in-Ok-false.ensures.reads inv.2.trim inv.2.ready) in
-    let all = at-end _ (Some c.args.text.now) inv.0 c.loop.reader c.read_byte_record.new.self (fields_of c.read_byte_record.new.row) inv.2 read in
+    let none : c.in_ok-next_row.field-0 ≡ false = search rules in
+    let all = (rw none at c.in_ok-next_row.ensures) (Some c.args.text.now) inv.0 inv.2 in
     let count = inv.5 in rw inv.4 (body-whole c.args.text.now inv.0 inv.1 all (omega arith) inv.3)
 
-pub returns-in_default : goal.returns-in_default
-returns-in_default c =
+pub returns-then-not-branch-2 : goal.returns-then-not-branch-2
+returns-then-not-branch-2 c =
     let inv = c.loop.invariant in
-    let f = fields_of c.read_byte_record.new.row in
-    let read = rw c.in-Ok-true.field-0-test at (c.in-Ok-true.ensures.reads inv.2.trim inv.2.ready) in
-    let on = c.in-Ok-true.ensures.reads_on c.in-Ok-true.field-0-test in
-    let first = at-front _ (Some c.args.text.now) (inv.0 ++ f ∷ []) c.read_byte_record.new.self (at-next _ (Some c.args.text.now) inv.0 c.loop.reader c.read_byte_record.new.self f inv.2 read on) in
-    let none : plan_row f ≡ None = sym (rw (c.in_default.is, c.deref.ensures.value, c.in_ok-fields.ensures) at c.in_ok-part.ensures) in
-    body-bad c.args.text.now inv.0 inv.1 f first inv.3 none
+    let f = fields_of c.next_row.new.row in
+    let one : c.in_ok-next_row.field-0 ≡ true = search rules in
+    let next = (rw one at c.in_ok-next_row.ensures) (Some c.args.text.now) inv.0 inv.2 in
+    let first = at-front _ (Some c.args.text.now) (inv.0 ++ f ∷ []) c.next_row.new.reader next in
+    let bad : c.in_ok-add_record.field-0 ≡ false = search rules in
+    body-bad c.args.text.now inv.0 inv.1 f first inv.3 (rw bad at c.in_ok-add_record.ensures)
 
 pub loop-preserved : goal.loop-preserved
 loop-preserved c =
     let inv = c.loop.invariant in
-    let f = fields_of c.read_byte_record.new.row in
-    let read = rw c.in-Ok-true.field-0-test at (c.in-Ok-true.ensures.reads inv.2.trim inv.2.ready) in
-    let on = c.in-Ok-true.ensures.reads_on c.in-Ok-true.field-0-test in
-    let some : plan_row f ≡ Some c.in-Some.part = sym (rw (c.in-Some.is, c.deref.ensures.value, c.in_ok-fields.ensures) at c.in_ok-part.ensures) in (
+    let f = fields_of c.next_row.new.row in
+    let one : c.in_ok-next_row.field-0 ≡ true = search rules in
+    let good : c.in_ok-add_record.field-0 ≡ true = search rules in
+    let added = rw good at c.in_ok-add_record.ensures in (
       inv.0 ++ f ∷ [],
-      inv.1 ++ c.in-Some.part ∷ [],
-      at-next _ _ inv.0 c.loop.reader c.read_byte_record.new.self f inv.2 read on,
-      rows-more inv.0 inv.1 f c.in-Some.part inv.3 some,
-      c.in_ok-add.ensures inv.1 inv.4,
+      inv.1 ++ added.0 ∷ [],
+      (rw one at c.in_ok-next_row.ensures) (Some c.args.text.now) inv.0 inv.2,
+      rows-more inv.0 inv.1 f added.0 inv.3 added.1,
+      added.2 inv.1 inv.4,
       let count = inv.5 in rw length-append (omega arith),
     )
 
-pub returns-in-Ok-true-read_byte_record : goal.returns-in-Ok-true-read_byte_record
-returns-in-Ok-true-read_byte_record c =
+pub returns-then-branch : goal.returns-then-branch
+returns-then-branch c =
     let inv = c.loop.invariant in
-    let read = rw c.in-Ok-true-read_byte_record.field-0-test at (c.in-Ok-true-read_byte_record.ensures.reads inv.2.trim inv.2.ready) in
-    let on = c.in-Ok-true-read_byte_record.ensures.reads_on c.in-Ok-true-read_byte_record.field-0-test in
-    let f = fields_of c.read_byte_record-2.new.row in
-    let first = at-front _ (Some c.args.text.now) (inv.0 ++ f ∷ []) c.read_byte_record-2.new.self (at-next _ (Some c.args.text.now) inv.0 c.loop.reader c.read_byte_record-2.new.self f inv.2 read on) in
+    let f = fields_of c.next_row-2.new.row in
+    let one : c.in_ok-next_row-2.field-0 ≡ true = search rules in
+    let next = (rw one at c.in_ok-next_row-2.ensures) (Some c.args.text.now) inv.0 inv.2 in
+    let first = at-front _ (Some c.args.text.now) (inv.0 ++ f ∷ []) c.next_row-2.new.reader next in
     let count = inv.5 in body-long c.args.text.now (inv.0 ++ f ∷ []) first (rw length-append (omega arith))
 
-pub returns-in-Ok-false-read_byte_record : goal.returns-in-Ok-false-read_byte_record
-returns-in-Ok-false-read_byte_record c =
+pub returns : goal.returns
+returns c =
     let inv = c.loop.invariant in
-    let read = rw c.in-Ok-false-read_byte_record.field-0-test at (c.in-Ok-false-read_byte_record.ensures.reads inv.2.trim inv.2.ready) in
-    let all = at-end _ (Some c.args.text.now) inv.0 c.loop.reader c.read_byte_record-2.new.self (fields_of c.read_byte_record-2.new.row) inv.2 read in
+    let none : c.in_ok-next_row-2.field-0 ≡ false = search rules in
+    let all = (rw none at c.in_ok-next_row-2.ensures) (Some c.args.text.now) inv.0 inv.2 in
     let count = inv.5 in rw inv.4 (body-whole c.args.text.now inv.0 inv.1 all (omega arith) inv.3)

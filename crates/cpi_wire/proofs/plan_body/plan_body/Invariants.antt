@@ -2,7 +2,7 @@ use Rattle.std.proofs.Common.{◌≡◌, List, Some, length}
 use Rattle.cpi_wire.specs.declared.plan_rows.PlanRow.{PlanRow}
 use Rattle.cpi_wire.specs.Input.{Record}
 use Rattle.cpi_wire.specs.PlanBody.{told_by, plan_rows}
-use Rattle.cpi_wire.proofs.Reading.{IsAt}
+use Rattle.cpi_wire.specs.Input.{IsAt}
 use Rattle.cpi_wire.proofs.plan_body.plan_body.Given as goal
 
 -- the body has the rows of the records that were read so far

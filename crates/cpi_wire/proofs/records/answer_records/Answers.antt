@@ -1,0 +1,89 @@
+use Rattle.std.proofs.Common.{◌≡◌, rules, refl, [], ◌∷◌, ◌++◌, true, false, arith, length-append}
+use Rattle.std.proofs.lemmas.Result.{err_from_is_err_and}
+use Rattle.csv.specs.Records.{fields_of}
+use Rattle.cpi_wire.specs.declared.fault.WireFault.TheVariants.{NoMemory}
+use Rattle.cpi_wire.proofs.Reading.{at-front}
+use Rattle.cpi_wire.proofs.Answered.{told-none, told-more, answers-more, gave-up-between, gave-up-at}
+use Rattle.cpi_wire.proofs.records.answer_records.Goals as goal
+
+pub loop-init : goal.loop-init
+loop-init g c = ([], [], λ input at. at, refl, told-none _, refl)
+
+pub loop-preserved : goal.loop-preserved
+loop-preserved g c =
+    let inv = c.loop.invariant in
+    let n = inv.5 in
+    let f = fields_of c.next_record.new.row in
+    let one : c.in_ok-next_record.field-0 ≡ true = search rules in (
+      inv.0 ++ f ∷ [],
+      inv.1 ++ c.in_ok-told.told ∷ [],
+      λ input at. (rw one at c.in_ok-next_record.ensures.ok) input inv.0 (inv.2 input at),
+      answers-more _ _ _ _ _ _ _ inv.0 inv.1 f c.in_ok-told.told inv.3 c.in_ok-told.ensures.ok,
+      told-more inv.1 _ _ _ _ inv.4 c.in_ok-tell.ensures.whole,
+      rw length-append (omega (arith, n)),
+    )
+
+pub returns-in_err-next_record-clause-err : goal.returns-in_err-next_record-clause-err
+returns-in_err-next_record-clause-err g c =
+    let inv = c.loop.invariant in
+    let n = inv.5 in
+    let p = err_from_is_err_and c.from_residual.result c.from_residual.ensures.1 in
+    rw (p.1, p.2) (λ input at. gave-up-between _ _ _ _ _ _ _ _ _ _ inv.0 inv.1 c.in_err-next_record.ensures.err (omega (arith, n)) (at-front _ _ inv.0 _ (inv.2 input at)) inv.3 inv.4)
+
+pub returns-in_err-told-clause-err : goal.returns-in_err-told-clause-err
+returns-in_err-told-clause-err g c =
+    let inv = c.loop.invariant in
+    let n = inv.5 in
+    let p = err_from_is_err_and c.from_residual-in_err-told.result c.from_residual-in_err-told.ensures.1 in
+    rw (p.1, p.2, c.in_err-told.ensures.err) (λ input at. gave-up-between _ _ _ _ _ _ _ _ _ NoMemory inv.0 inv.1 (λ e. cc) (omega (arith, n)) (at-front _ _ inv.0 _ (inv.2 input at)) inv.3 inv.4)
+
+pub returns-in_err-tell-clause-err : goal.returns-in_err-tell-clause-err
+returns-in_err-tell-clause-err g c =
+    let inv = c.loop.invariant in
+    let n = inv.5 in
+    let f = fields_of c.next_record.new.row in
+    let one : c.in_ok-next_record.field-0 ≡ true = search rules in
+    let p = err_from_is_err_and c.from_residual-in_err-tell.result c.from_residual-in_err-tell.ensures.1 in
+    rw (p.1, p.2) (λ input at. gave-up-at _ _ _ _ _ _ _ _ _ _ _ _ inv.0 inv.1 f c.in_ok-told.told (omega (arith, n))
+    (at-front _ _ _ c.next_record.new.reader ((rw one at c.in_ok-next_record.ensures.ok) input inv.0 (inv.2 input at))) inv.3 inv.4 c.in_ok-told.ensures.ok c.in_err-tell.ensures.part)
+
+pub returns-in_err-next_record-2-clause-err : goal.returns-in_err-next_record-2-clause-err
+returns-in_err-next_record-2-clause-err g c =
+    let inv = c.loop.invariant in
+    let n = inv.5 in
+    let p = err_from_is_err_and c.from_residual-in_err-next_record-2.result c.from_residual-in_err-next_record-2.ensures.1 in
+    rw (p.1, p.2) (λ input at. gave-up-between _ _ _ _ _ _ _ _ _ _ inv.0 inv.1 c.in_err-next_record-2.ensures.err (omega (arith, n)) (at-front _ _ inv.0 _ (inv.2 input at)) inv.3 inv.4)
+
+pub returns-then-branch-clause-err : goal.returns-then-branch-clause-err
+returns-then-branch-clause-err g c =
+    let inv = c.loop.invariant in
+    let n = inv.5 in
+    λ input at. gave-up-between _ _ _ _ _ _ _ _ _ _ inv.0 inv.1 (λ e. cc) (omega (arith, n)) (at-front _ _ inv.0 _ (inv.2 input at)) inv.3 inv.4
+
+pub returns-then-not-branch-clause-ok : goal.returns-then-not-branch-clause-ok
+returns-then-not-branch-clause-ok g c = λ input at.
+    let inv = c.loop.invariant in
+    let n = inv.5 in
+    let none : c.in_ok-next_record.field-0 ≡ false = search rules in
+    record {
+      rows = inv.0;
+      replies = inv.1;
+      all = (rw none at c.in_ok-next_record.ensures.ok) input inv.0 (inv.2 input at);
+      few = omega (arith, n);
+      answers = inv.3;
+      told = inv.4;
+    }
+
+pub returns-clause-ok : goal.returns-clause-ok
+returns-clause-ok g c = λ input at.
+    let inv = c.loop.invariant in
+    let n = inv.5 in
+    let none : c.in_ok-next_record-2.field-0 ≡ false = search rules in
+    record {
+      rows = inv.0;
+      replies = inv.1;
+      all = (rw none at c.in_ok-next_record-2.ensures.ok) input inv.0 (inv.2 input at);
+      few = omega (arith, n);
+      answers = inv.3;
+      told = inv.4;
+    }

@@ -1,0 +1,56 @@
+//! The records of an input, one after the other.
+ghost use Rattle.std.specs.Prelude.{◌≡◌, ◌≢◌, [], IfOk, IfErr};
+ghost use Rattle.csv.specs.Records.{fields_of};
+ghost use Rattle.cpi_wire.specs.Input.{IsAt, TakesNext};
+
+use crate::fault::WireFault;
+use csv::{ByteRecord, Error, ErrorKind, Reader, ReaderBuilder};
+use std::alloc::{AllocError, Global};
+use std::io::Read;
+
+/// The reader of an input without a header row, before its first record.
+pub(crate) fn record_reader<R: Read>(alloc: Global, input: R) -> Reader<R>
+    ensures { IsAt R.remaining (R.remaining input) [] result }
+{
+    ReaderBuilder::new()
+        .has_headers(false)
+        .flexible(true)
+        .from_reader(alloc, input)
+}
+
+// What an error of the reader is to the replay.
+fn fault_of(error: &Error) -> WireFault
+    ensures { result ≢ WireFault.Write }
+{
+    match error.kind() {
+        ErrorKind::OutOfMemory => WireFault::NoMemory,
+        _ => WireFault::Read,
+    }
+}
+
+/// Takes the next record of an input, if there is one more.
+pub(crate) fn next_record<R: Read>(
+    reader: &mut Reader<R>,
+    row: &mut ByteRecord,
+) -> Result<bool, WireFault>
+    ensures ok { IfOk result (λ found. TakesNext R.remaining reader.old reader.new (fields_of row.new) found) }
+    ensures err { IfErr result (λ e. e ≢ WireFault.Write) }
+{
+    match reader.read_byte_record(row) {
+        Ok(found) => Ok(found),
+        Err(error) => Err(fault_of(&error)),
+    }
+}
+
+/// Takes the next row of a text, which is in memory, so that nothing else can be refused.
+pub(crate) fn next_row<R: Read>(
+    reader: &mut Reader<R>,
+    row: &mut ByteRecord,
+) -> Result<bool, AllocError>
+    ensures { IfOk result (λ found. TakesNext R.remaining reader.old reader.new (fields_of row.new) found) }
+{
+    match next_record(reader, row) {
+        Ok(found) => Ok(found),
+        Err(_) => Err(AllocError),
+    }
+}
