@@ -1,0 +1,60 @@
+//! Books: each read of one that fails in turn, and a book in memory. Writes are counted where the office makes them.
+use crate::records::{at, frozen, january, rice};
+use cpi_codes::{CollectorId, Key, Month, OutletId};
+use cpi_release::Groups;
+use cpi_store::{Book, FailBook};
+use std::test::Fail;
+
+// The place of the first read that fails, one call each.
+fn first_failing<B: Book>(book: &mut B) -> Result<Option<usize>, Fail> {
+    let number = CollectorId::new(7).ok_or("no collector")?;
+    let key = Key::parse(b"aaaaaaaaaaaaaaaaaaaaaaaaaaaaaaaa").ok_or("no key")?;
+    let outlet = OutletId::new(10).ok_or("no outlet")?;
+    let (month, until, rice) = (january()?, at(3000)?, rice()?);
+    let failed = [
+        book.bearer_of(key).is_err(),
+        book.bearer_at(number).is_err(),
+        book.collector_of(key).is_err(),
+        book.collector_key(number).is_err(),
+        book.outlet(outlet).is_err(),
+        book.public_part().is_err(),
+        book.own(number).is_err(),
+        book.parts(number).is_err(),
+        book.frozen_months().is_err(),
+        book.month_rows(month).is_err(),
+        book.tables_until(until).is_err(),
+        book.table(month, until).is_err(),
+        book.rows(2026, month, rice).is_err(),
+        book.chained(month, rice).is_err(),
+    ];
+    Ok(failed.iter().position(|fails| *fails))
+}
+
+#[test]
+fn each_read_of_a_book_fails_in_turn(rt: HostRuntime) -> Result<(), Fail> {
+    for place in 0..14 {
+        let mut book = FailBook::new(frozen(rt.alloc())?, place as u64 + 1);
+        assert_eq!(rt; first_failing(&mut book)?, Some(place));
+    }
+    Ok(())
+}
+
+// How many rows each read that takes memory finds.
+fn found<B: Book>(book: &mut B) -> Result<[usize; 5], Fail> {
+    let (month, moment, rice) = (january()?, at(1000)?, rice()?);
+    Ok([
+        book.frozen_months()?.len(),
+        book.month_rows(month)?.len(),
+        book.tables_until(moment)?.len(),
+        book.rows(2026, Month::new(2026, 2)?, rice)?.len(),
+        book.rows(2026, Month::new(2026, 2)?, rice)?.len(),
+    ])
+}
+
+#[test]
+fn a_book_in_memory_is_read(rt: HostRuntime) -> Result<(), Fail> {
+    let mut book = frozen(rt.alloc())?;
+    assert_eq!(rt; first_failing(&mut book)?, None);
+    assert_eq!(rt; found(&mut book)?, [2, 4, 1, 3, 3]);
+    Ok(())
+}

@@ -1,0 +1,23 @@
+//! Generic laws, at the types that the office has.
+use cpi_codes::CollectorId;
+use cpi_index::CarriedPrice;
+use cpi_office::{replies_are_alike, runs_tell_alike};
+use cpi_plan::{CalendarRow, Item};
+use cpi_release::Release;
+use cpi_rows::{gathered_put, gathered_rows, put_same, puts_other, puts_own};
+use cpi_store::{FailBook, VecBook};
+use cpi_wire::{lines_are_alike, records_are_a_run, replays_tell_alike};
+
+#[test]
+fn the_laws_hold_of_books_and_rows() {
+    runs_tell_alike::<VecBook, FailBook<VecBook>>();
+    replies_are_alike::<VecBook, FailBook<VecBook>>();
+    records_are_a_run::<FailBook<VecBook>>();
+    lines_are_alike::<VecBook, FailBook<VecBook>>();
+    replays_tell_alike::<VecBook, FailBook<VecBook>>();
+    puts_own::<Item>();
+    puts_other::<CalendarRow>();
+    put_same::<Release>();
+    gathered_rows::<CarriedPrice, CollectorId>();
+    gathered_put::<CarriedPrice, CollectorId>();
+}

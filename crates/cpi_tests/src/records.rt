@@ -1,0 +1,146 @@
+//! An office that is sent records: their fields are parted by bars.
+use cpi_codes::{Code, Moment, Month, Year, zone_of};
+use cpi_index::FrozenQuote;
+use cpi_office::{Ask, Office, Reply};
+use cpi_plan::YearPlan;
+use cpi_store::{Book, VecBook};
+use cpi_wire::{Ask as Record, request_of_record};
+use std::alloc::Global;
+use std::test::Fail;
+
+// Two items, a collector with four slots, and the plan of 2026.
+const DESK: [&str; 11] = [
+    "0|desk|item|RICE|Rice|1 kg|500|2000",
+    "0|desk|item|FLOUR|Flour, wheat|1 kg|500|2000",
+    "0|desk|outlet|10|Corner shop",
+    "0|desk|collector|7|aaaaaaaaaaaaaaaaaaaaaaaaaaaaaaaa",
+    "0|desk|assign|7|1|10|RICE|2025-12|2026-12",
+    "0|desk|assign|7|2|10|RICE|2025-12|2026-12",
+    "0|desk|assign|7|3|10|RICE|2025-12|2026-12",
+    "0|desk|assign|7|4|10|FLOUR|2025-12|2026-12",
+    "0|desk|calendar|2025-12|0|1000|1000",
+    "0|desk|calendar|2026-01|1000|2000|3000",
+    "0|desk|plan|2026|T,00,All items
+T,01,Food and drink
+T,01.1,Food
+T,01.1.1,Cereals
+T,01.1.1.1,Rice
+T,01.1.1.1-01,\"Rice, packed\"
+T,01.1.1.2,Flour
+T,01.1.1.2-01,\"Flour, wheat\"
+W,01.1.1.1-01,600000
+W,01.1.1.2-01,400000
+I,RICE,01.1.1.1-01
+I,FLOUR,01.1.1.2-01",
+];
+
+// The prices of two months, the first of which is frozen.
+const PRICES: [&str; 9] = [
+    "100|aaaaaaaaaaaaaaaaaaaaaaaaaaaaaaaa|quote|1|2025-12|price|200",
+    "100|aaaaaaaaaaaaaaaaaaaaaaaaaaaaaaaa|quote|2|2025-12|price|300",
+    "100|aaaaaaaaaaaaaaaaaaaaaaaaaaaaaaaa|quote|3|2025-12|price|500",
+    "100|aaaaaaaaaaaaaaaaaaaaaaaaaaaaaaaa|quote|4|2025-12|price|500",
+    "1000|desk|freeze|2025-12",
+    "1100|aaaaaaaaaaaaaaaaaaaaaaaaaaaaaaaa|quote|1|2026-01|price|210",
+    "1100|aaaaaaaaaaaaaaaaaaaaaaaaaaaaaaaa|quote|2|2026-01|price|300",
+    "1100|aaaaaaaaaaaaaaaaaaaaaaaaaaaaaaaa|quote|3|2026-01|price|540",
+    "1100|aaaaaaaaaaaaaaaaaaaaaaaaaaaaaaaa|quote|4|2026-01|price|490",
+];
+
+// What a record asks.
+fn asked(alloc: Global, record: &str) -> Result<Ask, Fail> {
+    let mut fields = Vec::new(alloc);
+    for field in record.split('|') {
+        fields.push(field.as_bytes())?;
+    }
+    match request_of_record(alloc, &zone_of("UTC0")?, &fields)? {
+        Record::One(now, caller, request) => Ok(Ask {
+            now,
+            caller,
+            request,
+        }),
+        _ => Err("no request".into()),
+    }
+}
+
+/// What records ask.
+pub(crate) fn asks(alloc: Global, records: &[&str]) -> Result<Vec<Ask>, Fail> {
+    let mut asks = Vec::new(alloc);
+    for record in records {
+        asks.push(asked(alloc, record)?)?;
+    }
+    Ok(asks)
+}
+
+/// What a request is answered.
+pub(crate) fn answer<B: Book>(office: &mut Office<B>, ask: Ask) -> Reply {
+    office.handle(ask.now, ask.caller, ask.request)
+}
+
+// Sends records, each of which is accepted.
+fn send<B: Book>(alloc: Global, office: &mut Office<B>, records: &[&str]) -> Result<(), Fail> {
+    for ask in asks(alloc, records)? {
+        if let Reply::Refused(refusal) = answer(office, ask) {
+            return Err(Fail::new(refusal.number()));
+        }
+    }
+    Ok(())
+}
+
+/// A book with the prices of two months, the first of which is frozen.
+pub(crate) fn priced(alloc: Global) -> Result<VecBook, Fail> {
+    let mut office = Office::new(alloc, VecBook::new(alloc));
+    send(alloc, &mut office, &DESK)?;
+    send(alloc, &mut office, &PRICES)?;
+    Ok(office.into_book())
+}
+
+/// A book with two frozen months.
+pub(crate) fn frozen(alloc: Global) -> Result<VecBook, Fail> {
+    let mut office = Office::new(alloc, priced(alloc)?);
+    send(alloc, &mut office, &["2000|desk|freeze|2026-01"])?;
+    Ok(office.into_book())
+}
+
+/// What the index of January 2026 is computed from.
+#[derive(Drop)]
+pub(crate) struct WorkedYear {
+    pub(crate) plan: YearPlan,
+    pub(crate) december: Vec<FrozenQuote>,
+    pub(crate) january: Vec<FrozenQuote>,
+}
+
+// A copy of the plan of 2026.
+fn plan_of<B: Book>(alloc: Global, book: &mut B) -> Result<YearPlan, Fail> {
+    let year = Year::new(2026).ok_or("no year")?;
+    match book.public_part()?.plan(year) {
+        Some(plan) => Ok(plan.copy(alloc)?),
+        None => Err("no plan".into()),
+    }
+}
+
+// The same, from what a book has.
+fn year_of<B: Book>(alloc: Global, book: &mut B) -> Result<WorkedYear, Fail> {
+    let (december, january) = (Month::new(2025, 12)?, january()?);
+    Ok(WorkedYear {
+        december: book.month_rows(december)?,
+        january: book.month_rows(january)?,
+        plan: plan_of(alloc, book)?,
+    })
+}
+
+pub(crate) fn two_months(alloc: Global) -> Result<WorkedYear, Fail> {
+    year_of(alloc, &mut priced(alloc)?)
+}
+
+pub(crate) fn january() -> Result<Month, Fail> {
+    Ok(Month::new(2026, 1)?)
+}
+
+pub(crate) fn rice() -> Result<Code, Fail> {
+    Ok(Code::parse(b"01.1.1.1-01")?)
+}
+
+pub(crate) fn at(seconds: u64) -> Result<Moment, Fail> {
+    Ok(Moment::new(seconds).ok_or("no moment")?)
+}
