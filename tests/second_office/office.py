@@ -2,7 +2,8 @@
 
 import json
 
-from . import values
+from . import tables, values
+from .index import FrozenQuote, Index, before
 from .requests import MOST_ROWS, caller_of, request_of, rows_of
 
 DONE = {"done": True}
@@ -25,6 +26,8 @@ class Office:
         self.keys = {}  # by collector
         self.assignments = {}  # by collector and slot: outlet, item, first and last month
         self.quotes = {}  # by collector, slot and month: mark, receipt
+        self.index = Index(self.plans, {}, {})  # over the frozen months
+        self.tables = {}  # by frozen month: the moment of publishing, the rows
 
     def line(self, record):
         return json.dumps(self.reply(record), separators=(",", ":"), sort_keys=True, ensure_ascii=False)
@@ -49,11 +52,31 @@ class Office:
         if caller not in ("public", "desk") and bearer is None:
             return refused(11)
         word, *parts = request
-        if word == "items":
-            return {"items": [[code, *self.items[code]] for code in sorted(self.items)]}
+        if word in self.OF_ALL:
+            return self.OF_ALL[word](self, now, *parts)
         if word in self.OF_COLLECTORS:
             return refused(12) if bearer is None else self.OF_COLLECTORS[word](self, now, bearer, *parts)
-        return refused(12) if caller != "desk" else self.OF_THE_DESK[word](self, *parts)
+        if caller != "desk":
+            return refused(12)
+        return self.freeze(now, *parts) if word == "freeze" else self.OF_THE_DESK[word](self, *parts)
+
+    # ---- all
+
+    def listed_items(self, _):
+        return {"items": [[code, *self.items[code]] for code in sorted(self.items)]}
+
+    def published(self, now):
+        return {month: table for month, table in self.tables.items() if table[0] <= now}
+
+    def listed_tables(self, now):
+        published = sorted(self.published(now).items())
+        return {"tables": [[month_text(month), publishes] for month, (publishes, _) in published]}
+
+    def printed_table(self, now, month, form):
+        if month not in self.published(now):
+            return refused(30)
+        rows = self.tables[month][1]
+        return {"table": tables.text_of(month, rows) if form == "text" else tables.csv_of(rows)}
 
     # ---- the desk
 
@@ -86,6 +109,10 @@ class Office:
         return self.put_once(self.assignments, (collector, slot), (outlet, item, first, last))
 
     def put_calendar(self, month, *window):
+        if self.calendar.get(month) == window:
+            return DONE
+        if month in self.tables:
+            return refused(50)
         self.calendar[month] = window
         return DONE
 
@@ -93,7 +120,14 @@ class Office:
         fault = self.plan_fault(*body)
         if fault is not None:
             return refused(44, **fault)
-        self.plans[year] = body
+        titles, weights, places = body
+        nodes = {node for code, _ in weights for node in values.path(code)}
+        plan = {code: title for code, title in titles if code in nodes}, dict(weights), dict(places)
+        if self.plans.get(year) == plan:
+            return DONE
+        if any(frozen[0] == year for frozen in self.tables):
+            return refused(45)
+        self.plans[year] = plan
         return DONE
 
     def plan_fault(self, titles, weights, places):
@@ -114,16 +148,50 @@ class Office:
         ]
         return next(({"fault": at + 1, **found} for at, (is_so, found) in enumerate(faults) if is_so), None)
 
+    # ---- freezing
+
+    def stored_quotes(self, month):
+        rows = [(place, mark) for place, (mark, _) in sorted(self.quotes.items()) if place[2] == month]
+        assigned = [(place[:2], self.assignments[place[:2]], mark) for place, mark in rows]
+        return [FrozenQuote(series, item, last, mark) for series, (_, item, _, last), mark in assigned]
+
+    def freeze_refusal(self, now, month, carry):
+        is_first = not self.tables
+        if month in self.tables:
+            return refused(50)
+        if month[1] != 12 if is_first else before(month) != max(self.tables):
+            return refused(46)
+        if month not in self.calendar:
+            return refused(21)
+        if now < self.calendar[month][1]:
+            return refused(47)
+        if not is_first and month[0] not in self.plans:
+            return refused(48)
+        weighed = {} if is_first else self.plans[month[0]][1]
+        return None if set(carry) <= set(weighed) else refused(44, fault=8)
+
+    def freeze(self, now, month, carry):
+        refusal = self.freeze_refusal(now, month, carry)
+        if refusal is not None:
+            return refusal
+        index = self.index.with_month(month, self.stored_quotes(month), carry)
+        fault = index.fault(month) if self.tables else None
+        if fault is not None:
+            return refused(49, fault=fault[0], code=fault[1])
+        self.index = index
+        self.tables[month] = (self.calendar[month][2], index.table(month))
+        return DONE
+
     # ---- a collector
 
     def own_quotes(self, collector):
         return {(slot, month): quote for (holder, slot, month), quote in self.quotes.items() if holder == collector}
 
-    def last_price(self, collector, slot, month):
-        """The price of the greatest earlier month with one."""
+    def last_price(self, own, slot, month):
+        """The price of the greatest earlier month with one, among a collector's own quotes."""
         found = [
             (earlier, mark[1])
-            for (own_slot, earlier), (mark, _) in self.own_quotes(collector).items()
+            for (own_slot, earlier), (mark, _) in own.items()
             if own_slot == slot and earlier < month and mark[0] != "missing"
         ]
         return max(found)[1] if found else None
@@ -131,12 +199,12 @@ class Office:
     def work(self, _, collector, month):
         if month not in self.calendar:
             return refused(21)
-        rows = []
+        rows, own = [], self.own_quotes(collector)
         for (holder, slot), (outlet, item, first, last) in sorted(self.assignments.items()):
             if holder == collector and first <= month <= last:
-                mark, receipt = self.quotes.get((collector, slot, month), ((None,), None))
+                mark, receipt = own.get((slot, month), ((None,), None))
                 text, unit = self.items[item][:2]
-                price = self.last_price(collector, slot, month)
+                price = self.last_price(own, slot, month)
                 rows.append([slot, outlet, self.outlets[outlet], item, text, unit, price, mark[0], receipt])
         return {"work": rows}
 
@@ -170,14 +238,15 @@ class Office:
             return refused(23)
         if now >= closes:
             return refused(24)
-        before = self.last_price(collector, slot, month)
-        if before is None:
+        price = self.last_price(self.own_quotes(collector), slot, month)
+        if price is None:
             return refused(25) if mark[0] in ("comparable", "other") else None
-        low, high = -(-before * self.items[item][2] // 1000), before * self.items[item][3] // 1000
+        low, high = -(-price * self.items[item][2] // 1000), price * self.items[item][3] // 1000
         if mark[0] in ("price", "comparable") and not confirm and not low <= mark[1] <= high:
-            return refused(26, last=before, low=low, high=high)
+            return refused(26, last=price, low=low, high=high)
         return None
 
+    OF_ALL = {"items": listed_items, "tables": listed_tables, "table": printed_table}
     OF_COLLECTORS = {"work": work, "quotes": quotes_within, "quote": put_quote}
     OF_THE_DESK = {
         "item": put_item,

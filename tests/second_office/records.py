@@ -1,4 +1,7 @@
-"""Random records round a small office: three collectors, two items, four months, and what lies at every limit."""
+"""Random records round a small office: three collectors, two items, four months, and what lies at every limit.
+
+No month of it is ever frozen.
+"""
 
 import csv
 import io
@@ -42,8 +45,8 @@ PLAN = [
     ["I", "FLOUR", "01.1.1.2-01"],
 ]
 WORDS = ["quote"] * 12 + ["quotes", "work", "work", "items", "item", "outlet", "collector", "assign", "assign"]
-WORDS += ["calendar", "plan", "plan", "import", "Quote", ""]
-OF_THE_DESK = ("item", "outlet", "collector", "assign", "calendar", "plan")
+WORDS += ["calendar", "plan", "plan", "import", "freeze", "table", "tables", "Quote", ""]
+OF_THE_DESK = ("item", "outlet", "collector", "assign", "calendar", "plan", "freeze")
 
 
 def text_of(rows, end="\n"):
@@ -121,6 +124,10 @@ class Records:
         moments = [opens, opens + self.one([0, 1, 500, 1000]), opens + self.one([500, 1000, 2000])]
         return [self.month(), *(self.mostly([str(moment)], CIVIL) for moment in moments)]
 
+    def freeze(self):
+        """A freeze of a month that is no December, and so not the first one."""
+        return [self.mostly(MONTHS[1:], OTHER_MONTHS), *(self.code() for _ in range(self.one([0, 0, 1, 2])))]
+
     def import_body(self):
         rows = [[word, *self.arguments(word)] for word in self.drawn.choices(WORDS, k=self.drawn.randrange(5))]
         return self.one(["", "", "\ufeff"]) + text_of(rows, self.one(["\n", "\r\n"]))
@@ -131,6 +138,8 @@ class Records:
             "quote": self.quote,
             "quotes": lambda: [self.month(), self.month()],
             "work": lambda: [self.month()],
+            "table": lambda: [self.month(), self.mostly(["text", "csv"], ["", "Text", "html"])],
+            "freeze": self.freeze,
             "item": lambda: [self.item(), self.one(TEXTS), self.one(TEXTS), *tolerances],
             "outlet": lambda: [self.mostly(["10", "12"], NUMBERS), self.one(TEXTS)],
             "collector": lambda: [self.mostly(["1", "2", "4"], NUMBERS), self.mostly(KEYS, SHAPES_OF_KEYS)],

@@ -41,6 +41,8 @@ OUTLET = number_within(1, 999_999)
 # the readers of each word's arguments
 ARGUMENTS = {
     "items": [],
+    "tables": [],
+    "table": [values.month, lambda text: text if text in ("text", "csv") else None],
     "work": [values.month],
     "quotes": [values.month, values.month],
     "item": [values.item_code, values.name, values.name, number_within(1, 1000), number_within(1000, 10_000)],
@@ -60,6 +62,14 @@ def quote_of(arguments):
     return None if None in (slot, month, mark) else ("quote", slot, month, mark, confirm)
 
 
+def freeze_of(arguments):
+    month = values.month(arguments[0]) if arguments else None
+    carry = [values.code(text) for text in arguments[1:]]
+    if month is None or not all(code and values.is_elementary(code) for code in carry):
+        return None
+    return ("freeze", month, carry)
+
+
 def is_in_form(request):
     word, *parts = request
     if word == "assign":
@@ -71,8 +81,8 @@ def is_in_form(request):
 
 def request_of(word, arguments):
     """The request, or None where the fields are of no form."""
-    if word == "quote":
-        return quote_of(arguments)
+    if word in ("quote", "freeze"):
+        return quote_of(arguments) if word == "quote" else freeze_of(arguments)
     readers = ARGUMENTS.get(word)
     if readers is None or len(readers) != len(arguments):
         return None

@@ -1,0 +1,232 @@
+"""What frozen months come to: sums over whole lists, and recursion back to the base.
+
+A month is a pair of year and number, a series a pair of collector and slot. Carried prices are in ticks, indices and
+levels in millionths. Division is of whole numbers alone.
+"""
+
+HUNDRED = 100_000_000
+MOST_TICKS = 10**15
+MOST_INDEX = 10**13
+MOST_LEVEL = 10**15
+
+
+def rounded(a, b):
+    return (2 * a + b) // (2 * b)
+
+
+def december_before(year):
+    return (year - 1, 12)
+
+
+def before(month):
+    year, number = month
+    return (year, number - 1) if number > 1 else december_before(year)
+
+
+def is_below(code, node):
+    return code != node and (node == "00" or code.startswith(node))
+
+
+def change(before, now):
+    """In tenths of a percent; a fall is rounded as a rise of its size."""
+    size = rounded(1000 * abs(now - before), before)
+    return size if now >= before else -size
+
+
+def kept(rule):
+    """The rule, computed once for each of its arguments: what is frozen doesn't change."""
+
+    def looked_up(self, *of):
+        place = (rule.__name__, *of)
+        if place not in self.known:
+            self.known[place] = rule(self, *of)
+        return self.known[place]
+
+    return looked_up
+
+
+class FrozenQuote:
+    def __init__(self, series, item, last_month, mark):
+        self.series, self.item, self.last_month, self.mark = series, item, last_month, mark
+
+
+class Index:
+    """The index over the plans of the years (of each the titles of its nodes, its weights, its places) and the frozen
+    months (of each its quotes and its carry list)."""
+
+    def __init__(self, plans, frozen, known):
+        self.plans, self.frozen, self.known = plans, frozen, known
+
+    def with_month(self, month, quotes, carry):
+        """The same with one month more. What is looked up there stays out of this one."""
+        return Index(self.plans, {**self.frozen, month: (quotes, carry)}, dict(self.known))
+
+    # ---- the plan of a year
+
+    def weights(self, year):
+        return self.plans[year][1] if year in self.plans else {}
+
+    def aggregates(self, year):
+        return sorted(self.weights(year))
+
+    def weight(self, year, node):
+        weights = self.weights(year)
+        return sum(weights[code] for code in weights if code == node or is_below(code, node))
+
+    # ---- the quotes of a month
+
+    def mark(self, month, series):
+        found = [quote.mark for quote in self.frozen[month][0] if quote.series == series]
+        return found[0] if found else ("missing", None)
+
+    def observed(self, month, series):
+        """The price that was found, or None."""
+        kind, price = self.mark(month, series)
+        return None if kind == "missing" else price
+
+    def comparable(self, month, series):
+        """The price that can be compared with the one before, or None."""
+        kind, price = self.mark(month, series)
+        return price if kind in ("price", "comparable") else None
+
+    # ---- bases and samples
+
+    @kept
+    def base(self, year, series):
+        """Ticks and scale in the link month, or None."""
+        december = december_before(year)
+        if december not in self.frozen:
+            return None
+        price = self.observed(december, series)
+        if price is not None:
+            return 10_000 * price, (10_000, 1)
+        sampled = [code for code in self.aggregates(year - 1) if series in self.sample(year - 1, code)]
+        return self.carried(year - 1, december, series)[:2] if sampled else None
+
+    @kept
+    def sample(self, year, code):
+        """The series with a base that are priced in January or later and whose item is placed there."""
+        quotes = {quote.series: quote for month in self.frozen for quote in self.frozen[month][0]}
+        places = self.plans[year][2]
+        lasting = [quote for quote in quotes.values() if quote.last_month >= (year, 1)]
+        placed = [quote.series for quote in lasting if places.get(quote.item) == code]
+        return sorted(series for series in placed if self.base(year, series) is not None)
+
+    def aggregate_of(self, year, series):
+        return next(code for code in self.aggregates(year) if series in self.sample(year, code))
+
+    # ---- a month
+
+    def matched(self, month, code):
+        return [
+            series
+            for series in self.sample(month[0], code)
+            if self.comparable(month, series) is not None and self.observed(before(month), series) is not None
+        ]
+
+    @kept
+    def movement(self, month, code):
+        """A pair, the numbers now and before; None where there is none."""
+        year, matched = month[0], self.matched(month, code)
+        if matched:
+            return tuple(sum(self.carried(year, at, series)[0] for series in matched) for at in (month, before(month)))
+        return (1, 1) if code in self.frozen[month][1] else None
+
+    @kept
+    def carried(self, year, month, series):
+        """Ticks, scale, and whether they were imputed."""
+        if month == december_before(year):
+            return *self.base(year, series), False
+        earlier, scale, _ = self.carried(year, before(month), series)
+        price = self.observed(month, series)
+        if self.comparable(month, series) is not None:
+            return rounded(price * scale[0], scale[1]), scale, False
+        now, then = self.movement(month, self.aggregate_of(year, series))
+        ticks = rounded(earlier * now, then)
+        return ticks, scale if price is None else (ticks, price), True
+
+    @kept
+    def within(self, month, node):
+        """The index within the year: of an aggregate by Dutot, of a node above by the aggregates below it."""
+        year = month[0]
+        if node in self.weights(year):
+            sample = self.sample(year, node)
+            now = sum(self.carried(year, month, series)[0] for series in sample)
+            return rounded(HUNDRED * now, sum(self.base(year, series)[0] for series in sample))
+        weights = {code: weight for code, weight in self.weights(year).items() if is_below(code, node)}
+        summed = sum(weight * self.within(month, code) for code, weight in weights.items())
+        return rounded(summed, self.weight(year, node))
+
+    # ---- the table of a month
+
+    def nodes(self, month):
+        """The codes of the table's rows; the first month has none."""
+        if month not in self.frozen or before(month) not in self.frozen:
+            return []
+        return sorted(self.plans[month[0]][0])
+
+    def level(self, month, node):
+        """The chained level in the table of the month, or None where it has no such row."""
+        return self.chained(month, node) if node in self.nodes(month) else None
+
+    def link(self, year, node):
+        return self.level(december_before(year), node) or HUNDRED
+
+    @kept
+    def chained(self, month, node):
+        return rounded(self.link(month[0], node) * self.within(month, node), HUNDRED)
+
+    def month_change(self, month, node):
+        year, number = month
+        earlier = self.link(year, node) if number == 1 else self.level(before(month), node)
+        return change(earlier, self.level(month, node))
+
+    def year_change(self, month, node):
+        year, number = month
+        earlier = self.link(year, node) if number == 12 else self.level((year - 1, number), node)
+        return None if earlier is None else change(earlier, self.level(month, node))
+
+    def is_imputed(self, month, node):
+        year = month[0]
+        under = [code for code in self.aggregates(year) if code == node or is_below(code, node)]
+        return any(self.carried(year, month, series)[2] for code in under for series in self.sample(year, code))
+
+    def table(self, month):
+        """The rows by code: code, title, weight, index, level, changes, and whether something was imputed."""
+        return [
+            (
+                node,
+                self.plans[month[0]][0][node],
+                self.weight(month[0], node),
+                self.within(month, node),
+                self.chained(month, node),
+                self.month_change(month, node),
+                self.year_change(month, node),
+                self.is_imputed(month, node),
+            )
+            for node in self.nodes(month)
+        ]
+
+    # ---- faults
+
+    def needs_match(self, month, code):
+        """Whether a series of the sample is without a comparable price and there is nothing to move it by."""
+        is_short = any(self.comparable(month, series) is None for series in self.sample(month[0], code))
+        return is_short and self.movement(month, code) is None
+
+    def is_carried_outside(self, month, code):
+        ticks = [self.carried(month[0], month, series)[0] for series in self.sample(month[0], code)]
+        return not all(1 <= one <= MOST_TICKS for one in ticks)
+
+    def fault(self, month):
+        """The first fault of a month after the first, with its code: each is looked for everywhere before the next."""
+        aggregates, nodes = self.aggregates(month[0]), self.nodes(month)
+        faults = [
+            (1, aggregates, lambda code: not self.sample(month[0], code)),
+            (2, aggregates, lambda code: self.needs_match(month, code)),
+            (3, aggregates, lambda code: self.is_carried_outside(month, code)),
+            (3, aggregates, lambda code: not 1 <= self.within(month, code) <= MOST_INDEX),
+            (3, nodes, lambda code: not 1 <= self.chained(month, code) <= MOST_LEVEL),
+        ]
+        found = ((number, code) for number, codes, is_so in faults for code in codes if is_so(code))
+        return next(found, None)

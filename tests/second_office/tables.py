@@ -1,0 +1,40 @@
+"""How the table of a month is printed, as text and as CSV."""
+
+from .index import rounded
+
+
+def one_decimal(tenths):
+    sign = "-" if tenths < 0 else ""
+    return f"{sign}{abs(tenths) // 10}.{abs(tenths) % 10}"
+
+
+def points(millionths):
+    return one_decimal(rounded(millionths, 100_000))
+
+
+def text_of(month, rows):
+    lines = [f"CPI {month[0]:04}-{month[1]:02}\n"]
+    for code, title, weight, within, level, month_change, year_change, is_imputed in rows:
+        annual = "-" if year_change is None else one_decimal(year_change)
+        figures = f"{weight:>7} {points(within):>10} {points(level):>12} {one_decimal(month_change):>7} {annual:>7}"
+        lines.append(f"{code:<11} {figures} {'i' if is_imputed else '.'} {title}\n")
+    return "".join(lines)
+
+
+def six_decimals(millionths):
+    return f"{millionths // 1_000_000}.{millionths % 1_000_000:06}"
+
+
+def field(text):
+    """A field of CSV, in quotation marks where it needs them."""
+    return '"' + text.replace('"', '""') + '"' if '"' in text or "," in text else text
+
+
+def csv_of(rows):
+    lines = []
+    for code, title, weight, within, level, month_change, year_change, is_imputed in rows:
+        annual = "" if year_change is None else one_decimal(year_change)
+        changes = [one_decimal(month_change), annual, "1" if is_imputed else "0"]
+        fields = [code, str(weight), six_decimals(within), six_decimals(level), *changes, field(title)]
+        lines.append(",".join(fields) + "\n")
+    return "".join(lines)
