@@ -1,7 +1,6 @@
 //! The tests that a plan has to pass, and the nodes that are made of it.
 ghost use Rattle.std.specs.Prelude.{◌≡◌, ◌^◌, ◌<◌, not, ◌&&◌, nat_lt, IfOk, MatchOption, true, false};
 ghost use Rattle.std.specs.List.{list_all, list_any};
-ghost use Rattle.std.specs.Ordering.{nat_cmp};
 ghost use Rattle.cpi_codes.specs.CodeOrder.{code_cmp, is_elementary, is_same};
 ghost use Rattle.cpi_codes.specs.declared.codes.Code.{Code};
 ghost use Rattle.cpi_rows.specs.Keyed.{IsInOrder, at};
@@ -13,7 +12,7 @@ use crate::items::Item;
 use crate::plan_rows::{Node, Place, Title, Weight};
 use crate::sums::add_path;
 use cpi_codes::Code;
-use cpi_rows::find_row;
+use cpi_rows::{RowsByKey, find_row};
 use std::alloc::{AllocError, Global};
 use std::collections::BTreeMap;
 
@@ -88,16 +87,14 @@ pub(crate) fn first_untitled(sums: &BTreeMap<Code, u128>, titles: &[Title]) -> O
     None
 }
 
-fn is_unknown(known: &[Item], place: &Place) -> bool
-    requires { IsInOrder nat_cmp (λ i. i.code) known.now }
+fn is_unknown(known: &RowsByKey<Item>, place: &Place) -> bool
     ensures { result ≡ is_unknown_item known.now place.now }
 {
-    find_row(known, &place.item).is_none()
+    known.find(&place.item).is_none()
 }
 
 // Whether some item isn't known.
-pub(crate) fn has_unknown(known: &[Item], places: &[Place]) -> bool
-    requires { IsInOrder nat_cmp (λ i. i.code) known.now }
+pub(crate) fn has_unknown(known: &RowsByKey<Item>, places: &[Place]) -> bool
     ensures { result ≡ has_unknown_item known.now places.now }
 {
     places.iter().any(|place| is_unknown(known, place))

@@ -18,7 +18,7 @@ use crate::plan_rows::{Node, Place, Title, Weight};
 use crate::same_rows::are_same;
 use crate::weighing::weighed;
 use cpi_codes::{Code, ItemCode, Name};
-use cpi_rows::{Keyed, find_row};
+use cpi_rows::{Keyed, RowsByKey, find_row};
 use std::alloc::{AllocError, Global};
 use std::marker::Model;
 
@@ -44,13 +44,12 @@ impl Model for YearPlan {
 fn of_ordered(
     alloc: Global,
     year: u16,
-    known_items: &[Item],
+    known_items: &RowsByKey<Item>,
     titles: Vec<Title>,
     weights: Vec<Weight>,
     mut places: Vec<Place>,
 ) -> Result<YearPlan, PlanFault>
     requires year_in_calendar { (2000 ≤ year) × (year ≤ 2199) }
-    requires known_in_order { IsInOrder nat_cmp (λ i. i.code) known_items.now }
     requires titles_in_order { IsInOrder code_cmp (λ t. t.code) titles.items }
     requires weights_in_order { IsInOrder code_cmp (λ w. w.code) weights.items }
     ensures { IsBuilt year (record { known = known_items.now; titles = titles.items; weights = weights.items; places = places.items }) result }
@@ -101,18 +100,17 @@ fn is_alike(plan: &YearPlan, other: &YearPlan) -> bool
 
 impl YearPlan {
     /// The plan of a year, 2000 to 2199, or the first fault of what was sent, over all of it. Rows may come in any
-    /// order; titles of codes that are no nodes are dropped. `known_items` are the items that are known, in the order
-    /// of codes. O(n log n) for n rows.
+    /// order; titles of codes that are no nodes are dropped. `known_items` are the items that are known. O(n log n)
+    /// for n rows.
     pub fn build(
         alloc: Global,
         year: u16,
-        known_items: &[Item],
+        known_items: &RowsByKey<Item>,
         mut titles: Vec<Title>,
         mut weights: Vec<Weight>,
         places: Vec<Place>,
     ) -> Result<YearPlan, PlanFault>
-        requires year_in_calendar { (2000 ≤ year) × (year ≤ 2199) }
-        requires known_in_order { IsInOrder nat_cmp (λ i. i.code) known_items.now }
+        requires { (2000 ≤ year) × (year ≤ 2199) }
         ensures built { IsBuilt year (record { known = known_items.now; titles = titles.items; weights = weights.items; places = places.items }) result }
         ensures planned { result ≢ Err NoMemory → result ≡ planned year (record { known = known_items.now; titles = titles.items; weights = weights.items; places = places.items }) }
     {

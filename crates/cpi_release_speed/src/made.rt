@@ -1,12 +1,10 @@
 //! Plans and quotes that are made by a rule: as many elementary aggregates as are asked for, with ten series each.
-ghost use Rattle.std.specs.Prelude.{◌≤◌, IfSome};
-ghost use Rattle.std.specs.Ordering.{nat_cmp};
-ghost use Rattle.cpi_rows.specs.Keyed.{IsInOrder};
+ghost use Rattle.std.specs.Prelude.{◌≤◌};
 
 use cpi_codes::{Code, CollectorId, ItemCode, Month, Name, Price, SeriesId, Slot};
 use cpi_index::FrozenQuote;
 use cpi_plan::{HighTolerance, Item, LowTolerance, Place, Title, Weight, YearPlan};
-use cpi_rows::put_row;
+use cpi_rows::RowsByKey;
 use cpi_survey::{Mark, Reason};
 use std::alloc::Global;
 
@@ -52,14 +50,11 @@ fn item(alloc: Global, n: u32) -> Option<Item> {
     })
 }
 
-#[tactic(auto, using(cpi_rows::proofs::Places::none_in_order))]
-fn known_items(alloc: Global, count: u32) -> Option<Vec<Item>>
-    ensures { IfSome result (λ items. IsInOrder nat_cmp (λ i. i.code) items.items) }
-{
-    let mut items = Vec::new(alloc);
+fn known_items(alloc: Global, count: u32) -> Option<RowsByKey<Item>> {
+    let mut items = RowsByKey::new(alloc);
     for n in 0..count {
         let known = item(alloc, n)?;
-        put_row(&mut items, known).ok()?;
+        items.put(known).ok()?;
     }
     Some(items)
 }
