@@ -5,14 +5,14 @@ ghost use Rattle.cpi_rows.specs.Keyed.{IsInOrder, put, row_at, at};
 
 use cpi_codes::{ItemCode, Month, Year};
 use cpi_plan::{CalendarRow, Item, YearPlan};
-use cpi_rows::{find_row, put_row};
+use cpi_rows::{RowsByKey, find_row, put_row};
 use std::alloc::{AllocError, Global};
 use std::marker::Model;
 
 /// What everybody may see of the survey: the items by code, the plans by year and the calendar rows by month.
 #[derive(Drop)]
 pub struct Public {
-    items: Vec<Item>,
+    items: RowsByKey<Item>,
     plans: Vec<YearPlan>,
     calendar: Vec<CalendarRow>,
 }
@@ -24,10 +24,10 @@ impl Model for Public {
 
     ghost Value = { PublicPart };
 
-    ghost view = { λ p. record { items = p.items.items; plans = p.plans.items; calendar = p.calendar.items } };
+    ghost view = { λ p. record { items = p.items; plans = p.plans.items; calendar = p.calendar.items } };
 
     ghost invariant = { λ p. record {
-      items : IsInOrder nat_cmp (λ i. i.code) p.items.items;
+      items : IsInOrder nat_cmp (λ i. i.code) p.items;
       plans : IsInOrder nat_cmp (λ y. y.year) p.plans.items;
       calendar : IsInOrder nat_cmp (λ r. r.month) p.calendar.items;
     } };
@@ -38,16 +38,20 @@ impl Public {
     pub fn new(alloc: Global) -> Public
         ensures { result ≡ record { items = []; plans = []; calendar = [] } }
     {
-        Public::from_parts(Vec::new(alloc), Vec::new(alloc), Vec::new(alloc))
+        Public::from_parts(RowsByKey::new(alloc), Vec::new(alloc), Vec::new(alloc))
     }
 
     /// The public part from its rows. The caller owes one item a code, in the order of codes, one plan a year, in the
     /// order of years, and one row a month, in the order of months.
-    pub fn from_parts(items: Vec<Item>, plans: Vec<YearPlan>, calendar: Vec<CalendarRow>) -> Public
-        requires items { IsInOrder nat_cmp (λ i. i.code) items.items }
+    pub fn from_parts(
+        items: RowsByKey<Item>,
+        plans: Vec<YearPlan>,
+        calendar: Vec<CalendarRow>,
+    ) -> Public
+        requires items { IsInOrder nat_cmp (λ i. i.code) items }
         requires plans { IsInOrder nat_cmp (λ y. y.year) plans.items }
         requires calendar { IsInOrder nat_cmp (λ r. r.month) calendar.items }
-        ensures { result ≡ record { items = items.items; plans = plans.items; calendar = calendar.items } }
+        ensures { result ≡ record { items = items; plans = plans.items; calendar = calendar.items } }
     {
         Public {
             items,
@@ -60,7 +64,7 @@ impl Public {
     pub fn item(&self, code: ItemCode) -> Option<&Item>
         ensures { option_copied result ≡ at (λ i. i.code) code self.now.items }
     {
-        find_row(&self.items, &code)
+        self.items.find(&code)
     }
 
     /// The plan of the year, if there is one.
@@ -78,7 +82,7 @@ impl Public {
     }
 
     /// The items in the order of their codes.
-    pub fn items(&self) -> &[Item]
+    pub fn items(&self) -> &RowsByKey<Item>
         ensures items { result.now ≡ self.now.items }
         ensures order { IsInOrder nat_cmp (λ i. i.code) result.now }
     {
@@ -107,7 +111,7 @@ impl Public {
         ensures err { OnErr result (self.new ≡ self.old) }
         ensures replaced { IsSome (row_at nat_cmp (λ i. i.code) item.code self.old.items) → IsOk result }
     {
-        put_row(&mut self.items, item)
+        self.items.put(item)
     }
 
     /// Puts a plan in its place, over the one of its year if there is one, which takes no memory. An `Err` says that
@@ -132,11 +136,11 @@ impl Public {
 }
 
 /// A copy of each item, in the same order.
-fn copy_items(alloc: Global, items: &[Item]) -> Result<Vec<Item>, AllocError>
+fn copy_items(alloc: Global, items: &RowsByKey<Item>) -> Result<Vec<Item>, AllocError>
     ensures { IfOk result (λ copies. copies.items ≡ items.now) }
 {
     let mut copies = Vec::new(alloc);
-    for item in items {
+    for item in items.iter() {
         copies.push(item.copy(alloc)?)?;
     }
     Ok(copies)

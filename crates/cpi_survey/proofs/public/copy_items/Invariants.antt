@@ -1,5 +1,5 @@
-use Rattle.std.proofs.Common.{◌≡◌, take}
+use Rattle.std.proofs.Common.{◌≡◌, ◌++◌}
 use Rattle.cpi_survey.proofs.public.copy_items.Given as goal
 
 abbrev pub invariant-loop-item : goal.invariant-loop-item
-invariant-loop-item l = l.copies.items ≡ take l.item-index l.items
+invariant-loop-item l = l.copies.items ++ l.item-iterator ≡ l.items
