@@ -14,4 +14,5 @@ pub mod MeanLemmas
 pub mod Gather
 pub mod BySeries
 pub mod CarryRise
+pub mod Ordered
 pub mod OneTable

@@ -13,5 +13,6 @@ pub mod Totals
 pub mod Means
 pub mod Level
 pub mod Chaining
+pub mod Unfit
 pub mod OneTable
 pub mod Examples
