@@ -1,5 +1,5 @@
 -- Small histories, computed: the table of a month after those before it, and which fault comes first.
-use Rattle.std.specs.Prelude.{◌≡◌, ℕ, ℤ, pos, Bool, true, false, List, [], ◌∷◌, ◌++◌, map, take, codes}
+use Rattle.std.specs.Prelude.{◌≡◌, ℕ, ℤ, pos, negsuc, Bool, true, false, List, [], ◌∷◌, ◌++◌, map, take, codes}
 use Rattle.std.specs.Prelude.{Option, Some, None}
 use Rattle.cpi_codes.specs.declared.codes.Code.{Code}
 use Rattle.cpi_plan.specs.Plan.{Plan}
@@ -228,6 +228,21 @@ highest = december 311 (priced 1 1 (Price 200) ∷ []) [] (level_row rice 100000
 
 abbrev pub lowest : List Release
 lowest = december 311 (priced 1 1 (Price 1) ∷ []) [] [] ∷ []
+
+-- 10^8 minor units in the December before; and a chained level of one millionth
+abbrev pub costly : List Release
+costly = december 311 (priced 1 1 (Price 100000000) ∷ []) [] [] ∷ []
+
+abbrev pub sunk : List Release
+sunk = december 311 (priced 1 1 (Price 200) ∷ []) [] (level_row rice 1 ∷ []) ∷ []
+
+-- a price of 1 after 10^8 is the least index, a fall by 99.999999 percent; half of a level of 1 is rounded up to 1, and
+-- less than half of it to nothing
+abbrev pub LeastLimits : Type 0
+LeastLimits =
+    (table_after (rice_alone 2026 ∷ []) costly (rice_at 312 (Price 1)) ≡ twice (1, 1, negsuc 999, None, false))
+    × (fault_after (rice_alone 2026 ∷ []) sunk (rice_at 312 (Price 100)) ≡ None)
+    × (fault_after (rice_alone 2026 ∷ []) sunk (rice_at 312 (Price 99)) ≡ Some (OutOfRange rice))
 
 abbrev pub Limits : Type 0
 Limits =

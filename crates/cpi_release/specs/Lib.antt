@@ -2,6 +2,7 @@ pub mod Change
 pub mod Releases
 pub mod MonthTable
 pub mod Publishing
+pub mod State
 pub mod GroupCalls
 pub mod Passing
 pub mod Asking

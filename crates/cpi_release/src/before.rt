@@ -1,7 +1,7 @@
 //! The levels that a node's level is linked to and compared with.
 ghost use Rattle.std.specs.Prelude.{◌≡◌, ◌≤◌, ◌-◌, SomeIff};
 ghost use Rattle.cpi_release.specs.Releases.{link_of, month_before, year_before};
-ghost use Rattle.cpi_release.specs.GroupCalls.{ReadsGroup};
+ghost use Rattle.cpi_release.specs.State.{Reads};
 
 use crate::group_fault::GroupFault;
 use crate::groups::Groups;
@@ -37,9 +37,9 @@ fn link_before<G: Groups>(
     month: Month,
     code: Code,
 ) -> Result<ChainedLevel, GroupFault>
-    ensures { ReadsGroup G.is_clean G.held G.failures groups.old groups.new result (λ level.
-        G.is_sound (G.held groups.old) → 12 ≤ month →
-        level ≡ link_of (G.sources (G.held groups.old)).releases month code) }
+    ensures { Reads (G.holds groups.old) (G.holds groups.new) result (λ level.
+        G.is_sound (G.holds groups.old).held → 12 ≤ month →
+        level ≡ link_of (G.sources (G.holds groups.old).held).releases month code) }
 {
     let Some(december) = month.link() else {
         return Ok(ChainedLevel::hundred());
@@ -55,10 +55,10 @@ fn last_before<G: Groups>(
     code: Code,
     link: ChainedLevel,
 ) -> Result<ChainedLevel, GroupFault>
-    ensures { ReadsGroup G.is_clean G.held G.failures groups.old groups.new result (λ level.
-        G.is_sound (G.held groups.old) → 12 ≤ month →
-        link ≡ link_of (G.sources (G.held groups.old)).releases month code →
-        level ≡ month_before (G.sources (G.held groups.old)).releases month code) }
+    ensures { Reads (G.holds groups.old) (G.holds groups.new) result (λ level.
+        G.is_sound (G.holds groups.old).held → 12 ≤ month →
+        link ≡ link_of (G.sources (G.holds groups.old).held).releases month code →
+        level ≡ month_before (G.sources (G.holds groups.old).held).releases month code) }
 {
     if month.month() == JANUARY {
         return Ok(link);
@@ -77,10 +77,10 @@ fn annual_before<G: Groups>(
     code: Code,
     link: ChainedLevel,
 ) -> Result<Option<ChainedLevel>, GroupFault>
-    ensures { ReadsGroup G.is_clean G.held G.failures groups.old groups.new result (λ level.
-        G.is_sound (G.held groups.old) → 12 ≤ month →
-        link ≡ link_of (G.sources (G.held groups.old)).releases month code →
-        level ≡ year_before (G.sources (G.held groups.old)).releases month code) }
+    ensures { Reads (G.holds groups.old) (G.holds groups.new) result (λ level.
+        G.is_sound (G.holds groups.old).held → 12 ≤ month →
+        link ≡ link_of (G.sources (G.holds groups.old).held).releases month code →
+        level ≡ year_before (G.sources (G.holds groups.old).held).releases month code) }
 {
     if month.month() == DECEMBER {
         return Ok(Some(link));
@@ -97,11 +97,11 @@ pub(crate) fn levels_before<G: Groups>(
     month: Month,
     code: Code,
 ) -> Result<Before, GroupFault>
-    ensures { ReadsGroup G.is_clean G.held G.failures groups.old groups.new result (λ b.
-        G.is_sound (G.held groups.old) → 12 ≤ month →
-        (b.link ≡ link_of (G.sources (G.held groups.old)).releases month code)
-        × (b.month ≡ month_before (G.sources (G.held groups.old)).releases month code)
-        × (b.year ≡ year_before (G.sources (G.held groups.old)).releases month code)) }
+    ensures { Reads (G.holds groups.old) (G.holds groups.new) result (λ b.
+        G.is_sound (G.holds groups.old).held → 12 ≤ month →
+        (b.link ≡ link_of (G.sources (G.holds groups.old).held).releases month code)
+        × (b.month ≡ month_before (G.sources (G.holds groups.old).held).releases month code)
+        × (b.year ≡ year_before (G.sources (G.holds groups.old).held).releases month code)) }
 {
     let link = link_before(groups, month, code)?;
     let last = last_before(groups, month, code, link)?;

@@ -1,10 +1,11 @@
 //! A month's carried prices and table, read one aggregate at a time.
-ghost use Rattle.std.specs.Prelude.{◌≡◌, ◌≤◌, ◌<◌, List, None, true, IfErr, MatchResult};
+ghost use Rattle.std.specs.Prelude.{◌≡◌, ◌≢◌, ◌≤◌, ◌<◌, List, None, true, Err, IfErr, MatchResult};
 ghost use Rattle.cpi_codes.specs.declared.codes.Code.{Code};
 ghost use Rattle.cpi_index.specs.Row.{Row};
 ghost use Rattle.cpi_index.specs.Series.{is_by_series, carried_serial};
 ghost use Rattle.cpi_index.specs.Month.{carry_month, sample_rows};
-ghost use Rattle.cpi_release.specs.GroupCalls.{Leaves, group_of};
+ghost use Rattle.cpi_release.specs.State.{Keeps, StaysClean};
+ghost use Rattle.cpi_release.specs.GroupCalls.{group_of};
 ghost use Rattle.cpi_release.specs.Asking.{CanAsk};
 ghost use Rattle.cpi_release.specs.MonthTable.{table_fault, table_of};
 ghost use Rattle.cpi_release.specs.Summed.{IsFreezeFault};
@@ -43,14 +44,16 @@ pub(crate) fn make<G: Groups>(
     month: Month,
     carry: &[Code],
 ) -> Result<Made, FreezeFault>
-    ensures leaves { Leaves G.is_clean G.held G.failures groups.old groups.new }
-    ensures group { IfErr result (λ f. f ≡ Group → G.failures groups.old < G.failures groups.new) }
-    ensures exact { G.is_clean groups.new → G.is_sound (G.held groups.old) → 12 ≤ month →
-        CanAsk (G.sources (G.held groups.old)) month →
+    ensures keeps { Keeps (G.holds groups.old) (G.holds groups.new) }
+    ensures stays { result ≢ Err Group → StaysClean (G.holds groups.old) (G.holds groups.new) }
+    ensures count { (G.holds groups.old).failures ≤ (G.holds groups.new).failures }
+    ensures group { IfErr result (λ f. f ≡ Group → (G.holds groups.old).failures < (G.holds groups.new).failures) }
+    ensures exact { (G.holds groups.new).is_clean → G.is_sound (G.holds groups.old).held → 12 ≤ month →
+        CanAsk (G.sources (G.holds groups.old).held) month →
         (rows : List Row) →
-        ((code : Code) → group_of (G.sources (G.held groups.old)) month code ≡ sample_rows plan.now code rows) →
+        ((code : Code) → group_of (G.sources (G.holds groups.old).held) month code ≡ sample_rows plan.now code rows) →
         is_by_series carried_serial (carry_month plan.now rows) ≡ true →
-        let releases = (G.sources (G.held groups.old)).releases in
+        let releases = (G.sources (G.holds groups.old).held).releases in
         let fault = table_fault plan.now releases month carry.now rows in
         MatchResult result
         (λ m. (fault ≡ None) × (m.carried.items ≡ carry_month plan.now rows)

@@ -1,7 +1,7 @@
 //! The release of a month, read one aggregate at a time.
-ghost use Rattle.std.specs.Prelude.{◌≡◌, ◌<◌, None, Some, IfOk, IfErr, MatchResult};
+ghost use Rattle.std.specs.Prelude.{◌≡◌, ◌≢◌, ◌<◌, ◌≤◌, None, Some, IfOk, Err, IfErr, MatchResult};
 ghost use Rattle.std.specs.Option.{option_copied};
-ghost use Rattle.cpi_release.specs.GroupCalls.{Leaves};
+ghost use Rattle.cpi_release.specs.State.{Keeps, StaysClean};
 ghost use Rattle.cpi_release.specs.Asking.{IsAsked};
 ghost use Rattle.cpi_release.specs.Publishing.{Freeze, fault_of, published};
 ghost use Rattle.cpi_release.specs.Summed.{IsFreezeFault};
@@ -61,11 +61,13 @@ impl Release {
         frozen: Vec<FrozenQuote>,
         carry: Vec<Code>,
     ) -> Result<Release, FreezeFault>
-        ensures leaves { Leaves G.is_clean G.held G.failures groups.old groups.new }
-        ensures group { IfErr result (λ f. f ≡ Group → G.failures groups.old < G.failures groups.new) }
+        ensures keeps { Keeps (G.holds groups.old) (G.holds groups.new) }
+        ensures stays { result ≢ Err Group → StaysClean (G.holds groups.old) (G.holds groups.new) }
+        ensures count { (G.holds groups.old).failures ≤ (G.holds groups.new).failures }
+        ensures group { IfErr result (λ f. f ≡ Group → (G.holds groups.old).failures < (G.holds groups.new).failures) }
         ensures month { IfOk result (λ r. r.month ≡ month) }
-        ensures exact { G.is_clean groups.new → G.is_sound (G.held groups.old) →
-            let s = G.sources (G.held groups.old) in
+        ensures exact { (G.holds groups.new).is_clean → G.is_sound (G.holds groups.old).held →
+            let s = G.sources (G.holds groups.old).held in
             let x : Freeze = record {
               month = month;
               frozen_at = frozen_at;

@@ -1,5 +1,5 @@
 //! The samples of a month, read one elementary aggregate at a time.
-ghost use Rattle.std.specs.Prelude.{◌≡◌, ℕ};
+ghost use Rattle.std.specs.Prelude.{◌≡◌};
 
 use crate::group_fault::GroupFault;
 use cpi_codes::{Code, Month};
@@ -12,13 +12,14 @@ pub trait Groups {
     ghost use Rattle.cpi_codes.specs.Month.{year_of};
     ghost use Rattle.cpi_release.specs.Releases.{level_at};
     ghost use Rattle.cpi_release.specs.Publishing.{AreInOrder};
-    ghost use Rattle.cpi_release.specs.GroupCalls.{Sources, group_of, IsAfterFrozen, ReadsGroup};
+    ghost use Rattle.cpi_release.specs.State.{State, Reads};
+    ghost use Rattle.cpi_release.specs.GroupCalls.{Sources, group_of, IsAfterFrozen};
 
     /// What is held: what a read leaves as it was.
     ghost Held: { Type 0 };
 
-    /// What this holder holds.
-    ghost held: { Self → Held };
+    /// What this holder holds, how often a call has failed, whether what is said of it holds, and what a crash leaves.
+    ghost holds: { Self → State Held };
 
     /// What is read of it: plans, releases and quotes.
     ghost sources: { Held → Sources };
@@ -26,23 +27,17 @@ pub trait Groups {
     /// Whether it is sound: releases in their order, and quotes that fit them.
     ghost is_sound: { Held → Type 0 };
 
-    /// How often a call has failed: a number of any size, since it stands in contracts alone.
-    ghost failures: { Self → ℕ };
-
-    /// Whether what is said of what is held holds.
-    ghost is_clean: { Self → Type 0 };
-
     /// The rows of an aggregate's sample in a month after the last frozen one, by series: each with its quote's mark,
     /// its base, and its carried price of the month before. `year` is the month's.
     fn rows(&mut self, year: u16, month: Month, code: Code) -> Result<Vec<GroupRow>, GroupFault>
-        ensures { ReadsGroup is_clean held failures self.old self.new result (λ rows.
-            is_sound (held self.old) → year ≡ year_of month → IsAfterFrozen (sources (held self.old)) month →
-            rows.items ≡ group_of (sources (held self.old)) month code) };
+        ensures { let h = (holds self.old).held in Reads (holds self.old) (holds self.new) result (λ rows.
+            is_sound h → year ≡ year_of month → IsAfterFrozen (sources h) month →
+            rows.items ≡ group_of (sources h) month code) };
 
     /// The chained level of a code in the table of a month, if it has a row there.
     fn chained(&mut self, month: Month, code: Code) -> Result<Option<ChainedLevel>, GroupFault>
-        ensures { ReadsGroup is_clean held failures self.old self.new result (λ level.
-            is_sound (held self.old) → level ≡ level_at (sources (held self.old)).releases month code) };
+        ensures { let h = (holds self.old).held in Reads (holds self.old) (holds self.new) result (λ level.
+            is_sound h → level ≡ level_at (sources h).releases month code) };
 
     // what is sound has releases in their order
     ghost has_sound: { (h : Held) → is_sound h → AreInOrder (sources h).releases };

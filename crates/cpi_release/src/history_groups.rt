@@ -104,15 +104,18 @@ impl<'a> Groups for HistoryGroups<'a> {
 
     ghost Held = { Sources };
 
-    ghost held = { λ h. sources_of h.plans h.releases h.frozen };
+    ghost holds = { λ h. record {
+      held = sources_of h.plans h.releases h.frozen;
+      failures = h.failures;
+      is_kept = ⊤;
+      is_clean = ⊤;
+      clean_is_kept = λ x. x;
+      may_leave = λ _. ⊥;
+    } };
 
     ghost sources = { λ s. s };
 
     ghost is_sound = { IsFit };
-
-    ghost failures = { λ h. h.failures };
-
-    ghost is_clean = { λ _. ⊤ };
 
     ghost has_sound = { λ h s. s.0 };
 

@@ -1,10 +1,10 @@
 //! The rows of a month's table.
-ghost use Rattle.std.specs.Prelude.{◌≡◌, ◌*◌, ◌≤◌, ◌<◌, List, None, SomeIff, IfOk, IfErr, MatchResult};
+ghost use Rattle.std.specs.Prelude.{◌≡◌, ◌≢◌, ◌*◌, ◌≤◌, ◌<◌, List, None, SomeIff, IfOk, Err, IfErr, MatchResult};
 ghost use Rattle.cpi_codes.specs.declared.codes.Code.{Code};
 ghost use Rattle.cpi_plan.specs.Sums.{sum_at, weight_under};
 ghost use Rattle.cpi_index.specs.Level.{IsLevel, chained_from};
 ghost use Rattle.cpi_index.specs.Row.{Row};
-ghost use Rattle.cpi_release.specs.GroupCalls.{Leaves};
+ghost use Rattle.cpi_release.specs.State.{Keeps, StaysClean};
 ghost use Rattle.cpi_release.specs.MonthTable.{level_with, level_fault, table_of};
 ghost use Rattle.cpi_release.specs.Summed.{IsSummed, IsFreezeFault};
 ghost use Rattle.cpi_release.specs.declared.freeze_fault.FreezeFault.TheVariants.{Group};
@@ -61,11 +61,14 @@ pub(crate) fn levels_of<G: Groups>(
     pass: &Pass,
 ) -> Result<Vec<Level>, FreezeFault>
     requires most { (q : Code) → sum_at pass.now.sums q ≤ 10000000000000 * weight_under q plan.now.weights }
-    ensures leaves { Leaves G.is_clean G.held G.failures groups.old groups.new }
-    ensures group { IfErr result (λ f. f ≡ Group → G.failures groups.old < G.failures groups.new) }
-    ensures exact { G.is_clean groups.new → G.is_sound (G.held groups.old) → 12 ≤ month → (rows : List Row) →
+    ensures keeps { Keeps (G.holds groups.old) (G.holds groups.new) }
+    ensures stays { result ≢ Err Group → StaysClean (G.holds groups.old) (G.holds groups.new) }
+    ensures count { (G.holds groups.old).failures ≤ (G.holds groups.new).failures }
+    ensures group { IfErr result (λ f. f ≡ Group → (G.holds groups.old).failures < (G.holds groups.new).failures) }
+    ensures exact { (G.holds groups.new).is_clean →
+        G.is_sound (G.holds groups.old).held → 12 ≤ month → (rows : List Row) →
         IsSummed plan.now rows pass.now →
-        let releases = (G.sources (G.held groups.old)).releases in
+        let releases = (G.sources (G.holds groups.old).held).releases in
         let fault = level_fault plan.now releases month rows plan.now.nodes in
         MatchResult result
         (λ v. (fault ≡ None) × (v.items ≡ table_of plan.now releases month rows))

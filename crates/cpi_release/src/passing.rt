@@ -1,6 +1,6 @@
 //! One pass over the aggregates of a plan.
-ghost use Rattle.std.specs.Prelude.{◌≡◌, ◌+◌, ◌*◌, ◌≤◌, ◌<◌, ◌^◌, ℕ, [], List, Some, None, true, length};
-ghost use Rattle.std.specs.Prelude.{IsSome, IfOk, IfErr, OnOk, option_map, if◌then◌else◌};
+ghost use Rattle.std.specs.Prelude.{◌≡◌, ◌≢◌, ◌+◌, ◌*◌, ◌≤◌, ◌<◌, ◌^◌, ℕ, [], List, Some, None, true, length};
+ghost use Rattle.std.specs.Prelude.{IsSome, IfOk, Err, IfErr, OnOk, option_map, if◌then◌else◌};
 ghost use Rattle.std.specs.Option.{option_or};
 ghost use Rattle.cpi_codes.specs.CodeText.{is_at_or_below};
 ghost use Rattle.cpi_codes.specs.declared.codes.Code.{Code};
@@ -8,8 +8,10 @@ ghost use Rattle.cpi_plan.specs.Sums.{sum_at, weight_under};
 ghost use Rattle.cpi_index.specs.Month.{is_listed};
 ghost use Rattle.cpi_index.specs.Series.{is_by_series, row_serial};
 ghost use Rattle.cpi_index.specs.declared.fault.IndexFault.TheVariants.{NoSample, NoMatch, OutOfRange};
+ghost use Rattle.cpi_release.specs.declared.freeze_fault.FreezeFault.TheVariants.{Group};
 ghost use Rattle.cpi_release.specs.Passing.{noted, IsStep, IsPassed};
-ghost use Rattle.cpi_release.specs.GroupCalls.{Leaves, group_of};
+ghost use Rattle.cpi_release.specs.State.{Keeps, StaysClean};
+ghost use Rattle.cpi_release.specs.GroupCalls.{group_of};
 ghost use Rattle.cpi_release.specs.Asking.{AreListed, CanAsk, IsReadFault};
 
 use crate::faults::Faults;
@@ -118,13 +120,16 @@ pub(crate) fn pass_over<G: Groups>(
     unchanged: &[bool],
 ) -> Result<Pass, FreezeFault>
     requires { length unchanged.now ≡ length plan.now.weights }
-    ensures leaves { Leaves G.is_clean G.held G.failures groups.old groups.new }
+    ensures keeps { Keeps (G.holds groups.old) (G.holds groups.new) }
+    ensures stays { result ≢ Err Group → StaysClean (G.holds groups.old) (G.holds groups.new) }
+    ensures count { (G.holds groups.old).failures ≤ (G.holds groups.new).failures }
     ensures most { IfOk result (λ p. (q : Code) → sum_at p.sums q ≤ 10000000000000 * weight_under q plan.now.weights) }
-    ensures exact { (carry : List Code) → AreListed plan.now.weights carry unchanged.now → G.is_clean groups.new →
-        G.is_sound (G.held groups.old) → CanAsk (G.sources (G.held groups.old)) month →
-        let own = group_of (G.sources (G.held groups.old)) month in
+    ensures exact { (carry : List Code) → AreListed plan.now.weights carry unchanged.now →
+        (G.holds groups.new).is_clean →
+        G.is_sound (G.holds groups.old).held → CanAsk (G.sources (G.holds groups.old).held) month →
+        let own = group_of (G.sources (G.holds groups.old).held) month in
         IfOk result (λ p. IsPassed own (is_listed carry) plan.now.weights p) }
-    ensures fault { IfErr result (λ f. IsReadFault (G.failures groups.old) (G.failures groups.new) f) }
+    ensures fault { IfErr result (λ f. IsReadFault (G.holds groups.old).failures (G.holds groups.new).failures f) }
 {
     let weights = plan.weights();
     let mut pass = empty_pass(alloc);

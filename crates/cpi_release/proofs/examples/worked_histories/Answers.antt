@@ -21,6 +21,9 @@ returns-clause-first_fault c = (refl, refl, refl, refl, refl)
 pub returns-clause-limits : goal.returns-clause-limits
 returns-clause-limits c = (refl, refl, refl)
 
+pub returns-clause-least_limits : goal.returns-clause-least_limits
+returns-clause-least_limits c = (refl, refl, refl)
+
 pub returns-clause-two_years : goal.returns-clause-two_years
 unfolding digits fields_text escaped is_blank
 returns-clause-two_years c = (refl, refl, refl, refl)

@@ -3,7 +3,7 @@ use Rattle.cpi_plan.specs.Sums.{sum_at, weight_under}
 use Rattle.cpi_index.specs.Level.{is_level}
 use Rattle.cpi_index.proofs.MeanLemmas.{node_weight, node_positive}
 use Rattle.cpi_release.specs.MonthTable.{is_level_out, level_row}
-use Rattle.cpi_release.proofs.PassLemmas.{leaves_more}
+use Rattle.cpi_release.proofs.PassLemmas.{keeps_more, stays_more}
 use Rattle.cpi_release.proofs.LevelLemmas.{row_step, find_step, first_out, limit_is, within_is, level_is, row_is, level_outside, level_inside}
 use Rattle.cpi_release.proofs.levels.levels_of.Goals as goal
 
@@ -40,12 +40,12 @@ returns-in_default-mean-clause-exact g c = λ clean sound late rows s other.
     let is : n ≡ get_or plan.nodes i n = c.node-item.is ∙ ap (λ z. get_or z i n) c.nodes-nodes.ensures.value in
     let weight : n.weight ≡ weight_under n.code plan.weights = node_weight plan kept i n l is in
     let sum : c.unwrap_or-sum.result ≡ sum_at c.args.pass.now.sums n.code = search rules in
-    let releases = (g.G.Groups.sources (g.G.Groups.held c.args.groups.now)).releases in
+    let releases = (g.G.Groups.sources (g.G.Groups.holds c.args.groups.now).held).releases in
     absurd (c.in_default-mean.ensures (limit_is plan releases c.args.month rows c.args.pass.now s n weight c.unwrap_or-sum.result sum
     (omega (arith, weight, node_positive plan kept i n l is)) (omega (arith, weight, sum, c.requires.most n.code))))
 
-pub returns-in_default-row-clause-leaves : goal.returns-in_default-row-clause-leaves
-returns-in_default-row-clause-leaves g c = leaves_more c.args.groups.now c.loop-node.groups c.levels_before.new.groups c.loop-node.invariant.leaves c.levels_before.ensures.leaves
+pub returns-in_default-row-clause-keeps : goal.returns-in_default-row-clause-keeps
+returns-in_default-row-clause-keeps g c = keeps_more (g.G.Groups.holds c.args.groups.now) (g.G.Groups.holds c.loop-node.groups) (g.G.Groups.holds c.levels_before.new.groups) c.loop-node.invariant.keeps c.loop-node.invariant.stays c.levels_before.ensures.keeps
 
 pub returns-in_default-row-clause-exact : goal.returns-in_default-row-clause-exact
 returns-in_default-row-clause-exact g c = λ clean sound late rows s other.
@@ -58,9 +58,9 @@ returns-in_default-row-clause-exact g c = λ clean sound late rows s other.
     let is : n ≡ get_or plan.nodes i n = c.node-item.is ∙ ap (λ z. get_or z i n) c.nodes-nodes.ensures.value in
     let weight : n.weight ≡ weight_under n.code plan.weights = node_weight plan kept i n l is in
     let sum : c.unwrap_or-sum.result ≡ sum_at c.args.pass.now.sums n.code = search rules in
-    let was = c.levels_before.ensures.leaves.was_clean clean in
-    let releases = (g.G.Groups.sources (g.G.Groups.held c.args.groups.now)).releases in
-    let b = rw (c.in-Ok.is, inv.leaves.kept was) at (c.levels_before.ensures.shown clean) in
+    let was = c.levels_before.ensures.keeps.was_clean clean in
+    let releases = (g.G.Groups.sources (g.G.Groups.holds c.args.groups.now).held).releases in
+    let b = rw (c.in-Ok.is, inv.keeps.kept was) at (c.levels_before.ensures.shown clean) in
     let within = within_is plan releases c.args.month rows c.args.pass.now s n weight c.unwrap_or-sum.result c.in-Some.within sum c.in-Some.ensures.1 in
     let level = level_is plan releases c.args.month rows c.args.pass.now s n weight c.in-Some.within c.in-Ok.before.link within (b sound late).0 in
     first_out (is_level_out plan releases c.args.month rows) c.nodes-nodes.result.now plan.nodes i n c.loop-node-test.true c.node-item.is c.nodes-nodes.ensures.value
@@ -80,13 +80,15 @@ loop-node-preserved g c =
     let weight : n.weight ≡ weight_under n.code plan.weights = node_weight plan kept i n l is in
     let sum : c.unwrap_or-sum.result ≡ sum_at c.args.pass.now.sums n.code = search rules in
     let flag : c.unwrap_or-imputed.result ≡ sum_at c.args.pass.now.imputed n.code = search rules in
-    let releases = (g.G.Groups.sources (g.G.Groups.held c.args.groups.now)).releases in
+    let releases = (g.G.Groups.sources (g.G.Groups.holds c.args.groups.now).held).releases in
     let pushed : c.push.new.self.items ≡ c.loop-node.levels.items ++ c.in-Some-row.level ∷ [] = search rules in
     record {
-      leaves = leaves_more c.args.groups.now c.loop-node.groups c.levels_before.new.groups inv.leaves c.levels_before.ensures.leaves;
+      keeps = keeps_more (g.G.Groups.holds c.args.groups.now) (g.G.Groups.holds c.loop-node.groups) (g.G.Groups.holds c.levels_before.new.groups) inv.keeps inv.stays c.levels_before.ensures.keeps;
+      stays = stays_more (g.G.Groups.holds c.args.groups.now) (g.G.Groups.holds c.loop-node.groups) (g.G.Groups.holds c.levels_before.new.groups) inv.stays c.levels_before.ensures.keeps (rw c.in-Ok.is at c.levels_before.ensures.stays);
+      count = omega (arith, inv.count, c.levels_before.ensures.count);
       exact = λ clean sound late rows s.
-          let was = c.levels_before.ensures.leaves.was_clean clean in
-          let b = rw (c.in-Ok.is, inv.leaves.kept was) at (c.levels_before.ensures.shown clean) in
+          let was = c.levels_before.ensures.keeps.was_clean clean in
+          let b = rw (c.in-Ok.is, inv.keeps.kept was) at (c.levels_before.ensures.shown clean) in
           let within = within_is plan releases c.args.month rows c.args.pass.now s n weight c.unwrap_or-sum.result c.in-Some.within sum c.in-Some.ensures.1 in
           let level = level_is plan releases c.args.month rows c.args.pass.now s n weight c.in-Some.within c.in-Ok.before.link within (b sound late).0 in
           let made = rw c.in-Some-row.is at c.in-Ok-row_of.ensures in

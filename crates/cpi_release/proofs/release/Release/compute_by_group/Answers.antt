@@ -9,13 +9,13 @@ use Rattle.cpi_release.proofs.release.Release.compute_by_group.Goals as goal
 
 pub returns-in-Err-clause-exact : goal.returns-in-Err-clause-exact
 returns-in-Err-clause-exact g c = λ clean sound asked.
-    let s = g.G.Groups.sources (g.G.Groups.held c.args.groups.now) in
+    let s = g.G.Groups.sources (g.G.Groups.holds c.args.groups.now).held in
     let p = c.in-Some.plan.now in
     let month = c.args.month in
     let frozen = c.args.frozen.items in
     let given : option_copied c.args.plan ≡ Some p = ap option_copied c.in-Some.is in
     let some : IsSome (option_copied c.args.plan) = rw given refl in
-    let has = g.met.G.Groups.has_sound (g.G.Groups.held c.args.groups.now) sound in
+    let has = g.met.G.Groups.has_sound (g.G.Groups.holds c.args.groups.now).held sound in
     let after = asked.after some in
     let own = group_is s month p frozen (year_plan s.plans s.releases month p (sym given ∙ asked.plan_is)) asked.quotes in
     let late = late s month has after in
@@ -24,14 +24,14 @@ returns-in-Err-clause-exact g c = λ clean sound asked.
 
 pub returns-clause-exact : goal.returns-clause-exact
 returns-clause-exact g c = λ clean sound asked.
-    let s = g.G.Groups.sources (g.G.Groups.held c.args.groups.now) in
+    let s = g.G.Groups.sources (g.G.Groups.holds c.args.groups.now).held in
     let p = c.in-Some.plan.now in
     let month = c.args.month in
     let frozen = c.args.frozen.items in
     let x : Freeze = record { month = c.args.month; frozen_at = c.args.frozen_at; publishes = c.args.publishes; frozen = c.args.frozen.items; carry = c.args.carry.items } in
     let given : option_copied c.args.plan ≡ Some p = ap option_copied c.in-Some.is in
     let some : IsSome (option_copied c.args.plan) = rw given refl in
-    let has = g.met.G.Groups.has_sound (g.G.Groups.held c.args.groups.now) sound in
+    let has = g.met.G.Groups.has_sound (g.G.Groups.holds c.args.groups.now).held sound in
     let after = asked.after some in
     let own = group_is s month p frozen (year_plan s.plans s.releases month p (sym given ∙ asked.plan_is)) asked.quotes in
     let late = late s month has after in
