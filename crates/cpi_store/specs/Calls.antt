@@ -1,28 +1,30 @@
--- What a call of a book does, whichever book it is. The four words are the book's: whether its store is clean, the
--- office's lists, how often it failed, and which lists a crash may leave.
-use Rattle.std.specs.Prelude.{◌≡◌, ℕ, ◌<◌, ◌≤◌, Result, IfOk, OnOk, OnErr, ⊤}
+-- What a write of a book does, whichever book it is, and how what is said of its groups belongs to its office.
+use Rattle.std.specs.Prelude.{◌≡◌, ◌⊎◌, ℕ, ◌<◌, ◌≤◌, Result, OnOk, OnErr, ⊤}
 use Rattle.std.specs.Borrow.{follows_so, MutBor, Fml, RattleType}
 use mathlib.Core.Option.{none}
+use Rattle.cpi_release.specs.State.{State, StaysClean}
 use Rattle.cpi_store.specs.Office.{Office}
-use Rattle.cpi_store.specs.declared.book.StoreFault.{StoreFault}
 
-module _ {B : Type 0} (is_clean : B → Type 0) (lists : B → Office) (failures : B → ℕ)
-    (may_leave : B → Office → Type 0) where
-  -- a call that shows something of the office and leaves it as it was
-  pub record Reads {T : Type 0} (old new : B) (result : Result T StoreFault) (Shown : T → Type 0) : Type 0 where
-    pub was_clean : is_clean new → is_clean old
-    pub shown : is_clean new → IfOk result Shown
-    pub kept : is_clean new → lists new ≡ lists old
-    pub count : failures old ≤ failures new
-    pub fault : OnErr result (failures old < failures new)
+module _ (old new : State Office) where
+  -- A call that changes the office, or fails and leaves it as it was. A crash leaves what it could leave before, or the
+  -- office after the call; and once the call has answered, that alone.
+  pub record Writes {T F : Type 0} (result : Result T F) (after : Office) : Type 0 where
+    pub was_kept : new.is_kept → old.is_kept
+    pub was_clean : new.is_clean → old.is_clean
+    pub stays : OnOk result (StaysClean old new)
+    pub done : new.is_clean → OnOk result (new.held ≡ after)
+    pub kept : new.is_clean → OnErr result (new.held ≡ old.held)
+    pub count : old.failures ≤ new.failures
+    pub fault : OnErr result (old.failures < new.failures)
+    pub crash : old.is_clean → new.is_kept → (o : Office) → new.may_leave o → old.may_leave o ⊎ (o ≡ after)
+    pub answered : new.is_clean → OnOk result ((o : Office) → new.may_leave o → o ≡ after)
 
-  -- a call that changes the office, or fails and leaves it as it was
-  pub record Writes {T : Type 0} (old new : B) (result : Result T StoreFault) (after : Office) : Type 0 where
-    pub was_clean : is_clean new → is_clean old
-    pub done : is_clean new → OnOk result (lists new ≡ after)
-    pub kept : is_clean new → OnErr result (lists new ≡ lists old)
-    pub count : failures old ≤ failures new
-    pub fault : OnErr result (failures old < failures new)
+-- what is said of a book's groups is said of its office
+pub record IsOffice {H : Type 0} (groups : State H) (office : State Office) : Type 0 where
+  pub failures : groups.failures ≡ office.failures
+  pub kept : office.is_kept → groups.is_kept
+  pub clean : office.is_clean → groups.is_clean
+  pub is_clean : groups.is_clean → office.is_clean
 
 -- the book that lent out what was read ends as the fact says
 abbrev pub EndsAs : (R : RattleType) → MutBor R.Denot → (R.Denot → Type 0) → Fml

@@ -1,5 +1,5 @@
 -- A collector with all that is the collector's, as the book in memory keeps it.
-use Rattle.std.specs.Prelude.{ℕ, List, map, Option, option_map, IsSome, Result, ⊤}
+use Rattle.std.specs.Prelude.{ℕ, List, map, Option, option_map, IsSome, ⊤}
 use Rattle.std.specs.List.{AllByRecursion, filter_map, flat_map}
 use Rattle.cpi_rows.specs.Keyed.{at, row_at}
 use Rattle.cpi_rows.specs.Gathered.{gathered}
@@ -12,8 +12,7 @@ use Rattle.cpi_survey.specs.Public.{PublicPart}
 use Rattle.cpi_store.specs.Outlet.{with_name}
 use Rattle.cpi_store.specs.declared.outlet.Outlet.{Outlet}
 use Rattle.cpi_store.specs.declared.bearer.Bearer.{Bearer}
-use Rattle.cpi_store.specs.declared.book.StoreFault.{StoreFault}
-use Rattle.cpi_store.specs.Calls.{Reads, Writes}
+use Rattle.cpi_release.specs.State.{State}
 use Rattle.cpi_store.specs.Office.{Office, frozen_quote}
 use Rattle.cpi_store.specs.declared.holder.Holder.{Holder}
 use Rattle.cpi_release.specs.declared.release.Release.{Release}
@@ -66,14 +65,16 @@ pub record Kept : Type 0 where
   pub office : Office
   pub failures : ℕ
 
--- a call of a book in memory, whose store is always clean and which a crash leaves nowhere
-abbrev pub KeptReads : {T : Type 0} → Kept → Kept → Result T StoreFault → (T → Type 0) → Type 0
-KeptReads old new result Shown =
-    Reads (λ _. ⊤) (λ (k : Kept). k.office) (λ (k : Kept). k.failures) (λ _ _. ⊥) old new result Shown
-
-abbrev pub KeptWrites : {T : Type 0} → Kept → Kept → Result T StoreFault → Office → Type 0
-KeptWrites old new result after =
-    Writes (λ _. ⊤) (λ (k : Kept). k.office) (λ (k : Kept). k.failures) (λ _ _. ⊥) old new result after
+-- the state of a book in memory, whose store is always clean and which a crash leaves nowhere
+abbrev pub kept_state : Kept → State Office
+kept_state k = record {
+  held = k.office;
+  failures = k.failures;
+  is_kept = ⊤;
+  is_clean = ⊤;
+  clean_is_kept = λ x. x;
+  may_leave = λ _. ⊥;
+}
 
 -- the assignments of each holder, with the names that the outlets have
 abbrev pub named_by : List Outlet → List (List Assigned) → List (List Assigned)

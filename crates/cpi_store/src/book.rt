@@ -1,4 +1,4 @@
-ghost use Rattle.std.specs.Prelude.{◌≡◌, ◌<◌, ◌≤◌, IsOk, IsSome, None, Some, map};
+ghost use Rattle.std.specs.Prelude.{◌≡◌, ◌<◌, ◌≤◌, IsOk, IsSome, None, Some, false, map};
 ghost use Rattle.std.specs.Option.{option_copied};
 
 use crate::bearer::Bearer;
@@ -26,7 +26,7 @@ pub struct Parts<'a> {
 /// An office that is kept somewhere: items by code, plans by year, calendar rows by month, collectors by number,
 /// outlets by number, assignments by collector and slot, quotes by collector, slot and month, releases by month.
 ///
-/// The samples of a month are read from the office itself (`Groups`), and so are the words for what a call leaves.
+/// The samples of a month are read from the office itself (`Groups`), and so is what is said of a state.
 /// Each call answers a `StoreFault` only where the count of failures rose during the call, and the office is as it
 /// was then. A read changes nothing, and lends what it shows; handed out are one collector's number or key, the quotes
 /// that a freeze takes, and lists of months. What is said of the office holds where the store is clean as the call
@@ -37,173 +37,180 @@ pub trait Book: Groups {
     ghost use Rattle.cpi_store.specs.Outlet.{with_name};
     ghost use Rattle.cpi_store.specs.Office.{Office, public_part, own_part, changed, PutsItem, PutsPlan, PutsCalendar, Registers, PutsOutlet, Assigns, Quotes, Freezes, month_rows};
     ghost use Rattle.cpi_store.specs.Bearer.{bearer_of, collector_of, collector_key};
-    ghost use Rattle.cpi_store.specs.Calls.{Reads, Writes, EndsAs};
+    ghost use Rattle.cpi_release.specs.State.{State, Keeps, Reads};
+    ghost use Rattle.cpi_store.specs.Calls.{Writes, IsOffice, EndsAs};
     ghost use Rattle.cpi_store.specs.Sources.{office_sources};
     ghost use Rattle.cpi_store.specs.Tables.{levels_until};
     ghost use Rattle.cpi_release.specs.Cached.{IsFit};
+    ghost use Rattle.cpi_plan.specs.Plan.{has_unknown};
     ghost use Rattle.cpi_rows.specs.Held.{held_by};
     ghost use Rattle.cpi_rows.specs.Keyed.{at, row_at};
     ghost use Rattle.cpi_release.specs.FrozenMonths.{frozen_months, release_cmp, release_key};
     ghost use Rattle.cpi_release.specs.PublishedTables.{frozen_month_of, published_until};
 
-    /// The office's lists, each in the order of what it is listed by.
-    ghost lists: { Self → Office };
-
-    /// Which lists may stand after a crash.
-    ghost may_leave: { Self → Office → Type 0 };
+    /// The office's lists, each in the order of what it is listed by; how often a call has failed; whether its store
+    /// has kept what was written, and is clean; and which lists a crash at this moment may leave.
+    ghost state: { Self → State Office };
 
     /// That the look-ups and what is lent never fail.
     ghost finds_always: { Type 0 };
 
     /// The collector who bears the key; none where nobody does.
     fn bearer_of(&mut self, key: Key) -> Result<Option<Bearer>, StoreFault>
-        ensures reads { Reads Self.is_clean lists Self.failures may_leave self.old self.new result (λ found.
-            found ≡ bearer_of key (lists self.old).collectors) }
+        ensures reads { Reads (state self.old) (state self.new) result (λ found.
+            found ≡ bearer_of key (state self.old).held.collectors) }
         ensures always { finds_always → IsOk result };
 
     /// The collector with the number; none where the number isn't registered.
     fn bearer_at(&mut self, number: CollectorId) -> Result<Option<Bearer>, StoreFault>
-        ensures reads { Reads Self.is_clean lists Self.failures may_leave self.old self.new result (λ found.
-            found ≡ at (λ b. b.number) number (lists self.old).collectors) }
+        ensures reads { Reads (state self.old) (state self.new) result (λ found.
+            found ≡ at (λ b. b.number) number (state self.old).held.collectors) }
         ensures always { finds_always → IsOk result };
 
     /// The number of the collector who bears the key; none where nobody does.
     fn collector_of(&mut self, key: Key) -> Result<Option<CollectorId>, StoreFault>
-        ensures reads { Reads Self.is_clean lists Self.failures may_leave self.old self.new result (λ found.
-            found ≡ collector_of key (lists self.old).collectors) }
+        ensures reads { Reads (state self.old) (state self.new) result (λ found.
+            found ≡ collector_of key (state self.old).held.collectors) }
         ensures always { finds_always → IsOk result };
 
     /// The key that the collector with the number bears; none where the number isn't registered.
     fn collector_key(&mut self, number: CollectorId) -> Result<Option<Key>, StoreFault>
-        ensures reads { Reads Self.is_clean lists Self.failures may_leave self.old self.new result (λ found.
-            found ≡ collector_key number (lists self.old).collectors) }
+        ensures reads { Reads (state self.old) (state self.new) result (λ found.
+            found ≡ collector_key number (state self.old).held.collectors) }
         ensures always { finds_always → IsOk result };
 
     /// The outlet with the number; none where there is no such outlet.
     fn outlet(&mut self, number: OutletId) -> Result<Option<&Outlet>, StoreFault>
         ensures* reads { sem 𝓛 (EndsAs Self.row self.entry (λ book.
-            Reads Self.is_clean lists Self.failures may_leave self.old book result (λ found.
-            option_copied found ≡ at (λ u. u.number) number (lists self.old).outlets))) }
+            Reads (state self.old) (state book) result (λ found.
+            option_copied found ≡ at (λ u. u.number) number (state self.old).held.outlets))) }
         ensures always { finds_always → IsOk result };
 
     /// The public specification: items by code, plans by year, and calendar rows by month.
     fn public_part(&mut self) -> Result<&Public, StoreFault>
         ensures* reads { sem 𝓛 (EndsAs Self.row self.entry (λ book.
-            Reads Self.is_clean lists Self.failures may_leave self.old book result (λ public.
-            public.now ≡ public_part (lists self.old)))) }
+            Reads (state self.old) (state book) result (λ public.
+            public.now ≡ public_part (state self.old).held))) }
         ensures always { finds_always → IsOk result };
 
     /// What a collector has: assignments by slot, and quotes by slot and month. A number that nobody has, has nothing.
     fn own(&mut self, collector: CollectorId) -> Result<&Own, StoreFault>
         ensures* reads { sem 𝓛 (EndsAs Self.row self.entry (λ book.
-            Reads Self.is_clean lists Self.failures may_leave self.old book result (λ own.
-            own.now ≡ own_part collector (lists self.old)))) }
+            Reads (state self.old) (state book) result (λ own.
+            own.now ≡ own_part collector (state self.old).held))) }
         ensures always { finds_always → IsOk result };
 
     /// The public specification, and what a collector has; a number that nobody has, has nothing.
     fn parts(&mut self, collector: CollectorId) -> Result<Parts<'_>, StoreFault>
         ensures* reads { sem 𝓛 (EndsAs Self.row self.entry (λ book.
-            Reads Self.is_clean lists Self.failures may_leave self.old book result (λ parts.
-            (parts.public.now ≡ public_part (lists self.old))
-            × (parts.own.now ≡ own_part collector (lists self.old))))) }
+            Reads (state self.old) (state book) result (λ parts.
+            (parts.public.now ≡ public_part (state self.old).held)
+            × (parts.own.now ≡ own_part collector (state self.old).held)))) }
         ensures always { finds_always → IsOk result };
 
     /// The frozen months, each with the moment at which its table is published, by month.
     fn frozen_months(&mut self) -> Result<Vec<FrozenMonth>, StoreFault>
-        ensures reads { Reads Self.is_clean lists Self.failures may_leave self.old self.new result (λ found.
-            found.items ≡ frozen_months (lists self.old).releases) };
+        ensures reads { Reads (state self.old) (state self.new) result (λ found.
+            found.items ≡ frozen_months (state self.old).held.releases) };
 
     /// The stored quotes of the month by series, each with the item and the last month of its assignment.
     fn month_rows(&mut self, month: Month) -> Result<Vec<FrozenQuote>, StoreFault>
-        ensures reads { Reads Self.is_clean lists Self.failures may_leave self.old self.new result (λ found.
-            found.items ≡ month_rows month (lists self.old)) };
+        ensures reads { Reads (state self.old) (state self.new) result (λ found.
+            found.items ≡ month_rows month (state self.old).held) };
 
     /// The months whose tables are published by the moment, each with its moment of publishing, by month.
     fn tables_until(&mut self, until: Moment) -> Result<Vec<FrozenMonth>, StoreFault>
-        ensures reads { Reads Self.is_clean lists Self.failures may_leave self.old self.new result (λ found.
-            found.items ≡ map frozen_month_of (published_until until (lists self.old).releases)) };
+        ensures reads { Reads (state self.old) (state self.new) result (λ found.
+            found.items ≡ map frozen_month_of (published_until until (state self.old).held.releases)) };
 
     /// The rows of the month's table, by code, where it is published by the moment; none where there is no such table.
     fn table(&mut self, month: Month, until: Moment) -> Result<Option<&Rows<Level>>, StoreFault>
         ensures* reads { sem 𝓛 (EndsAs Self.row self.entry (λ book.
-            Reads Self.is_clean lists Self.failures may_leave self.old book result (λ found.
-            option_copied found ≡ levels_until month until (lists self.old).releases))) }
+            Reads (state self.old) (state book) result (λ found.
+            option_copied found ≡ levels_until month until (state self.old).held.releases))) }
         ensures always { finds_always → IsOk result };
 
     /// Puts a new item. The caller owes that no item has its code.
     fn put_item(&mut self, item: Item) -> Result<(), StoreFault>
-        requires new { Self.is_clean self.old → at (λ i. i.code) item.code (lists self.old).items ≡ None }
-        ensures writes { Writes Self.is_clean lists Self.failures may_leave self.old self.new result
-            (changed (PutsItem item) (lists self.old)) };
+        requires new { (state self.old).is_clean → at (λ i. i.code) item.code (state self.old).held.items ≡ None }
+        ensures writes { Writes (state self.old) (state self.new) result
+            (changed (PutsItem item) (state self.old).held) };
 
-    /// Puts a year's plan, over the one that stands if there is one.
+    /// Puts a year's plan, over the one that stands if there is one. The caller owes that its items are there.
     fn put_plan(&mut self, plan: YearPlan) -> Result<(), StoreFault>
-        ensures writes { Writes Self.is_clean lists Self.failures may_leave self.old self.new result
-            (changed (PutsPlan plan) (lists self.old)) };
+        requires known { (state self.old).is_clean → has_unknown (state self.old).held.items plan.places ≡ false }
+        ensures writes { Writes (state self.old) (state self.new) result
+            (changed (PutsPlan plan) (state self.old).held) };
 
     /// Puts a month's calendar row, over the one that stands if there is one.
     fn put_calendar(&mut self, row: CalendarRow) -> Result<(), StoreFault>
-        ensures writes { Writes Self.is_clean lists Self.failures may_leave self.old self.new result
-            (changed (PutsCalendar row) (lists self.old)) };
+        ensures writes { Writes (state self.old) (state self.new) result
+            (changed (PutsCalendar row) (state self.old).held) };
 
     /// Puts a new collector, who has nothing yet. The caller owes that nobody has the number, and that nobody bears
     /// the key.
     fn put_collector(&mut self, bearer: Bearer) -> Result<(), StoreFault>
-        requires number { Self.is_clean self.old → at (λ b. b.number) bearer.number (lists self.old).collectors ≡ None }
-        requires key { Self.is_clean self.old → bearer_of bearer.key (lists self.old).collectors ≡ None }
-        ensures writes { Writes Self.is_clean lists Self.failures may_leave self.old self.new result
-            (changed (Registers bearer) (lists self.old)) };
+        requires number { (state self.old).is_clean →
+            at (λ b. b.number) bearer.number (state self.old).held.collectors ≡ None }
+        requires key { (state self.old).is_clean → bearer_of bearer.key (state self.old).held.collectors ≡ None }
+        ensures writes { Writes (state self.old) (state self.new) result
+            (changed (Registers bearer) (state self.old).held) };
 
     /// Puts a new outlet. The caller owes that no outlet has its number.
     fn put_outlet(&mut self, outlet: Outlet) -> Result<(), StoreFault>
-        requires new { Self.is_clean self.old → at (λ u. u.number) outlet.number (lists self.old).outlets ≡ None }
-        ensures writes { Writes Self.is_clean lists Self.failures may_leave self.old self.new result
-            (changed (PutsOutlet outlet) (lists self.old)) };
+        requires new { (state self.old).is_clean →
+            at (λ u. u.number) outlet.number (state self.old).held.outlets ≡ None }
+        ensures writes { Writes (state self.old) (state self.new) result
+            (changed (PutsOutlet outlet) (state self.old).held) };
 
     /// Puts a new assignment of the collector, with the name of its outlet. The caller owes that the collector is
     /// registered with this key, that the collector's slot is free, that the series is named by this slot, that the
     /// first month isn't after the last, that item and outlet are there, and that the name is the outlet's.
     fn put_assignment(&mut self, bearer: Bearer, assigned: Assigned) -> Result<(), StoreFault>
-        requires known { Self.is_clean self.old →
-            at (λ b. b.number) bearer.number (lists self.old).collectors ≡ Some bearer }
-        requires new { Self.is_clean self.old →
-            at (λ a. a.slot) assigned.assignment.slot (held_by bearer.number (lists self.old).assignments) ≡ None }
-        requires series { Self.is_clean self.old →
+        requires known { (state self.old).is_clean →
+            at (λ b. b.number) bearer.number (state self.old).held.collectors ≡ Some bearer }
+        requires new { (state self.old).is_clean →
+            at (λ a. a.slot) assigned.assignment.slot (held_by bearer.number (state self.old).held.assignments) ≡ None }
+        requires series { (state self.old).is_clean →
             assigned.assignment.series ≡ record { collector = bearer.number; slot = assigned.assignment.slot } }
-        requires months { Self.is_clean self.old → assigned.assignment.first_month ≤ assigned.assignment.last_month }
-        requires item { Self.is_clean self.old →
-            IsSome (at (λ i. i.code) assigned.assignment.item (lists self.old).items) }
-        requires outlet { Self.is_clean self.old →
-            IsSome (at (λ u. u.number) assigned.assignment.outlet (lists self.old).outlets) }
-        requires name { Self.is_clean self.old → assigned ≡ with_name (lists self.old).outlets assigned.assignment }
-        ensures writes { Writes Self.is_clean lists Self.failures may_leave self.old self.new result
-            (changed (Assigns bearer assigned) (lists self.old)) };
+        requires months { (state self.old).is_clean → assigned.assignment.first_month ≤ assigned.assignment.last_month }
+        requires item { (state self.old).is_clean →
+            IsSome (at (λ i. i.code) assigned.assignment.item (state self.old).held.items) }
+        requires outlet { (state self.old).is_clean →
+            IsSome (at (λ u. u.number) assigned.assignment.outlet (state self.old).held.outlets) }
+        requires name { (state self.old).is_clean →
+            assigned ≡ with_name (state self.old).held.outlets assigned.assignment }
+        ensures writes { Writes (state self.old) (state self.new) result
+            (changed (Assigns bearer assigned) (state self.old).held) };
 
     /// Puts a quote of the collector, over the one of its slot and month if there is one. The caller owes that the
     /// collector is registered and has the slot, and that the receipt is above all others of the collector.
     fn put_quote(&mut self, bearer: Bearer, quote: Quote) -> Result<(), StoreFault>
-        requires known { Self.is_clean self.old →
-            IsSome (at (λ b. b.number) bearer.number (lists self.old).collectors) }
-        requires slot { Self.is_clean self.old →
-            IsSome (at (λ a. a.assignment.slot) quote.slot (own_part bearer.number (lists self.old)).assignments) }
-        requires receipt { Self.is_clean self.old →
-            greatest_receipt (held_by bearer.number (lists self.old).quotes) < quote.receipt }
-        ensures writes { Writes Self.is_clean lists Self.failures may_leave self.old self.new result
-            (changed (Quotes bearer quote) (lists self.old)) };
+        requires known { (state self.old).is_clean →
+            IsSome (at (λ b. b.number) bearer.number (state self.old).held.collectors) }
+        requires slot { (state self.old).is_clean →
+            IsSome (at (λ a. a.assignment.slot) quote.slot (own_part bearer.number (state self.old).held).assignments) }
+        requires receipt { (state self.old).is_clean →
+            greatest_receipt (held_by bearer.number (state self.old).held.quotes) < quote.receipt }
+        ensures writes { Writes (state self.old) (state self.new) result
+            (changed (Quotes bearer quote) (state self.old).held) };
 
     /// Puts the release of a month that was not frozen. The caller owes that there is none of the month.
     fn put_release(&mut self, release: Release) -> Result<(), StoreFault>
-        requires new { Self.is_clean self.old →
-            row_at release_cmp release_key release.month (lists self.old).releases ≡ None }
-        ensures writes { Writes Self.is_clean lists Self.failures may_leave self.old self.new result
-            (changed (Freezes release) (lists self.old)) };
+        requires new { (state self.old).is_clean →
+            row_at release_cmp release_key release.month (state self.old).held.releases ≡ None }
+        ensures writes { Writes (state self.old) (state self.new) result
+            (changed (Freezes release) (state self.old).held) };
 
-    // where what is held is the same, the office is
-    ghost lists_kept: { (a b : Self) → Self.held a ≡ Self.held b → lists a ≡ lists b };
+    // what is said of the groups is said of the office
+    ghost groups_are: { (b : Self) → IsOffice (Self.holds b) (state b) };
+
+    // what keeps the groups keeps the office
+    ghost groups_keep: { (a b : Self) → Keeps (Self.holds a) (Self.holds b) → Keeps (state a) (state b) };
 
     // groups are read from the office
-    ghost sources_are: { (b : Self) → Self.sources (Self.held b) ≡ office_sources (lists b) };
+    ghost sources_are: { (b : Self) → Self.sources (Self.holds b).held ≡ office_sources (state b).held };
 
     // groups are read soundly from an office whose releases are sound
-    ghost sound_is: { (b : Self) → IsFit (office_sources (lists b)) → Self.is_sound (Self.held b) };
+    ghost sound_is: { (b : Self) → IsFit (office_sources (state b).held) → Self.is_sound (Self.holds b).held };
 }

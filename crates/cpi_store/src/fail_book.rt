@@ -60,15 +60,18 @@ impl<B: Book> Groups for FailBook<B> {
 
     ghost Held = { B.Held };
 
-    ghost held = { λ f. B.held f.inner };
+    ghost holds = { λ f. let h = B.holds f.inner in record {
+      held = h.held;
+      failures = h.failures + f.own_failures.count;
+      is_kept = h.is_kept;
+      is_clean = h.is_clean;
+      clean_is_kept = h.clean_is_kept;
+      may_leave = h.may_leave;
+    } };
 
     ghost sources = { B.sources };
 
     ghost is_sound = { B.is_sound };
-
-    ghost failures = { λ f. B.failures f.inner + f.own_failures.count };
-
-    ghost is_clean = { λ f. B.is_clean f.inner };
 
     ghost has_sound = { λ h s. B.has_sound h s };
 
@@ -88,13 +91,37 @@ impl<B: Book> Groups for FailBook<B> {
 }
 
 impl<B: Book> Book for FailBook<B> {
-    ghost lists = { λ f. B.lists f.inner };
+    ghost use Rattle.std.specs.Prelude.{◌+◌};
 
-    ghost may_leave = { λ f. B.may_leave f.inner };
+    ghost state = { λ f. let s = B.state f.inner in record {
+      held = s.held;
+      failures = s.failures + f.own_failures.count;
+      is_kept = s.is_kept;
+      is_clean = s.is_clean;
+      clean_is_kept = s.clean_is_kept;
+      may_leave = s.may_leave;
+    } };
 
     ghost finds_always = { ⊥ };
 
-    ghost lists_kept = { λ a b e. B.lists_kept a.inner b.inner e };
+    ghost groups_are = { λ f. let inner = B.groups_are f.inner in record {
+      failures = λ i. inner.failures i + f.own_failures.count;
+      kept = inner.kept;
+      clean = inner.clean;
+      is_clean = inner.is_clean;
+    } };
+
+    ghost groups_keep = { λ a b keeps. let kept = B.groups_keep a.inner b.inner (record {
+      was_kept = keeps.was_kept;
+      was_clean = keeps.was_clean;
+      kept = keeps.kept;
+      crash = keeps.crash;
+    }) in record {
+      was_kept = kept.was_kept;
+      was_clean = kept.was_clean;
+      kept = kept.kept;
+      crash = kept.crash;
+    } };
 
     ghost sources_are = { λ f. B.sources_are f.inner };
 

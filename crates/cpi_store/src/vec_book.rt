@@ -12,7 +12,7 @@ use cpi_release::{
     Cached, Failures, FrozenMonth, GroupFault, Groups, Level, Release, group_rows, level_in,
     month_groups,
 };
-use cpi_rows::{Rows, find_row, put_row};
+use cpi_rows::{Rows, RowsByKey, find_row, put_row};
 use cpi_survey::{Assigned, Own, Public, Quote};
 use std::alloc::{AllocError, Global};
 use std::collections::BTreeMap;
@@ -20,15 +20,15 @@ use std::marker::Model;
 
 /// An office in memory. A call fails only where memory was refused; a read, and a write over a row that stands, takes
 /// none. Collectors, their rows, items, plans, months and outlets are found in a number of steps that grows with the
-/// logarithm of how many there are, and a write shifts the rows of one list: of assignments those of one collector,
-/// and of quotes those of one slot, or the collector's slots where one has its first quote.
+/// logarithm of how many there are, and items and outlets are put in as many. Any other write shifts the rows of one
+/// list: of assignments those of one collector, and of quotes those of one slot, or the collector's slots where one
+/// has its first quote.
 #[derive(Drop)]
 pub struct VecBook {
     public: Public,
     // by number
     holders: Vec<Holder>,
-    // by number
-    outlets: Vec<Outlet>,
+    outlets: RowsByKey<Outlet>,
     // by month
     releases: Vec<Release>,
     // the holders, by the key that each bears
@@ -55,20 +55,20 @@ impl Model for VecBook {
     ghost Value = { Kept };
 
     ghost view = { λ b. record {
-      office = office_of b.public b.outlets.items b.releases.items b.holders.items;
+      office = office_of b.public b.outlets b.releases.items b.holders.items;
       failures = b.failed.count;
     } };
 
     ghost invariant = { λ b. record {
       holders : IsInOrder nat_cmp (λ h. h.number) b.holders.items;
       bearers : (key : ℕ) → get nat_cmp b.bearers key ≡ bearer_of key (collectors_of b.holders.items);
-      outlets : IsInOrder nat_cmp (λ u. u.number) b.outlets.items;
+      outlets : IsInOrder nat_cmp (λ u. u.number) b.outlets;
       releases : IsInOrder release_cmp release_key b.releases.items;
-      placed : ArePlaced b.outlets.items (map (λ h. h.own.assignments) b.holders.items);
+      placed : ArePlaced b.outlets (map (λ h. h.own.assignments) b.holders.items);
       nobody : b.nobody ≡ record { assignments = []; quotes = [] };
-      names : named_by b.outlets.items (map (λ h. h.own.assignments) b.holders.items)
+      names : named_by b.outlets (map (λ h. h.own.assignments) b.holders.items)
           ≡ map (λ h. h.own.assignments) b.holders.items;
-      kept : AreKept (office_sources (office_of b.public b.outlets.items b.releases.items b.holders.items)) b.cached;
+      kept : AreKept (office_sources (office_of b.public b.outlets b.releases.items b.holders.items)) b.cached;
     } };
 }
 
@@ -84,7 +84,7 @@ impl VecBook {
         VecBook {
             public: Public::new(alloc),
             holders: Vec::new(alloc),
-            outlets: Vec::new(alloc),
+            outlets: RowsByKey::new(alloc),
             releases: Vec::new(alloc),
             bearers: BTreeMap::new(alloc),
             nobody: Own::new(alloc),
@@ -177,22 +177,18 @@ impl VecBook {
 }
 
 impl Groups for VecBook {
-    ghost use Rattle.std.specs.Prelude.{⊤};
     ghost use Rattle.cpi_store.specs.Office.{Office};
     ghost use Rattle.cpi_store.specs.Sources.{office_sources};
+    ghost use Rattle.cpi_store.specs.Holders.{kept_state};
     ghost use Rattle.cpi_release.specs.Cached.{IsFit};
 
     ghost Held = { Office };
 
-    ghost held = { λ b. b.office };
+    ghost holds = { kept_state };
 
     ghost sources = { office_sources };
 
     ghost is_sound = { λ o. IsFit (office_sources o) };
-
-    ghost failures = { λ b. b.failures };
-
-    ghost is_clean = { λ _. ⊤ };
 
     ghost has_sound = { λ o s. s.0 };
 
@@ -215,29 +211,32 @@ impl Book for VecBook {
     ghost use Rattle.cpi_survey.specs.Quote.{greatest_receipt, quote_cmp, quote_key};
     ghost use Rattle.cpi_store.specs.Office.{changed, PutsPlan, PutsCalendar, Quotes};
     ghost use Rattle.cpi_store.specs.Bearer.{bearer_of, collector_of, collector_key};
-    ghost use Rattle.cpi_store.specs.Holders.{KeptReads, KeptWrites};
+    ghost use Rattle.cpi_release.specs.State.{Reads};
+    ghost use Rattle.cpi_store.specs.Calls.{Writes};
+    ghost use Rattle.cpi_store.specs.Holders.{kept_state};
 
-    ghost lists = { λ b. b.office };
-
-    ghost may_leave = { λ _ _. ⊥ };
+    ghost state = { kept_state };
 
     ghost finds_always = { ⊤ };
 
-    ghost lists_kept = { λ a b e. e };
+    ghost groups_are = { λ b. record { failures = refl; kept = λ x. x; clean = λ x. x; is_clean = λ x. x } };
+
+    ghost groups_keep = { λ a b keeps. keeps };
 
     ghost sources_are = { λ b. refl };
 
     ghost sound_is = { λ b s. s };
 
     fn bearer_of(&mut self, key: Key) -> Result<Option<Bearer>, StoreFault>
-        ensures reads { KeptReads self.old self.new result (λ found. found ≡ bearer_of key self.old.office.collectors) }
+        ensures reads { Reads (kept_state self.old) (kept_state self.new) result (λ found.
+            found ≡ bearer_of key self.old.office.collectors) }
         ensures always { IsOk result }
     {
         Ok(self.bearers.get(&key).copied())
     }
 
     fn bearer_at(&mut self, number: CollectorId) -> Result<Option<Bearer>, StoreFault>
-        ensures reads { KeptReads self.old self.new result (λ found.
+        ensures reads { Reads (kept_state self.old) (kept_state self.new) result (λ found.
             found ≡ at (λ b. b.number) number self.old.office.collectors) }
         ensures always { IsOk result }
     {
@@ -245,7 +244,7 @@ impl Book for VecBook {
     }
 
     fn collector_of(&mut self, key: Key) -> Result<Option<CollectorId>, StoreFault>
-        ensures reads { KeptReads self.old self.new result (λ found.
+        ensures reads { Reads (kept_state self.old) (kept_state self.new) result (λ found.
             found ≡ collector_of key self.old.office.collectors) }
         ensures always { IsOk result }
     {
@@ -253,7 +252,7 @@ impl Book for VecBook {
     }
 
     fn collector_key(&mut self, number: CollectorId) -> Result<Option<Key>, StoreFault>
-        ensures reads { KeptReads self.old self.new result (λ found.
+        ensures reads { Reads (kept_state self.old) (kept_state self.new) result (λ found.
             found ≡ collector_key number self.old.office.collectors) }
         ensures always { IsOk result }
     {
@@ -261,7 +260,7 @@ impl Book for VecBook {
     }
 
     fn outlet(&mut self, number: OutletId) -> Result<Option<&Outlet>, StoreFault> {
-        Ok(find_row(&self.outlets, &number))
+        Ok(self.outlets.find(&number))
     }
 
     fn public_part(&mut self) -> Result<&Public, StoreFault> {
@@ -310,7 +309,8 @@ impl Book for VecBook {
     }
 
     fn put_plan(&mut self, plan: YearPlan) -> Result<(), StoreFault>
-        ensures writes { KeptWrites self.old self.new result (changed (PutsPlan plan) self.old.office) }
+        ensures writes { Writes (kept_state self.old) (kept_state self.new) result
+            (changed (PutsPlan plan) self.old.office) }
         ensures replaced { IsSome (at (λ y. y.year) plan.year self.old.office.plans) → IsOk result }
     {
         self.cached = None;
@@ -321,7 +321,8 @@ impl Book for VecBook {
     }
 
     fn put_calendar(&mut self, row: CalendarRow) -> Result<(), StoreFault>
-        ensures writes { KeptWrites self.old self.new result (changed (PutsCalendar row) self.old.office) }
+        ensures writes { Writes (kept_state self.old) (kept_state self.new) result
+            (changed (PutsCalendar row) self.old.office) }
         ensures replaced { IsSome (at (λ r. r.month) row.month self.old.office.calendar) → IsOk result }
     {
         self.cached = None;
@@ -342,7 +343,7 @@ impl Book for VecBook {
 
     fn put_outlet(&mut self, outlet: Outlet) -> Result<(), StoreFault> {
         self.cached = None;
-        match put_row(&mut self.outlets, outlet) {
+        match self.outlets.put(outlet) {
             Ok(()) => Ok(()),
             Err(_) => Err(self.failed.counted(StoreFault)),
         }
@@ -359,7 +360,8 @@ impl Book for VecBook {
     fn put_quote(&mut self, bearer: Bearer, quote: Quote) -> Result<(), StoreFault>
         requires known { IsSome (at (λ b. b.number) bearer.number self.old.office.collectors) }
         requires receipt { greatest_receipt (held_by bearer.number self.old.office.quotes) < quote.receipt }
-        ensures writes { KeptWrites self.old self.new result (changed (Quotes bearer quote) self.old.office) }
+        ensures writes { Writes (kept_state self.old) (kept_state self.new) result
+            (changed (Quotes bearer quote) self.old.office) }
         ensures replaced { IsSome (row_at quote_cmp quote_key (quote.slot, quote.month) (held_by bearer.number self.old.office.quotes)) →
             IsOk result }
     {

@@ -8,7 +8,7 @@ pub invariant_of-result : goal.invariant_of-result
 invariant_of-result c = record {
   holders = rw c.new-2.ensures.items (none_in_order nat_cmp (λ h. h.number));
   bearers = λ key. rw (c.new-2.ensures.items, c.new-5.ensures.empty) refl;
-  outlets = rw c.new-3.ensures.items (none_in_order nat_cmp (λ u. u.number));
+  outlets = rw c.new-3.ensures (none_in_order nat_cmp (λ u. u.number));
   releases = rw c.new-4.ensures.items (none_in_order release_cmp release_key);
   placed = rw c.new-2.ensures.items tt;
   nobody = c.new-6.ensures;

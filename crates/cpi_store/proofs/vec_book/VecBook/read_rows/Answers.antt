@@ -14,7 +14,7 @@ use Rattle.cpi_store.proofs.vec_book.VecBook.read_rows.Goals as goal
 pub invariant_of-self : goal.invariant_of-self
 invariant_of-self c =
     let i = c.self.inside in
-    let o : Office = office_of i.public i.outlets.items i.releases.items i.holders.items in
+    let o : Office = office_of i.public i.outlets i.releases.items i.holders.items in
     let same : o ≡ c.args.self.now.office = ap (λ (k : Kept). k.office) c.self.view_is in
     let plan : option_copied c.plan_of-plan.result ≡ at (λ (p : Plan). p.year) (year_of c.args.month) o.plans = c.plan_of-plan.ensures ∙ ap (λ (u : Office). at (λ (p : Plan). p.year) (year_of c.args.month) u.plans) (sym same) in
     let quotes : c.in_ok-frozen.frozen.items ≡ month_rows c.args.month o = c.in_ok-frozen.ensures ∙ ap (rows_of_holders c.args.month) c.deref.ensures.value ∙ sym (month_gathered c.args.month i.holders.items c.self.invariant.holders) in
@@ -33,7 +33,7 @@ invariant_of-self c =
 pub returns-clause-shown : goal.returns-clause-shown
 returns-clause-shown c = λ fit late.
     let i = c.self.inside in
-    let o : Office = office_of i.public i.outlets.items i.releases.items i.holders.items in
+    let o : Office = office_of i.public i.outlets i.releases.items i.holders.items in
     let same : o ≡ c.args.self.now.office = ap (λ (k : Kept). k.office) c.self.view_is in
     let plan : option_copied c.plan_of-plan.result ≡ at (λ (p : Plan). p.year) (year_of c.args.month) o.plans = c.plan_of-plan.ensures ∙ ap (λ (u : Office). at (λ (p : Plan). p.year) (year_of c.args.month) u.plans) (sym same) in
     let quotes : c.in_ok-frozen.frozen.items ≡ month_rows c.args.month o = c.in_ok-frozen.ensures ∙ ap (rows_of_holders c.args.month) c.deref.ensures.value ∙ sym (month_gathered c.args.month i.holders.items c.self.invariant.holders) in

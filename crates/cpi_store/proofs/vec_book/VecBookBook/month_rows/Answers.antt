@@ -10,9 +10,9 @@ returns-in-Ok c =
     let is : c.in-Ok.found.items ≡ rows_of_holders c.args.month hs = c.in-Ok.ensures ∙ ap (rows_of_holders c.args.month) c.deref.ensures.value in
     record {
       reads = record {
-        was_clean = λ k. tt;
+        keeps = record { was_kept = λ k. tt; was_clean = λ k. tt; kept = λ k. refl; crash = λ _ _ _ x. x };
+        stays = λ _ _. tt;
         shown = λ k. is ∙ sym (month_gathered c.args.month hs c.self.invariant.holders) ∙ ap (λ (v : Kept). month_rows c.args.month v.office) c.self.view_is;
-        kept = λ k. refl;
         count = omega arith;
         fault = tt;
       };

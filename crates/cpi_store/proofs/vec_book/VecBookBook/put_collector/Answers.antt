@@ -19,7 +19,7 @@ put_holder-requires-clause-new c =
 pub invariant_of-self : goal.invariant_of-self
 invariant_of-self c =
     let hs = c.self.inside.holders.items in
-    let us = c.self.inside.outlets.items in
+    let us = c.self.inside.outlets in
     let h : Holder = record { number = c.args.bearer.number; key = c.args.bearer.key; own = record { assignments = []; quotes = [] } } in
     let after : c.put_holder.new.holders.items ≡ put_by (λ (h : Holder). h.number) h hs = c.in-Ok.ensures.holders ∙ ap (λ g. put_by (λ (h : Holder). h.number) g hs) c.new-holder.ensures in
     let updates = c.in-Ok.ensures.bearers in
@@ -40,17 +40,21 @@ invariant_of-self c =
 pub returns-in-Ok : goal.returns-in-Ok
 returns-in-Ok c =
     let hs = c.self.inside.holders.items in
-    let us = c.self.inside.outlets.items in
+    let us = c.self.inside.outlets in
     let h : Holder = record { number = c.args.bearer.number; key = c.args.bearer.key; own = record { assignments = []; quotes = [] } } in
     let after : c.put_holder.new.holders.items ≡ put_by (λ (h : Holder). h.number) h hs = c.in-Ok.ensures.holders ∙ ap (λ g. put_by (λ (h : Holder). h.number) g hs) c.new-holder.ensures in
     let missing : at (λ (b : Bearer). b.number) c.args.bearer.number (collectors_of hs) ≡ None = ap (λ (k : Kept). at (λ (b : Bearer). b.number) c.args.bearer.number k.office.collectors) c.self.view_is ∙ c.requires.number tt in
     rw (← c.self.view_is)
     (record {
       writes = record {
+        was_kept = λ k. tt;
         was_clean = λ k. tt;
+        stays = λ _ _. tt;
         done = λ k. ap (office_of c.self.inside.public us c.self.inside.releases.items) after ∙ office_added h hs c.self.invariant.holders (no_holder c.args.bearer.number hs missing) refl c.self.inside.public us c.self.inside.releases.items;
         kept = λ k. tt;
         count = omega arith;
         fault = tt;
+        crash = λ _ _ _ left. absurd left;
+        answered = λ _ _ left. absurd left;
       };
     })

@@ -9,14 +9,14 @@ use Rattle.cpi_store.proofs.vec_book.VecBookBook.put_outlet.Goals as goal
 
 pub invariant_of-self : goal.invariant_of-self
 invariant_of-self c =
-    let us = c.self.inside.outlets.items in
+    let us = c.self.inside.outlets in
     let lists = map (λ (h : Holder). h.own.assignments) c.self.inside.holders.items in
     let new : at (λ (u : Outlet). u.number) c.args.outlet.number us ≡ None = rw (ap (λ (k : Kept). k.office.outlets) c.self.view_is) (c.requires.new tt) in
-    let after : c.put_row.new.rows.items ≡ put_by (λ (u : Outlet). u.number) c.args.outlet us = rw c.in-Ok.is at c.put_row.ensures.ok in
+    let after : c.put.new.self ≡ put_by (λ (u : Outlet). u.number) c.args.outlet us = rw c.in-Ok.is at c.put.ensures.ok in
     record {
       holders = c.self.invariant.holders;
       bearers = c.self.invariant.bearers;
-      outlets = c.put_row.ensures.order;
+      outlets = c.put.ensures.order;
       releases = c.self.invariant.releases;
       placed = rw after (still_placed c.args.outlet us c.self.invariant.outlets new lists c.self.invariant.placed);
       nobody = c.self.invariant.nobody;
@@ -26,11 +26,11 @@ invariant_of-self c =
 
 pub invariant_of-self-in-Err : goal.invariant_of-self-in-Err
 invariant_of-self-in-Err c =
-    let same : c.put_row.new.rows.items ≡ c.self.inside.outlets.items = rw c.in-Err.is at c.put_row.ensures.err in
+    let same : c.put.new.self ≡ c.self.inside.outlets = rw c.in-Err.is at c.put.ensures.err in
     record {
       holders = c.self.invariant.holders;
       bearers = c.self.invariant.bearers;
-      outlets = c.put_row.ensures.order;
+      outlets = c.put.ensures.order;
       releases = c.self.invariant.releases;
       placed = rw same c.self.invariant.placed;
       nobody = c.self.invariant.nobody;
@@ -41,14 +41,18 @@ invariant_of-self-in-Err c =
 pub returns-in-Ok : goal.returns-in-Ok
 returns-in-Ok c =
     let hs = c.self.inside.holders.items in
-    let after : c.put_row.new.rows.items ≡ put_by (λ (u : Outlet). u.number) c.args.outlet c.self.inside.outlets.items = rw c.in-Ok.is at c.put_row.ensures.ok in
+    let after : c.put.new.self ≡ put_by (λ (u : Outlet). u.number) c.args.outlet c.self.inside.outlets = rw c.in-Ok.is at c.put.ensures.ok in
     rw (← c.self.view_is)
     (record {
       writes = record {
+        was_kept = λ k. tt;
         was_clean = λ k. tt;
+        stays = λ _ _. tt;
         done = λ k. ap (λ us. record { items = c.self.inside.public.items; plans = c.self.inside.public.plans; calendar = c.self.inside.public.calendar; collectors = collectors_of hs; outlets = us; assignments = all_assignments hs; quotes = all_quotes hs; releases = c.self.inside.releases.items }) after;
         kept = λ k. tt;
         count = omega arith;
         fault = tt;
+        crash = λ _ _ _ left. absurd left;
+        answered = λ _ _ left. absurd left;
       };
     })

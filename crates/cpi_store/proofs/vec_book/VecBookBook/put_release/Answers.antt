@@ -11,10 +11,14 @@ returns-in-Ok c =
     rw (← c.self.view_is)
     (record {
       writes = record {
+        was_kept = λ k. tt;
         was_clean = λ k. tt;
-        done = λ k. ap (λ rs. record { items = c.self.inside.public.items; plans = c.self.inside.public.plans; calendar = c.self.inside.public.calendar; collectors = collectors_of hs; outlets = c.self.inside.outlets.items; assignments = all_assignments hs; quotes = all_quotes hs; releases = rs }) after;
+        stays = λ _ _. tt;
+        done = λ k. ap (λ rs. record { items = c.self.inside.public.items; plans = c.self.inside.public.plans; calendar = c.self.inside.public.calendar; collectors = collectors_of hs; outlets = c.self.inside.outlets; assignments = all_assignments hs; quotes = all_quotes hs; releases = rs }) after;
         kept = λ k. tt;
         count = omega arith;
         fault = tt;
+        crash = λ _ _ _ left. absurd left;
+        answered = λ _ _ left. absurd left;
       };
     })

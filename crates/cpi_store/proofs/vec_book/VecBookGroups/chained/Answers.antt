@@ -9,7 +9,9 @@ returns c =
     let same : c.deref.result.now ≡ o.releases = c.deref.ensures.value ∙ ap (λ (k : Kept). k.office.releases) c.self.view_is in
     let level = rw same at c.level_in.ensures in
     record {
-      leaves = record { was_clean = λ x. x; kept = λ _. refl; count = omega arith };
+      keeps = record { was_kept = λ x. x; was_clean = λ x. x; kept = λ _. refl; crash = λ _ _ _ x. x };
+      stays = λ _ _. tt;
+      count = omega arith;
       shown = λ _. λ fit. level (levels_ordered o.releases fit.0 c.args.month);
       fault = tt;
     }
