@@ -1,55 +1,108 @@
--- A call after a read.
-use Rattle.std.proofs.Common.{◌≡◌, ℕ, Result, ◌∙◌, inl, inr, arith, sym, ap}
+-- A call after a read, and a call under a premise.
+use Rattle.std.proofs.Common.{◌≡◌, Result, ◌∙◌, inl, inr, arith, sym, ap}
 use Rattle.std.specs.Prelude.{◌⊎◌, IsTrue}
 use Rattle.cpi_office.specs.declared.refusal.Refusal.TheVariants.{Unavailable}
-use Rattle.cpi_store.specs.declared.book.StoreFault.{StoreFault}
+use Rattle.cpi_release.specs.State.{State, Keeps, StaysClean, Reads}
 use Rattle.cpi_store.specs.Office.{Office}
-use Rattle.cpi_store.specs.Calls.{Reads}
-use Rattle.cpi_office.specs.Calls.{Serves, ServesWhere, is_refused}
+use Rattle.cpi_office.specs.Calls.{Serves, ServesWhere, Endures, Crashes, Lasts, IsServed, is_refused}
 use Rattle.cpi_office.specs.Verdicts.{Verdict, Refuses, Stands, Makes, verdict_reply, with_verdict}
 use Rattle.std.proofs.lemmas.Bool.{false≢true}
 use Rattle.cpi_office.specs.declared.reply.Reply.{Reply}
 use Rattle.cpi_office.specs.declared.reply.Reply.TheVariants as say
 
-module _ {B : Type 0} (is_clean : B → Type 0) (lists : B → Office) (failures : B → ℕ) where
-  pub serves_after : {may_leave : B → Office → Type 0} {T : Type 0} (old mid new : B) (result : Result T StoreFault) (Shown : T → Type 0) (reply said wanted : Reply) (made after : Office) →
-      Reads is_clean lists failures may_leave old mid result Shown → Serves is_clean lists failures mid new reply said made → (is_clean mid → (said ≡ wanted) × (made ≡ after)) → Serves is_clean lists failures old new reply wanted after
-  serves_after old mid new result Shown reply said wanted made after reads serves same = record {
-    was_clean = λ clean. reads.was_clean (serves.was_clean clean);
-    served = λ clean. by clean (serves.served clean);
-    count = omega (arith, reads.count, serves.count);
-  }
-    where
-      by : is_clean new → ((reply ≡ said) × (lists new ≡ made)) ⊎ ((reply ≡ say.Refused Unavailable) × (lists new ≡ lists mid)) → ((reply ≡ wanted) × (lists new ≡ after)) ⊎ ((reply ≡ say.Refused Unavailable) × (lists new ≡ lists old))
-      by clean (inl h) = let s = same (serves.was_clean clean) in inl (h.0 ∙ s.0, h.1 ∙ s.1)
-      by clean (inr h) = inr (h.0, h.1 ∙ reads.kept (serves.was_clean clean))
+-- what is answered after a read lasts as it does without the read
+lasts_after : (old mid new : State Office) → Keeps old mid → old.is_clean → mid.is_clean → Lasts mid new → Lasts old new
+lasts_after old mid new keeps was clean lasts o left = by (lasts o left)
+  where
+    by : (o ≡ new.held) ⊎ ((new.held ≡ mid.held) × mid.may_leave o) → (o ≡ new.held) ⊎ ((new.held ≡ old.held) × old.may_leave o)
+    by (inl is) = inl is
+    by (inr h) = inr (h.0 ∙ keeps.kept clean, keeps.crash was (mid.clean_is_kept clean) o h.1)
 
+endures_after : (old mid new : State Office) (reply : Reply) → Keeps old mid → StaysClean old mid → (new.is_clean → mid.is_clean) → Endures mid new reply → Endures old new reply
+endures_after old mid new reply keeps stays was_clean endures = record {
+  was_kept = λ kept. keeps.was_kept (endures.was_kept kept);
+  stays = λ told was kept. endures.stays told (stays was (endures.was_kept kept)) kept;
+  answered = λ told clean. lasts_after old mid new keeps (keeps.was_clean (was_clean clean)) (was_clean clean) (endures.answered told clean);
+}
+
+crashes_after : (old mid new : State Office) (made after : Office) → Keeps old mid → StaysClean old mid → (new.is_kept → mid.is_kept) → (mid.is_clean → Crashes mid new made × (made ≡ after)) → Crashes old new after
+crashes_after old mid new made after keeps stays was_kept crash was kept o left =
+    let mid_kept = was_kept kept in
+    let clean = stays was mid_kept in
+    let h = crash clean in
+    by (h.0 clean kept o left) was mid_kept h.1
+  where
+    by : mid.may_leave o ⊎ (o ≡ made) → old.is_clean → mid.is_kept → made ≡ after → old.may_leave o ⊎ (o ≡ after)
+    by (inl left) was kept same = inl (keeps.crash was kept o left)
+    by (inr is) was kept same = inr (is ∙ same)
+
+-- after a read, a crash leaves what it could leave before it
+pub read_endures : (old new : State Office) (reply : Reply) → Keeps old new → StaysClean old new → Endures old new reply
+read_endures old new reply keeps stays = record {
+  was_kept = keeps.was_kept;
+  stays = λ _. stays;
+  answered = λ _ clean o left. inr (keeps.kept clean, keeps.crash (keeps.was_clean clean) (new.clean_is_kept clean) o left);
+}
+
+pub serves_after : {T F : Type 0} {result : Result T F} {Shown : T → Type 0} (old mid new : State Office) (reply said wanted : Reply) (made after : Office) →
+    Reads old mid result Shown → StaysClean old mid → Serves mid new reply said made → (mid.is_clean → (said ≡ wanted) × (made ≡ after)) → Serves old new reply wanted after
+serves_after old mid new reply said wanted made after reads stays serves same = record {
+  was_clean = λ clean. reads.keeps.was_clean (serves.was_clean clean);
+  served = λ clean. by clean (serves.served clean);
+  count = omega (arith, reads.count, serves.count);
+  endures = endures_after old mid new reply reads.keeps stays serves.was_clean serves.endures;
+  crash = crashes_after old mid new made after reads.keeps stays serves.endures.was_kept (λ clean. (serves.crash, (same clean).1));
+}
+  where
+    by : new.is_clean → IsServed reply said mid.held new.held made → IsServed reply wanted old.held new.held after
+    by clean (inl h) = let s = same (serves.was_clean clean) in inl (h.0 ∙ s.0, h.1 ∙ s.1)
+    by clean (inr h) = inr (h.0, h.1 ∙ reads.keeps.kept (serves.was_clean clean))
+
+-- the same under premises, the later of which follows from the earlier
+pub serves_where_after : {T F : Type 0} {result : Result T F} {Shown : T → Type 0} (P Q : Type 0) (old mid new : State Office) (reply said wanted : Reply) (made after : Office) →
+    Reads old mid result Shown → StaysClean old mid → ServesWhere mid new Q reply said made → (mid.is_clean → (P → Q) × (said ≡ wanted) × (made ≡ after)) → ServesWhere old new P reply wanted after
+serves_where_after P Q old mid new reply said wanted made after reads stays serves same = record {
+  was_clean = λ clean. reads.keeps.was_clean (serves.was_clean clean);
+  served = λ clean p. by clean (serves.served clean ((same (serves.was_clean clean)).0 p));
+  refused = λ clean refused. serves.refused clean refused ∙ reads.keeps.kept (serves.was_clean clean);
+  count = omega (arith, reads.count, serves.count);
+  endures = endures_after old mid new reply reads.keeps stays serves.was_clean serves.endures;
+  crash = λ p. crashes_after old mid new made after reads.keeps stays serves.endures.was_kept (λ clean. let s = same clean in (serves.crash (s.0 p), s.2));
+}
+  where
+    by : new.is_clean → IsServed reply said mid.held new.held made → IsServed reply wanted old.held new.held after
+    by clean (inl h) = let s = same (serves.was_clean clean) in inl (h.0 ∙ s.1, h.1 ∙ s.2)
+    by clean (inr h) = inr (h.0, h.1 ∙ reads.keeps.kept (serves.was_clean clean))
+
+module _ (premise : Type 0) (old new : State Office) (reply : Reply) where
   -- what is served whether the premise holds or not; a verdict that refuses changes nothing
-  pub serves_where : (premise : Type 0) (old new : B) (reply : Reply) (v : Verdict) → Serves is_clean lists failures old new reply (verdict_reply v) (with_verdict v (lists old)) →
-      ServesWhere is_clean lists failures premise old new reply (verdict_reply v) (with_verdict v (lists old))
-  serves_where premise old new reply v serves = record {
+  pub serves_where : (v : Verdict) → Serves old new reply (verdict_reply v) (with_verdict v old.held) → ServesWhere old new premise reply (verdict_reply v) (with_verdict v old.held)
+  serves_where v serves = record {
     was_clean = serves.was_clean;
     served = λ clean p. serves.served clean;
     refused = λ clean refused. by v (serves.served clean) refused;
     count = serves.count;
+    endures = serves.endures;
+    crash = λ p. serves.crash;
   }
     where
-      by : (v : Verdict) → ((reply ≡ verdict_reply v) × (lists new ≡ with_verdict v (lists old))) ⊎ ((reply ≡ say.Refused Unavailable) × (lists new ≡ lists old)) → IsTrue (is_refused reply) → lists new ≡ lists old
+      by : (v : Verdict) → IsServed reply (verdict_reply v) old.held new.held (with_verdict v old.held) → IsTrue (is_refused reply) → new.held ≡ old.held
       by v (inr h) refused = h.1
       by (Refuses f) (inl h) refused = h.1
       by (Stands c) (inl h) refused = h.1
       by (Makes c) (inl h) refused = absurd (false≢true (ap is_refused (sym h.0) ∙ refused))
 
   -- what is served whether the premise holds or not, where the refusals that are wanted change nothing
-  pub serves_weaker : (premise : Type 0) (old new : B) (reply wanted : Reply) (after : Office) → Serves is_clean lists failures old new reply wanted after → (IsTrue (is_refused wanted) → after ≡ lists old) →
-      ServesWhere is_clean lists failures premise old new reply wanted after
-  serves_weaker premise old new reply wanted after serves stays = record {
+  pub serves_weaker : (wanted : Reply) (after : Office) → Serves old new reply wanted after → (IsTrue (is_refused wanted) → after ≡ old.held) → ServesWhere old new premise reply wanted after
+  serves_weaker wanted after serves stays = record {
     was_clean = serves.was_clean;
     served = λ clean p. serves.served clean;
     refused = λ clean refused. by (serves.served clean) refused;
     count = serves.count;
+    endures = serves.endures;
+    crash = λ p. serves.crash;
   }
     where
-      by : ((reply ≡ wanted) × (lists new ≡ after)) ⊎ ((reply ≡ say.Refused Unavailable) × (lists new ≡ lists old)) → IsTrue (is_refused reply) → lists new ≡ lists old
+      by : IsServed reply wanted old.held new.held after → IsTrue (is_refused reply) → new.held ≡ old.held
       by (inr h) refused = h.1
       by (inl h) refused = h.1 ∙ stays (ap is_refused (sym h.0) ∙ refused)

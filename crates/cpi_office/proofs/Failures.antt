@@ -39,7 +39,7 @@ use Rattle.cpi_office.specs.Desk.{registered}
 use Rattle.cpi_plan.specs.Planned.{planned}
 use Rattle.cpi_office.specs.Answers.{decision_reply, known_answer, work_reply, table_reply}
 use Rattle.cpi_office.specs.Runs.{reply_to}
-use Rattle.cpi_office.specs.Served.{is_failure}
+use Rattle.cpi_office.specs.Calls.{is_failure}
 use Rattle.cpi_office.specs.Turned.{is_turned_away}
 use Rattle.cpi_office.specs.declared.reply.Reply.{Reply}
 use Rattle.cpi_office.specs.declared.standing.Standing.{Standing}

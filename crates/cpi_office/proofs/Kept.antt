@@ -45,7 +45,7 @@ all_joined : {X : Type 0} (P : X → Type 0) (xs ys : List X) → AllByRecursion
 all_joined P [] ys a b = b
 all_joined P (x ∷ xs) ys a b = (a.0, all_joined P xs ys a.1 b)
 
-all-put : {X K : Type 0} (P : X → Type 0) (cmp : K → K → Ordering) (key : X → K) (row : X) (rows : List X) → P row → AllByRecursion P rows → AllByRecursion P (put cmp key row rows)
+pub all-put : {X K : Type 0} (P : X → Type 0) (cmp : K → K → Ordering) (key : X → K) (row : X) (rows : List X) → P row → AllByRecursion P rows → AllByRecursion P (put cmp key row rows)
 all-put P cmp key row rows one all =
     all_joined P _ _ (all_filtered P (λ r. is_lt (cmp (key r) (key row))) rows all) (one, all_filtered P (λ r. is_gt (cmp (key r) (key row))) rows all)
 

@@ -1,5 +1,5 @@
 -- The making of a release, over a book.
-use Rattle.std.proofs.Common.{◌≡◌, ℕ, true, List, Option, None, Some, Result, Ok, Err, IfOk, IfErr, OnErr, refl, sym, ap, subst}
+use Rattle.std.proofs.Common.{◌≡◌, ◌≢◌, ℕ, true, List, Option, None, Some, Result, Ok, Err, IfOk, IfErr, OnOk, OnErr, refl, sym, ap, subst}
 use Rattle.std.specs.Prelude.{IsErr, MatchResult}
 use Rattle.std.specs.declared.alloc.AllocError.{AllocError}
 use Rattle.std.proofs.lemmas.Bool.{false≢true}
@@ -15,6 +15,8 @@ use Rattle.cpi_release.specs.Summed.{IsFreezeFault}
 use Rattle.cpi_release.specs.declared.freeze_fault.FreezeFault.{FreezeFault}
 use Rattle.cpi_release.specs.declared.freeze_fault.FreezeFault.TheVariants.{Group}
 use Rattle.cpi_release.specs.declared.release.Release.{Release}
+use Rattle.cpi_release.specs.State.{State, StaysClean}
+use Rattle.cpi_store.specs.Calls.{IsOffice}
 use Rattle.cpi_store.specs.Office.{Office}
 use Rattle.cpi_store.specs.Sound.{IsSound}
 use Rattle.cpi_store.specs.Sources.{office_sources}
@@ -57,3 +59,12 @@ Computed s plan x made = MatchResult made (λ r. (fault_of plan s.releases x ≡
 
 pub moved_to : (s t : Sources) (p q : Option Plan) (x y : Freeze) (made : Result Release FreezeFault) → s ≡ t → p ≡ q → x ≡ y → Computed s p x made → Computed t q y made
 moved_to s t p q x y made a b d h = subst (λ z. Computed z q y made) a (subst (λ z. Computed s z y made) b (subst (λ z. Computed s p z made) d h))
+
+-- where the answer is none of the store, all was read
+pub all_read : (P : Type 0) (made : Result Release FreezeFault) (result : Answered) → OnOk result (made ≢ Err Group) → (made ≢ Err Group → P) → OnOk result P
+all_read P made (Ok x) read stays = stays read
+all_read P made (Err x) read stays = tt
+
+-- a store that is clean for the groups is clean for the office
+pub office_stays : {H : Type 0} {old new : State H} {was is : State Office} → IsOffice old was → IsOffice new is → StaysClean old new → StaysClean was is
+office_stays one two stays = λ clean kept. two.is_clean (stays (one.clean clean) (two.kept kept))

@@ -8,7 +8,8 @@ use Rattle.cpi_office.specs.Answers.{answer}
 use Rattle.cpi_office.specs.Runs.{replies, reply_to, after, next}
 use Rattle.cpi_office.specs.Sights.{seen}
 use Rattle.cpi_store.specs.Sound.{IsSound}
-use Rattle.cpi_office.specs.Served.{is_failure, all_served, all_told, IsRun}
+use Rattle.cpi_office.specs.Calls.{is_failure}
+use Rattle.cpi_office.specs.Served.{all_served, all_told, IsRun}
 use Rattle.cpi_office.specs.Rebuilt.{AreRebuilt, AreFromViews}
 use Rattle.cpi_office.specs.declared.request.Ask.{Ask}
 use Rattle.cpi_office.specs.declared.reply.Reply.{Reply}

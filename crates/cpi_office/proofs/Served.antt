@@ -3,8 +3,9 @@ use Rattle.std.proofs.Common.{◌≡◌, ℕ, false, inl, inr, List, [], ◌∷�
 use Rattle.std.proofs.lemmas.List.{append-nil}
 use Rattle.cpi_store.specs.Office.{Office}
 use Rattle.cpi_office.specs.Runs.{replies, reply_to, after, next}
-use Rattle.cpi_office.specs.Served.{served, told, all_served, all_told, IsRun, Ran, is_failure}
-use Rattle.cpi_office.specs.Calls.{ServesWhere}
+use Rattle.cpi_office.specs.Served.{served, told, all_served, all_told, NoneFails, IsRun, Ran}
+use Rattle.cpi_release.specs.State.{State}
+use Rattle.cpi_office.specs.Calls.{ServesWhere, Lasts, IsServed, is_failure}
 use Rattle.cpi_store.specs.Sound.{IsSound}
 use Rattle.cpi_office.proofs.Rebuilt.{sound_runs}
 use Rattle.cpi_office.proofs.Failures.{never_failure}
@@ -12,7 +13,7 @@ use Rattle.cpi_office.specs.declared.request.Ask.{Ask}
 use Rattle.cpi_office.specs.declared.reply.Reply.{Reply}
 use Rattle.cpi_office.specs.declared.reply.Reply.TheVariants.{Refused}
 use Rattle.cpi_office.specs.declared.refusal.Refusal.TheVariants.{Unavailable}
-use Rattle.std.specs.Prelude.{◌⊎◌}
+use Rattle.std.specs.Prelude.{◌⊎◌, IsFalse}
 
 pub after-append : (xs ys : List Ask) (o : Office) → after (xs ++ ys) o ≡ after ys (after xs o)
 after-append [] ys o = refl
@@ -55,24 +56,44 @@ pub run_sound : (o u : Office) (asks : List Ask) (rs : List Reply) → IsRun o a
 run_sound o u asks rs run s = rw run.office (sound_runs (all_served asks rs) o s)
 
 -- one call of the office is a run of the one request, or of none
-module _ {B : Type 0} (is_clean : B → Type 0) (lists : B → Office) (failures : B → ℕ) where
-  run_one : (a : Ask) (r : Reply) (o u : Office) → (r ≡ reply_to a.now a.caller a.request o) → (u ≡ next a o) → (replies (served a r) o ≡ told r) × (u ≡ after (served a r) o)
-  run_one a r o u e f =
-      let fair : is_failure r ≡ false = ap is_failure e ∙ never_failure a.now a.caller a.request o in
-      rw fair (ap (λ x. x ∷ []) (sym e), f)
+run_one : (a : Ask) (r : Reply) (o u : Office) → (r ≡ reply_to a.now a.caller a.request o) → (u ≡ next a o) → (replies (served a r) o ≡ told r) × (u ≡ after (served a r) o)
+run_one a r o u e f =
+    let fair : is_failure r ≡ false = ap is_failure e ∙ never_failure a.now a.caller a.request o in
+    rw fair (ap (λ x. x ∷ []) (sym e), f)
 
-  run_none : (a : Ask) (r : Reply) (o u : Office) → (r ≡ Refused Unavailable) → (u ≡ o) → (replies (served a r) o ≡ told r) × (u ≡ after (served a r) o)
-  run_none a r o u e f = rw e (refl, f)
+run_none : (a : Ask) (r : Reply) (o u : Office) → (r ≡ Refused Unavailable) → (u ≡ o) → (replies (served a r) o ≡ told r) × (u ≡ after (served a r) o)
+run_none a r o u e f = rw e (refl, f)
 
-  pub ran_more : (old mid new : B) (front : List Ask) (rs : List Reply) (a : Ask) (r : Reply) → length rs ≡ length front → Ran is_clean lists old mid front rs →
-      ServesWhere is_clean lists failures (IsSound (lists mid)) mid new r (reply_to a.now a.caller a.request (lists mid)) (next a (lists mid)) → Ran is_clean lists old new (front ++ a ∷ []) (rs ++ r ∷ [])
-  ran_more old mid new front rs a r same ran serves = record {
-    was_clean = λ clean. ran.was_clean (serves.was_clean clean);
-    run = λ clean s.
-        let so_far = ran.run (serves.was_clean clean) s in
-        by (serves.served clean (run_sound (lists old) (lists mid) front rs so_far s)) so_far;
-  }
-    where
-      by : ((r ≡ reply_to a.now a.caller a.request (lists mid)) × (lists new ≡ next a (lists mid))) ⊎ ((r ≡ Refused Unavailable) × (lists new ≡ lists mid)) → IsRun (lists old) front rs (lists mid) → IsRun (lists old) (front ++ a ∷ []) (rs ++ r ∷ []) (lists new)
-      by (inl h) so_far = let one = run_one a r (lists mid) (lists new) h.0 h.1 in run_more (lists old) (lists mid) (lists new) front rs a r same so_far one.0 one.1
-      by (inr h) so_far = let none = run_none a r (lists mid) (lists new) h.0 h.1 in run_more (lists old) (lists mid) (lists new) front rs a r same so_far none.0 none.1
+-- of replies none of which fails, none of the first fails, and the last doesn't
+none_before : (rs : List Reply) (r : Reply) → NoneFails (rs ++ r ∷ []) → NoneFails rs × IsFalse (is_failure r)
+none_before [] r none = (tt, none.0)
+none_before (s ∷ rs) r none = let rest = none_before rs r none.1 in ((none.0, rest.0), rest.1)
+
+-- what lasts after a call that followed others
+lasts_more : (old mid new : State Office) → Lasts old mid → Lasts mid new → Lasts old new
+lasts_more old mid new first then o left = by (then o left)
+  where
+    before : new.held ≡ mid.held → (o ≡ mid.held) ⊎ ((mid.held ≡ old.held) × old.may_leave o) → (o ≡ new.held) ⊎ ((new.held ≡ old.held) × old.may_leave o)
+    before same (inl is) = inl (is ∙ sym same)
+    before same (inr h) = inr (same ∙ h.0, h.1)
+
+    by : (o ≡ new.held) ⊎ ((new.held ≡ mid.held) × mid.may_leave o) → (o ≡ new.held) ⊎ ((new.held ≡ old.held) × old.may_leave o)
+    by (inl is) = inl is
+    by (inr h) = before h.0 (first o h.1)
+
+pub ran_more : (old mid new : State Office) (front : List Ask) (rs : List Reply) (a : Ask) (r : Reply) → length rs ≡ length front → Ran old mid front rs →
+    ServesWhere mid new (IsSound mid.held) r (reply_to a.now a.caller a.request mid.held) (next a mid.held) → Ran old new (front ++ a ∷ []) (rs ++ r ∷ [])
+ran_more old mid new front rs a r same ran serves = record {
+  was_clean = λ clean. ran.was_clean (serves.was_clean clean);
+  run = λ clean s.
+      let so_far = ran.run (serves.was_clean clean) s in
+      by (serves.served clean (run_sound old.held mid.held front rs so_far s)) so_far;
+  lasts = λ clean s none.
+      let was = serves.was_clean clean in
+      let each = none_before rs r none in
+      lasts_more old mid new (ran.lasts was s each.0) (serves.endures.answered each.1 clean);
+}
+  where
+    by : IsServed r (reply_to a.now a.caller a.request mid.held) mid.held new.held (next a mid.held) → IsRun old.held front rs mid.held → IsRun old.held (front ++ a ∷ []) (rs ++ r ∷ []) new.held
+    by (inl h) so_far = let one = run_one a r mid.held new.held h.0 h.1 in run_more old.held mid.held new.held front rs a r same so_far one.0 one.1
+    by (inr h) so_far = let none = run_none a r mid.held new.held h.0 h.1 in run_more old.held mid.held new.held front rs a r same so_far none.0 none.1

@@ -1,17 +1,16 @@
 -- What a run over a book tells one collector.
 use Rattle.std.proofs.Common.{◌≡◌, ℕ, List, [], ◌∷◌, ◌++◌, length, refl, sym, ap, ◌∙◌, arith, inl, inr, Bool, true, false}
-use Rattle.std.specs.Prelude.{◌⊎◌, if◌then◌else◌}
+use Rattle.std.specs.Prelude.{if◌then◌else◌}
 use Rattle.cpi_store.specs.Office.{Office}
 use Rattle.cpi_office.specs.Runs.{replies, reply_to, next}
-use Rattle.cpi_office.specs.Calls.{ServesWhere}
+use Rattle.cpi_release.specs.State.{State}
+use Rattle.cpi_office.specs.Calls.{ServesWhere, IsServed, is_failure}
 use Rattle.cpi_store.specs.Sound.{IsSound}
-use Rattle.cpi_office.specs.Served.{all_served, all_told, IsRun, is_failure}
+use Rattle.cpi_office.specs.Served.{all_served, all_told, NoneFails, IsRun}
 use Rattle.cpi_office.specs.Alone.{is_bearer, told_to, without_others, NoneFreezes, OthersMayDiffer}
-use Rattle.cpi_office.specs.Told.{replies_to, AreToldAlone, NoneFails, IsWhole, RunsTellAlike}
+use Rattle.cpi_office.specs.Told.{replies_to, AreToldAlone, IsWhole, RunsTellAlike}
 use Rattle.cpi_office.specs.declared.request.Ask.{Ask}
 use Rattle.cpi_office.specs.declared.reply.Reply.{Reply}
-use Rattle.cpi_office.specs.declared.reply.Reply.TheVariants.{Refused}
-use Rattle.cpi_office.specs.declared.refusal.Refusal.TheVariants.{Unavailable}
 use Rattle.cpi_office.proofs.Rebuilt.{next_sound}
 use Rattle.cpi_office.proofs.Alone.{others_do_not_matter}
 
@@ -48,28 +47,28 @@ all_are_told : (rs : List Reply) → NoneFails rs → all_told rs ≡ rs
 all_are_told [] none = refl
 all_are_told (r ∷ rs) none = rw none.0 (ap (λ xs. r ∷ xs) (all_are_told rs none.1))
 
-module _ {B : Type 0} (is_clean : B → Type 0) (lists : B → Office) (old new : B) (asks : List Ask) (rs : List Reply) where
-  whole_told : IsWhole is_clean lists old new asks rs → NoneFreezes asks → (key : ℕ) → replies_to key asks rs ≡ told_to key (without_others key asks) (lists old)
+module _ (old new : State Office) (asks : List Ask) (rs : List Reply) where
+  whole_told : IsWhole old new asks rs → NoneFreezes asks → (key : ℕ) → replies_to key asks rs ≡ told_to key (without_others key asks) old.held
   whole_told whole none key =
       let served = all_are_served asks rs whole.each whole.served in
       let told = all_are_told rs whole.served in
       ap (λ xs. replies_to key xs rs) (sym served)
       ∙ ap (replies_to key (all_served asks rs)) (sym told)
-      ∙ told_alone (lists old) (lists new) asks rs whole.sound (whole.ran.run whole.clean whole.sound) none key
-      ∙ ap (λ xs. told_to key (without_others key xs) (lists old)) served
+      ∙ told_alone old.held new.held asks rs whole.sound (whole.ran.run whole.clean whole.sound) none key
+      ∙ ap (λ xs. told_to key (without_others key xs) old.held) served
 
-pub runs_tell_alike : {B C : Type 0} (clean : B → Type 0) (lists : B → Office) (clean' : C → Type 0) (lists' : C → Office) → RunsTellAlike clean lists clean' lists'
-runs_tell_alike clean lists clean' lists' key asks others rs ss old new old' new' whole whole' start none none' same =
-    whole_told clean lists old new asks rs whole none key
-    ∙ ap (λ xs. told_to key xs (lists old)) same
+pub runs_tell_alike : {B C : Type 0} (state : B → State Office) (state' : C → State Office) → RunsTellAlike state state'
+runs_tell_alike state state' key asks others rs ss old new old' new' whole whole' start none none' same =
+    whole_told (state old) (state new) asks rs whole none key
+    ∙ ap (λ xs. told_to key xs (state old).held) same
     ∙ ap (told_to key (without_others key others)) start
-    ∙ sym (whole_told clean' lists' old' new' others ss whole' none' key)
+    ∙ sym (whole_told (state' old') (state' new') others ss whole' none' key)
 
 -- a request that is served leaves a sound office sound
-pub serves_sound : {B : Type 0} (is_clean : B → Type 0) (lists : B → Office) (failures : B → ℕ) (old new : B) (reply wanted : Reply) (a : Ask) →
-    ServesWhere is_clean lists failures (IsSound (lists old)) old new reply wanted (next a (lists old)) → is_clean new → IsSound (lists old) → IsSound (lists new)
-serves_sound is_clean lists failures old new reply wanted a serves clean s = by (serves.served clean s)
+pub serves_sound : (old new : State Office) (reply wanted : Reply) (a : Ask) →
+    ServesWhere old new (IsSound old.held) reply wanted (next a old.held) → new.is_clean → IsSound old.held → IsSound new.held
+serves_sound old new reply wanted a serves clean s = by (serves.served clean s)
   where
-    by : ((reply ≡ wanted) × (lists new ≡ next a (lists old))) ⊎ ((reply ≡ Refused Unavailable) × (lists new ≡ lists old)) → IsSound (lists new)
-    by (inl done) = rw done.1 (next_sound a (lists old) s)
+    by : IsServed reply wanted old.held new.held (next a old.held) → IsSound new.held
+    by (inl done) = rw done.1 (next_sound a old.held s)
     by (inr failed) = rw failed.1 s

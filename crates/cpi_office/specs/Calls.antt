@@ -1,7 +1,9 @@
 -- What a call of the office does over a book.
-use Rattle.std.specs.Prelude.{◌≡◌, ◌⊎◌, ℕ, ◌≤◌, Bool, true, false, IsTrue}
-use Rattle.cpi_office.specs.declared.refusal.Refusal.TheVariants.{Unavailable}
+use Rattle.std.specs.Prelude.{◌≡◌, ◌⊎◌, ◌≤◌, Bool, true, false, IsTrue, IsFalse}
+use Rattle.cpi_release.specs.State.{State, StaysClean}
 use Rattle.cpi_store.specs.Office.{Office}
+use Rattle.cpi_office.specs.declared.refusal.Refusal.{Refusal}
+use Rattle.cpi_office.specs.declared.refusal.Refusal.TheVariants.{Unavailable}
 use Rattle.cpi_office.specs.declared.reply.Reply.{Reply}
 use Rattle.cpi_office.specs.declared.reply.Reply.TheVariants as say
 
@@ -9,21 +11,48 @@ abbrev pub is_refused : Reply → Bool
 is_refused (say.Refused f) = true
 is_refused _ = false
 
+abbrev pub is_unavailable : Refusal → Bool
+is_unavailable Unavailable = true
+is_unavailable _ = false
+
+-- the reply says that the office is unavailable
+abbrev pub is_failure : Reply → Bool
+is_failure (say.Refused f) = is_unavailable f
+is_failure _ = false
+
 -- the reply is the one that is wanted, and the office is so; or the call was unavailable, and nothing has changed
 abbrev pub IsServed : Reply → Reply → Office → Office → Office → Type 0
 IsServed reply wanted old new after =
     ((reply ≡ wanted) × (new ≡ after)) ⊎ ((reply ≡ say.Refused Unavailable) × (new ≡ old))
 
-module _ {B : Type 0} (is_clean : B → Type 0) (lists : B → Office) (failures : B → ℕ) where
+module _ (old new : State Office) where
+  -- a crash leaves the office as it stands now; or nothing was changed, and it leaves what it could leave before
+  abbrev pub Lasts : Type 0
+  Lasts = (o : Office) → new.may_leave o → (o ≡ new.held) ⊎ ((new.held ≡ old.held) × old.may_leave o)
+
+  -- what was answered endures: the store is as clean as before, and a crash leaves what the call made
+  pub record Endures (reply : Reply) : Type 0 where
+    pub was_kept : new.is_kept → old.is_kept
+    pub stays : IsFalse (is_failure reply) → StaysClean old new
+    pub answered : IsFalse (is_failure reply) → new.is_clean → Lasts
+
+  -- a crash leaves the office as it could be left before the call, or the office after it
+  abbrev pub Crashes : Office → Type 0
+  Crashes after = old.is_clean → new.is_kept → (o : Office) → new.may_leave o → old.may_leave o ⊎ (o ≡ after)
+
   -- the call gives the reply and leaves the office so, or it is unavailable and changes nothing
-  pub record Serves (old new : B) (reply wanted : Reply) (after : Office) : Type 0 where
-    pub was_clean : is_clean new → is_clean old
-    pub served : is_clean new → IsServed reply wanted (lists old) (lists new) after
-    pub count : failures old ≤ failures new
+  pub record Serves (reply wanted : Reply) (after : Office) : Type 0 where
+    pub was_clean : new.is_clean → old.is_clean
+    pub served : new.is_clean → IsServed reply wanted old.held new.held after
+    pub count : old.failures ≤ new.failures
+    pub endures : Endures reply
+    pub crash : Crashes after
 
   -- the same under a premise; a refusal changes nothing, whether the premise holds or not
-  pub record ServesWhere (premise : Type 0) (old new : B) (reply wanted : Reply) (after : Office) : Type 0 where
-    pub was_clean : is_clean new → is_clean old
-    pub served : is_clean new → premise → IsServed reply wanted (lists old) (lists new) after
-    pub refused : is_clean new → IsTrue (is_refused reply) → lists new ≡ lists old
-    pub count : failures old ≤ failures new
+  pub record ServesWhere (premise : Type 0) (reply wanted : Reply) (after : Office) : Type 0 where
+    pub was_clean : new.is_clean → old.is_clean
+    pub served : new.is_clean → premise → IsServed reply wanted old.held new.held after
+    pub refused : new.is_clean → IsTrue (is_refused reply) → new.held ≡ old.held
+    pub count : old.failures ≤ new.failures
+    pub endures : Endures reply
+    pub crash : premise → Crashes after

@@ -5,7 +5,8 @@ use Rattle.cpi_office.specs.Views.{view}
 use Rattle.cpi_office.specs.Answers.{answer}
 use Rattle.cpi_office.specs.Runs.{trace}
 use Rattle.cpi_office.specs.Sights.{seen, build}
-use Rattle.cpi_office.specs.Served.{is_failure, all_served}
+use Rattle.cpi_office.specs.Calls.{is_failure}
+use Rattle.cpi_office.specs.Served.{all_served}
 use Rattle.cpi_office.specs.declared.request.Ask.{Ask}
 use Rattle.cpi_office.specs.declared.reply.Reply.{Reply}
 use Rattle.cpi_office.specs.declared.caller.Caller.{Caller}

@@ -1,21 +1,13 @@
 -- Runs in which a request may be answered that the office is unavailable, and then changes nothing.
-use Rattle.std.specs.Prelude.{◌≡◌, Bool, true, false, List, [], ◌∷◌, ◌++◌, if◌then◌else◌}
-use Rattle.cpi_office.specs.declared.refusal.Refusal.{Refusal}
-use Rattle.cpi_office.specs.declared.refusal.Refusal.TheVariants.{Unavailable}
+use Rattle.std.specs.List.{AllByRecursion}
+use Rattle.std.specs.Prelude.{◌≡◌, IsFalse, List, [], ◌∷◌, ◌++◌, if◌then◌else◌}
+use Rattle.cpi_release.specs.State.{State}
 use Rattle.cpi_store.specs.Office.{Office}
+use Rattle.cpi_office.specs.Calls.{is_failure, Lasts}
 use Rattle.cpi_office.specs.Runs.{replies, after}
 use Rattle.cpi_store.specs.Sound.{IsSound}
 use Rattle.cpi_office.specs.declared.request.Ask.{Ask}
 use Rattle.cpi_office.specs.declared.reply.Reply.{Reply}
-use Rattle.cpi_office.specs.declared.reply.Reply.TheVariants.{Refused}
-
-abbrev pub is_unavailable : Refusal → Bool
-is_unavailable Unavailable = true
-is_unavailable _ = false
-
-abbrev pub is_failure : Reply → Bool
-is_failure (Refused f) = is_unavailable f
-is_failure _ = false
 
 -- the request, unless it was answered that the office is unavailable
 abbrev pub served : Ask → Reply → List Ask
@@ -40,8 +32,13 @@ pub record IsRun (o : Office) (asks : List Ask) (rs : List Reply) (u : Office) :
   pub answers : replies (all_served asks rs) o ≡ all_told rs
   pub office : u ≡ after (all_served asks rs) o
 
-module _ {B : Type 0} (is_clean : B → Type 0) (lists : B → Office) where
-  -- the requests were carried out over a book that held a sound office
-  pub record Ran (old new : B) (asks : List Ask) (rs : List Reply) : Type 0 where
-    pub was_clean : is_clean new → is_clean old
-    pub run : is_clean new → IsSound (lists old) → IsRun (lists old) asks rs (lists new)
+-- no reply says that the office is unavailable
+abbrev pub NoneFails : List Reply → Type 0
+NoneFails rs = AllByRecursion (λ r. IsFalse (is_failure r)) rs
+
+-- The requests were carried out over a book that held a sound office. Where none failed, a crash leaves the office
+-- after the last that changed it.
+pub record Ran (old new : State Office) (asks : List Ask) (rs : List Reply) : Type 0 where
+  pub was_clean : new.is_clean → old.is_clean
+  pub run : new.is_clean → IsSound old.held → IsRun old.held asks rs new.held
+  pub lasts : new.is_clean → IsSound old.held → NoneFails rs → Lasts old new

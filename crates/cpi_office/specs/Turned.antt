@@ -1,5 +1,7 @@
 -- Who is turned away: nobody bears the key, or the request isn't one of that kind of caller.
-use Rattle.std.specs.Prelude.{◌≡◌, ◌⊎◌, ℕ, ◌<◌, Bool, true, false, IsTrue, IsFalse}
+use Rattle.std.specs.Prelude.{◌≡◌, ◌⊎◌, ◌<◌, Bool, true, false, IsTrue, IsFalse}
+use Rattle.cpi_release.specs.State.{State}
+use Rattle.cpi_store.specs.Office.{Office}
 use Rattle.cpi_office.specs.declared.refusal.Refusal.{Refusal}
 use Rattle.cpi_office.specs.declared.refusal.Refusal.TheVariants.{UnknownKey, NotForCaller, Unavailable}
 use Rattle.cpi_office.specs.declared.caller.Caller.{Caller}
@@ -21,17 +23,20 @@ has_key Public = false
 has_key (Collector key) = true
 has_key Desk = false
 
-module _ {B : Type 0} (failures : B → ℕ) (finds_always : Type 0) where
-  -- the call is unavailable: the book failed during it, and is one whose look-ups can fail
-  pub record Fails (old new : B) (reply : Reply) : Type 0 where
-    pub unavailable : reply ≡ Refused Unavailable
-    pub failed : failures old < failures new
-    pub can_fail : finds_always → ⊥
+-- the call is unavailable: the book failed during it, and is one whose look-ups can fail
+pub record Fails (old new : State Office) (finds_always : Type 0) (reply : Reply) : Type 0 where
+  pub unavailable : reply ≡ Refused Unavailable
+  pub failed : old.failures < new.failures
+  pub can_fail : finds_always → ⊥
 
-module _ {B : Type 0} (is_clean : B → Type 0) (failures : B → ℕ) (finds_always : Type 0) where
+module _ {B : Type 0} (state : B → State Office) (finds_always : Type 0) where
   -- A caller who is to be turned away is told so. The public and the desk are told without the book; with a key it is
   -- so unless a look-up failed.
   pub record TurnsAway (old new : B) (caller : Caller) (reply wanted : Reply) : Type 0 where
     pub keyless : IsFalse (has_key caller) → IsTrue (is_turned_away wanted) → (reply ≡ wanted) × (new ≡ old)
     pub keyed :
-        is_clean new → IsTrue (is_turned_away wanted) → (reply ≡ wanted) ⊎ Fails failures finds_always old new reply
+        (state new).is_clean → IsTrue (is_turned_away wanted) →
+        (reply ≡ wanted) ⊎ Fails (state old) (state new) finds_always reply
+    -- a request that isn't the caller's is unavailable only where a look-up failed, whether the store is clean or not
+    pub unavailable :
+        wanted ≡ Refused NotForCaller → reply ≡ Refused Unavailable → Fails (state old) (state new) finds_always reply

@@ -2,7 +2,7 @@ ghost use Rattle.std.specs.Prelude.{◌≡◌, Some, None, IsSome, IfOk, is_none
 ghost use Rattle.std.specs.Option.{option_copied};
 ghost use Rattle.cpi_rows.specs.Keyed.{at};
 ghost use Rattle.cpi_rows.specs.Held.{held_by};
-ghost use Rattle.cpi_store.specs.Calls.{Reads};
+ghost use Rattle.cpi_release.specs.State.{Reads};
 ghost use Rattle.cpi_store.specs.Outlet.{with_name};
 ghost use Rattle.cpi_store.specs.Sound.{IsWellMade};
 ghost use Rattle.cpi_office.specs.Standing.{standing};
@@ -28,8 +28,8 @@ pub fn assign<B: Book>(
     collector: CollectorId,
     new_assignment: NewAssignment,
 ) -> Reply
-    ensures { let o = B.lists book.old in let v = assigned_in collector new_assignment o in
-        Serves B.is_clean B.lists B.failures book.old book.new result (verdict_reply v) (with_verdict v o) }
+    ensures { let o = (B.state book.old).held in let v = assigned_in collector new_assignment o in
+        Serves (B.state book.old) (B.state book.new) result (verdict_reply v) (with_verdict v o) }
 {
     if is_assignable(collector, &new_assignment) {
         assign_series(
@@ -80,8 +80,8 @@ fn assign_series<B: Book>(
     assignment: Assignment,
 ) -> Reply
     requires made { IsWellMade (collector, assignment) }
-    ensures { let o = B.lists book.old in let v = slot_given collector assignment o in
-        Serves B.is_clean B.lists B.failures book.old book.new result (verdict_reply v) (with_verdict v o) }
+    ensures { let o = (B.state book.old).held in let v = slot_given collector assignment o in
+        Serves (B.state book.old) (B.state book.new) result (verdict_reply v) (with_verdict v o) }
 {
     assign_judged(alloc, book, collector, assignment)
 }
@@ -94,8 +94,8 @@ fn assign_judged<B: Book>(
     assignment: Assignment,
 ) -> Reply
     requires made { IsWellMade (collector, assignment) }
-    ensures { let o = B.lists book.old in let v = slot_given_by_name collector assignment o in
-        Serves B.is_clean B.lists B.failures book.old book.new result (verdict_reply v) (with_verdict v o) }
+    ensures { let o = (B.state book.old).held in let v = slot_given_by_name collector assignment o in
+        Serves (B.state book.old) (B.state book.new) result (verdict_reply v) (with_verdict v o) }
 {
     match find_slot(book, collector, &assignment) {
         Err(StoreFault) => Reply::Refused(Refusal::Unavailable),
@@ -112,9 +112,9 @@ fn find_slot<B: Book>(
     collector: CollectorId,
     assignment: &Assignment,
 ) -> Result<(Standing, bool), StoreFault>
-    ensures { Reads B.is_clean B.lists B.failures B.may_leave book.old book.new result (λ found.
-        (found.0 ≡ slot_standing collector assignment.now (B.lists book.old))
-        × (found.1 ≡ is_none (at (λ i. i.code) assignment.now.item (B.lists book.old).items))) }
+    ensures { Reads (B.state book.old) (B.state book.new) result (λ found.
+        (found.0 ≡ slot_standing collector assignment.now (B.state book.old).held)
+        × (found.1 ≡ is_none (at (λ i. i.code) assignment.now.item (B.state book.old).held.items))) }
 {
     let parts = book.parts(collector)?;
     let standing = standing_assignment(assignment, parts.own.assigned(assignment.slot));
@@ -138,8 +138,8 @@ fn standing_assignment(assignment: &Assignment, old: Option<&Assigned>) -> Stand
 
 /// Answers an assignment that stands, if there is the collector.
 fn assign_again<B: Book>(book: &mut B, collector: CollectorId) -> Reply
-    ensures { let o = B.lists book.old in
-        Serves B.is_clean B.lists B.failures book.old book.new result
+    ensures { let o = (B.state book.old).held in
+        Serves (B.state book.old) (B.state book.new) result
         (again_reply (at (λ b. b.number) collector o.collectors)) o }
 {
     match book.bearer_at(collector) {
@@ -157,14 +157,15 @@ fn assign_new<B: Book>(
     assignment: Assignment,
 ) -> Reply
     requires made { IsWellMade (collector, assignment) }
-    requires free { B.is_clean book.old →
-        at (λ a. a.slot) assignment.slot (held_by collector (B.lists book.old).assignments) ≡ None }
-    requires item { B.is_clean book.old → IsSome (at (λ i. i.code) assignment.item (B.lists book.old).items) }
-    ensures { let o = B.lists book.old in
+    requires free { (B.state book.old).is_clean →
+        at (λ a. a.slot) assignment.slot (held_by collector (B.state book.old).held.assignments) ≡ None }
+    requires item { (B.state book.old).is_clean →
+        IsSome (at (λ i. i.code) assignment.item (B.state book.old).held.items) }
+    ensures { let o = (B.state book.old).held in
         let outlet = at (λ u. u.number) assignment.outlet o.outlets in
         let bearer = at (λ b. b.number) collector o.collectors in
         let v = outlet_judged (with_name o.outlets assignment) outlet bearer in
-        Serves B.is_clean B.lists B.failures book.old book.new result (verdict_reply v) (with_verdict v o) }
+        Serves (B.state book.old) (B.state book.new) result (verdict_reply v) (with_verdict v o) }
 {
     match name_outlet(alloc, book, assignment) {
         Ok(Ok(Some(assigned))) => assign_to(book, collector, assigned),
@@ -179,8 +180,8 @@ fn name_outlet<B: Book>(
     book: &mut B,
     assignment: Assignment,
 ) -> Result<Result<Option<Assigned>, AllocError>, StoreFault>
-    ensures { Reads B.is_clean B.lists B.failures B.may_leave book.old book.new result (λ found.
-        IfOk found (λ named. IsNamed (B.lists book.old).outlets assignment named)) }
+    ensures { Reads (B.state book.old) (B.state book.new) result (λ found.
+        IfOk found (λ named. IsNamed (B.state book.old).held.outlets assignment named)) }
 {
     let outlet = book.outlet(assignment.outlet)?;
     Ok(with_name(alloc, assignment, outlet))
@@ -207,15 +208,18 @@ fn with_name(
 
 /// Puts a new assignment, if there is the collector.
 fn assign_to<B: Book>(book: &mut B, collector: CollectorId, assigned: Assigned) -> Reply
-    requires made { B.is_clean book.old → IsWellMade (collector, assigned.assignment) }
-    requires free { B.is_clean book.old →
-        at (λ a. a.slot) assigned.assignment.slot (held_by collector (B.lists book.old).assignments) ≡ None }
-    requires item { B.is_clean book.old → IsSome (at (λ i. i.code) assigned.assignment.item (B.lists book.old).items) }
-    requires outlet { B.is_clean book.old →
-        IsSome (at (λ u. u.number) assigned.assignment.outlet (B.lists book.old).outlets) }
-    requires name { B.is_clean book.old → assigned ≡ with_name (B.lists book.old).outlets assigned.assignment }
-    ensures { let o = B.lists book.old in let v = to_collector assigned (at (λ b. b.number) collector o.collectors) in
-        Serves B.is_clean B.lists B.failures book.old book.new result (verdict_reply v) (with_verdict v o) }
+    requires made { (B.state book.old).is_clean → IsWellMade (collector, assigned.assignment) }
+    requires free { (B.state book.old).is_clean →
+        at (λ a. a.slot) assigned.assignment.slot (held_by collector (B.state book.old).held.assignments) ≡ None }
+    requires item { (B.state book.old).is_clean →
+        IsSome (at (λ i. i.code) assigned.assignment.item (B.state book.old).held.items) }
+    requires outlet { (B.state book.old).is_clean →
+        IsSome (at (λ u. u.number) assigned.assignment.outlet (B.state book.old).held.outlets) }
+    requires name { (B.state book.old).is_clean →
+        assigned ≡ with_name (B.state book.old).held.outlets assigned.assignment }
+    ensures { let o = (B.state book.old).held in
+        let v = to_collector assigned (at (λ b. b.number) collector o.collectors) in
+        Serves (B.state book.old) (B.state book.new) result (verdict_reply v) (with_verdict v o) }
 {
     match book.bearer_at(collector) {
         Err(StoreFault) => Reply::Refused(Refusal::Unavailable),

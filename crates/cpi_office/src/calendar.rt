@@ -1,7 +1,7 @@
 ghost use Rattle.std.specs.Prelude.{◌≡◌, Some, None};
 ghost use Rattle.std.specs.Option.{option_copied};
 ghost use Rattle.cpi_rows.specs.Keyed.{at};
-ghost use Rattle.cpi_store.specs.Calls.{Reads};
+ghost use Rattle.cpi_release.specs.State.{Reads};
 ghost use Rattle.cpi_store.specs.Office.{public_part, PutsCalendar};
 ghost use Rattle.cpi_plan.specs.Calendar.{same_calendar};
 ghost use Rattle.cpi_release.specs.FrozenMonths.{frozen_months, is_frozen};
@@ -19,8 +19,8 @@ use cpi_store::{Book, StoreFault};
 
 /// Puts a month's row, over the one that stands if there is one.
 pub fn put_calendar<B: Book>(book: &mut B, row: CalendarRow) -> Reply
-    ensures { let o = B.lists book.old in let v = scheduled_in row o in
-        Serves B.is_clean B.lists B.failures book.old book.new result (verdict_reply v) (with_verdict v o) }
+    ensures { let o = (B.state book.old).held in let v = scheduled_in row o in
+        Serves (B.state book.old) (B.state book.new) result (verdict_reply v) (with_verdict v o) }
 {
     match find_calendar(book, &row) {
         Err(StoreFault) => Reply::Refused(Refusal::Unavailable),
@@ -31,9 +31,9 @@ pub fn put_calendar<B: Book>(book: &mut B, row: CalendarRow) -> Reply
 
 /// Stores a month's row, unless the month was frozen.
 fn store_calendar<B: Book>(book: &mut B, row: CalendarRow) -> Reply
-    ensures { let o = B.lists book.old in
+    ensures { let o = (B.state book.old).held in
         let v = unless_frozen (is_frozen row.month (frozen_months o.releases)) Refusal.MonthFrozen (PutsCalendar row) in
-        Serves B.is_clean B.lists B.failures book.old book.new result (verdict_reply v) (with_verdict v o) }
+        Serves (B.state book.old) (B.state book.new) result (verdict_reply v) (with_verdict v o) }
 {
     match is_month_frozen(book, row.month()) {
         Err(StoreFault) => Reply::Refused(Refusal::Unavailable),
@@ -47,8 +47,8 @@ fn store_calendar<B: Book>(book: &mut B, row: CalendarRow) -> Reply
 
 /// What stands at the month of the row.
 fn find_calendar<B: Book>(book: &mut B, row: &CalendarRow) -> Result<Standing, StoreFault>
-    ensures { Reads B.is_clean B.lists B.failures B.may_leave book.old book.new result (λ found.
-        found ≡ standing same_calendar row.now (at (λ r. r.month) row.now.month (B.lists book.old).calendar)) }
+    ensures { Reads (B.state book.old) (B.state book.new) result (λ found.
+        found ≡ standing same_calendar row.now (at (λ r. r.month) row.now.month (B.state book.old).held.calendar)) }
 {
     let public = book.public_part()?;
     Ok(standing_calendar(row, public.calendar_row(row.month())))

@@ -29,11 +29,11 @@ use std::alloc::Global;
 
 /// Answers the public.
 pub fn serve_public<B: Book>(alloc: Global, book: &mut B, now: Moment, request: Request) -> Reply
-    ensures serves { let o = B.lists book.old in
-        Serves B.is_clean B.lists B.failures book.old book.new result
+    ensures serves { let o = (B.state book.old).held in
+        Serves (B.state book.old) (B.state book.new) result
         (reply_to now Caller.Public request o) (after_one now Caller.Public request o) }
-    ensures turns { TurnsAway B.is_clean B.failures B.finds_always book.old book.new Caller.Public result
-        (reply_to now Caller.Public request (B.lists book.old)) }
+    ensures turns { TurnsAway B.state B.finds_always book.old book.new Caller.Public result
+        (reply_to now Caller.Public request (B.state book.old).held) }
 {
     match request {
         Request::Items => items(alloc, book),
@@ -51,11 +51,11 @@ pub fn serve_collector<B: Book>(
     key: Key,
     request: Request,
 ) -> Reply
-    ensures serves { let o = B.lists book.old in
-        Serves B.is_clean B.lists B.failures book.old book.new result
+    ensures serves { let o = (B.state book.old).held in
+        Serves (B.state book.old) (B.state book.new) result
         (reply_to now (Caller.Collector key) request o) (after_one now (Caller.Collector key) request o) }
-    ensures turns { TurnsAway B.is_clean B.failures B.finds_always book.old book.new (Caller.Collector key) result
-        (reply_to now (Caller.Collector key) request (B.lists book.old)) }
+    ensures turns { TurnsAway B.state B.finds_always book.old book.new (Caller.Collector key) result
+        (reply_to now (Caller.Collector key) request (B.state book.old).held) }
 {
     match book.bearer_of(key) {
         Err(StoreFault) => Reply::Refused(Refusal::Unavailable),
@@ -72,12 +72,12 @@ fn serve_known<B: Book>(
     bearer: Bearer,
     request: Request,
 ) -> Reply
-    requires known { B.is_clean book.old → IsSome (at (λ b. b.number) bearer.number (B.lists book.old).collectors) }
-    ensures serves { let o = B.lists book.old in
-        Serves B.is_clean B.lists B.failures book.old book.new result
+    requires known { (B.state book.old).is_clean →
+        IsSome (at (λ b. b.number) bearer.number (B.state book.old).held.collectors) }
+    ensures serves { let o = (B.state book.old).held in
+        Serves (B.state book.old) (B.state book.new) result
         (collector_reply now request o (Some bearer)) (collector_after bearer.key now request o (Some bearer)) }
-    ensures turns { B.is_clean book.new →
-        let wanted = collector_reply now request (B.lists book.old) (Some bearer) in
+    ensures turns { let wanted = collector_reply now request (B.state book.old).held (Some bearer) in
         IsTrue (is_turned_away wanted) → result ≡ wanted }
 {
     match request {
@@ -93,11 +93,11 @@ fn serve_known<B: Book>(
 
 /// Answers the desk.
 pub fn serve_desk<B: Book>(alloc: Global, book: &mut B, now: Moment, request: Request) -> Reply
-    ensures serves { let o = B.lists book.old in
-        ServesWhere B.is_clean B.lists B.failures (IsSound o) book.old book.new result
+    ensures serves { let o = (B.state book.old).held in
+        ServesWhere (B.state book.old) (B.state book.new) (IsSound o) result
         (reply_to now Caller.Desk request o) (after_one now Caller.Desk request o) }
-    ensures turns { TurnsAway B.is_clean B.failures B.finds_always book.old book.new Caller.Desk result
-        (reply_to now Caller.Desk request (B.lists book.old)) }
+    ensures turns { TurnsAway B.state B.finds_always book.old book.new Caller.Desk result
+        (reply_to now Caller.Desk request (B.state book.old).held) }
 {
     match request {
         Request::Items => items(alloc, book),

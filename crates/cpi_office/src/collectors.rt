@@ -1,6 +1,6 @@
 ghost use Rattle.std.specs.Prelude.{◌≡◌, Some, None};
 ghost use Rattle.cpi_rows.specs.Keyed.{at};
-ghost use Rattle.cpi_store.specs.Calls.{Reads};
+ghost use Rattle.cpi_release.specs.State.{Reads};
 ghost use Rattle.cpi_store.specs.Bearer.{bearer_of};
 ghost use Rattle.cpi_office.specs.Desk.{registered};
 ghost use Rattle.cpi_office.specs.Verdicts.{with_verdict, verdict_reply};
@@ -12,9 +12,9 @@ use cpi_store::{Bearer, Book, StoreFault};
 
 /// Registers a collector, unless the number or the key stands and not both together.
 pub fn register<B: Book>(book: &mut B, bearer: Bearer) -> Reply
-    ensures { let o = B.lists book.old in
+    ensures { let o = (B.state book.old).held in
         let v = registered bearer (at (λ b. b.number) bearer.number o.collectors) (bearer_of bearer.key o.collectors) in
-        Serves B.is_clean B.lists B.failures book.old book.new result (verdict_reply v) (with_verdict v o) }
+        Serves (B.state book.old) (B.state book.new) result (verdict_reply v) (with_verdict v o) }
 {
     match find_bearers(book, bearer) {
         Err(StoreFault) => Reply::Refused(Refusal::Unavailable),
@@ -38,9 +38,9 @@ fn find_bearers<B: Book>(
     book: &mut B,
     bearer: Bearer,
 ) -> Result<(Option<Bearer>, Option<Bearer>), StoreFault>
-    ensures { Reads B.is_clean B.lists B.failures B.may_leave book.old book.new result (λ found.
-        (found.0 ≡ at (λ b. b.number) bearer.number (B.lists book.old).collectors)
-        × (found.1 ≡ bearer_of bearer.key (B.lists book.old).collectors)) }
+    ensures { Reads (B.state book.old) (B.state book.new) result (λ found.
+        (found.0 ≡ at (λ b. b.number) bearer.number (B.state book.old).held.collectors)
+        × (found.1 ≡ bearer_of bearer.key (B.state book.old).held.collectors)) }
 {
     let at_number = book.bearer_at(bearer.number)?;
     let of_key = book.bearer_of(bearer.key)?;

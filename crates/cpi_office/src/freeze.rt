@@ -1,4 +1,4 @@
-ghost use Rattle.std.specs.Prelude.{◌≡◌, ◌≢◌, ℕ, true, Option, None, Some, Err, IfOk, IfErr, OnErr, IsOk, IsErr, MatchResult};
+ghost use Rattle.std.specs.Prelude.{◌≡◌, ◌≢◌, ℕ, true, Option, None, Some, Err, IfOk, IfErr, OnOk, OnErr, IsOk, IsErr, MatchResult};
 ghost use Rattle.std.specs.Option.{option_copied};
 ghost use Rattle.cpi_codes.specs.Month.{year_of};
 ghost use Rattle.cpi_rows.specs.Keyed.{at, row_at};
@@ -8,7 +8,7 @@ ghost use Rattle.cpi_index.specs.declared.fault.IndexFault.TheVariants.{NoMemory
 ghost use Rattle.cpi_release.specs.Summed.{IsFreezeFault};
 ghost use Rattle.cpi_release.specs.declared.freeze_fault.FreezeFault.TheVariants.{Group};
 ghost use Rattle.cpi_release.specs.declared.release.Release.{Release};
-ghost use Rattle.cpi_store.specs.Calls.{Reads};
+ghost use Rattle.cpi_release.specs.State.{Reads};
 ghost use Rattle.cpi_office.specs.Freezing.{frozen, freeze_judged, freeze_judged_in, plan_judged, carry_judged, has_weight as weighs, has_weightless as weightless_in, judged_release, release_verdict, unless_fault};
 ghost use Rattle.cpi_store.specs.Sound.{IsSound};
 ghost use Rattle.cpi_office.specs.Verdicts.{with_verdict, verdict_reply};
@@ -34,8 +34,8 @@ pub fn freeze<B: Book>(
     month: Month,
     carry: Rows<Code>,
 ) -> Reply
-    ensures { let o = B.lists book.old in let v = frozen now month carry o in
-        ServesWhere B.is_clean B.lists B.failures (IsSound o) book.old book.new result
+    ensures { let o = (B.state book.old).held in let v = frozen now month carry o in
+        ServesWhere (B.state book.old) (B.state book.new) (IsSound o) result
         (verdict_reply v) (with_verdict v o) }
 {
     match judge(book, now, month, carry.as_slice()) {
@@ -52,8 +52,8 @@ fn judge<B: Book>(
     month: Month,
     carry: &[Code],
 ) -> Result<Result<CalendarRow, Refusal>, StoreFault>
-    ensures { let o = B.lists book.old in
-        Reads B.is_clean B.lists B.failures B.may_leave book.old book.new result (λ judged.
+    ensures { let o = (B.state book.old).held in
+        Reads (B.state book.old) (B.state book.new) result (λ judged.
         judged ≡ freeze_judged_in now month carry.now o) }
 {
     let frozen = book.frozen_months()?;
@@ -175,11 +175,12 @@ fn publish<B: Book>(
     row: CalendarRow,
     carry: Rows<Code>,
 ) -> Reply
-    requires new { B.is_clean book.old →
-        row_at release_cmp release_key row.month (B.lists book.old).releases ≡ None }
-    requires next { B.is_clean book.old → next_after row.month (frozen_months (B.lists book.old).releases) ≡ true }
-    ensures { let o = B.lists book.old in let v = release_verdict (judged_release now carry o row) in
-        ServesWhere B.is_clean B.lists B.failures (IsSound o) book.old book.new result
+    requires new { (B.state book.old).is_clean →
+        row_at release_cmp release_key row.month (B.state book.old).held.releases ≡ None }
+    requires next { (B.state book.old).is_clean →
+        next_after row.month (frozen_months (B.state book.old).held.releases) ≡ true }
+    ensures { let o = (B.state book.old).held in let v = release_verdict (judged_release now carry o row) in
+        ServesWhere (B.state book.old) (B.state book.new) (IsSound o) result
         (verdict_reply v) (with_verdict v o) }
 {
     match make(alloc, book, now, row, carry) {
@@ -201,9 +202,10 @@ fn make<B: Book>(
     row: CalendarRow,
     carry: Rows<Code>,
 ) -> Result<Result<Result<Release, IndexFault>, AllocError>, StoreFault>
-    requires next { B.is_clean book.old → next_after row.month (frozen_months (B.lists book.old).releases) ≡ true }
-    ensures reads { let o = B.lists book.old in
-        Reads B.is_clean B.lists B.failures B.may_leave book.old book.new result (λ found.
+    requires next { (B.state book.old).is_clean →
+        next_after row.month (frozen_months (B.state book.old).held.releases) ≡ true }
+    ensures reads { let o = (B.state book.old).held in
+        Reads (B.state book.old) (B.state book.new) result (λ found.
         IfOk found (λ made. IsSound o → made ≡ judged_release now carry o row)) }
     ensures month { IfOk result (λ found. IfOk found (λ made. IfOk made (λ release. release.month ≡ row.month))) }
 {
@@ -233,8 +235,8 @@ fn publishing_plan<B: Book>(
     book: &mut B,
     month: Month,
 ) -> Result<Result<Option<YearPlan>, AllocError>, StoreFault>
-    ensures { let o = B.lists book.old in
-        Reads B.is_clean B.lists B.failures B.may_leave book.old book.new result (λ found.
+    ensures { let o = (B.state book.old).held in
+        Reads (B.state book.old) (B.state book.new) result (λ found.
         IfOk found (λ plan. plan ≡ plan_for o.plans (frozen_months o.releases) month)) }
 {
     let frozen = book.frozen_months()?;
@@ -267,6 +269,7 @@ fn answer_made(
         MatchResult made (λ r. (fault ≡ None) × (r ≡ release)) (IsFreezeFault fault) →
         IfOk result (λ found. IfOk found (λ made. made ≡ unless_fault fault release)) }
     ensures group { OnErr result (made ≡ Err Group) }
+    ensures read { OnOk result (made ≢ Err Group) }
     ensures month { (month : ℕ) → IfOk made (λ r. r.month ≡ month) →
         IfOk result (λ found. IfOk found (λ made. IfOk made (λ r. r.month ≡ month))) }
 {
@@ -283,6 +286,7 @@ fn answer_fault(
         IfOk result (λ found. IfOk found (λ made. IfErr made (λ f. wanted ≡ Some f))) }
     ensures none { IfOk result (λ found. IfOk found (λ made. IsErr made)) }
     ensures group { OnErr result (fault ≡ Group) }
+    ensures read { OnOk result (fault ≢ Group) }
 {
     match fault {
         FreezeFault::Index(fault) => answer_index(fault),

@@ -1,7 +1,7 @@
 ghost use Rattle.std.specs.Prelude.{◌≡◌, Some, None, IfOk};
 ghost use Rattle.std.specs.Option.{option_copied};
 ghost use Rattle.cpi_rows.specs.Keyed.{at};
-ghost use Rattle.cpi_store.specs.Calls.{Reads};
+ghost use Rattle.cpi_release.specs.State.{Reads};
 ghost use Rattle.cpi_store.specs.Office.{public_part};
 ghost use Rattle.cpi_plan.specs.Items.{same_item};
 ghost use Rattle.cpi_office.specs.Standing.{standing};
@@ -19,8 +19,8 @@ use std::alloc::{AllocError, Global};
 
 /// Puts an item, unless its code stands with other content.
 pub fn put_item<B: Book>(book: &mut B, item: Item) -> Reply
-    ensures { let o = B.lists book.old in let v = item_put item (at (λ i. i.code) item.code o.items) in
-        Serves B.is_clean B.lists B.failures book.old book.new result (verdict_reply v) (with_verdict v o) }
+    ensures { let o = (B.state book.old).held in let v = item_put item (at (λ i. i.code) item.code o.items) in
+        Serves (B.state book.old) (B.state book.new) result (verdict_reply v) (with_verdict v o) }
 {
     match find_item(book, &item) {
         Err(StoreFault) => Reply::Refused(Refusal::Unavailable),
@@ -35,8 +35,8 @@ pub fn put_item<B: Book>(book: &mut B, item: Item) -> Reply
 
 /// Lists the items in the order of their codes.
 pub fn items<B: Book>(alloc: Global, book: &mut B) -> Reply
-    ensures { Serves B.is_clean B.lists B.failures book.old book.new result
-        (Reply.Items (B.lists book.old).items) (B.lists book.old) }
+    ensures { Serves (B.state book.old) (B.state book.new) result
+        (Reply.Items (B.state book.old).held.items) (B.state book.old).held }
 {
     match read_items(alloc, book) {
         Ok(Ok(items)) => Reply::Items(Rows::of(items)),
@@ -46,8 +46,8 @@ pub fn items<B: Book>(alloc: Global, book: &mut B) -> Reply
 
 /// What stands at the code of the item.
 fn find_item<B: Book>(book: &mut B, item: &Item) -> Result<Standing, StoreFault>
-    ensures { Reads B.is_clean B.lists B.failures B.may_leave book.old book.new result (λ found.
-        found ≡ standing same_item item.now (at (λ i. i.code) item.now.code (B.lists book.old).items)) }
+    ensures { Reads (B.state book.old) (B.state book.new) result (λ found.
+        found ≡ standing same_item item.now (at (λ i. i.code) item.now.code (B.state book.old).held.items)) }
 {
     let public = book.public_part()?;
     Ok(standing_item(item, public.item(item.code)))
@@ -72,8 +72,8 @@ fn read_items<B: Book>(
     alloc: Global,
     book: &mut B,
 ) -> Result<Result<Vec<Item>, AllocError>, StoreFault>
-    ensures { Reads B.is_clean B.lists B.failures B.may_leave book.old book.new result (λ found.
-        IfOk found (λ items. items.items ≡ (B.lists book.old).items)) }
+    ensures { Reads (B.state book.old) (B.state book.new) result (λ found.
+        IfOk found (λ items. items.items ≡ (B.state book.old).held.items)) }
 {
     let public = book.public_part()?;
     Ok(public.copy_items(alloc))

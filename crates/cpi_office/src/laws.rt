@@ -61,7 +61,7 @@ pub fn others_do_not_matter()
 ///
 /// Nothing is said of time, nor of runs in which memory or a store fails a request.
 pub fn runs_tell_alike<B: Book, C: Book>()
-    ensures { RunsTellAlike B.is_clean B.lists C.is_clean C.lists }
+    ensures { RunsTellAlike B.state C.state }
 {}
 
 /// Two offices that a caller sees alike answer that caller alike.
@@ -71,5 +71,5 @@ pub fn runs_tell_alike<B: Book, C: Book>()
 /// a request of that caller at that moment gets the same reply from both, as long as neither reply says that the
 /// office is unavailable.
 pub fn replies_are_alike<B: Book, C: Book>()
-    ensures { RepliesAreAlike B.is_clean B.lists B.failures C.is_clean C.lists C.failures }
+    ensures { RepliesAreAlike B.state C.state }
 {}

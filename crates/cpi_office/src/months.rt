@@ -1,5 +1,5 @@
 ghost use Rattle.std.specs.Prelude.{◌≡◌};
-ghost use Rattle.cpi_store.specs.Calls.{Reads};
+ghost use Rattle.cpi_release.specs.State.{Reads};
 ghost use Rattle.cpi_release.specs.FrozenMonths.{frozen_months, is_frozen as frozen_in, is_year_frozen as year_frozen_in};
 
 use cpi_codes::Month;
@@ -8,8 +8,8 @@ use cpi_store::{Book, StoreFault};
 
 /// Whether the month was frozen.
 pub fn is_month_frozen<B: Book>(book: &mut B, month: Month) -> Result<bool, StoreFault>
-    ensures { Reads B.is_clean B.lists B.failures B.may_leave book.old book.new result (λ found.
-        found ≡ frozen_in month (frozen_months (B.lists book.old).releases)) }
+    ensures { Reads (B.state book.old) (B.state book.new) result (λ found.
+        found ≡ frozen_in month (frozen_months (B.state book.old).held.releases)) }
 {
     let frozen = book.frozen_months()?;
     Ok(is_frozen(&frozen, month))
@@ -17,8 +17,8 @@ pub fn is_month_frozen<B: Book>(book: &mut B, month: Month) -> Result<bool, Stor
 
 /// Whether a month of the year was frozen.
 pub fn is_year_frozen<B: Book>(book: &mut B, year: u16) -> Result<bool, StoreFault>
-    ensures { Reads B.is_clean B.lists B.failures B.may_leave book.old book.new result (λ found.
-        found ≡ year_frozen_in year (frozen_months (B.lists book.old).releases)) }
+    ensures { Reads (B.state book.old) (B.state book.new) result (λ found.
+        found ≡ year_frozen_in year (frozen_months (B.state book.old).held.releases)) }
 {
     let frozen = book.frozen_months()?;
     Ok(has_year(&frozen, year))

@@ -45,13 +45,17 @@ impl<B: Book> Office<B> {
     /// [`Refusal::Unavailable`] and nothing is changed. The public and the desk are never told that in place of
     /// [`Refusal::NotForCaller`], and in place of it or of [`Refusal::UnknownKey`] a collector is told it only where a
     /// look-up of the book failed during the call.
+    ///
+    /// Over a book that keeps its rows, a crash at the end of the call leaves the office as it could be left before, or
+    /// the office after the request; once the reply isn't [`Refusal::Unavailable`], the office after it.
     pub fn handle(&mut self, now: Moment, caller: Caller, request: Request) -> Reply
-        ensures serves { let o = B.lists self.old.book in
-            ServesWhere B.is_clean B.lists B.failures (IsSound o) self.old.book self.new.book result
+        ensures serves { let o = (B.state self.old.book).held in
+            ServesWhere (B.state self.old.book) (B.state self.new.book) (IsSound o) result
             (reply_to now caller request o) (after_one now caller request o) }
-        ensures turns { TurnsAway B.is_clean B.failures B.finds_always self.old.book self.new.book caller result
-            (reply_to now caller request (B.lists self.old.book)) }
-        ensures sound { B.is_clean self.new.book → IsSound (B.lists self.old.book) → IsSound (B.lists self.new.book) }
+        ensures turns { TurnsAway B.state B.finds_always self.old.book self.new.book caller result
+            (reply_to now caller request (B.state self.old.book).held) }
+        ensures sound { (B.state self.new.book).is_clean →
+            IsSound (B.state self.old.book).held → IsSound (B.state self.new.book).held }
     {
         match caller {
             Caller::Public => serve_public(self.alloc, &mut self.book, now, request),

@@ -1,7 +1,7 @@
 ghost use Rattle.std.specs.Prelude.{◌≡◌, Some, None};
 ghost use Rattle.std.specs.Option.{option_copied};
 ghost use Rattle.cpi_rows.specs.Keyed.{at};
-ghost use Rattle.cpi_store.specs.Calls.{Reads};
+ghost use Rattle.cpi_release.specs.State.{Reads};
 ghost use Rattle.cpi_store.specs.Outlet.{same_outlet};
 ghost use Rattle.cpi_office.specs.Standing.{standing};
 ghost use Rattle.cpi_office.specs.Desk.{outlet_put};
@@ -15,8 +15,9 @@ use cpi_store::{Book, Outlet, StoreFault};
 
 /// Puts an outlet, unless its number stands with other content.
 pub fn put_outlet<B: Book>(book: &mut B, outlet: Outlet) -> Reply
-    ensures { let o = B.lists book.old in let v = outlet_put outlet (at (λ u. u.number) outlet.number o.outlets) in
-        Serves B.is_clean B.lists B.failures book.old book.new result (verdict_reply v) (with_verdict v o) }
+    ensures { let o = (B.state book.old).held in
+        let v = outlet_put outlet (at (λ u. u.number) outlet.number o.outlets) in
+        Serves (B.state book.old) (B.state book.new) result (verdict_reply v) (with_verdict v o) }
 {
     match find_outlet(book, &outlet) {
         Err(StoreFault) => Reply::Refused(Refusal::Unavailable),
@@ -31,8 +32,9 @@ pub fn put_outlet<B: Book>(book: &mut B, outlet: Outlet) -> Reply
 
 /// What stands at the number of the outlet.
 fn find_outlet<B: Book>(book: &mut B, outlet: &Outlet) -> Result<Standing, StoreFault>
-    ensures { Reads B.is_clean B.lists B.failures B.may_leave book.old book.new result (λ found.
-        found ≡ standing same_outlet outlet.now (at (λ u. u.number) outlet.now.number (B.lists book.old).outlets)) }
+    ensures { Reads (B.state book.old) (B.state book.new) result (λ found.
+        let old = at (λ u. u.number) outlet.now.number (B.state book.old).held.outlets in
+        found ≡ standing same_outlet outlet.now old) }
 {
     let old = book.outlet(outlet.number)?;
     Ok(standing_outlet(outlet, old))

@@ -1,9 +1,8 @@
-ghost use Rattle.std.specs.Prelude.{◌≡◌, IfOk};
+ghost use Rattle.std.specs.Prelude.{◌≡◌, IfOk, false};
 ghost use Rattle.std.specs.Option.{option_copied};
-ghost use Rattle.std.specs.Ordering.{nat_cmp};
-ghost use Rattle.cpi_rows.specs.Keyed.{IsInOrder};
-ghost use Rattle.cpi_store.specs.Calls.{Reads};
+ghost use Rattle.cpi_release.specs.State.{Reads};
 ghost use Rattle.cpi_store.specs.Office.{PutsPlan};
+ghost use Rattle.cpi_plan.specs.Plan.{has_unknown};
 ghost use Rattle.cpi_plan.specs.Planned.{planned};
 ghost use Rattle.cpi_plan.specs.SamePlan.{same_plan};
 ghost use Rattle.cpi_office.specs.Standing.{standing};
@@ -18,13 +17,14 @@ use crate::reply::Reply;
 use crate::standing::Standing;
 use cpi_codes::Year;
 use cpi_plan::{Item, PlanBody, PlanFault, YearPlan};
+use cpi_rows::RowsByKey;
 use cpi_store::{Book, StoreFault};
 use std::alloc::{AllocError, Global};
 
 /// Puts the plan of what was sent for a year, over the one that stands if there is one.
 pub fn put_plan<B: Book>(alloc: Global, book: &mut B, year: Year, body: PlanBody) -> Reply
-    ensures { let o = B.lists book.old in let v = planned_in year body o in
-        Serves B.is_clean B.lists B.failures book.old book.new result (verdict_reply v) (with_verdict v o) }
+    ensures { let o = (B.state book.old).held in let v = planned_in year body o in
+        Serves (B.state book.old) (B.state book.new) result (verdict_reply v) (with_verdict v o) }
 {
     match find_plan(alloc, book, year, body) {
         Ok(Ok(Err(fault))) => Reply::Refused(Refusal::PlanFault(fault)),
@@ -41,8 +41,8 @@ fn find_plan<B: Book>(
     year: Year,
     body: PlanBody,
 ) -> Result<Result<Result<(YearPlan, Standing), PlanFault>, AllocError>, StoreFault>
-    ensures { Reads B.is_clean B.lists B.failures B.may_leave book.old book.new result (λ found.
-        IfOk found (λ judged. judged ≡ body_judged year body (B.lists book.old))) }
+    ensures { Reads (B.state book.old) (B.state book.new) result (λ found.
+        IfOk found (λ judged. judged ≡ body_judged year body (B.state book.old).held)) }
 {
     let public = book.public_part()?;
     match build(alloc, year, public.items(), body) {
@@ -59,10 +59,9 @@ fn find_plan<B: Book>(
 fn build(
     alloc: Global,
     year: Year,
-    known: &[Item],
+    known: &RowsByKey<Item>,
     body: PlanBody,
 ) -> Result<Result<YearPlan, PlanFault>, AllocError>
-    requires { IsInOrder nat_cmp (λ i. i.code) known.now }
     ensures { IfOk result (λ built. built ≡ planned year (sent known.now body)) }
 {
     let titles = body.titles.into_vec();
@@ -92,10 +91,11 @@ fn standing_plan(plan: &YearPlan, old: Option<&YearPlan>) -> Standing
 
 /// Stores a plan, unless a month of its year was frozen.
 fn store_plan<B: Book>(book: &mut B, plan: YearPlan) -> Reply
-    ensures { let o = B.lists book.old in
+    requires known { (B.state book.old).is_clean → has_unknown (B.state book.old).held.items plan.places ≡ false }
+    ensures { let o = (B.state book.old).held in
         let frozen = year_frozen_in plan.year (frozen_months o.releases) in
         let v = unless_frozen frozen Refusal.PlanFrozen (PutsPlan plan) in
-        Serves B.is_clean B.lists B.failures book.old book.new result (verdict_reply v) (with_verdict v o) }
+        Serves (B.state book.old) (B.state book.new) result (verdict_reply v) (with_verdict v o) }
 {
     match is_year_frozen(book, plan.year()) {
         Err(StoreFault) => Reply::Refused(Refusal::Unavailable),

@@ -1,6 +1,6 @@
 ghost use Rattle.std.specs.Prelude.{◌≡◌, IfOk};
 ghost use Rattle.cpi_rows.specs.Held.{held_by};
-ghost use Rattle.cpi_store.specs.Calls.{Reads};
+ghost use Rattle.cpi_release.specs.State.{Reads};
 ghost use Rattle.cpi_store.specs.Office.{Quotes};
 ghost use Rattle.cpi_survey.specs.Within.{quotes_within};
 ghost use Rattle.cpi_office.specs.Calls.{Serves};
@@ -21,8 +21,9 @@ pub fn quotes<B: Book>(
     first: Month,
     last: Month,
 ) -> Reply
-    ensures { Serves B.is_clean B.lists B.failures book.old book.new result
-        (Reply.Quotes (quotes_within first last (held_by collector (B.lists book.old).quotes))) (B.lists book.old) }
+    ensures { Serves (B.state book.old) (B.state book.new) result
+        (Reply.Quotes (quotes_within first last (held_by collector (B.state book.old).held.quotes)))
+        (B.state book.old).held }
 {
     match read_quotes(alloc, book, collector, first, last) {
         Ok(Ok(quotes)) => Reply::Quotes(Rows::of(quotes)),
@@ -37,8 +38,9 @@ fn read_quotes<B: Book>(
     first: Month,
     last: Month,
 ) -> Result<Result<Vec<Quote>, AllocError>, StoreFault>
-    ensures { Reads B.is_clean B.lists B.failures B.may_leave book.old book.new result (λ found.
-        IfOk found (λ quotes. quotes.items ≡ quotes_within first last (held_by collector (B.lists book.old).quotes))) }
+    ensures { Reads (B.state book.old) (B.state book.new) result (λ found.
+        IfOk found (λ quotes.
+        quotes.items ≡ quotes_within first last (held_by collector (B.state book.old).held.quotes))) }
 {
     let parts = book.parts(collector)?;
     Ok(parts.own.quotes(alloc, first, last))

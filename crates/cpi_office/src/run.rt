@@ -33,21 +33,24 @@ impl<B: Book> Office<B> {
     /// out and stay so.
     pub fn run(&mut self, asks: Vec<Ask>) -> Result<Vec<Reply>, AllocError>
         ensures each { IfOk result (λ rs. length rs.items ≡ length asks.items) }
-        ensures ok { IfOk result (λ rs. Ran B.is_clean B.lists self.old.book self.new.book asks.items rs.items) }
-        ensures told { let before = B.lists self.old.book in
-            IfOk result (λ rs. B.is_clean self.new.book → IsSound before → AreToldAlone before asks.items rs.items) }
-        ensures views { let before = B.lists self.old.book in let after = B.lists self.new.book in
-            IfOk result (λ rs. B.is_clean self.new.book → IsSound before →
+        ensures ok { IfOk result (λ rs. Ran (B.state self.old.book) (B.state self.new.book) asks.items rs.items) }
+        ensures told { let before = (B.state self.old.book).held in
+            IfOk result (λ rs. (B.state self.new.book).is_clean →
+            IsSound before → AreToldAlone before asks.items rs.items) }
+        ensures views { let before = (B.state self.old.book).held in let after = (B.state self.new.book).held in
+            IfOk result (λ rs. (B.state self.new.book).is_clean → IsSound before →
             AreRebuilt before asks.items rs.items after) }
-        ensures answers { let before = B.lists self.old.book in
-            IfOk result (λ rs. B.is_clean self.new.book → IsSound before → AreFromViews before asks.items rs.items) }
-        ensures sound { B.is_clean self.new.book → IsSound (B.lists self.old.book) → IsSound (B.lists self.new.book) }
-        ensures computed { B.is_clean self.new.book → IsSound (B.lists self.old.book) →
-            HasComputedTables (B.lists self.new.book) }
-        ensures stay { B.is_clean self.new.book → IsSound (B.lists self.old.book) →
-            KeepsReleases (B.lists self.old.book) (B.lists self.new.book) }
+        ensures answers { let before = (B.state self.old.book).held in
+            IfOk result (λ rs. (B.state self.new.book).is_clean →
+            IsSound before → AreFromViews before asks.items rs.items) }
+        ensures sound { (B.state self.new.book).is_clean →
+            IsSound (B.state self.old.book).held → IsSound (B.state self.new.book).held }
+        ensures computed { (B.state self.new.book).is_clean → IsSound (B.state self.old.book).held →
+            HasComputedTables (B.state self.new.book).held }
+        ensures stay { (B.state self.new.book).is_clean → IsSound (B.state self.old.book).held →
+            KeepsReleases (B.state self.old.book).held (B.state self.new.book).held }
         ensures err { OnErr result ((front : List TheAsk) × (rest : List TheAsk) × (rs : List TheReply)
-            × (asks.items ≡ front ++ rest) × Ran B.is_clean B.lists self.old.book self.new.book front rs) }
+            × (asks.items ≡ front ++ rest) × Ran (B.state self.old.book) (B.state self.new.book) front rs) }
     {
         let mut told = Vec::new(self.allocator());
         let mut rest = asks.into_iter();

@@ -1,7 +1,7 @@
 ghost use Rattle.std.specs.Prelude.{◌≡◌, ◌<◌, IsSome};
 ghost use Rattle.cpi_rows.specs.Keyed.{at};
 ghost use Rattle.cpi_rows.specs.Held.{held_by};
-ghost use Rattle.cpi_store.specs.Calls.{Reads};
+ghost use Rattle.cpi_release.specs.State.{Reads};
 ghost use Rattle.cpi_store.specs.Office.{public_part, own_part, changed, Quotes};
 ghost use Rattle.cpi_survey.specs.Decision.{decided};
 ghost use Rattle.cpi_survey.specs.Quote.{greatest_receipt};
@@ -19,9 +19,11 @@ use cpi_survey::{Decision, Entry, Quote};
 
 /// Answers an entry of a collector.
 pub fn enter<B: Book>(book: &mut B, now: Moment, bearer: Bearer, entry: Entry) -> Reply
-    requires known { B.is_clean book.old → IsSome (at (λ b. b.number) bearer.number (B.lists book.old).collectors) }
-    ensures { let o = B.lists book.old in let decision = decided now entry (public_part o) (own_part bearer.number o) in
-        Serves B.is_clean B.lists B.failures book.old book.new result
+    requires known { (B.state book.old).is_clean →
+        IsSome (at (λ b. b.number) bearer.number (B.state book.old).held.collectors) }
+    ensures { let o = (B.state book.old).held in
+        let decision = decided now entry (public_part o) (own_part bearer.number o) in
+        Serves (B.state book.old) (B.state book.new) result
         (decision_reply decision) (with_verdict (decision_verdict bearer entry decision) o) }
 {
     submit(book, now, bearer, entry)
@@ -29,9 +31,11 @@ pub fn enter<B: Book>(book: &mut B, now: Moment, bearer: Bearer, entry: Entry) -
 
 /// Decides an entry of a collector, and stores a new quote.
 fn submit<B: Book>(book: &mut B, now: Moment, bearer: Bearer, entry: Entry) -> Reply
-    requires known { B.is_clean book.old → IsSome (at (λ b. b.number) bearer.number (B.lists book.old).collectors) }
-    ensures { let o = B.lists book.old in let decision = decided now entry (public_part o) (own_part bearer.number o) in
-        Serves B.is_clean B.lists B.failures book.old book.new result
+    requires known { (B.state book.old).is_clean →
+        IsSome (at (λ b. b.number) bearer.number (B.state book.old).held.collectors) }
+    ensures { let o = (B.state book.old).held in
+        let decision = decided now entry (public_part o) (own_part bearer.number o) in
+        Serves (B.state book.old) (B.state book.new) result
         (decision_reply decision) (stored bearer decision o) }
 {
     match decide(book, now, bearer.number, entry) {
@@ -47,8 +51,8 @@ fn decide<B: Book>(
     collector: CollectorId,
     entry: Entry,
 ) -> Result<Result<Decision, cpi_survey::Refusal>, StoreFault>
-    ensures { Reads B.is_clean B.lists B.failures B.may_leave book.old book.new result (λ decision.
-        decision ≡ decided now entry (public_part (B.lists book.old)) (own_part collector (B.lists book.old))) }
+    ensures { Reads (B.state book.old) (B.state book.new) result (λ decision.
+        let o = (B.state book.old).held in decision ≡ decided now entry (public_part o) (own_part collector o)) }
 {
     let parts = book.parts(collector)?;
     Ok(parts.own.submit(parts.public, now, entry))
@@ -60,10 +64,11 @@ fn carry_out<B: Book>(
     bearer: Bearer,
     decision: &Result<Decision, cpi_survey::Refusal>,
 ) -> Reply
-    requires known { B.is_clean book.old → IsSome (at (λ b. b.number) bearer.number (B.lists book.old).collectors) }
-    requires new { B.is_clean book.old → IsNew decision.now (own_part bearer.number (B.lists book.old)) }
-    ensures { Serves B.is_clean B.lists B.failures book.old book.new result
-        (decision_reply decision.now) (stored bearer decision.now (B.lists book.old)) }
+    requires known { (B.state book.old).is_clean →
+        IsSome (at (λ b. b.number) bearer.number (B.state book.old).held.collectors) }
+    requires new { (B.state book.old).is_clean → IsNew decision.now (own_part bearer.number (B.state book.old).held) }
+    ensures { Serves (B.state book.old) (B.state book.new) result
+        (decision_reply decision.now) (stored bearer decision.now (B.state book.old).held) }
 {
     match decision {
         Err(refusal) => Reply::Refused(Refusal::of_survey(refusal)),
@@ -74,13 +79,14 @@ fn carry_out<B: Book>(
 
 /// Stores a new quote.
 fn store_quote<B: Book>(book: &mut B, bearer: Bearer, quote: Quote) -> Reply
-    requires known { B.is_clean book.old → IsSome (at (λ b. b.number) bearer.number (B.lists book.old).collectors) }
-    requires slot { B.is_clean book.old →
-        IsSome (at (λ a. a.assignment.slot) quote.slot (own_part bearer.number (B.lists book.old)).assignments) }
-    requires receipt { B.is_clean book.old →
-        greatest_receipt (held_by bearer.number (B.lists book.old).quotes) < quote.receipt }
-    ensures { Serves B.is_clean B.lists B.failures book.old book.new result
-        (Reply.Receipt quote.receipt) (changed (Quotes bearer quote) (B.lists book.old)) }
+    requires known { (B.state book.old).is_clean →
+        IsSome (at (λ b. b.number) bearer.number (B.state book.old).held.collectors) }
+    requires slot { (B.state book.old).is_clean →
+        IsSome (at (λ a. a.assignment.slot) quote.slot (own_part bearer.number (B.state book.old).held).assignments) }
+    requires receipt { (B.state book.old).is_clean →
+        greatest_receipt (held_by bearer.number (B.state book.old).held.quotes) < quote.receipt }
+    ensures { Serves (B.state book.old) (B.state book.new) result
+        (Reply.Receipt quote.receipt) (changed (Quotes bearer quote) (B.state book.old).held) }
 {
     let receipt = quote.receipt();
     match book.put_quote(bearer, quote) {

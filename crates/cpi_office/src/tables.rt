@@ -3,7 +3,7 @@ ghost use Rattle.std.specs.Option.{option_copied};
 ghost use Rattle.cpi_rows.specs.Keyed.{row_at};
 ghost use Rattle.cpi_release.specs.FrozenMonths.{release_cmp};
 ghost use Rattle.cpi_release.specs.PublishedTables.{frozen_month_of, published_key, published_until, printed_bytes};
-ghost use Rattle.cpi_store.specs.Calls.{Reads};
+ghost use Rattle.cpi_release.specs.State.{Reads};
 ghost use Rattle.cpi_store.specs.Tables.{levels_until};
 ghost use Rattle.cpi_office.specs.Answers.{table_reply as reply_with};
 ghost use Rattle.cpi_office.specs.Calls.{Serves};
@@ -18,8 +18,8 @@ use std::alloc::{AllocError, Global};
 
 /// Lists the months whose tables are published by now.
 pub fn tables<B: Book>(book: &mut B, now: Moment) -> Reply
-    ensures { let o = B.lists book.old in
-        Serves B.is_clean B.lists B.failures book.old book.new result
+    ensures { let o = (B.state book.old).held in
+        Serves (B.state book.old) (B.state book.new) result
         (Reply.Tables (map frozen_month_of (published_until now o.releases))) o }
 {
     match book.tables_until(now) {
@@ -30,8 +30,8 @@ pub fn tables<B: Book>(book: &mut B, now: Moment) -> Reply
 
 /// Prints the table of a month, if it is published by now.
 pub fn table<B: Book>(alloc: Global, book: &mut B, now: Moment, month: Month, form: Form) -> Reply
-    ensures { let o = B.lists book.old in
-        Serves B.is_clean B.lists B.failures book.old book.new result
+    ensures { let o = (B.state book.old).held in
+        Serves (B.state book.old) (B.state book.new) result
         (reply_with form month (row_at release_cmp published_key month (published_until now o.releases))) o }
 {
     match read_table(alloc, book, now, month, form) {
@@ -49,9 +49,10 @@ fn read_table<B: Book>(
     month: Month,
     form: Form,
 ) -> Result<Result<Option<PrintedTable>, AllocError>, StoreFault>
-    ensures { Reads B.is_clean B.lists B.failures B.may_leave book.old book.new result (λ found.
+    ensures { Reads (B.state book.old) (B.state book.new) result (λ found.
         IfOk found (λ printed_table.
-        printed_table ≡ option_map (printed_bytes form month) (levels_until month now (B.lists book.old).releases))) }
+        let releases = (B.state book.old).held.releases in
+        printed_table ≡ option_map (printed_bytes form month) (levels_until month now releases))) }
 {
     let found = book.table(month, now)?;
     Ok(printed_of(alloc, form, month, found))

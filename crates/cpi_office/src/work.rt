@@ -1,5 +1,5 @@
 ghost use Rattle.std.specs.Prelude.{◌≡◌, IfOk};
-ghost use Rattle.cpi_store.specs.Calls.{Reads};
+ghost use Rattle.cpi_release.specs.State.{Reads};
 ghost use Rattle.cpi_store.specs.Office.{own_part, public_part};
 ghost use Rattle.cpi_survey.specs.Work.{work};
 ghost use Rattle.cpi_office.specs.Answers.{work_reply};
@@ -15,8 +15,8 @@ use std::alloc::{AllocError, Global};
 
 /// Lists what the collector has to price in the month, by slot.
 pub fn work<B: Book>(alloc: Global, book: &mut B, collector: CollectorId, month: Month) -> Reply
-    ensures { let o = B.lists book.old in
-        Serves B.is_clean B.lists B.failures book.old book.new result
+    ensures { let o = (B.state book.old).held in
+        Serves (B.state book.old) (B.state book.new) result
         (work_reply (work month (public_part o) (own_part collector o))) o }
 {
     match read_work(alloc, book, collector, month) {
@@ -31,9 +31,9 @@ fn read_work<B: Book>(
     collector: CollectorId,
     month: Month,
 ) -> Result<Result<Result<Rows<WorkRow>, cpi_survey::Refusal>, AllocError>, StoreFault>
-    ensures { Reads B.is_clean B.lists B.failures B.may_leave book.old book.new result (λ found.
+    ensures { Reads (B.state book.old) (B.state book.new) result (λ found.
         IfOk found (λ answer.
-        answer ≡ work month (public_part (B.lists book.old)) (own_part collector (B.lists book.old)))) }
+        answer ≡ work month (public_part (B.state book.old).held) (own_part collector (B.state book.old).held))) }
 {
     let parts = book.parts(collector)?;
     Ok(parts.own.work(alloc, parts.public, month))

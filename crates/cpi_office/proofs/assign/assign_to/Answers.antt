@@ -8,23 +8,23 @@ use Rattle.cpi_office.proofs.assign.assign_to.Goals as goal
 pub put_assignment-requires-clause-known : goal.put_assignment-requires-clause-known
 put_assignment-requires-clause-known g c = λ clean.
     let reads = c.in-Ok-Some.ensures.reads in
-    let o = g.B.Book.lists c.args.book.now in
+    let o = (g.B.Book.state c.args.book.now).held in
     let b = c.in-Ok-Some.bearer in
     let found : at (λ (b : Bearer). b.number) c.args.collector o.collectors ≡ Some b = sym (reads.shown clean) ∙ c.in-Ok-Some.field-0-is in
-    rw (reads.kept clean) (ap (λ n. at (λ (b : Bearer). b.number) n o.collectors) (at_key (λ (b : Bearer). b.number) c.args.collector b o.collectors found) ∙ found)
+    rw (reads.keeps.kept clean) (ap (λ n. at (λ (b : Bearer). b.number) n o.collectors) (at_key (λ (b : Bearer). b.number) c.args.collector b o.collectors found) ∙ found)
 
 pub put_assignment-requires-clause-new : goal.put_assignment-requires-clause-new
 put_assignment-requires-clause-new g c = λ clean.
     let reads = c.in-Ok-Some.ensures.reads in
-    let o = g.B.Book.lists c.args.book.now in
+    let o = (g.B.Book.state c.args.book.now).held in
     let b = c.in-Ok-Some.bearer in
     let found : at (λ (b : Bearer). b.number) c.args.collector o.collectors ≡ Some b = sym (reads.shown clean) ∙ c.in-Ok-Some.field-0-is in
-    rw (reads.kept clean) (ap (λ n. at (λ a. a.slot) c.args.assigned.assignment.slot (held_by n o.assignments)) (at_key (λ (b : Bearer). b.number) c.args.collector b o.collectors found) ∙ c.requires.free (reads.was_clean clean))
+    rw (reads.keeps.kept clean) (ap (λ n. at (λ a. a.slot) c.args.assigned.assignment.slot (held_by n o.assignments)) (at_key (λ (b : Bearer). b.number) c.args.collector b o.collectors found) ∙ c.requires.free (reads.keeps.was_clean clean))
 
 pub put_assignment-requires-clause-series : goal.put_assignment-requires-clause-series
 put_assignment-requires-clause-series g c = λ clean.
     let reads = c.in-Ok-Some.ensures.reads in
-    let o = g.B.Book.lists c.args.book.now in
+    let o = (g.B.Book.state c.args.book.now).held in
     let b = c.in-Ok-Some.bearer in
     let found : at (λ (b : Bearer). b.number) c.args.collector o.collectors ≡ Some b = sym (reads.shown clean) ∙ c.in-Ok-Some.field-0-is in
-    (c.requires.made (reads.was_clean clean)).series ∙ ap (λ n. record { collector = n; slot = c.args.assigned.assignment.slot }) (sym (at_key (λ (b : Bearer). b.number) c.args.collector b o.collectors found))
+    (c.requires.made (reads.keeps.was_clean clean)).series ∙ ap (λ n. record { collector = n; slot = c.args.assigned.assignment.slot }) (sym (at_key (λ (b : Bearer). b.number) c.args.collector b o.collectors found))

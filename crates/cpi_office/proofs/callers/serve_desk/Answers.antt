@@ -1,3 +1,7 @@
+use Rattle.std.proofs.Common.{sym, ap, ◌∙◌}
+use Rattle.std.proofs.lemmas.Bool.{false≢true}
+use Rattle.cpi_office.specs.Turned.{is_turned_away}
+use Rattle.cpi_office.proofs.Failures.{frozen_judges}
 use Rattle.cpi_office.specs.Assigning.{assigned_in}
 use Rattle.cpi_office.specs.Replacing.{planned_in, scheduled_in}
 use Rattle.cpi_store.specs.Sound.{IsSound}
@@ -6,21 +10,31 @@ use Rattle.cpi_office.proofs.callers.serve_desk.Goals as goal
 
 pub returns-in-PutPlan-clause-serves : goal.returns-in-PutPlan-clause-serves
 returns-in-PutPlan-clause-serves g c =
-    let o = g.B.Book.lists c.args.book.now in
+    let o = (g.B.Book.state c.args.book.now).held in
     rw c.in-PutPlan.is
-    (serves_where g.B.Groups.is_clean g.B.Book.lists g.B.Groups.failures (IsSound o) c.args.book.now c.put_plan.new.book c.put_plan.result
+    (serves_where (IsSound o) (g.B.Book.state c.args.book.now) (g.B.Book.state c.put_plan.new.book) c.put_plan.result
     (planned_in c.in-PutPlan.year c.in-PutPlan.body o) c.put_plan.ensures)
 
 pub returns-in-PutCalendar-clause-serves : goal.returns-in-PutCalendar-clause-serves
 returns-in-PutCalendar-clause-serves g c =
-    let o = g.B.Book.lists c.args.book.now in
+    let o = (g.B.Book.state c.args.book.now).held in
     rw c.in-PutCalendar.is
-    (serves_where g.B.Groups.is_clean g.B.Book.lists g.B.Groups.failures (IsSound o) c.args.book.now c.put_calendar.new.book c.put_calendar.result
+    (serves_where (IsSound o) (g.B.Book.state c.args.book.now) (g.B.Book.state c.put_calendar.new.book) c.put_calendar.result
     (scheduled_in c.in-PutCalendar.row o) c.put_calendar.ensures)
 
 pub returns-in-Assign-clause-serves : goal.returns-in-Assign-clause-serves
 returns-in-Assign-clause-serves g c =
-    let o = g.B.Book.lists c.args.book.now in
+    let o = (g.B.Book.state c.args.book.now).held in
     rw c.in-Assign.is
-    (serves_where g.B.Groups.is_clean g.B.Book.lists g.B.Groups.failures (IsSound o) c.args.book.now c.assign.new.book c.assign.result
+    (serves_where (IsSound o) (g.B.Book.state c.args.book.now) (g.B.Book.state c.assign.new.book) c.assign.result
     (assigned_in c.in-Assign.collector c.in-Assign.new_assignment o) c.assign.ensures)
+
+pub returns-in-Freeze-clause-turns : goal.returns-in-Freeze-clause-turns
+returns-in-Freeze-clause-turns g c =
+    let told = (frozen_judges c.args.now c.in-Freeze.month c.in-Freeze.carry (g.B.Book.state c.args.book.now).held).1 in
+    rw c.in-Freeze.is
+    (record {
+      keyless = λ _ turned. absurd (false≢true (sym told ∙ turned));
+      keyed = λ _ turned. absurd (false≢true (sym told ∙ turned));
+      unavailable = λ not_mine _. absurd (false≢true (sym told ∙ ap is_turned_away not_mine));
+    })

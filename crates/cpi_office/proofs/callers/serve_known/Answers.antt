@@ -12,8 +12,8 @@ use Rattle.cpi_office.proofs.callers.serve_known.Goals.{in-Items, in-Tables, in-
 use Rattle.cpi_office.proofs.callers.serve_known.Goals as goal
 
 pub returns-clause-turns : goal.returns-clause-turns
-returns-clause-turns g c = λ clean turned.
-    let o = g.B.Book.lists c.args.book.now in
+returns-clause-turns g c = λ turned.
+    let o = (g.B.Book.state c.args.book.now).held in
     let v = collector_view c.args.now o (Some c.args.bearer) in
     let own = own_part c.args.bearer.number o in
     let now = c.args.now in

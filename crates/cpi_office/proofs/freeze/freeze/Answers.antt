@@ -1,5 +1,9 @@
-use Rattle.std.proofs.Common.{sym, ap, ◌∙◌}
+use Rattle.std.proofs.Common.{◌≡◌, Ok, sym, ap, ◌∙◌, subst}
 use Rattle.cpi_release.specs.FrozenMonths.{frozen_months, is_next}
+use Rattle.cpi_store.specs.Sound.{IsSound}
+use Rattle.cpi_office.specs.Freezing.{frozen, freeze_judged_in, freeze_verdict, judged_release, release_verdict}
+use Rattle.cpi_office.specs.Verdicts.{verdict_reply, with_verdict}
+use Rattle.cpi_office.proofs.Calls.{serves_where_after}
 use Rattle.cpi_office.proofs.Judged.{judged_new, judged_month, judged_follows}
 use Rattle.cpi_office.proofs.freeze.freeze.Goals as goal
 
@@ -7,12 +11,36 @@ pub publish-requires : goal.publish-requires
 publish-requires g c = record {
   new = λ clean.
       let reads = c.in-Ok-Ok.ensures in
-      let o = g.B.Book.lists c.args.book.now in
-      rw (reads.kept clean) (judged_new c.args.now c.args.month c.as_slice.result.now o.releases o.calendar o.plans c.in-Ok-Ok.row (sym (reads.shown clean) ∙ c.in-Ok-Ok.field-0-is));
+      let o = (g.B.Book.state c.args.book.now).held in
+      rw (reads.keeps.kept clean) (judged_new c.args.now c.args.month c.as_slice.result.now o.releases o.calendar o.plans c.in-Ok-Ok.row (sym (reads.shown clean) ∙ c.in-Ok-Ok.field-0-is));
   next = λ clean.
       let reads = c.in-Ok-Ok.ensures in
-      let o = g.B.Book.lists c.args.book.now in
+      let o = (g.B.Book.state c.args.book.now).held in
       let judged = sym (reads.shown clean) ∙ c.in-Ok-Ok.field-0-is in
       let same = judged_month c.args.now c.args.month c.as_slice.result.now o.releases o.calendar o.plans c.in-Ok-Ok.row judged in
-      rw (reads.kept clean) (ap (λ k. is_next k (frozen_months o.releases)) same ∙ judged_follows c.args.now c.args.month c.as_slice.result.now o.releases o.calendar o.plans c.in-Ok-Ok.row judged);
+      rw (reads.keeps.kept clean) (ap (λ k. is_next k (frozen_months o.releases)) same ∙ judged_follows c.args.now c.args.month c.as_slice.result.now o.releases o.calendar o.plans c.in-Ok-Ok.row judged);
 }
+
+pub returns-in-Ok-Ok : goal.returns-in-Ok-Ok
+returns-in-Ok-Ok g c =
+    let old = g.B.Book.state c.args.book.now in
+    let mid = g.B.Book.state c.judge.new.book in
+    let new = g.B.Book.state c.publish.new.book in
+    let o = old.held in
+    let now = c.args.now in
+    let carry = c.args.carry in
+    let row = c.in-Ok-Ok.row in
+    let reads = c.in-Ok-Ok.ensures in
+    let listed : c.as_slice.result.now ≡ carry = c.as_slice.ensures in
+    serves_where_after (IsSound o) (IsSound mid.held) old mid new c.publish.result
+    (verdict_reply (release_verdict (judged_release now carry mid.held row))) (verdict_reply (frozen now c.args.month carry o))
+    (with_verdict (release_verdict (judged_release now carry mid.held row)) mid.held) (with_verdict (frozen now c.args.month carry o) o)
+    reads reads.stays c.publish.ensures
+    (λ clean.
+    let kept = reads.keeps.kept clean in
+    let judged : freeze_judged_in now c.args.month carry o ≡ Ok row = ap (λ codes. freeze_judged_in now c.args.month codes o) (sym listed) ∙ sym (reads.shown clean) ∙ c.in-Ok-Ok.field-0-is in
+    let verdict : release_verdict (judged_release now carry o row) ≡ frozen now c.args.month carry o = ap (freeze_verdict (judged_release now carry o)) (sym judged) in (
+      λ sound. subst IsSound (sym kept) sound,
+      ap (λ u. verdict_reply (release_verdict (judged_release now carry u row))) kept ∙ ap verdict_reply verdict,
+      ap (λ u. with_verdict (release_verdict (judged_release now carry u row)) u) kept ∙ ap (λ v. with_verdict v o) verdict,
+    ))

@@ -1,0 +1,72 @@
+-- The items of a plan that was built are known.
+use Rattle.std.proofs.Common.{◌≡◌, ℕ, Bool, true, false, not, List, [], ◌∷◌, Option, Some, None, Result, Ok, Err, refl, sym, ap, ◌∙◌, subst}
+use Rattle.std.specs.Prelude.{if◌then◌else◌, ◌||◌, ◌==◌}
+use Rattle.std.specs.List.{AllByRecursion, list_any}
+use Rattle.std.specs.Ordering.{nat_cmp}
+use Rattle.cpi_codes.specs.declared.codes.Code.{Code}
+use Rattle.cpi_plan.specs.declared.items.Item.{Item}
+use Rattle.cpi_plan.specs.declared.plan_rows.Place.{Place}
+use Rattle.cpi_plan.specs.declared.plan_faults.PlanFault.{PlanFault}
+use Rattle.cpi_plan.specs.declared.plan_faults.PlanFault.TheVariants.{TitleMissing, DuplicateCode, NotElementary, ZeroWeight, WeightSum, UnknownItem, ItemTwice, UnknownAggregate}
+use Rattle.cpi_plan.specs.Plan.{Body, Plan, is_unknown, has_unknown, has_unplaced, has_zero, are_elementary, total}
+use Rattle.cpi_plan.specs.Planned.{planned, are_codes_once, are_items_once, placed, titled, plan_of, in_order, first_untitled}
+use Rattle.cpi_office.specs.Replacing.{plan_standing}
+use Rattle.cpi_office.specs.declared.standing.Standing.{Standing}
+use Rattle.cpi_office.proofs.Kept.{all-put}
+
+either : (a b : Bool) → (a || b) ≡ false → (a ≡ false) × (b ≡ false)
+either true b h = cc
+either false b h = (refl, h)
+
+none_is : {X : Type 0} (p : X → Bool) (xs : List X) → list_any p xs ≡ false → AllByRecursion (λ x. p x ≡ false) xs
+none_is p [] h = tt
+none_is p (x ∷ xs) h = let both = either (p x) (list_any p xs) h in (both.0, none_is p xs both.1)
+
+is_none_of : {X : Type 0} (p : X → Bool) (xs : List X) → AllByRecursion (λ x. p x ≡ false) xs → list_any p xs ≡ false
+is_none_of p [] h = refl
+is_none_of p (x ∷ xs) h = rw h.0 (is_none_of p xs h.1)
+
+module _ (known : List Item) where
+  all_known : (places : List Place) → AllByRecursion (λ p. is_unknown known p ≡ false) places → AllByRecursion (λ p. is_unknown known p ≡ false) (in_order nat_cmp (λ p. p.item) places)
+  all_known [] h = tt
+  all_known (p ∷ ps) h = all-put (λ p. is_unknown known p ≡ false) nat_cmp (λ p. p.item) p _ h.0 (all_known ps h.1)
+
+  known_in_order : (places : List Place) → has_unknown known places ≡ false → has_unknown known (in_order nat_cmp (λ p. p.item) places) ≡ false
+  known_in_order places h = is_none_of (is_unknown known) _ (all_known places (none_is (is_unknown known) places h))
+
+-- what is answered after a test that wasn't met
+after_test : {A E : Type 0} (t : Bool) (f : E) (rest : Result A E) (x : A) → (if t then Err f else rest) ≡ Ok x → (t ≡ false) × (rest ≡ Ok x)
+after_test true f rest x h = let no : Err f ≡ Ok x = h in cc
+after_test false f rest x h = (refl, h)
+
+abbrev value_or : {A E : Type 0} → A → Result A E → A
+value_or x (Ok y) = y
+value_or x (Err f) = x
+
+placed_known : (year : ℕ) (b : Body) (p : Plan) → placed year b ≡ Ok p → has_unknown b.known p.places ≡ false
+placed_known year b p h =
+    let one = after_test (has_unknown b.known b.places) UnknownItem _ p h in
+    let two = after_test (not (are_items_once b.places)) ItemTwice _ p one.1 in
+    let three = after_test (has_unplaced b.weights b.places) UnknownAggregate _ p two.1 in
+    let is : plan_of year b ≡ p = ap (value_or p) three.1 in
+    subst (λ (q : Plan). has_unknown b.known q.places ≡ false) is (known_in_order b.known b.places one.0)
+
+titled_known : (year : ℕ) (b : Body) (p : Plan) (code : Option Code) → titled year b code ≡ Ok p → has_unknown b.known p.places ≡ false
+titled_known year b p (Some code) h = let no : Err (TitleMissing code) ≡ Ok p = h in cc
+titled_known year b p None h = placed_known year b p h
+
+pub planned_known : (year : ℕ) (b : Body) (p : Plan) → planned year b ≡ Ok p → has_unknown b.known p.places ≡ false
+planned_known year b p h =
+    let one = after_test (not (are_codes_once b.titles b.weights)) DuplicateCode _ p h in
+    let two = after_test (not (are_elementary b.weights b.places)) NotElementary _ p one.1 in
+    let three = after_test (has_zero b.weights) ZeroWeight _ p two.1 in
+    let four = after_test (not (total b.weights == 1000000)) (WeightSum (total b.weights)) _ p three.1 in
+    titled_known year b p (first_untitled b.titles b.weights) four.1
+
+-- the same of a plan that was judged
+pub judged_known : (year : ℕ) (b : Body) (plans : List Plan) (p : Plan) (s : Standing) → plan_standing plans (planned year b) ≡ Ok (p, s) → has_unknown b.known p.places ≡ false
+judged_known year b plans p s h = by (planned year b) refl h
+  where
+    by : (r : Result Plan PlanFault) → planned year b ≡ r → plan_standing plans r ≡ Ok (p, s) → has_unknown b.known p.places ≡ false
+    by (Err f) e h = let no : plan_standing plans (Err f) ≡ Ok (p, s) = h in cc
+    by (Ok q) e h = let is : q ≡ p = ap (λ (r : Result (Plan × Standing) PlanFault). (value_or (p, s) r).0) h in planned_known year b p (e ∙ ap Ok is)
