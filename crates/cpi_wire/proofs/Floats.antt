@@ -15,7 +15,6 @@ use Rattle.cpi_office.specs.declared.refusal.Refusal.{Refusal}
 use Rattle.cpi_office.specs.declared.refusal.Refusal.TheVariants as refusal
 use Rattle.cpi_office.specs.declared.reply.Reply.{Reply}
 use Rattle.cpi_office.specs.declared.reply.Reply.TheVariants as reply
-use Rattle.cpi_wire.specs.Rows.{rows_data}
 use Rattle.cpi_wire.specs.Line.{data_of, quote_data, mark_value, item_data, price_data, mark_data, receipt_data, work_row_data, frozen_month_data}
 use Rattle.cpi_wire.specs.Refusals.{plan_fault_data, index_fault_data, refusal_data}
 
@@ -99,6 +98,3 @@ no-floats (reply.Items rows) = rw (none-of item_data (λ i. refl) rows) refl
 no-floats (reply.Tables months) = rw (none-of frozen_month_data (λ f. refl) months) refl
 no-floats (reply.Table printed) = refl
 no-floats (reply.Refused why) = refusal-none why
-
-pub no-floats-in-rows : (replies : List Reply) → has_float (rows_data replies) ≡ false
-no-floats-in-rows replies = rw (none-of data_of no-floats replies) refl

@@ -5,6 +5,7 @@ pub mod Coded
 pub mod Codes
 pub mod Counted
 pub mod Floats
+pub mod Importing
 pub mod Places
 pub mod PlanRead
 pub mod Reading

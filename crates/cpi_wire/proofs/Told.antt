@@ -3,6 +3,7 @@ use mathlib.Core.Bool.{true≢false}
 use Rattle.std.proofs.Common.{◌≡◌, ◌∙◌, sym, ap, ap₂, refl, subst, ℕ, ◌+◌, List, [], ◌∷◌, ◌++◌, length, map, filter, Bool, true, false, not, Option, Some, None, if◌then◌else◌, ◌==◌, arith, length-append}
 use Rattle.std.specs.Bool.{⊤}
 use Rattle.cpi_codes.specs.Zone.{ZoneRule}
+use Rattle.cpi_release.specs.State.{State}
 use Rattle.cpi_store.specs.Office.{Office}
 use Rattle.cpi_office.specs.Alone.{is_bearer, is_other, without_others as requests_without}
 use Rattle.cpi_office.specs.Told.{replies_to, IsWhole}
@@ -14,8 +15,8 @@ use Rattle.cpi_office.specs.declared.reply.Reply.{Reply}
 use Rattle.cpi_office.specs.declared.reply.Reply.TheVariants.{Refused}
 use Rattle.cpi_office.specs.declared.refusal.Refusal.TheVariants.{BadRequest}
 use Rattle.cpi_office.proofs.Told.{runs_tell_alike}
-use Rattle.cpi_wire.specs.declared.asks.Answer.{Answer}
-use Rattle.cpi_wire.specs.declared.asks.Answer.TheVariants as answer
+use Rattle.cpi_wire.specs.Answer.{Answer}
+use Rattle.cpi_wire.specs.Answer as answer
 use Rattle.cpi_wire.specs.declared.asks.Ask.{Ask}
 use Rattle.cpi_wire.specs.declared.asks.Ask.TheVariants as ask
 use Rattle.cpi_wire.specs.Answers.{Answers, RowsAnswer}
@@ -51,15 +52,15 @@ AllFit [] (a ∷ ans) = ⊥
 AllFit (k ∷ ks) [] = ⊥
 AllFit (k ∷ ks) (a ∷ ans) = FitsAnswer k a × AllFit ks ans
 
-module _ {B : Type 0} (is_clean : B → Type 0) (lists : B → Office) (failures : B → ℕ) where
-  rows-fit : (t : ℕ) (c : Caller) (p q : B) (rows : List (Option Request)) (rs : List Reply) → RowsAnswer is_clean lists failures t c p rows rs q → Fit rows rs
+module _ {B : Type 0} (state : B → State Office) where
+  rows-fit : (t : ℕ) (c : Caller) (p q : B) (rows : List (Option Request)) (rs : List Reply) → RowsAnswer state t c p rows rs q → Fit rows rs
   rows-fit t c p q [] [] a = tt
   rows-fit t c p q [] (r ∷ rs) a = absurd a
   rows-fit t c p q (row ∷ rows) [] a = absurd a
   rows-fit t c p q (None ∷ rows) (r ∷ rs) a = (a.1.0, rows-fit t c a.0 q rows rs a.2)
   rows-fit t c p q (Some x ∷ rows) (r ∷ rs) a = rows-fit t c a.0 q rows rs a.2
 
-  answer-fits : (p q : B) (k : Ask) (told : Answer) → Answers is_clean lists failures p k told q → FitsAnswer k told
+  answer-fits : (p q : B) (k : Ask) (told : Answer) → Answers state p k told q → FitsAnswer k told
   answer-fits p q ask.Bad (answer.One r) a = a.0
   answer-fits p q ask.Bad (answer.Rows rs) a = absurd a
   answer-fits p q (ask.One t c x) (answer.One r) a = tt
@@ -67,7 +68,7 @@ module _ {B : Type 0} (is_clean : B → Type 0) (lists : B → Office) (failures
   answer-fits p q (ask.Import t c rows) (answer.One r) a = absurd a
   answer-fits p q (ask.Import t c rows) (answer.Rows rs) a = rows-fit t c p q rows rs a
 
-  all-fit : (zone : ZoneRule) (p q : B) (rows : List Record) (ans : List Answer) → AnswersAll zone is_clean lists failures p rows ans q → AllFit (map (ask_of zone) rows) ans
+  all-fit : (zone : ZoneRule) (p q : B) (rows : List Record) (ans : List Answer) → AnswersAll zone state p rows ans q → AllFit (map (ask_of zone) rows) ans
   all-fit zone p q [] [] a = tt
   all-fit zone p q [] (x ∷ ans) a = absurd a
   all-fit zone p q (row ∷ rows) [] a = absurd a
@@ -291,14 +292,14 @@ left-requests zone key (row ∷ rows) = by (is_others key (ask_of zone row)) ref
 
 -- ---- the law
 
-module _ {B : Type 0} (is_clean : B → Type 0) (lists : B → Office) (failures : B → ℕ) (zone : ZoneRule) (old new : B) (rows : List Record) (ans : List Answer)
-    (is : IsReplayed is_clean lists failures zone old new rows ans) where
+module _ {B : Type 0} (state : B → State Office) (zone : ZoneRule) (old new : B) (rows : List Record) (ans : List Answer)
+    (is : IsReplayed state zone old new rows ans) where
   fits : AllFit (map (ask_of zone) rows) ans
-  fits = all-fit is_clean lists failures zone old new rows ans is.each
+  fits = all-fit state zone old new rows ans is.each
 
-  whole : IsWhole is_clean lists old new (requests zone rows) (replies_of zone rows ans)
+  whole : IsWhole (state old) (state new) (requests zone rows) (replies_of zone rows ans)
   whole = record {
-    ran = are_a_run is_clean lists failures zone old new rows ans is.each;
+    ran = are_a_run state zone old new rows ans is.each;
     clean = is.clean;
     sound = is.sound;
     each = ap length (told-is zone rows ans) ∙ told-length (map (ask_of zone) rows) ans fits ∙ sym (ap length (asked-is zone rows));
@@ -308,19 +309,19 @@ module _ {B : Type 0} (is_clean : B → Type 0) (lists : B → Office) (failures
   told-to : (key : ℕ) → replies_to key (requests zone rows) (replies_of zone rows ans) ≡ all_told (own_asks key (map (ask_of zone) rows)) (own key (map (ask_of zone) rows) ans)
   told-to key = ap₂ (replies_to key) (asked-is zone rows) (told-is zone rows ans) ∙ told-own key (map (ask_of zone) rows) ans fits
 
-pub replays_tell_alike : {B C : Type 0} (clean : B → Type 0) (lists : B → Office) (failures : B → ℕ) (clean' : C → Type 0) (lists' : C → Office) (failures' : C → ℕ)
-    → ReplaysTellAlike clean lists failures clean' lists' failures'
-replays_tell_alike clean lists failures clean' lists' failures' zone key old new old' new' rows others ans bs is is' start same =
+pub replays_tell_alike : {B C : Type 0} (state : B → State Office) (state' : C → State Office)
+    → ReplaysTellAlike state state'
+replays_tell_alike state state' zone key old new old' new' rows others ans bs is is' start same =
     let mine = map (ask_of zone) rows in
     let yours = map (ask_of zone) others in
     let asks : own_asks key mine ≡ own_asks key yours =
     sym (own-left zone key rows) ∙ ap (λ z. own_asks key (map (ask_of zone) z)) same ∙ own-left zone key others in
     let left = left-requests zone key rows ∙ ap (requests zone) same ∙ sym (left-requests zone key others) in
-    let alike = runs_tell_alike clean lists clean' lists' key (requests zone rows) (requests zone others) (replies_of zone rows ans) (replies_of zone others bs)
-    old new old' new' (whole clean lists failures zone old new rows ans is) (whole clean' lists' failures' zone old' new' others bs is') start is.without_freeze is'.without_freeze left in
+    let alike = runs_tell_alike state state' key (requests zone rows) (requests zone others) (replies_of zone rows ans) (replies_of zone others bs)
+    old new old' new' (whole state zone old new rows ans is) (whole state' zone old' new' others bs is') start is.without_freeze is'.without_freeze left in
     let told : all_told (own_asks key mine) (own key mine ans) ≡ all_told (own_asks key mine) (own key yours bs) =
-    sym (told-to clean lists failures zone old new rows ans is key) ∙ alike ∙ told-to clean' lists' failures' zone old' new' others bs is' key
+    sym (told-to state zone old new rows ans is key) ∙ alike ∙ told-to state' zone old' new' others bs is' key
     ∙ ap (λ ks. all_told ks (own key yours bs)) (sym asks) in
-    let here = own-fit key mine ans (fits clean lists failures zone old new rows ans is) in
-    let there = subst (λ ks. AllFit ks (own key yours bs)) (sym asks) (own-fit key yours bs (fits clean' lists' failures' zone old' new' others bs is')) in
+    let here = own-fit key mine ans (fits state zone old new rows ans is) in
+    let there = subst (λ ks. AllFit ks (own key yours bs)) (sym asks) (own-fit key yours bs (fits state' zone old' new' others bs is')) in
     ap (map answer_line) (own-is zone key rows ans ∙ told-same (own_asks key mine) (own key mine ans) (own key yours bs) here there told ∙ sym (own-is zone key others bs))

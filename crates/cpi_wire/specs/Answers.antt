@@ -1,5 +1,6 @@
 -- What a record is answered, and what it does.
-use Rattle.std.specs.Prelude.{◌≡◌, ℕ, List, [], ◌∷◌, Option, Some, None}
+use Rattle.std.specs.Prelude.{◌≡◌, ℕ, List, [], ◌∷◌, ◌++◌, Option, Some, None}
+use Rattle.cpi_release.specs.State.{State}
 use Rattle.cpi_store.specs.Office.{Office}
 use Rattle.cpi_store.specs.Sound.{IsSound}
 use Rattle.cpi_office.specs.Calls.{ServesWhere}
@@ -9,10 +10,11 @@ use Rattle.cpi_office.specs.declared.request.Request.{Request}
 use Rattle.cpi_office.specs.declared.refusal.Refusal.TheVariants.{BadRequest}
 use Rattle.cpi_office.specs.declared.reply.Reply.{Reply}
 use Rattle.cpi_office.specs.declared.reply.Reply.TheVariants.{Refused}
-use Rattle.cpi_wire.specs.declared.asks.Answer.{Answer}
-use Rattle.cpi_wire.specs.declared.asks.Answer.TheVariants as answer
+use Rattle.cpi_wire.specs.Answer.{Answer}
+use Rattle.cpi_wire.specs.Answer as answer
 use Rattle.cpi_wire.specs.declared.asks.Ask.{Ask}
 use Rattle.cpi_wire.specs.declared.asks.Ask.TheVariants as ask
+use Rattle.cpi_wire.specs.Rows.{answer_line}
 
 -- each in turn, with what came of it in its place: none is left out, none comes twice, and one begins where the last ended
 abbrev pub InTurn : {B X Y : Type 0} → (B → X → Y → B → Type 0) → B → List X → List Y → B → Type 0
@@ -21,8 +23,8 @@ InTurn step old [] (y ∷ ys) new = ⊥
 InTurn step old (x ∷ xs) [] new = ⊥
 InTurn {B} step old (x ∷ xs) (y ∷ ys) new = (mid : B) × step old x y mid × InTurn step mid xs ys new
 
--- The words of a book: whether its store is clean, the office's lists, and how often it failed.
-module _ {B : Type 0} (is_clean : B → Type 0) (lists : B → Office) (failures : B → ℕ) where
+-- over a book of this state
+module _ {B : Type 0} (state : B → State Office) where
   -- what is of no form is told so and changes nothing
   abbrev pub IsBad : B → Reply → B → Type 0
   IsBad old reply new = (reply ≡ Refused BadRequest) × (new ≡ old)
@@ -30,8 +32,8 @@ module _ {B : Type 0} (is_clean : B → Type 0) (lists : B → Office) (failures
   -- a request is served
   abbrev pub IsServed : ℕ → Caller → B → Request → Reply → B → Type 0
   IsServed now caller old request reply new =
-      ServesWhere is_clean lists failures (IsSound (lists old)) old new reply
-      (reply_to now caller request (lists old)) (after_one now caller request (lists old))
+      ServesWhere (state old) (state new) (IsSound (state old).held) reply
+      (reply_to now caller request (state old).held) (after_one now caller request (state old).held)
 
   -- one row of an import
   abbrev pub RowAnswers : ℕ → Caller → B → Option Request → Reply → B → Type 0
@@ -50,3 +52,24 @@ module _ {B : Type 0} (is_clean : B → Type 0) (lists : B → Office) (failures
   Answers old (ask.One now caller request) (answer.Rows replies) new = ⊥
   Answers old (ask.Import now caller rows) (answer.One reply) new = ⊥
   Answers old (ask.Import now caller rows) (answer.Rows replies) new = RowsAnswer now caller old rows replies new
+
+  -- the record is answered, and this is the line of its answer
+  pub record Tells (old : B) (asked : Ask) (line : List ℕ) (new : B) : Type 0 where
+    pub told : Answer
+    pub answers : Answers old asked told new
+    pub line_is : line ≡ answer_line told
+
+  -- some first rows were carried out, each answered in turn, and no other
+  pub record FirstRowsAnswer (now : ℕ) (caller : Caller) (old : B) (rows : List (Option Request))
+      (new : B) : Type 0 where
+    pub front : List (Option Request)
+    pub rest : List (Option Request)
+    pub replies : List Reply
+    pub split : rows ≡ front ++ rest
+    pub answers : RowsAnswer now caller old front replies new
+
+  -- a record was begun: some first rows of an import were carried out; a lone request was carried out or wasn't
+  abbrev pub Begins : B → Ask → B → Type 0
+  Begins old ask.Bad new = new ≡ old
+  Begins old (ask.One now caller request) new = FirstRowsAnswer now caller old (Some request ∷ []) new
+  Begins old (ask.Import now caller rows) new = FirstRowsAnswer now caller old rows new

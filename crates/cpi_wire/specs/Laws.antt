@@ -1,14 +1,15 @@
 -- The requests in the records of an input.
 use Rattle.std.specs.Prelude.{ℕ, List, [], ◌∷◌, ◌++◌, Option, Some, None}
 use Rattle.cpi_codes.specs.Zone.{ZoneRule}
+use Rattle.cpi_release.specs.State.{State}
 use Rattle.cpi_store.specs.Office.{Office}
 use Rattle.cpi_office.specs.Served.{Ran}
 use Rattle.cpi_office.specs.declared.caller.Caller.{Caller}
 use Rattle.cpi_office.specs.declared.request.Ask.{Ask as Asking}
 use Rattle.cpi_office.specs.declared.request.Request.{Request}
 use Rattle.cpi_office.specs.declared.reply.Reply.{Reply}
-use Rattle.cpi_wire.specs.declared.asks.Answer.{Answer}
-use Rattle.cpi_wire.specs.declared.asks.Answer.TheVariants as answer
+use Rattle.cpi_wire.specs.Answer.{Answer}
+use Rattle.cpi_wire.specs.Answer as answer
 use Rattle.cpi_wire.specs.declared.asks.Ask.{Ask}
 use Rattle.cpi_wire.specs.declared.asks.Ask.TheVariants as ask
 use Rattle.cpi_wire.specs.Input.{Record}
@@ -51,6 +52,7 @@ replies_of zone (row ∷ rows) [] = []
 replies_of zone (row ∷ rows) (reply ∷ replies) = replied (ask_of zone row) reply ++ replies_of zone rows replies
 
 -- records that were answered in turn are a run of their requests
-abbrev pub AreARun : {B : Type 0} → (B → Type 0) → (B → Office) → (B → ℕ) → Type 0
-AreARun {B} is_clean lists failures = (zone : ZoneRule) (old new : B) (rows : List Record) (replies : List Answer)
-    → AnswersAll zone is_clean lists failures old rows replies new → Ran is_clean lists old new (requests zone rows) (replies_of zone rows replies)
+abbrev pub AreARun : {B : Type 0} → (B → State Office) → Type 0
+AreARun {B} state = (zone : ZoneRule) (old new : B) (rows : List Record) (replies : List Answer)
+    → AnswersAll zone state old rows replies new →
+    Ran (state old) (state new) (requests zone rows) (replies_of zone rows replies)

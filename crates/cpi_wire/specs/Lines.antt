@@ -1,19 +1,19 @@
 -- What the lines to a caller hang on.
 use Rattle.std.specs.Prelude.{◌≡◌, ◌≢◌, ⊤, ℕ, Bool, false, not, List, [], ◌∷◌, ◌++◌, map, filter, if◌then◌else◌}
 use Rattle.cpi_codes.specs.Zone.{ZoneRule}
+use Rattle.cpi_release.specs.State.{State}
 use Rattle.cpi_store.specs.Office.{Office}
 use Rattle.cpi_office.specs.Views.{view}
 use Rattle.cpi_office.specs.Runs.{trace}
 use Rattle.cpi_office.specs.Sights.{Sight, seen}
-use Rattle.cpi_office.specs.Served.{all_served}
+use Rattle.cpi_office.specs.Served.{all_served, NoneFails}
 use Rattle.cpi_store.specs.Sound.{IsSound}
 use Rattle.cpi_office.specs.Alone.{is_bearer, is_other, NoneFreezes}
-use Rattle.cpi_office.specs.Told.{NoneFails}
 use Rattle.cpi_office.specs.declared.caller.Caller.{Caller}
 use Rattle.cpi_office.specs.declared.caller.Caller.TheVariants.{Desk}
 use Rattle.cpi_office.specs.declared.reply.Reply.{Reply}
-use Rattle.cpi_wire.specs.declared.asks.Answer.{Answer}
-use Rattle.cpi_wire.specs.declared.asks.Answer.TheVariants as answer
+use Rattle.cpi_wire.specs.Answer.{Answer}
+use Rattle.cpi_wire.specs.Answer as answer
 use Rattle.cpi_wire.specs.declared.asks.Ask.{Ask}
 use Rattle.cpi_wire.specs.declared.asks.Ask.TheVariants as ask
 use Rattle.cpi_wire.specs.Answers.{Answers}
@@ -39,7 +39,7 @@ abbrev pub all_replies : Answer → List Reply
 all_replies (answer.One reply) = reply ∷ []
 all_replies (answer.Rows replies) = replies
 
-module _ {B : Type 0} (is_clean : B → Type 0) (lists : B → Office) (failures : B → ℕ) where
+module _ {B : Type 0} (state : B → State Office) where
   -- From a sound office some records were answered, and then one of the caller, over a store that was clean then, and
   -- without a reply that the office is unavailable.
   pub record IsTold (zone : ZoneRule) (k : Caller) (start : B) (row : Record) (told : Answer) : Type 0 where
@@ -47,10 +47,10 @@ module _ {B : Type 0} (is_clean : B → Type 0) (lists : B → Office) (failures
     pub replies : List Answer
     pub mid : B
     pub end : B
-    pub sound : IsSound (lists start)
-    pub before : AnswersAll zone is_clean lists failures start rows replies mid
-    pub one : Answers is_clean lists failures mid (ask_of zone row) told end
-    pub clean : is_clean end
+    pub sound : IsSound (state start).held
+    pub before : AnswersAll zone state start rows replies mid
+    pub one : Answers state mid (ask_of zone row) told end
+    pub clean : (state end).is_clean
     pub caller : IsFrom k (ask_of zone row)
     pub served : NoneFails (all_replies told)
 
@@ -58,17 +58,19 @@ module _ {B : Type 0} (is_clean : B → Type 0) (lists : B → Office) (failures
   abbrev pub seen_before : (zone : ZoneRule) (k : Caller) (start : B) (row : Record) (told : Answer)
       → IsTold zone k start row told → List Sight
   seen_before zone k start row told is =
-      seen k (moment_of (ask_of zone row)) (trace (all_served (requests zone is.rows) (replies_of zone is.rows is.replies)) (lists start))
+      let served = all_served (requests zone is.rows) (replies_of zone is.rows is.replies) in
+      seen k (moment_of (ask_of zone row)) (trace served (state start).held)
 
 -- Two replays under one zone, over books of any two kinds: where they show a collector, or the public, the same at the
 -- moment of a record, at the start and of what was accepted since, the same record of that caller is told in the same
 -- bytes, whatever all others sent. The tables published by that moment are among what is shown.
-abbrev pub LinesAreAlike : {B C : Type 0} → (B → Type 0) → (B → Office) → (B → ℕ) → (C → Type 0) → (C → Office) → (C → ℕ) → Type 0
-LinesAreAlike {B} {C} clean lists failures clean' lists' failures' =
+abbrev pub LinesAreAlike : {B C : Type 0} → (B → State Office) → (C → State Office) → Type 0
+LinesAreAlike {B} {C} state state' =
     (zone : ZoneRule) (k : Caller) (row : Record) (told told' : Answer) (start : B) (start' : C)
-    (is : IsTold clean lists failures zone k start row told) (is' : IsTold clean' lists' failures' zone k start' row told') → k ≢ Desk →
-    view k (moment_of (ask_of zone row)) (lists start) ≡ view k (moment_of (ask_of zone row)) (lists' start') →
-    seen_before clean lists failures zone k start row told is ≡ seen_before clean' lists' failures' zone k start' row told' is' →
+    (is : IsTold state zone k start row told) (is' : IsTold state' zone k start' row told') → k ≢ Desk →
+    view k (moment_of (ask_of zone row)) (state start).held
+    ≡ view k (moment_of (ask_of zone row)) (state' start').held →
+    seen_before state zone k start row told is ≡ seen_before state' zone k start' row told' is' →
     answer_line told ≡ answer_line told'
 
 -- ---- all lines to one collector
@@ -96,21 +98,21 @@ own_answers zone key (row ∷ rows) (a ∷ answers) = (if is_own key (ask_of zon
 abbrev pub lines_to : ZoneRule → ℕ → List Record → List Answer → List (List ℕ)
 lines_to zone key rows answers = map answer_line (own_answers zone key rows answers)
 
-module _ {B : Type 0} (is_clean : B → Type 0) (lists : B → Office) (failures : B → ℕ) where
+module _ {B : Type 0} (state : B → State Office) where
   -- a replay from a sound office in which no record asks for a freeze and no reply says that the office is unavailable,
   -- over a store that is clean at its end
   pub record IsReplayed (zone : ZoneRule) (old new : B) (rows : List Record) (answers : List Answer) : Type 0 where
-    pub each : AnswersAll zone is_clean lists failures old rows answers new
-    pub clean : is_clean new
-    pub sound : IsSound (lists old)
+    pub each : AnswersAll zone state old rows answers new
+    pub clean : (state new).is_clean
+    pub sound : IsSound (state old).held
     pub without_freeze : NoneFreezes (requests zone rows)
     pub served : NoneFails (replies_of zone rows answers)
 
 -- Two replays without a freeze under one zone, over books of any two kinds that hold the same lists: where their records
 -- differ in those of other collectors alone, the lines to a collector are the same, byte for byte.
-abbrev pub ReplaysTellAlike : {B C : Type 0} → (B → Type 0) → (B → Office) → (B → ℕ) → (C → Type 0) → (C → Office) → (C → ℕ) → Type 0
-ReplaysTellAlike {B} {C} clean lists failures clean' lists' failures' =
+abbrev pub ReplaysTellAlike : {B C : Type 0} → (B → State Office) → (C → State Office) → Type 0
+ReplaysTellAlike {B} {C} state state' =
     (zone : ZoneRule) (key : ℕ) (old new : B) (old' new' : C) (rows others : List Record) (answers answers' : List Answer) →
-    IsReplayed clean lists failures zone old new rows answers → IsReplayed clean' lists' failures' zone old' new' others answers' →
-    lists old ≡ lists' old' → without_others zone key rows ≡ without_others zone key others →
+    IsReplayed state zone old new rows answers → IsReplayed state' zone old' new' others answers' →
+    (state old).held ≡ (state' old').held → without_others zone key rows ≡ without_others zone key others →
     lines_to zone key rows answers ≡ lines_to zone key others answers'

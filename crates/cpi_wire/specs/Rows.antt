@@ -1,10 +1,10 @@
 -- The line of what a record is answered: one JSON text, and a line feed.
-use Rattle.std.specs.Prelude.{ℕ, List, [], ◌∷◌, ◌++◌, map, codes}
+use Rattle.std.specs.Prelude.{ℕ, List, [], ◌∷◌, ◌++◌, Bool, not, map, codes}
 use Rattle.serde_json.specs.Data.{Data}
-use Rattle.serde_json.specs.Written.{compact_text}
+use Rattle.serde_json.specs.Written.{comma_if, compact_text}
 use Rattle.cpi_office.specs.declared.reply.Reply.{Reply}
-use Rattle.cpi_wire.specs.declared.asks.Answer.{Answer}
-use Rattle.cpi_wire.specs.declared.asks.Answer.TheVariants as answer
+use Rattle.cpi_wire.specs.Answer.{Answer}
+use Rattle.cpi_wire.specs.Answer as answer
 use Rattle.cpi_wire.specs.Json.{list, only}
 use Rattle.cpi_wire.specs.Line.{data_of, line_of}
 
@@ -15,6 +15,10 @@ rows_data replies = only (codes "rows") (list (map data_of replies))
 -- without spaces
 abbrev pub rows_line : List Reply → List ℕ
 rows_line replies = compact_text (rows_data replies) ++ 10 ∷ []
+
+-- what a reply adds to that line: its text, after a comma where it isn't the first
+abbrev pub added_text : Bool → Reply → List ℕ
+added_text is_first reply = comma_if (not is_first) ++ compact_text (data_of reply)
 
 abbrev pub answer_line : Answer → List ℕ
 answer_line (answer.One reply) = line_of reply

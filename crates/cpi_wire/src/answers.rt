@@ -1,12 +1,15 @@
-//! Carrying out what a record asks.
-ghost use Rattle.std.specs.Prelude.{◌≡◌, IfOk, OnErr};
-ghost use Rattle.cpi_wire.specs.Answers.{Answers, RowAnswers, RowsAnswer};
+//! Carrying out what a record asks, and the line of what it is answered.
+ghost use Rattle.std.specs.Prelude.{◌≡◌, ◌++◌, List, IfOk, OnOk, OnErr};
+ghost use Rattle.cpi_office.specs.declared.reply.Reply.{Reply};
+ghost use Rattle.cpi_wire.specs.Answers.{Begins, FirstRowsAnswer, RowAnswers, RowsAnswer, Tells};
+ghost use Rattle.cpi_wire.specs.Rows.{added_text, rows_line};
 
-use crate::asks::{Answer, Ask};
+use crate::asks::Ask;
+use crate::line::reply_line;
 use crate::requests::ImportRows;
+use crate::rows::{add_reply, begin_rows, end_rows};
 use cpi_codes::Moment;
 use cpi_office::{Caller, Office, Refusal, Reply, Request};
-use cpi_rows::Rows;
 use cpi_store::Book;
 use std::alloc::{AllocError, Global};
 
@@ -17,7 +20,7 @@ fn answer_request<B: Book>(
     caller: &Caller,
     row: Option<Request>,
 ) -> Reply
-    ensures { RowAnswers B.is_clean B.lists B.failures now caller.now office.old.book row result office.new.book }
+    ensures { RowAnswers B.state now caller.now office.old.book row result office.new.book }
 {
     match row {
         None => Reply::Refused(Refusal::BadRequest),
@@ -25,45 +28,63 @@ fn answer_request<B: Book>(
     }
 }
 
-// Carries out the rows of an import in their order. The room for all replies is taken first, so that memory is never
-// refused between two rows.
+// Carries out one row of an import, and adds its reply to the line.
+fn tell_row<B: Book>(
+    alloc: Global,
+    office: &mut Office<B>,
+    now: Moment,
+    caller: &Caller,
+    row: Option<Request>,
+    line: &mut Vec<u8>,
+    is_first: bool,
+) -> Result<(), AllocError>
+    ensures { (reply : Reply) × RowAnswers B.state now caller.now office.old.book row reply office.new.book
+        × OnOk result (line.new.items ≡ line.old.items ++ added_text is_first reply) }
+{
+    let reply = answer_request(office, now, caller, row);
+    add_reply(alloc, line, is_first, &reply)
+}
+
+// Carries out the rows of an import in their order, and writes each reply into the line before the next row is
+// carried out. Without memory some first rows were carried out, and no other.
 fn answer_rows<B: Book>(
     alloc: Global,
     office: &mut Office<B>,
     now: Moment,
     caller: &Caller,
     rows: ImportRows,
-) -> Result<Rows<Reply>, AllocError>
-    ensures ok { IfOk result (λ replies. RowsAnswer B.is_clean B.lists B.failures now caller.now office.old.book rows replies office.new.book) }
-    ensures err { OnErr result (office.new ≡ office.old) }
+) -> Result<Vec<u8>, AllocError>
+    ensures ok { IfOk result (λ line. (replies : List Reply)
+        × RowsAnswer B.state now caller.now office.old.book rows replies office.new.book
+        × (line.items ≡ rows_line replies)) }
+    ensures err { OnErr result (FirstRowsAnswer B.state now caller.now office.old.book rows office.new.book) }
 {
-    let asked = rows.rows;
-    let mut replies = Vec::with_capacity(alloc, asked.len())?;
-    let mut rest = asked.into_iter();
+    let mut line = begin_rows(alloc)?;
+    let mut is_first = true;
+    let mut rest = rows.rows.into_iter();
     while let Some(row) = rest.next() {
-        let reply = answer_request(office, now, caller, row);
-        match replies.push(reply) {
-            Ok(()) => {}
-            Err(_) => unreachable!(),
-        }
+        tell_row(alloc, office, now, caller, row, &mut line, is_first)?;
+        is_first = false;
     }
-    Ok(Rows::of(replies))
+    end_rows(&mut line)?;
+    Ok(line)
 }
 
-/// Carries out what a record asks. Without memory nothing is carried out.
-pub(crate) fn answer<B: Book>(
+/// Carries out what a record asks, and gives the line of its answer. Without memory the record may have been begun.
+pub(crate) fn answer_line<B: Book>(
     alloc: Global,
     office: &mut Office<B>,
     ask: Ask,
-) -> Result<Answer, AllocError>
-    ensures ok { IfOk result (λ answer. Answers B.is_clean B.lists B.failures office.old.book ask answer office.new.book) }
-    ensures err { OnErr result (office.new ≡ office.old) }
+) -> Result<Vec<u8>, AllocError>
+    ensures ok { IfOk result (λ line. Tells B.state office.old.book ask line.items office.new.book) }
+    ensures err { OnErr result (Begins B.state office.old.book ask office.new.book) }
 {
     match ask {
-        Ask::Bad => Ok(Answer::One(Reply::Refused(Refusal::BadRequest))),
-        Ask::One(now, caller, request) => Ok(Answer::One(office.handle(now, caller, request))),
-        Ask::Import(now, caller, rows) => Ok(Answer::Rows(answer_rows(
-            alloc, office, now, &caller, rows,
-        )?)),
+        Ask::Bad => reply_line(alloc, &Reply::Refused(Refusal::BadRequest)),
+        Ask::One(now, caller, request) => {
+            let reply = office.handle(now, caller, request);
+            reply_line(alloc, &reply)
+        }
+        Ask::Import(now, caller, rows) => answer_rows(alloc, office, now, &caller, rows),
     }
 }

@@ -7,7 +7,7 @@ use cpi_store::Book;
 /// Records that were answered in turn are a run of the requests in them: the records of no form are left out, and
 /// what they were told.
 pub fn records_are_a_run<B: Book>()
-    ensures { AreARun B.is_clean B.lists B.failures }
+    ensures { AreARun B.state }
 {}
 
 /// What a collector, or the public, is told of a record is the same bytes in two replays under one zone, over books of
@@ -18,7 +18,7 @@ pub fn records_are_a_run<B: Book>()
 /// Both offices are sound at the start, both stores are clean once the record is answered, and none of its replies says
 /// that the office is unavailable. Nothing is said of time.
 pub fn lines_are_alike<B: Book, C: Book>()
-    ensures { LinesAreAlike B.is_clean B.lists B.failures C.is_clean C.lists C.failures }
+    ensures { LinesAreAlike B.state C.state }
 {}
 
 /// The lines to a collector are the same, byte for byte, in two replays under one zone whose records differ in those of
@@ -28,5 +28,5 @@ pub fn lines_are_alike<B: Book, C: Book>()
 /// of them. The books, of any two kinds, hold the same sound lists at the start, tables among them, and are clean at
 /// the end, and no reply says that the office is unavailable. Nothing is said of time.
 pub fn replays_tell_alike<B: Book, C: Book>()
-    ensures { ReplaysTellAlike B.is_clean B.lists B.failures C.is_clean C.lists C.failures }
+    ensures { ReplaysTellAlike B.state C.state }
 {}

@@ -22,7 +22,7 @@ mod values;
 mod words;
 mod write;
 
-pub use asks::{Answer, Ask};
+pub use asks::Ask;
 pub use fault::WireFault;
 pub use import::import_rows;
 pub use laws::{lines_are_alike, records_are_a_run, replays_tell_alike};
@@ -30,4 +30,3 @@ pub use line::reply_line;
 pub use record::request_of_record;
 pub use records::replay;
 pub use requests::ImportRows;
-pub use rows::answer_line;

@@ -3,6 +3,7 @@ ghost use Rattle.std.specs.Prelude.{◌≡◌, ◌++◌, map, IfOk, OnOk, option
 ghost use Rattle.std.specs.Option.{option_copied};
 ghost use Rattle.std.specs.String.{string_bytes};
 ghost use Rattle.serde_json.specs.View.{view};
+ghost use Rattle.serde_json.specs.Written.{compact_text};
 ghost use Rattle.cpi_wire.specs.Line.{data_of, line_of, reason_name, mark_name as name_of_mark, mark_value as value_of_mark, quote_data, item_data, item_text, price_data, mark_data, receipt_data, outlet_fields, item_fields, price_fields, work_row_data, quotes_data, items_data, work_data, frozen_month_data, tables_data, table_data};
 
 use crate::refusals::refusal_value;
@@ -199,7 +200,7 @@ fn table_value(alloc: Global, printed: &PrintedTable) -> Result<Value, AllocErro
     json!(in alloc; {"table": printed.as_str()})
 }
 
-pub(crate) fn reply_value(alloc: Global, reply: &Reply) -> Result<Value, AllocError>
+fn reply_value(alloc: Global, reply: &Reply) -> Result<Value, AllocError>
     ensures { IfOk result (λ v. view v ≡ data_of reply.now) }
 {
     match reply {
@@ -214,11 +215,18 @@ pub(crate) fn reply_value(alloc: Global, reply: &Reply) -> Result<Value, AllocEr
     }
 }
 
+/// The JSON text of a reply, without spaces, its keys in byte order.
+pub(crate) fn reply_text(alloc: Global, reply: &Reply) -> Result<Vec<u8>, AllocError>
+    ensures { IfOk result (λ text. text.items ≡ compact_text (data_of reply.now)) }
+{
+    reply_value(alloc, reply)?.to_vec(alloc)
+}
+
 /// The line of a reply: one JSON text without spaces, its keys in byte order, and a line feed.
 pub fn reply_line(alloc: Global, reply: &Reply) -> Result<Vec<u8>, AllocError>
     ensures { IfOk result (λ line. line.items ≡ line_of reply.now) }
 {
-    let mut line = reply_value(alloc, reply)?.to_vec(alloc)?;
+    let mut line = reply_text(alloc, reply)?;
     line.push(b'\n')?;
     Ok(line)
 }

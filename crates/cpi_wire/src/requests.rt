@@ -1,5 +1,5 @@
 //! The rows of an import.
-ghost use Rattle.std.specs.Prelude.{List, Option};
+ghost use Rattle.std.specs.Prelude.{◌≡◌, List, Option};
 ghost use Rattle.cpi_office.specs.declared.request.Request.{Request};
 
 use cpi_office::Request;
@@ -15,4 +15,13 @@ impl Model for ImportRows {
     ghost Value = { List (Option Request) };
 
     ghost view = { λ r. r.rows.items };
+}
+
+impl ImportRows {
+    /// The rows in their order.
+    pub fn rows(&self) -> &[Option<Request>]
+        ensures { result.now ≡ self.now }
+    {
+        &self.rows
+    }
 }

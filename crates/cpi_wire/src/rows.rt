@@ -1,40 +1,38 @@
-//! From what a record is answered to its line.
-ghost use Rattle.std.specs.Prelude.{◌≡◌, IfOk};
-ghost use Rattle.serde_json.specs.View.{view};
-ghost use Rattle.cpi_wire.specs.Rows.{rows_data, rows_line as told_rows, answer_line as told_answer};
+//! The line of the replies to an import's rows, written reply by reply.
+ghost use Rattle.std.specs.Prelude.{◌≡◌, ◌++◌, codes, IfOk, OnOk};
+ghost use Rattle.cpi_wire.specs.Rows.{added_text};
 
-use crate::asks::Answer;
-use crate::line::{reply_line, reply_value};
+use crate::line::reply_text;
 use cpi_office::Reply;
-use serde_json::{Value, json};
 use std::alloc::{AllocError, Global};
 
-fn rows_value(alloc: Global, replies: &[Reply]) -> Result<Value, AllocError>
-    ensures { IfOk result (λ v. view v ≡ rows_data replies.now) }
+/// The line before its first reply.
+pub(crate) fn begin_rows(alloc: Global) -> Result<Vec<u8>, AllocError>
+    ensures { IfOk result (λ line. line.items ≡ codes "{\"rows\":[") }
 {
-    let mut rows = Vec::with_capacity(alloc, replies.len())?;
-    for reply in replies {
-        rows.push(reply_value(alloc, reply)?)?;
-    }
-    json!(in alloc; {"rows": rows})
+    Vec::from_slice(alloc, b"{\"rows\":[".as_slice())
 }
 
-// The line of the replies to an import's rows.
-fn rows_line(alloc: Global, replies: &[Reply]) -> Result<Vec<u8>, AllocError>
-    ensures { IfOk result (λ line. line.items ≡ told_rows replies.now) }
+/// Adds a reply as its own line would tell it, with a comma before it where it isn't the first.
+pub(crate) fn add_reply(
+    alloc: Global,
+    line: &mut Vec<u8>,
+    is_first: bool,
+    reply: &Reply,
+) -> Result<(), AllocError>
+    ensures { OnOk result (line.new.items ≡ line.old.items ++ added_text is_first reply.now) }
 {
-    let mut line = rows_value(alloc, replies)?.to_vec(alloc)?;
-    line.push(b'\n')?;
-    Ok(line)
+    if !is_first {
+        line.push(b',')?;
+    }
+    let text = reply_text(alloc, reply)?;
+    line.extend_from_slice(&text)?;
+    Ok(())
 }
 
-/// The line of what a record is answered: one JSON text without spaces and a line feed. The replies to an import's
-/// rows stand in one list, each as its own line would tell it.
-pub fn answer_line(alloc: Global, answer: &Answer) -> Result<Vec<u8>, AllocError>
-    ensures { IfOk result (λ line. line.items ≡ told_answer answer.now) }
+/// Ends the line.
+pub(crate) fn end_rows(line: &mut Vec<u8>) -> Result<(), AllocError>
+    ensures { OnOk result (line.new.items ≡ line.old.items ++ codes "]}\n") }
 {
-    match answer {
-        Answer::One(reply) => reply_line(alloc, reply),
-        Answer::Rows(replies) => rows_line(alloc, replies.as_slice()),
-    }
+    line.extend_from_slice(b"]}\n".as_slice())
 }

@@ -2,4 +2,4 @@ use Rattle.cpi_wire.proofs.Runs.{are_a_run}
 use Rattle.cpi_wire.proofs.laws.records_are_a_run.Goals as goal
 
 pub returns : goal.returns
-returns g c = are_a_run g.B.Groups.is_clean g.B.Book.lists g.B.Groups.failures
+returns g c = are_a_run g.B.Book.state

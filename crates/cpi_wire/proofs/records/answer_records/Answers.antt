@@ -1,9 +1,8 @@
 use Rattle.std.proofs.Common.{◌≡◌, rules, refl, [], ◌∷◌, ◌++◌, true, false, arith, length-append}
 use Rattle.std.proofs.lemmas.Result.{err_from_is_err_and}
 use Rattle.csv.specs.Records.{fields_of}
-use Rattle.cpi_wire.specs.declared.fault.WireFault.TheVariants.{NoMemory}
 use Rattle.cpi_wire.proofs.Reading.{at-front}
-use Rattle.cpi_wire.proofs.Answered.{told-none, told-more, answers-more, gave-up-between, gave-up-at}
+use Rattle.cpi_wire.proofs.Answered.{told-none, told-more, answers-more, gave-up-between, gave-up-in, gave-up-at}
 use Rattle.cpi_wire.proofs.records.answer_records.Goals as goal
 
 pub loop-init : goal.loop-init
@@ -14,12 +13,14 @@ loop-preserved g c =
     let inv = c.loop.invariant in
     let n = inv.5 in
     let f = fields_of c.next_record.new.row in
-    let one : c.in_ok-next_record.field-0 ≡ true = search rules in (
+    let one : c.in_ok-next_record.field-0 ≡ true = search rules in
+    let told = c.in_ok-line.ensures.ok in (
       inv.0 ++ f ∷ [],
-      inv.1 ++ c.in_ok-told.told ∷ [],
+      inv.1 ++ told.told ∷ [],
       λ input at. (rw one at c.in_ok-next_record.ensures.ok) input inv.0 (inv.2 input at),
-      answers-more _ _ _ _ _ _ _ inv.0 inv.1 f c.in_ok-told.told inv.3 c.in_ok-told.ensures.ok,
-      told-more inv.1 _ _ _ _ inv.4 c.in_ok-tell.ensures.whole,
+      answers-more _ _ _ _ _ inv.0 inv.1 f told.told inv.3 told.answers,
+      told-more inv.1 _ _ _ _ inv.4
+          (rw (← told.line_is) (rw c.deref.ensures.value at c.in_ok-write_whole.ensures.whole)),
       rw length-append (omega (arith, n)),
     )
 
@@ -28,37 +29,44 @@ returns-in_err-next_record-clause-err g c =
     let inv = c.loop.invariant in
     let n = inv.5 in
     let p = err_from_is_err_and c.from_residual.result c.from_residual.ensures.1 in
-    rw (p.1, p.2) (λ input at. gave-up-between _ _ _ _ _ _ _ _ _ _ inv.0 inv.1 c.in_err-next_record.ensures.err (omega (arith, n)) (at-front _ _ inv.0 _ (inv.2 input at)) inv.3 inv.4)
+    rw (p.1, p.2) (λ input at. gave-up-between _ _ _ _ _ _ _ _ inv.0 inv.1 c.in_err-next_record.ensures.err (omega (arith, n)) (at-front _ _ inv.0 _ (inv.2 input at)) inv.3 inv.4)
 
-pub returns-in_err-told-clause-err : goal.returns-in_err-told-clause-err
-returns-in_err-told-clause-err g c =
-    let inv = c.loop.invariant in
-    let n = inv.5 in
-    let p = err_from_is_err_and c.from_residual-in_err-told.result c.from_residual-in_err-told.ensures.1 in
-    rw (p.1, p.2, c.in_err-told.ensures.err) (λ input at. gave-up-between _ _ _ _ _ _ _ _ _ NoMemory inv.0 inv.1 (λ e. cc) (omega (arith, n)) (at-front _ _ inv.0 _ (inv.2 input at)) inv.3 inv.4)
-
-pub returns-in_err-tell-clause-err : goal.returns-in_err-tell-clause-err
-returns-in_err-tell-clause-err g c =
+pub returns-in_err-line-clause-err : goal.returns-in_err-line-clause-err
+returns-in_err-line-clause-err g c =
     let inv = c.loop.invariant in
     let n = inv.5 in
     let f = fields_of c.next_record.new.row in
     let one : c.in_ok-next_record.field-0 ≡ true = search rules in
-    let p = err_from_is_err_and c.from_residual-in_err-tell.result c.from_residual-in_err-tell.ensures.1 in
-    rw (p.1, p.2) (λ input at. gave-up-at _ _ _ _ _ _ _ _ _ _ _ _ inv.0 inv.1 f c.in_ok-told.told (omega (arith, n))
-    (at-front _ _ _ c.next_record.new.reader ((rw one at c.in_ok-next_record.ensures.ok) input inv.0 (inv.2 input at))) inv.3 inv.4 c.in_ok-told.ensures.ok c.in_err-tell.ensures.part)
+    let p = err_from_is_err_and c.from_residual-in_err-line.result c.from_residual-in_err-line.ensures.1 in
+    rw (p.1, p.2) (λ input at. gave-up-in _ _ _ _ _ _ _ _ inv.0 inv.1 f (omega (arith, n))
+    (at-front _ _ _ c.next_record.new.reader ((rw one at c.in_ok-next_record.ensures.ok) input inv.0 (inv.2 input at)))
+    inv.3 inv.4 c.in_err-line.ensures.err)
+
+pub returns-in_err-write_whole-clause-err : goal.returns-in_err-write_whole-clause-err
+returns-in_err-write_whole-clause-err g c =
+    let inv = c.loop.invariant in
+    let n = inv.5 in
+    let f = fields_of c.next_record.new.row in
+    let one : c.in_ok-next_record.field-0 ≡ true = search rules in
+    let part = rw c.deref.ensures.value at c.in_err-write_whole.ensures.part in
+    let left = c.from_residual-in_err-write_whole in
+    let p = err_from_is_err_and left.result left.ensures.1 in
+    rw (p.1, p.2, part.0) (λ input at. gave-up-at _ _ _ _ _ _ _ _ _ inv.0 inv.1 f _ part.1 (omega (arith, n))
+    (at-front _ _ _ c.next_record.new.reader ((rw one at c.in_ok-next_record.ensures.ok) input inv.0 (inv.2 input at)))
+    inv.3 inv.4 c.in_ok-line.ensures.ok part.2 part.3)
 
 pub returns-in_err-next_record-2-clause-err : goal.returns-in_err-next_record-2-clause-err
 returns-in_err-next_record-2-clause-err g c =
     let inv = c.loop.invariant in
     let n = inv.5 in
     let p = err_from_is_err_and c.from_residual-in_err-next_record-2.result c.from_residual-in_err-next_record-2.ensures.1 in
-    rw (p.1, p.2) (λ input at. gave-up-between _ _ _ _ _ _ _ _ _ _ inv.0 inv.1 c.in_err-next_record-2.ensures.err (omega (arith, n)) (at-front _ _ inv.0 _ (inv.2 input at)) inv.3 inv.4)
+    rw (p.1, p.2) (λ input at. gave-up-between _ _ _ _ _ _ _ _ inv.0 inv.1 c.in_err-next_record-2.ensures.err (omega (arith, n)) (at-front _ _ inv.0 _ (inv.2 input at)) inv.3 inv.4)
 
 pub returns-then-branch-clause-err : goal.returns-then-branch-clause-err
 returns-then-branch-clause-err g c =
     let inv = c.loop.invariant in
     let n = inv.5 in
-    λ input at. gave-up-between _ _ _ _ _ _ _ _ _ _ inv.0 inv.1 (λ e. cc) (omega (arith, n)) (at-front _ _ inv.0 _ (inv.2 input at)) inv.3 inv.4
+    λ input at. gave-up-between _ _ _ _ _ _ _ _ inv.0 inv.1 (λ e. cc) (omega (arith, n)) (at-front _ _ inv.0 _ (inv.2 input at)) inv.3 inv.4
 
 pub returns-then-not-branch-clause-ok : goal.returns-then-not-branch-clause-ok
 returns-then-not-branch-clause-ok g c = λ input at.

@@ -1,5 +1,5 @@
 use Rattle.std.proofs.Common.{◌≡◌, ℕ, List, [], Option, length}
-use Rattle.cpi_wire.specs.declared.asks.Answer.{Answer}
+use Rattle.cpi_wire.specs.Answer.{Answer}
 use Rattle.cpi_wire.specs.Input.{Record}
 use Rattle.cpi_wire.specs.Records.{AnswersAll, Told}
 use Rattle.cpi_wire.specs.Input.{IsAt}
@@ -9,6 +9,6 @@ use Rattle.cpi_wire.proofs.records.answer_records.Given as goal
 abbrev pub invariant-loop : goal.invariant-loop
 invariant-loop g l = (rows : List Record) × (replies : List Answer)
     × ((input : Option (List ℕ)) → IsAt g.R.Read.remaining input [] l.fn.records → IsAt g.R.Read.remaining input rows l.records)
-    × AnswersAll l.fn.zone g.B.Groups.is_clean g.B.Book.lists g.B.Groups.failures l.fn.office.book rows replies l.office.book
+    × AnswersAll l.fn.zone g.B.Book.state l.fn.office.book rows replies l.office.book
     × Told replies (g.W.Write.contents l.fn.writer) (g.W.Write.contents l.writer)
     × (length rows ≡ l.counter)

@@ -1,0 +1,179 @@
+-- The rows of an import, carried out one after the other, and the line of their replies so far.
+use Rattle.std.proofs.Common.{◌≡◌, ◌∙◌, refl, sym, ap, ap₂, ℕ, List, [], ◌∷◌, ◌++◌, Bool, true, false, codes, map, Option, Some, Result, Ok, Err, OnErr, append_assoc, append-nil}
+use Rattle.serde_json.specs.View.{items_of}
+use Rattle.serde_json.specs.Written.{comma_if, compact_text, items_text}
+use Rattle.serde_json.proofs.OnLiterals.{serde_json_on_literals}
+use Rattle.cpi_release.specs.State.{State}
+use Rattle.cpi_store.specs.Office.{Office}
+use Rattle.cpi_office.specs.declared.caller.Caller.{Caller}
+use Rattle.cpi_office.specs.declared.request.Request.{Request}
+use Rattle.cpi_office.specs.declared.reply.Reply.{Reply}
+use Rattle.cpi_office.specs.declared.reply.Reply.TheVariants.{Refused}
+use Rattle.cpi_office.specs.declared.refusal.Refusal.TheVariants.{BadRequest}
+use Rattle.cpi_wire.specs.declared.asks.Ask.{Ask}
+use Rattle.cpi_wire.specs.declared.asks.Ask.TheVariants as ask
+use Rattle.cpi_wire.specs.Answer as answer
+use Rattle.cpi_wire.specs.Answers.{Begins, FirstRowsAnswer, IsServed, RowAnswers, RowsAnswer, Tells}
+use Rattle.cpi_wire.specs.Line.{data_of, line_of}
+use Rattle.cpi_wire.specs.Rows.{added_text, rows_line}
+use Rattle.cpi_wire.proofs.Answered.{in-turn-more}
+
+-- ---- the line
+
+-- the texts of some replies, with a comma before each, but for the first where nothing stands before
+abbrev pub joined : Bool → List Reply → List ℕ
+joined later [] = []
+joined later (r ∷ rs) = comma_if later ++ (compact_text (data_of r) ++ joined true rs)
+
+abbrev pub none_yet : List Reply → Bool
+none_yet [] = true
+none_yet (r ∷ rs) = false
+
+items-joined : (later : Bool) (rs : List Reply)
+    → items_text later (items_of (map data_of rs)) ≡ joined later rs ++ 93 ∷ []
+items-joined later [] = refl
+items-joined later (r ∷ rs) = rw (append_assoc, append_assoc, items-joined true rs) refl
+
+joined-behind : (rs : List Reply) (r : Reply)
+    → joined true (rs ++ r ∷ []) ≡ joined true rs ++ 44 ∷ compact_text (data_of r)
+joined-behind [] r = rw append-nil refl
+joined-behind (x ∷ rs) r =
+    ap (λ ys. 44 ∷ (compact_text (data_of x) ++ ys)) (joined-behind rs r)
+    ∙ ap (λ ys. 44 ∷ ys)
+    (sym (append_assoc (compact_text (data_of x)) (joined true rs) (44 ∷ compact_text (data_of r))))
+
+joined-more : (rs : List Reply) (r : Reply)
+    → joined false (rs ++ r ∷ []) ≡ joined false rs ++ added_text (none_yet rs) r
+joined-more [] r = rw append-nil refl
+joined-more (x ∷ rs) r =
+    ap (λ ys. compact_text (data_of x) ++ ys) (joined-behind rs r)
+    ∙ sym (append_assoc (compact_text (data_of x)) (joined true rs) (44 ∷ compact_text (data_of r)))
+
+ended : (rs : List Reply)
+    → joined false rs ++ codes "]}\n" ≡ (items_text false (items_of (map data_of rs)) ++ 125 ∷ []) ++ 10 ∷ []
+ended rs =
+    let text = joined false rs in
+    sym (ap (λ ys. (ys ++ 125 ∷ []) ++ 10 ∷ []) (items-joined false rs)
+    ∙ append_assoc (text ++ 93 ∷ []) (125 ∷ []) (10 ∷ [])
+    ∙ append_assoc text (93 ∷ []) (125 ∷ 10 ∷ []))
+
+line-joined : (rs : List Reply) → (codes "{\"rows\":[" ++ joined false rs) ++ codes "]}\n" ≡ rows_line rs
+unfolding serde_json_on_literals
+line-joined rs = ap (λ ys. codes "{\"rows\":[" ++ ys) (ended rs)
+
+-- ---- the rows
+
+module _ {B : Type 0} (state : B → State Office) (now : ℕ) (caller : Caller) where
+  -- some first rows were carried out, and the line is that of their replies, without its end
+  pub record RowsSoFar (old : B) (rows rest : List (Option Request)) (is_first : Bool) (line : List ℕ) (new : B)
+      : Type 0 where
+    pub front : List (Option Request)
+    pub replies : List Reply
+    pub split : rows ≡ front ++ rest
+    pub answers : RowsAnswer state now caller old front replies new
+    pub first : is_first ≡ none_yet replies
+    pub written : line ≡ codes "{\"rows\":[" ++ joined false replies
+
+  pub so-far-none : (old : B) (rows : List (Option Request)) → RowsSoFar old rows rows true (codes "{\"rows\":[") old
+  so-far-none old rows = record { front = []; replies = []; split = refl; answers = refl; first = refl; written = refl }
+
+  split-more : (rows front rest more : List (Option Request)) (row : Option Request)
+      → rows ≡ front ++ rest → rest ≡ row ∷ more → rows ≡ (front ++ row ∷ []) ++ more
+  split-more rows front rest more row split next =
+      split ∙ ap (λ ys. front ++ ys) next ∙ sym (append_assoc front (row ∷ []) more)
+
+  none-more : (rs : List Reply) (r : Reply) → false ≡ none_yet (rs ++ r ∷ [])
+  none-more [] r = refl
+  none-more (x ∷ rs) r = refl
+
+  -- one row more was carried out
+  pub first-rows : (old mid new : B) (rows rest more : List (Option Request)) (is_first : Bool) (line : List ℕ)
+      (row : Option Request) (reply : Reply)
+      → RowsSoFar old rows rest is_first line mid → rest ≡ row ∷ more → RowAnswers state now caller mid row reply new
+      → FirstRowsAnswer state now caller old rows new
+  first-rows old mid new rows rest more is_first line row reply so_far next one = record {
+    front = so_far.front ++ row ∷ [];
+    rest = more;
+    replies = so_far.replies ++ reply ∷ [];
+    split = split-more rows so_far.front rest more row so_far.split next;
+    answers =
+        in-turn-more (RowAnswers state now caller) old mid new so_far.front so_far.replies row reply so_far.answers one;
+  }
+
+  -- and its reply was written
+  pub so-far-more : (old mid new : B) (rows rest more : List (Option Request)) (is_first : Bool) (line told : List ℕ)
+      (row : Option Request) (reply : Reply)
+      → RowsSoFar old rows rest is_first line mid → rest ≡ row ∷ more → RowAnswers state now caller mid row reply new
+      → told ≡ line ++ added_text is_first reply
+      → RowsSoFar old rows more false told new
+  so-far-more old mid new rows rest more is_first line told row reply so_far next one text = record {
+    front = so_far.front ++ row ∷ [];
+    replies = so_far.replies ++ reply ∷ [];
+    split = split-more rows so_far.front rest more row so_far.split next;
+    answers =
+        in-turn-more (RowAnswers state now caller) old mid new so_far.front so_far.replies row reply so_far.answers one;
+    first = none-more so_far.replies reply;
+    written =
+        text ∙ ap₂ (λ ys first. ys ++ added_text first reply) so_far.written so_far.first
+        ∙ ap (λ ys. codes "{\"rows\":[" ++ ys) (sym (joined-more so_far.replies reply));
+  }
+
+  pub rows-none : (old : B) (rows : List (Option Request)) → FirstRowsAnswer state now caller old rows old
+  rows-none old rows = record { front = []; rest = rows; replies = []; split = refl; answers = refl }
+
+  -- where memory is refused
+  pub rows-until : (old new : B) (rows rest : List (Option Request)) (is_first : Bool) (line : List ℕ)
+      → RowsSoFar old rows rest is_first line new → FirstRowsAnswer state now caller old rows new
+  rows-until old new rows rest is_first line so_far = record {
+    front = so_far.front;
+    rest = rest;
+    replies = so_far.replies;
+    split = so_far.split;
+    answers = so_far.answers;
+  }
+
+  -- no row is left, and the line was ended
+  pub rows-whole : (old new : B) (rows rest : List (Option Request)) (is_first : Bool) (line told : List ℕ)
+      → RowsSoFar old rows rest is_first line new → rest ≡ [] → told ≡ line ++ codes "]}\n"
+      → (replies : List Reply) × RowsAnswer state now caller old rows replies new × (told ≡ rows_line replies)
+  rows-whole old new rows rest is_first line told so_far none text =
+      let all = so_far.split ∙ ap (λ ys. so_far.front ++ ys) none ∙ append-nil so_far.front in
+      (so_far.replies, rw all so_far.answers, text ∙ rw so_far.written (line-joined so_far.replies))
+
+  -- ---- any record
+
+  -- one request was served
+  pub one-begun : (old new : B) (request : Request) (reply : Reply)
+      → IsServed state now caller old request reply new → FirstRowsAnswer state now caller old (Some request ∷ []) new
+  one-begun old new request reply one = record {
+    front = Some request ∷ [];
+    rest = [];
+    replies = reply ∷ [];
+    split = refl;
+    answers = (new, one, refl);
+  }
+
+  pub tells-one : (old new : B) (request : Request) (reply : Reply) (line : List ℕ)
+      → IsServed state now caller old request reply new → line ≡ line_of reply
+      → Tells state old (ask.One now caller request) line new
+  tells-one old new request reply line one text = record { told = answer.One reply; answers = one; line_is = text }
+
+  pub tells-rows : (old new : B) (rows : List (Option Request)) (line : List ℕ)
+      → ((replies : List Reply) × RowsAnswer state now caller old rows replies new × (line ≡ rows_line replies))
+      → Tells state old (ask.Import now caller rows) line new
+  tells-rows old new rows line told = record { told = answer.Rows told.0; answers = told.1; line_is = told.2 }
+
+module _ {B : Type 0} (state : B → State Office) where
+  pub tells-bad : (old : B) (line : List ℕ) → line ≡ line_of (Refused BadRequest) → Tells state old ask.Bad line old
+  tells-bad old line text = record { told = answer.One (Refused BadRequest); answers = (refl, refl); line_is = text }
+
+  -- nothing was carried out
+  pub none-begun : (old : B) (asked : Ask) → Begins state old asked old
+  none-begun old ask.Bad = refl
+  none-begun old (ask.One now caller request) = rows-none state now caller old (Some request ∷ [])
+  none-begun old (ask.Import now caller rows) = rows-none state now caller old rows
+
+-- what holds anyway
+pub on-err : {T E P : Type 0} (r : Result T E) → P → OnErr r P
+on-err (Ok x) p = tt
+on-err (Err e) p = p

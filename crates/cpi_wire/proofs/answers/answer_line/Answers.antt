@@ -1,0 +1,34 @@
+use Rattle.std.proofs.lemmas.Result.{IfOk-weaker}
+use Rattle.cpi_wire.proofs.Importing.{one-begun, tells-bad, tells-one, tells-rows, on-err}
+use Rattle.cpi_wire.proofs.answers.answer_line.Goals as goal
+
+pub returns-in-Bad-clause-ok : goal.returns-in-Bad-clause-ok
+returns-in-Bad-clause-ok g c =
+    rw c.in-Bad.is (IfOk-weaker c.reply_line.result _ _
+    (λ line text. tells-bad g.B.Book.state c.args.office.now.book line.items text) c.reply_line.ensures)
+
+pub returns-in-One-clause-ok : goal.returns-in-One-clause-ok
+returns-in-One-clause-ok g c =
+    let one = c.in-One in
+    let handled = c.handle-reply in
+    rw one.is (IfOk-weaker c.reply_line-in-One.result _ _
+    (λ line text. tells-one g.B.Book.state one.now one.caller c.args.office.now.book handled.new.self.book
+    one.request handled.result line.items handled.ensures.serves text)
+    c.reply_line-in-One.ensures)
+
+pub returns-in-One-clause-err : goal.returns-in-One-clause-err
+returns-in-One-clause-err g c =
+    let one = c.in-One in
+    let handled = c.handle-reply in
+    rw one.is (on-err c.reply_line-in-One.result
+    (one-begun g.B.Book.state one.now one.caller c.args.office.now.book handled.new.self.book
+    one.request handled.result handled.ensures.serves))
+
+pub returns-in-Import-clause-ok : goal.returns-in-Import-clause-ok
+returns-in-Import-clause-ok g c =
+    let import = c.in-Import in
+    let answered = c.answer_rows in
+    rw import.is (IfOk-weaker answered.result _ _
+    (λ line told. tells-rows g.B.Book.state import.now import.caller c.args.office.now.book answered.new.office.book
+    import.rows line.items told)
+    answered.ensures.ok)
