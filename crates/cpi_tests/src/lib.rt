@@ -7,7 +7,11 @@ mod books;
 #[cfg(test)]
 mod command_words;
 #[cfg(test)]
+mod imports;
+#[cfg(test)]
 mod index;
+#[cfg(test)]
+mod jobs;
 #[cfg(test)]
 mod laws;
 #[cfg(test)]

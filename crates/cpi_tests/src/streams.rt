@@ -23,10 +23,10 @@ items,x
 1500,nobody,items
 ";
 
-// A reader that gives its bytes, seven at a time, and then fails.
+/// A reader that gives its bytes, seven at a time, and then fails.
 #[derive(Drop)]
-struct Breaking<'a> {
-    rest: &'a [u8],
+pub(crate) struct Breaking<'a> {
+    pub(crate) rest: &'a [u8],
 }
 
 impl Read for Breaking<'_> {
@@ -62,7 +62,7 @@ impl Read for Endless<'_> {
 #[derive(Drop)]
 pub(crate) struct Narrow {
     room: usize,
-    taken: Vec<u8>,
+    pub(crate) taken: Vec<u8>,
 }
 
 impl Narrow {
