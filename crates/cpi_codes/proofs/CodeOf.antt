@@ -46,7 +46,7 @@ read_back d (Some g) None (Some s) a v = absurd (grind (arith, nat_tests))
 read_back d (Some g) None None (Some a) v = absurd (grind (arith, nat_tests))
 read_back d (Some g) (Some c) None (Some a) v = absurd (grind (arith, nat_tests))
 
-there : (bytes : List ℕ) (c : Code) → text c ≡ bytes → code_of bytes ≡ Some c
+pub there : (bytes : List ℕ) (c : Code) → text c ≡ bytes → code_of bytes ≡ Some c
 there bytes c e = rw (← e) (read_back c.division c.group c.class c.subclass c.aggregate c.valid)
 
 -- ---- and what is read is written so

@@ -1,13 +1,14 @@
-//! Carried prices put in the order of their series.
+//! Frozen quotes and carried prices by their series; carried prices put in that order.
 ghost use Rattle.std.specs.Prelude.{◌≡◌, List, true, IfOk, MatchBool};
 ghost use Rattle.std.specs.List.{IsDistinct};
 ghost use Rattle.std.specs.List.Sorted.{IsPermutation};
 ghost use Rattle.std.specs.Ordering.{nat_cmp, is_eq};
 ghost use Rattle.cpi_rows.specs.Keyed.{IsInOrder};
 ghost use Rattle.cpi_index.specs.Carried.{Carried};
-ghost use Rattle.cpi_index.specs.Series.{is_by_series, carried_serial};
+ghost use Rattle.cpi_index.specs.Series.{is_by_series, carried_serial, frozen_serial};
 
 use crate::carried::CarriedPrice;
+use crate::frozen::FrozenQuote;
 use crate::series::InSeries;
 use cpi_rows::{Keyed, are_in_order};
 use std::alloc::AllocError;
@@ -16,6 +17,16 @@ impl Keyed for CarriedPrice {
     type Key = u32;
 
     ghost key = { carried_serial };
+
+    fn key(&self) -> u32 {
+        self.serial()
+    }
+}
+
+impl Keyed for FrozenQuote {
+    type Key = u32;
+
+    ghost key = { frozen_serial };
 
     fn key(&self) -> u32 {
         self.serial()

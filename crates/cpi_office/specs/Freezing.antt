@@ -1,6 +1,7 @@
 -- How a freeze is judged, from what was looked up: the months that were frozen, the calendar row, the plan of the year;
 -- and the release that is made of a month that may be frozen.
-use Rattle.std.specs.Prelude.{ℕ, Bool, false, not, is_some, nat_lt, List, Option, Some, None, Result, Ok, Err, if◌then◌else◌}
+use Rattle.std.specs.Prelude.{ℕ, Bool, false, not, is_some, nat_lt, List, Option, Some, None, Result, Ok, Err}
+use Rattle.std.specs.Prelude.{if◌then◌else◌}
 use Rattle.std.specs.List.{list_any}
 use Rattle.cpi_codes.specs.CodeOrder.{code_cmp}
 use Rattle.cpi_codes.specs.declared.codes.Code.{Code}
@@ -15,7 +16,8 @@ use Rattle.cpi_release.specs.declared.frozen_month.FrozenMonth.{FrozenMonth}
 use Rattle.cpi_release.specs.declared.release.Release.{Release}
 use Rattle.cpi_store.specs.Office.{Office, Freezes, month_rows}
 use Rattle.cpi_office.specs.declared.refusal.Refusal.{Refusal}
-use Rattle.cpi_office.specs.declared.refusal.Refusal.TheVariants.{UnknownMonth, PlanFault, FreezeOrder, FreezeTooEarly, NoPlan, Index, MonthFrozen}
+use Rattle.cpi_office.specs.declared.refusal.Refusal.TheVariants.{UnknownMonth, PlanFault, FreezeOrder}
+use Rattle.cpi_office.specs.declared.refusal.Refusal.TheVariants.{FreezeTooEarly, NoPlan, Index, MonthFrozen}
 use Rattle.cpi_office.specs.Verdicts.{Verdict, Refuses, Makes}
 
 -- ---- what is refused, in order

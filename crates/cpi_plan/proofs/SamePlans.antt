@@ -1,5 +1,5 @@
 -- Plans are the same exactly where they are equal.
-use Rattle.std.proofs.Common.{◌≡◌, Bool, true, refl, ap, subst, ◌&&◌, ◌==◌}
+use Rattle.std.proofs.Common.{◌≡◌, Bool, true, List, refl, ap, subst, ◌&&◌, ◌==◌}
 use Rattle.std.specs.Bool.{Decides}
 use Rattle.std.specs.Cmp.Lexicographic.{pointwise, pointwise_decides, bytes_decides}
 use Rattle.std.specs.Ordering.{is_eq}
@@ -97,3 +97,13 @@ module _ (a b : Plan) where
 -- two plans are the same exactly where they are one
 pub plan_decides : (a b : Plan) → Decides (same_plan a b) (a ≡ b)
 plan_decides a b = (plan_is a b, is_plan a b)
+
+-- lists that are the same row by row are equal
+pub nodes_are : (a b : List Node) → pointwise same_node a b ≡ true → a ≡ b
+nodes_are a b e = (pointwise_decides node_decides a b).0 e
+
+pub weights_are : (a b : List Weight) → pointwise same_weight a b ≡ true → a ≡ b
+weights_are a b e = (pointwise_decides weight_decides a b).0 e
+
+pub places_are : (a b : List Place) → pointwise same_place a b ≡ true → a ≡ b
+places_are a b e = (pointwise_decides place_decides a b).0 e

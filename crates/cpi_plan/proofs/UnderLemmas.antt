@@ -86,7 +86,7 @@ has_more : (b : Bool) (n s : ℕ) (any : Bool) → (n == 0) ≡ false → (0 < s
 has_more true n s any p f g = (λ h. refl, λ h. grind (arith, nat_tests))
 has_more false n s any p f g = (λ h. f (omega arith), λ h. omega (arith, g h))
 
-under_cons : (q : Code) (x : Weight) (xs : List Weight) (b : Bool) → is_at_or_below q x.code ≡ b → weight_under q (x ∷ xs) ≡ cond b x.parts 0 + weight_under q xs
+pub under_cons : (q : Code) (x : Weight) (xs : List Weight) (b : Bool) → is_at_or_below q x.code ≡ b → weight_under q (x ∷ xs) ≡ cond b x.parts 0 + weight_under q xs
 under_cons q x xs true e = rw e (sum_by-append (λ w. w.parts) (x ∷ []) (filter (λ w. is_at_or_below q w.code) xs) ∙ omega arith)
 under_cons q x xs false e = rw e (omega arith)
 

@@ -6,3 +6,4 @@ pub mod Sums
 pub mod Planned
 pub mod Weighing
 pub mod SamePlan
+pub mod Stored

@@ -10,6 +10,7 @@ mod plan_faults;
 mod plan_rows;
 mod plans;
 mod same_rows;
+mod stored;
 mod sums;
 mod tolerances;
 mod weighing;

@@ -41,7 +41,7 @@ pub use frozen_month::FrozenMonth;
 pub use group_fault::GroupFault;
 pub use groups::Groups;
 pub use history_groups::HistoryGroups;
-pub use kept_groups::{group_rows, month_groups};
+pub use kept_groups::{group_rows, groups_after, month_groups};
 pub use level::Level;
 pub use month_rows::level_in;
 pub use printed_table::{PrintedTable, printed};

@@ -1,14 +1,15 @@
 //! What a month reads from the releases before it.
-ghost use Rattle.std.specs.Prelude.{◌≡◌, ◌≤◌, ◌-◌, List, true, option_map, IfOk};
+ghost use Rattle.std.specs.Prelude.{◌≡◌, List, true, option_map, IfOk, if◌then◌else◌};
 ghost use Rattle.std.specs.Option.{option_copied};
 ghost use Rattle.cpi_codes.specs.CodeOrder.{code_cmp};
 ghost use Rattle.cpi_rows.specs.Keyed.{IsInOrder, at, row_at};
 ghost use Rattle.cpi_index.specs.Row.{Row};
 ghost use Rattle.cpi_index.specs.Series.{is_by_series, carried_serial, frozen_serial};
-ghost use Rattle.cpi_index.specs.Month.{sample_rows};
+ghost use Rattle.cpi_index.specs.Sample.{bases_of_year};
+ghost use Rattle.cpi_index.specs.Month.{rows_of, sample_rows};
 ghost use Rattle.cpi_index.specs.MonthGroups.{AreGroups};
 ghost use Rattle.cpi_release.specs.Releases.{release_of as release_in, carried_of, frozen_of, levels_of};
-ghost use Rattle.cpi_release.specs.Releases.{link_month, rows_in, level_at as level_at_in};
+ghost use Rattle.cpi_release.specs.Releases.{is_january, level_at as level_at_in};
 
 use crate::level::Level;
 use crate::release::Release;
@@ -35,7 +36,7 @@ fn release_of(releases: &[Release], month: Month) -> Option<&Release>
 }
 
 // The carried prices of a month.
-fn carried_at(releases: &[Release], month: Month) -> &[CarriedPrice]
+pub(crate) fn carried_at(releases: &[Release], month: Month) -> &[CarriedPrice]
     ensures { result.now ≡ carried_of releases.now month }
 {
     match release_of(releases, month) {
@@ -45,7 +46,7 @@ fn carried_at(releases: &[Release], month: Month) -> &[CarriedPrice]
 }
 
 // The frozen quotes of a month.
-fn frozen_at(releases: &[Release], month: Month) -> &[FrozenQuote]
+pub(crate) fn frozen_at(releases: &[Release], month: Month) -> &[FrozenQuote]
     ensures { result.now ≡ frozen_of releases.now month }
 {
     match release_of(releases, month) {
@@ -54,32 +55,26 @@ fn frozen_at(releases: &[Release], month: Month) -> &[FrozenQuote]
     }
 }
 
-// The samples of a month, one list for each weight of the plan.
-pub(crate) fn groups_in(
+// The samples of a month, one list for each weight of the plan. `prev` and `link` are the carried prices and the
+// frozen quotes of the link month, and `before` the carried prices of the month before.
+pub(crate) fn groups_from(
     alloc: Global,
     plan: &YearPlan,
-    releases: &[Release],
+    prev: &[CarriedPrice],
+    link: &[FrozenQuote],
+    before: &[CarriedPrice],
     month: Month,
     frozen: &[FrozenQuote],
 ) -> Result<Vec<Vec<GroupRow>>, AllocError>
-    ensures { 12 ≤ month → is_by_series carried_serial (carried_of releases.now (link_month month)) ≡ true →
-        is_by_series frozen_serial (frozen_of releases.now (link_month month)) ≡ true →
-        is_by_series carried_serial (carried_of releases.now (month - 1)) ≡ true →
-        is_by_series frozen_serial frozen.now ≡ true →
-        IfOk result (λ v. AreGroups plan.now (rows_in plan.now releases.now month frozen.now) v.items) }
+    ensures { is_by_series carried_serial prev.now ≡ true → is_by_series frozen_serial link.now ≡ true →
+        is_by_series carried_serial before.now ≡ true → is_by_series frozen_serial frozen.now ≡ true →
+        let bases = bases_of_year plan.now prev.now link.now in
+        let last = if is_january month then bases else before.now in
+        IfOk result (λ v. AreGroups plan.now (rows_of bases last frozen.now) v.items) }
 {
-    let Some(december) = month.link() else {
-        return Ok(Vec::new(alloc));
-    };
-    let prev = carried_at(releases, december);
-    let link = frozen_at(releases, december);
     if month.month() == JANUARY {
         return groups_of_january(alloc, plan, prev, link, frozen);
     }
-    let Some(last) = month.prev() else {
-        return Ok(Vec::new(alloc));
-    };
-    let before = carried_at(releases, last);
     groups_of_month(alloc, plan, prev, link, before, frozen)
 }
 

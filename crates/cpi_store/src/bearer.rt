@@ -2,6 +2,7 @@ ghost use Rattle.std.specs.Prelude.{◌≡◌};
 ghost use Rattle.cpi_store.specs.Bearer.{same_bearer};
 
 use cpi_codes::{CollectorId, Key};
+use cpi_rows::Keyed;
 
 /// A registered collector: the number, 1 to 9999, and the key of 32 hexadecimal digits that the collector bears. No
 /// two collectors share either.
@@ -19,5 +20,15 @@ impl Bearer {
         ensures { result ≡ same_bearer self.now other.now }
     {
         self.number == other.number && self.key == other.key
+    }
+}
+
+impl Keyed for Bearer {
+    type Key = CollectorId;
+
+    ghost key = { λ b. b.number };
+
+    fn key(&self) -> CollectorId {
+        self.number
     }
 }

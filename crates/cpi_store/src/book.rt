@@ -35,7 +35,9 @@ pub trait Book: Groups {
     ghost use Rattle.std.specs.Borrow.{sem};
     ghost use Rattle.cpi_survey.specs.Quote.{greatest_receipt};
     ghost use Rattle.cpi_store.specs.Outlet.{with_name};
-    ghost use Rattle.cpi_store.specs.Office.{Office, public_part, own_part, changed, PutsItem, PutsPlan, PutsCalendar, Registers, PutsOutlet, Assigns, Quotes, Freezes, month_rows};
+    ghost use Rattle.cpi_store.specs.Office.{Office, public_part, own_part, changed, PutsItem, PutsPlan};
+    ghost use Rattle.cpi_store.specs.Office.{PutsCalendar, Registers, PutsOutlet, Assigns, Quotes, Freezes};
+    ghost use Rattle.cpi_store.specs.Office.{month_rows};
     ghost use Rattle.cpi_store.specs.Bearer.{bearer_of, collector_of, collector_key};
     ghost use Rattle.cpi_release.specs.State.{State, Keeps, Reads};
     ghost use Rattle.cpi_store.specs.Calls.{Writes, IsOffice, EndsAs};

@@ -1,0 +1,31 @@
+-- A plan by its nodes and places, as a store keeps it: its weights are those of the elementary nodes.
+use Rattle.std.specs.Prelude.{ℕ, ◌==◌, Bool, ◌&&◌, not, List, map, filter}
+use Rattle.std.specs.List.{list_any, list_all}
+use Rattle.cpi_codes.specs.CodeOrder.{is_same, is_elementary}
+use Rattle.cpi_codes.specs.CodePath.{path}
+use Rattle.cpi_plan.specs.Sums.{weight_under, is_node}
+use Rattle.cpi_plan.specs.Plan.{Plan, has_zero, total, has_unplaced}
+use Rattle.cpi_plan.specs.declared.plan_rows.Weight.{Weight}
+use Rattle.cpi_plan.specs.declared.plan_rows.Place.{Place}
+use Rattle.cpi_plan.specs.declared.plan_rows.Node.{Node}
+
+abbrev pub weight_of : Node → Weight
+weight_of n = record { code = n.code; parts = n.weight }
+
+abbrev pub weights_of : List Node → List Weight
+weights_of nodes = map weight_of (filter (λ n. is_elementary n.code) nodes)
+
+abbrev pub plan_from : ℕ → List Node → List Place → Plan
+plan_from year nodes places = record { year = year; nodes = nodes; weights = weights_of nodes; places = places }
+
+-- a node with its sum
+abbrev pub is_weighed : List Weight → Node → Bool
+is_weighed weights n = is_node weights n.code && n.weight == weight_under n.code weights
+
+-- whether each code at or above a weight is a node
+abbrev pub is_complete : Plan → Bool
+is_complete p = list_all (λ w. list_all (λ c. list_any (λ n. is_same n.code c) p.nodes) (path w.code)) p.weights
+
+-- whether the rows, each list in order, make a plan
+abbrev pub is_whole : Plan → Bool
+is_whole p = total p.weights == 1000000 && not (has_zero p.weights) && list_all (is_weighed p.weights) p.nodes && is_complete p && not (has_unplaced p.weights p.places)

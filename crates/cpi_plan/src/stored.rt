@@ -1,0 +1,97 @@
+//! Plans by the rows of a store.
+ghost use Rattle.std.specs.Prelude.{◌≡◌, ◌≤◌, IfOk, IfSome, IsTrue, map};
+ghost use Rattle.cpi_plan.specs.Stored.{plan_from, weights_of as weights_in};
+
+use crate::items::Item;
+use crate::plan_rows::{Node, Place, Title, Weight};
+use crate::plans::YearPlan;
+use crate::same_rows::are_same;
+use cpi_rows::RowsByKey;
+use std::alloc::{AllocError, Global};
+
+fn titles_of(alloc: Global, nodes: &[Node]) -> Result<Vec<Title>, AllocError>
+    ensures { IfOk result (λ ts. ts.items ≡ map (λ n. record { code = n.code; title = n.title }) nodes.now) }
+{
+    let mut titles = Vec::new(alloc);
+    'nodes: for node in nodes {
+        let title = node.title.copy(alloc)?;
+        titles.push(Title {
+            code: node.code,
+            title,
+        })?;
+    }
+    Ok(titles)
+}
+
+// The weights of the elementary nodes.
+fn weights_of(alloc: Global, nodes: &[Node]) -> Result<Vec<Weight>, AllocError>
+    ensures { IfOk result (λ ws. ws.items ≡ weights_in nodes.now) }
+{
+    let mut weights = Vec::new(alloc);
+    'nodes: for node in nodes {
+        if node.code.is_elementary() {
+            weights.push(Weight {
+                code: node.code,
+                parts: node.weight,
+            })?;
+        }
+    }
+    Ok(weights)
+}
+
+fn copies(alloc: Global, places: &[Place]) -> Result<Vec<Place>, AllocError>
+    ensures { IfOk result (λ ps. ps.items ≡ places.now) }
+{
+    let mut copies = Vec::new(alloc);
+    copies.extend_from_slice(places)?;
+    Ok(copies)
+}
+
+// Whether the plan has these nodes, each in its place.
+#[tactic(auto, using(crate::proofs::SamePlans::nodes_are))]
+fn has_nodes(plan: &YearPlan, nodes: &[Node]) -> bool
+    ensures { IsTrue result → plan.now.nodes ≡ nodes.now }
+{
+    are_same(plan.nodes(), nodes)
+}
+
+#[tactic(auto, using(crate::proofs::SamePlans::weights_are))]
+fn has_weights(plan: &YearPlan, weights: &[Weight]) -> bool
+    ensures { IsTrue result → plan.now.weights ≡ weights.now }
+{
+    are_same(plan.weights(), weights)
+}
+
+#[tactic(auto, using(crate::proofs::SamePlans::places_are))]
+fn has_places(plan: &YearPlan, places: &[Place]) -> bool
+    ensures { IsTrue result → plan.now.places ≡ places.now }
+{
+    are_same(plan.places(), places)
+}
+
+impl YearPlan {
+    /// The plan of a year with these nodes, whose elementary ones are its weights, and these places, each in order; none
+    /// where there is no such plan, or where memory was refused. `known_items` are the items that are known.
+    /// O(n log n) for n rows.
+    pub fn from_rows(
+        alloc: Global,
+        year: u16,
+        known_items: &RowsByKey<Item>,
+        nodes: &[Node],
+        places: &[Place],
+    ) -> Option<YearPlan>
+        requires year_in_calendar { (2000 ≤ year) × (year ≤ 2199) }
+        ensures { IfSome result (λ plan. plan ≡ plan_from year nodes.now places.now) }
+    {
+        let titles = titles_of(alloc, nodes).ok()?;
+        let sent = weights_of(alloc, nodes).ok()?;
+        let weights = weights_of(alloc, nodes).ok()?;
+        let placed = copies(alloc, places).ok()?;
+        let plan = YearPlan::build(alloc, year, known_items, titles, sent, placed).ok()?;
+        if has_nodes(&plan, nodes) && has_weights(&plan, &weights) && has_places(&plan, places) {
+            Some(plan)
+        } else {
+            None
+        }
+    }
+}
