@@ -1,0 +1,84 @@
+-- The calls of a book over a database: what they show, and what a crash leaves.
+use Rattle.std.proofs.Common.{◌≡◌, ◌⊎◌, ℕ, ◌<◌, ◌≤◌, Ok, Err, IsTrue, false, arith, ap, inl, inr, ◌∙◌}
+use Rattle.sqlite.specs.Tree.{Trees}
+use Rattle.sqlite.specs.Effect.{Database}
+use Rattle.sqlite.specs.State.{State, HasCleanDisk, Survives}
+use Rattle.cpi_release.specs.State.{Keeps, Reads}
+use Rattle.cpi_store.specs.Office.{Office, Change, changed}
+use Rattle.cpi_store.specs.Calls.{Writes}
+use Rattle.cpi_sql.specs.Lists.{office_in}
+use Rattle.cpi_sql.specs.Shelf.{HasTables, IsCleanBook, IsDone, IsKept, IsLook, StaysOpen, office_state}
+
+module _ (old new : State) (n : ℕ) (tables : IsCleanBook old → HasTables old) where
+  keeps : (m : ℕ) → IsLook old new → Keeps (office_state old n) (office_state new m)
+  keeps m look = record {
+    was_kept = λ disk. omega (arith, disk, look.crash.clean);
+    was_clean = look.clean;
+    kept = λ clean. ap (λ (d : Database). office_in d.trees) (look.kept clean (tables (look.clean clean))).now;
+    crash = λ clean disk o may. elim (look.crash.crash disk may.0 may.1) [
+      | inl was ↦ (may.0, was, may.2)
+      | inr never ↦ absurd (never clean (tables clean))
+    ];
+  }
+
+  pub reads : {T F : Type 0} (x : T) (Shown : T → Type 0) → IsLook old new → StaysOpen old new
+      → (IsCleanBook new → Shown x)
+      → Reads (office_state old n) (office_state new n) {T = T} {F = F} (Ok x) Shown
+  reads x Shown look stays shown = record {
+    keeps = keeps n look;
+    stays = λ clean disk. record { disk = disk; is_open = stays disk clean.is_open };
+    shown = shown;
+    count = omega arith;
+    fault = tt;
+  }
+
+  pub read_fails : {T F : Type 0} (e : F) (Shown : T → Type 0) (m : ℕ) → IsLook old new → n < m
+      → Reads (office_state old n) (office_state new m) {T = T} {F = F} (Err e) Shown
+  read_fails e Shown m look more = record {
+    keeps = keeps m look;
+    stays = tt;
+    shown = λ clean. tt;
+    count = omega (arith, more);
+    fault = more;
+  }
+
+  module _ (Done : Trees → Type 0) (after : Office) (survives : Survives old new Done) (clean : IsCleanBook new
+      → IsCleanBook old)
+      (done : IsCleanBook old → (db : Trees) → Done db → office_in db ≡ after) where
+    left : IsCleanBook old → HasCleanDisk new → (o : Office) → (office_state new n).may_leave o
+        → (office_state old n).may_leave o ⊎ (o ≡ after)
+    left was disk o may = elim (survives.crash disk may.0 may.1) [
+      | inl before ↦ inl (may.0, before, may.2)
+      | inr made ↦ inr (may.2 ∙ done was may.0 made)
+    ]
+
+    pub writes : {T F : Type 0} (x : T) → (HasCleanDisk new → old.in_transaction ≡ false → IsTrue new.is_open)
+        → (IsCleanBook new → HasTables new × (office_in new.now.trees ≡ after))
+        → (IsTrue new.is_open → new.in_transaction ≡ false → (db : Trees) → new.may_leave db → db ≡ new.now.trees)
+        → Writes (office_state old n) (office_state new n) {T = T} {F = F} (Ok x) after
+    writes x opens made settled = record {
+      was_kept = λ disk. omega (arith, disk, survives.clean);
+      was_clean = clean;
+      stays = λ was disk. record { disk = disk; is_open = opens disk (tables was).alone };
+      done = λ is_clean. (made is_clean).1;
+      kept = λ is_clean. tt;
+      count = omega arith;
+      fault = tt;
+      crash = left;
+      answered = λ is_clean o may. may.2 ∙ ap office_in (settled is_clean.is_open (made is_clean).0.alone may.0 may.1)
+          ∙ (made is_clean).1;
+    }
+
+    pub write_fails : {T F : Type 0} (e : F) (m : ℕ) → n < m → (IsCleanBook new → HasTables old → IsKept old new)
+        → Writes (office_state old n) (office_state new m) {T = T} {F = F} (Err e) after
+    write_fails e m more kept = record {
+      was_kept = λ disk. omega (arith, disk, survives.clean);
+      was_clean = clean;
+      stays = tt;
+      done = λ is_clean. tt;
+      kept = λ is_clean. ap (λ (d : Database). office_in d.trees) (kept is_clean (tables (clean is_clean))).now;
+      count = omega (arith, more);
+      fault = more;
+      crash = left;
+      answered = λ is_clean. tt;
+    }

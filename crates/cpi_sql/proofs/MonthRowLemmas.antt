@@ -1,0 +1,363 @@
+-- The stored quotes of a month, as the join of their tables shows them.
+use Rattle.std.proofs.Common.{◌≡◌, inl, inr, ℕ, pos, Bool, true, false, ◌&&◌, List, [], ◌∷◌, Some, None, Option}
+use Rattle.std.proofs.Common.{refl, sym, ap, subst, ◌∙◌}
+use Rattle.std.specs.Prelude.{if◌then◌else◌, option_map}
+use Rattle.std.specs.List.{list_all, filter_map, cons_option}
+use Rattle.std.specs.List.Sorted.{IsStrictlySortedBy}
+use Rattle.std.specs.declared.cmp.Ordering.{Ordering}
+use Rattle.std.specs.declared.cmp.Ordering.TheVariants.{Less, Equal}
+use Rattle.std.specs.Ordering.{nat_cmp, is_eq}
+use Rattle.std.specs.Cmp.{IsTotalOrder, tied_itself}
+use Rattle.std.proofs.lemmas.Bool.{and_parts, and_from}
+use Rattle.std.proofs.lemmas.Cmp.{nat_cmp_total, ranked}
+use Rattle.std.proofs.lemmas.Map.Keys.{sorted_tail}
+use Rattle.sqlite.specs.declared.types.Value.{Value}
+use Rattle.sqlite.specs.declared.types.Value.TheVariants.{Int}
+use Rattle.sqlite.specs.Collation.TheVariants.{Binary}
+use Rattle.sqlite_sql.specs.declared.ops.BinaryOp.TheVariants.{Compare}
+use Rattle.sqlite_sql.specs.declared.ops.CompareOp.TheVariants.{Eq}
+use Rattle.sqlite.specs.Ops.{binary, is_true}
+use Rattle.sqlite.specs.Order.{Row, column}
+use Rattle.sqlite.specs.Term.{holds}
+use Rattle.sqlite.specs.Listing.{understood}
+use Rattle.sqlite.specs.State.{State, Shown}
+use Rattle.sqlite_tied.specs.Compute.{everything}
+use Rattle.sqlite.proofs.Callers.{IsPlain}
+use Rattle.sqlite_rules.specs.Lists.{Has}
+use Rattle.sqlite_rules.proofs.ListLemmas.{all_from}
+use Rattle.cpi_codes.specs.declared.series.SeriesId.{SeriesId}
+use Rattle.cpi_rows.specs.Keyed.{IsInOrder, row_at}
+use Rattle.cpi_rows.specs.Held.{held_by, held_cmp, held_key}
+use Rattle.cpi_rows.proofs.Found.{row_key}
+use Rattle.cpi_survey.specs.declared.assignment.Assignment.{Assignment}
+use Rattle.cpi_survey.specs.Quote.{QuoteRow, quote_cmp, quote_key}
+use Rattle.cpi_index.specs.Frozen.{Frozen}
+use Rattle.cpi_store.specs.Office.{frozen_quote, frozen_row, month_rows}
+use Rattle.cpi_sql.specs.Read.{AreRead}
+use Rattle.cpi_sql.specs.MonthRows.{month_rows_text, month_rows_command, of_month, both_shown, quote_behind}
+use Rattle.cpi_sql.specs.MonthRows.{shown_month_quote, series_key}
+use Rattle.cpi_sql.specs.Texts.{by_columns}
+use Rattle.cpi_sql.specs.Lists.{and_then, ranged, month_at, month_from, item_from, assignment_in}
+use Rattle.cpi_sql.specs.Lists.{assignments_in, shown_assignment, quote_from, quote_in, quotes_in, office_in}
+use Rattle.cpi_sql.specs.Shelf.{HasTables, equals}
+use Rattle.cpi_sql.proofs.Texts.{Asks}
+use Rattle.cpi_sql.proofs.Reading.{equality}
+use Rattle.cpi_sql.proofs.Joined.{Pairs, joined}
+use Rattle.cpi_sql.proofs.Listed.{head_in, same_in_order, listed_in_order, listed_stands, stands_listed}
+use Rattle.cpi_sql.proofs.Lists.{held_total, quote_total, read_has, has_read, has_held, held_has, held_in_order}
+use Rattle.cpi_sql.proofs.Lists.{bound_is, ranged_is, same_number, equal_number}
+use Rattle.cpi_sql.proofs.QuoteOffice.{numbers_of, same_month, first_tied, second_tied}
+
+some_is : {X : Type 0} {x y : X} → ◌≡◌ {A = Option X} (Some x) (Some y) → x ≡ y
+some_is e = cc
+
+pub month_rows_is : Asks month_rows_text month_rows_command
+unfolding understood everything
+month_rows_is = (refl, refl, (refl, refl))
+
+-- ---- members of lists
+
+module _ {X Y : Type 0} (g : X → Option Y) where
+  pub given_has : (xs : List X) (x : X) (y : Y) → Has xs x → g x ≡ Some y → Has (filter_map g xs) y
+  given_has [] x y h e = absurd h
+  given_has (z ∷ xs) x y (inl same) e =
+      let here : g z ≡ Some y = ap g (sym same) ∙ e in
+      subst (λ o. Has (cons_option o (filter_map g xs)) y) (sym here) (inl refl)
+  given_has (z ∷ xs) x y (inr h) e = at (g z) (given_has xs x y h e)
+    where
+      at : (o : Option Y) → Has (filter_map g xs) y → Has (cons_option o (filter_map g xs)) y
+      at None k = k
+      at (Some w) k = inr k
+
+  pub has_given : (xs : List X) (y : Y) → Has (filter_map g xs) y → (x : X) × Has xs x × (g x ≡ Some y)
+  has_given [] y h = absurd h
+  has_given (x ∷ xs) y h = at (g x) refl h (has_given xs y)
+    where
+      at : (o : Option Y) → g x ≡ o → Has (cons_option o (filter_map g xs)) y
+          → (Has (filter_map g xs) y → (z : X) × Has xs z × (g z ≡ Some y)) → (z : X) × Has (x ∷ xs) z × (g z ≡ Some y)
+      at None e k rest = let it = rest k in (it.0, inr it.1, it.2)
+      at (Some w) e (inl is) rest = (x, inl refl, e ∙ ap Some (sym is))
+      at (Some w) e (inr k) rest = let it = rest k in (it.0, inr it.1, it.2)
+
+module _ {X K : Type 0} {R : K → K → Ordering} (o : IsTotalOrder R) (key : X → K) where
+  -- a row in order is found by its key
+  pub row_of : (xs : List X) (x : X) → IsInOrder R key xs → Has xs x → row_at R key (key x) xs ≡ Some x
+  row_of [] x sorted h = absurd h
+  row_of (y ∷ ys) x sorted (inl is) =
+      let tie : is_eq (R (key y) (key x)) ≡ true = ap (λ z. is_eq (R (key y) (key z))) is
+      ∙ ap is_eq (tied_itself o (key y)) in
+      ap (λ b. if b then Some y else row_at R key (key x) ys) tie ∙ ap Some (sym is)
+  row_of (y ∷ ys) x sorted (inr h) =
+      let less : is_eq (R (key y) (key x)) ≡ false = ap is_eq (head_in o key y ys x sorted h) in
+      ap (λ b. if b then Some y else row_at R key (key x) ys) less
+      ∙ row_of ys x (sorted_tail (λ a b. R (key a) (key b)) y ys sorted) h
+
+pub has_row : {X K : Type 0} (R : K → K → Ordering) (key : X → K) (k : K) (xs : List X) (x : X)
+    → row_at R key k xs ≡ Some x → Has xs x
+has_row R key k [] x e = cc
+has_row R key k (y ∷ ys) x e = at (is_eq (R (key y) k)) e (has_row R key k ys x)
+  where
+    at : (b : Bool) → (if b then Some y else row_at R key k ys) ≡ Some x → (row_at R key k ys ≡ Some x → Has ys x)
+        → Has (y ∷ ys) x
+    at true f rest = inl (sym (some_is f))
+    at false f rest = inr (rest f)
+
+-- ---- the order of what is frozen
+
+abbrev IsNamed : ℕ × Assignment → Type 0
+IsNamed y = y.1.series ≡ record { collector = y.0; slot = y.1.slot }
+
+module _ (month : ℕ) (quotes : List (ℕ × QuoteRow)) where
+  abbrev row : ℕ × Assignment → Option Frozen
+  row = frozen_row month quotes
+
+  key_of : (y : ℕ × Assignment) (f : Frozen) → IsNamed y → row y ≡ Some f → series_key f ≡ (y.0, y.1.slot)
+  key_of y f named e = at (row_at quote_cmp quote_key (y.1.slot, month) (held_by y.0 quotes)) e
+    where
+      at : (o : Option QuoteRow) → option_map (frozen_quote y.1) o ≡ Some f → series_key f ≡ (y.0, y.1.slot)
+      at None g = cc
+      at (Some q) g = ap series_key (sym (some_is g)) ∙ ap (λ (s : SeriesId). (s.collector, s.slot)) named
+
+  frozen_in_order : (rows : List (ℕ × Assignment)) → ((y : ℕ × Assignment) → Has rows y → IsNamed y)
+      → IsInOrder (held_cmp nat_cmp) (held_key (λ a. a.slot)) rows
+      → IsInOrder quote_cmp series_key (filter_map row rows)
+  unfolding IsStrictlySortedBy
+  frozen_in_order [] named sorted = tt
+  frozen_in_order (y ∷ ys) named sorted = at (row y) refl (frozen_in_order ys (λ z h. named z (inr h)) sorted.1)
+    where
+      at : (o : Option Frozen) → row y ≡ o → IsInOrder quote_cmp series_key (filter_map row ys)
+          → IsInOrder quote_cmp series_key (cons_option o (filter_map row ys))
+      at None e rest = rest
+      at (Some f) e rest = (
+        all_from (λ z. quote_cmp (series_key f) (series_key z) ≡ Less) (filter_map row ys)
+            (λ z h.
+            let it = has_given row ys z h in
+            let less : quote_cmp (y.0, y.1.slot) (it.0.0, it.0.1.slot) ≡ Less =
+            head_in (held_total nat_cmp_total) (held_key (λ (a : Assignment). a.slot)) y ys it.0 sorted it.1 in
+            ap (λ k. quote_cmp k (series_key z)) (key_of y f (named y (inl refl)) e)
+            ∙ ap (quote_cmp (y.0, y.1.slot)) (key_of it.0 z (named it.0 (inr it.1)) it.2) ∙ less),
+        rest,
+      )
+
+-- ---- the columns of an assignment
+
+abbrev own_shape : Row → Row
+own_shape r = column r 1 ∷ column r 2 ∷ column r 3 ∷ column r 4 ∷ column r 5 ∷ column r 6 ∷ []
+
+abbrev shape : Row → Row → Row
+shape r q =
+    column r 1 ∷ column r 2 ∷ column r 3 ∷ column r 4 ∷ column r 5 ∷ column r 6
+    ∷ column q 1 ∷ column q 2 ∷ column q 3 ∷ column q 4 ∷ column q 5 ∷ column q 6 ∷ []
+
+record HasSlot (r : Row) (c : ℕ) (a : Assignment) : Type 0 where
+  pub collector : column r 1 ≡ Int (pos c)
+  pub slot : column r 2 ≡ Int (pos a.slot)
+  pub named : IsNamed (c, a)
+  pub shown : shown_assignment (own_shape r) ≡ Some a
+
+slot_of : (r : Row) (a : Assignment) → shown_assignment (own_shape r) ≡ Some a → HasSlot r a.series.collector a
+slot_of r a e =
+    let one = bound_is (ranged 1 9999 (column r 1)) _ _ e in
+    let two = bound_is (ranged 1 400 (column r 2)) _ _ one.2 in
+    let three = bound_is (ranged 1 999999 (column r 3)) _ _ two.2 in
+    let four = bound_is (item_from (column r 4)) _ _ three.2 in
+    let five = bound_is (month_from (column r 5)) _ _ four.2 in
+    let six = bound_is (month_from (column r 6)) _ _ five.2 in
+    record {
+      collector = ranged_is 1 9999 (column r 1) a.series.collector (one.1
+          ∙ ap (λ (b : Assignment). Some b.series.collector) (some_is six.2));
+      slot = ranged_is 1 400 (column r 2) a.slot (two.1 ∙ ap (λ (b : Assignment). Some b.slot) (some_is six.2));
+      named = subst (λ (b : Assignment). IsNamed (b.series.collector, b)) (some_is six.2) refl;
+      shown = e;
+    }
+
+slot_in : (r : Row) (c : ℕ) (a : Assignment) → assignment_in r ≡ Some (c, a) → HasSlot r c a
+slot_in r c a e =
+    let it = bound_is (shown_assignment (own_shape r)) _ _ e in
+    let pair : ◌≡◌ {A = ℕ × Assignment} (it.0.series.collector, it.0) (c, a) = some_is it.2 in
+    subst (λ (p : ℕ × Assignment). HasSlot r p.0 p.1) pair (slot_of r it.0 it.1)
+
+-- ---- the tests of the join
+
+and_true : (b : Bool) → (b && true) ≡ b
+and_true true = refl
+and_true false = refl
+
+one_test : (v : Value) (n : ℕ) → is_true (binary (Compare Eq Binary) v (Int (pos n))) ≡ equals v (Int (pos n))
+one_test v n = sym (and_true _) ∙ equality v (pos n)
+
+tests_are : (r q : Row) (c s n : ℕ) → column r 1 ≡ Int (pos c) → column r 2 ≡ Int (pos s)
+    → list_all (holds ((Int (pos n) ∷ []) ∷ r ∷ q ∷ [])) of_month ≡ (equals (column q 1) (Int (pos c))
+    && (equals (column q 2) (Int (pos s)) && (equals (column q 3) (Int (pos n)) && true)))
+tests_are r q c s n e f =
+    ap (λ v. is_true (binary (Compare Eq Binary) (column q 1) v)
+    && (is_true (binary (Compare Eq Binary) (column q 2) (column r 2))
+    && (is_true (binary (Compare Eq Binary) (column q 3) (Int (pos n))) && true))) e
+    ∙ ap (λ v. is_true (binary (Compare Eq Binary) (column q 1) (Int (pos c)))
+    && (is_true (binary (Compare Eq Binary) (column q 2) v)
+    && (is_true (binary (Compare Eq Binary) (column q 3) (Int (pos n))) && true))) f
+    ∙ ap (λ b. b && (is_true (binary (Compare Eq Binary) (column q 2) (Int (pos s)))
+    && (is_true (binary (Compare Eq Binary) (column q 3) (Int (pos n))) && true))) (one_test (column q 1) c)
+    ∙ ap (λ b. equals (column q 1) (Int (pos c))
+    && (b && (is_true (binary (Compare Eq Binary) (column q 3) (Int (pos n))) && true))) (one_test (column q 2) s)
+    ∙ ap (λ b. equals (column q 1) (Int (pos c))
+    && (equals (column q 2) (Int (pos s)) && (b && true))) (one_test (column q 3) n)
+
+record IsOfSlot (q : Row) (c s n : ℕ) : Type 0 where
+  pub collector : equals (column q 1) (Int (pos c)) ≡ true
+  pub slot : equals (column q 2) (Int (pos s)) ≡ true
+  pub month : equals (column q 3) (Int (pos n)) ≡ true
+
+of_slot : (q : Row) (c s n : ℕ)
+    → (equals (column q 1) (Int (pos c))
+    && (equals (column q 2) (Int (pos s)) && (equals (column q 3) (Int (pos n)) && true))) ≡ true → IsOfSlot q c s n
+of_slot q c s n e =
+    let one = and_parts _ _ e in
+    let two = and_parts _ _ one.1 in
+    let three = and_parts _ _ two.1 in
+    record { collector = one.0; slot = two.0; month = three.0 }
+
+-- ---- the stored quotes of a month
+
+-- a quote as the join shows it
+shown_quote_in : (q : Row) (w : QuoteRow)
+    → and_then (ranged 1 9999 (column q 1))
+    (λ _. quote_from (column q 2) (column q 3) (column q 4) (column q 5) (column q 6)) ≡ Some w → (c : ℕ)
+    × (quote_in q ≡ Some (c, w))
+shown_quote_in q w e =
+    let it = bound_is (ranged 1 9999 (column q 1)) _ _ e in
+    let found : quote_from (column q 2) (column q 3) (column q 4) (column q 5) (column q 6) ≡ Some w = it.2 in (
+      it.0,
+      ap (λ o. and_then o
+          (λ n. and_then (quote_from (column q 2) (column q 3) (column q 4) (column q 5) (column q 6))
+          (λ z. Some (n, z)))) it.1 ∙ ap (λ o. and_then o (λ z. Some (it.0, z))) found,
+    )
+
+quote_shown_in : (q : Row) (c : ℕ) (w : QuoteRow) → quote_in q ≡ Some (c, w)
+    → and_then (ranged 1 9999 (column q 1))
+    (λ _. quote_from (column q 2) (column q 3) (column q 4) (column q 5) (column q 6)) ≡ Some w
+quote_shown_in q c w e =
+    let one = bound_is (ranged 1 9999 (column q 1)) _ _ e in
+    let two = bound_is (quote_from (column q 2) (column q 3) (column q 4) (column q 5) (column q 6)) _ _ one.2 in
+    let pair : ◌≡◌ {A = ℕ × QuoteRow} (one.0, two.0) (c, w) = some_is two.2 in
+    ap (λ o. and_then o (λ _. quote_from (column q 2) (column q 3) (column q 4) (column q 5) (column q 6))) one.1
+    ∙ two.1 ∙ ap (λ (p : ℕ × QuoteRow). Some p.1) pair
+
+module _ (old : State) (has : HasTables old) (month n : ℕ) (number : month_at n ≡ Some month) where
+  assignments_named : (y : ℕ × Assignment) → Has (assignments_in (old.now.trees 11)) y → IsNamed y
+  assignments_named y h =
+      let it = listed_stands (held_total nat_cmp_total) (held_key (λ (a : Assignment). a.slot)) assignment_in
+      (old.now.trees 11) y h in
+      (slot_in it.0 y.0 y.1 it.2).named
+
+  own_in_order : (c : ℕ) → IsInOrder quote_cmp quote_key (held_by c (quotes_in (old.now.trees 13)))
+  own_in_order c = held_in_order quote_total quote_key c (quotes_in (old.now.trees 13))
+      (listed_in_order (held_total quote_total) (held_key quote_key) quote_in (old.now.trees 13))
+
+  -- a pair of rows that pass stands for a quote of the month
+  pair_frozen : (r q : Row) (a : Assignment) (w : QuoteRow) → Has (old.now.trees 11) r → Has (old.now.trees 13) q
+      → shown_assignment (own_shape r) ≡ Some a
+      → (c : ℕ) → quote_in q ≡ Some (c, w) → IsOfSlot q a.series.collector a.slot n
+      → Has (month_rows month (office_in old.now.trees)) (frozen_quote a w)
+  pair_frozen r q a w hr hq ea c eq passes =
+      let nums = numbers_of q c w eq in
+      let holder : c ≡ a.series.collector =
+      same_number (column q 1) c a.series.collector nums.collector passes.collector in
+      let slot : w.slot ≡ a.slot = same_number (column q 2) w.slot a.slot nums.slot passes.slot in
+      let numbered : nums.number ≡ n = same_number (column q 3) nums.number n nums.month passes.month in
+      let of_month : w.month ≡ month = some_is (sym nums.is ∙ ap month_at numbered ∙ number) in
+      let entered : assignment_in r ≡ Some (a.series.collector, a) = ap
+      (λ o. and_then o (λ (b : Assignment). Some (b.series.collector, b))) ea in
+      let assigned = stands_listed (held_total nat_cmp_total) (held_key (λ (b : Assignment). b.slot)) assignment_in
+      (old.now.trees 11) (a.series.collector, a) r has.assignments hr entered in
+      let quoted = stands_listed (held_total quote_total) (held_key quote_key) quote_in (old.now.trees 13)
+      (a.series.collector, w) q has.quotes hq (eq ∙ ap (λ m. Some (m, w)) holder) in
+      let held = has_held quote_total quote_key a.series.collector w (quotes_in (old.now.trees 13)) quoted in
+      let found : row_at quote_cmp quote_key (
+        w.slot,
+        w.month,
+      ) (held_by a.series.collector (quotes_in (old.now.trees 13))) ≡ Some w =
+      row_of quote_total quote_key _ w (own_in_order a.series.collector) held in
+      let asked : row_at quote_cmp quote_key (
+        a.slot,
+        month,
+      ) (held_by a.series.collector (quotes_in (old.now.trees 13))) ≡ Some w =
+      ap (λ s. row_at quote_cmp quote_key (s, month) (held_by a.series.collector (quotes_in (old.now.trees 13))))
+      (sym slot)
+      ∙ ap (λ m. row_at quote_cmp quote_key (w.slot, m) (held_by a.series.collector (quotes_in (old.now.trees 13))))
+      (sym of_month) ∙ found in
+      given_has (frozen_row month (quotes_in (old.now.trees 13))) (assignments_in (old.now.trees 11))
+      (a.series.collector, a) (frozen_quote a w) assigned (ap (option_map (frozen_quote a)) asked)
+
+  module _ (new : State) (rows : List Row) (xs : List Frozen)
+      (shown : Shown month_rows_text (Int (pos n) ∷ []) old new rows) (read : AreRead shown_month_quote rows xs) where
+    both : Pairs of_month both_shown (old.now.trees 11) (old.now.trees 13) (Int (pos n) ∷ []) rows
+    both = joined month_rows_text 11 13 of_month both_shown (by_columns (1 ∷ 2 ∷ [])) _ month_rows_is old new
+        (Int (pos n) ∷ []) has.schema rows shown
+
+    read_frozen : (f : Frozen) → Has xs f → Has (month_rows month (office_in old.now.trees)) f
+    read_frozen f h =
+        let s = read_has shown_month_quote rows xs f read h in
+        let p = both.sound s.0 s.1 in
+        let r = p.0 in
+        let q = p.2 in
+        let shape_is : shown_month_quote (shape r q) ≡ Some f = ap shown_month_quote (sym p.5) ∙ s.2 in
+        let one = bound_is (shown_assignment (own_shape r)) _ _ shape_is in
+        let two = bound_is (quote_behind (shape r q)) _ _ one.2 in
+        let is : frozen_quote one.0 two.0 ≡ f = some_is two.2 in
+        let slot = slot_of r one.0 one.1 in
+        let quoted = shown_quote_in q two.0 two.1 in
+        let passes = of_slot q one.0.series.collector one.0.slot n
+        (sym (tests_are r q one.0.series.collector one.0.slot n slot.collector slot.slot) ∙ p.4) in
+        subst (Has (month_rows month (office_in old.now.trees))) is
+        (pair_frozen r q one.0 two.0 p.1 p.3 one.1 quoted.0 quoted.1 passes)
+
+    frozen_read : (f : Frozen) → Has (month_rows month (office_in old.now.trees)) f → Has xs f
+    frozen_read f h =
+        let it = has_given (frozen_row month (quotes_in (old.now.trees 13))) (assignments_in (old.now.trees 11)) f h in
+        at it.0.0 it.0.1 it.1 (row_at quote_cmp quote_key (
+          it.0.1.slot,
+          month,
+        ) (held_by it.0.0 (quotes_in (old.now.trees 13)))) refl it.2
+      where
+        at : (c : ℕ) (a : Assignment) → Has (assignments_in (old.now.trees 11)) (c, a) → (o : Option QuoteRow)
+            → row_at quote_cmp quote_key (a.slot, month) (held_by c (quotes_in (old.now.trees 13))) ≡ o
+            → option_map (frozen_quote a) o ≡ Some f → Has xs f
+        at c a k None e g = cc
+        at c a k (Some w) e g =
+            let assigned = listed_stands (held_total nat_cmp_total) (held_key
+            (λ (b : Assignment). b.slot)) assignment_in (old.now.trees 11) (c, a) k in
+            let slot = slot_in assigned.0 c a assigned.2 in
+            let held = held_has quote_total quote_key c w (quotes_in (old.now.trees 13))
+            (has_row quote_cmp quote_key (a.slot, month) _ w e) in
+            let quoted = listed_stands (held_total quote_total) (held_key quote_key) quote_in (old.now.trees 13) (
+              c,
+              w,
+            ) held in
+            let nums = numbers_of quoted.0 c w quoted.2 in
+            let tie = row_key quote_cmp quote_key (a.slot, month) w (held_by c (quotes_in (old.now.trees 13))) e in
+            let same_slot : w.slot ≡ a.slot = ranked w.slot a.slot Equal (sym (first_tied _ _ tie)) in
+            let of_the_month : w.month ≡ month = ranked w.month month Equal (sym (second_tied _ _ tie)) in
+            let numbered : nums.number ≡ n = same_month nums.number n month (nums.is ∙ ap Some of_the_month) number in
+            let r = assigned.0 in
+            let q = quoted.0 in
+            let passes = tests_are r q c a.slot n slot.collector slot.slot
+            ∙ and_from _ _ (equal_number (column q 1) c nums.collector)
+            (and_from _ _ (equal_number (column q 2) a.slot (nums.slot ∙ ap (λ m. Int (pos m)) same_slot))
+            (and_from _ _ (equal_number (column q 3) n (nums.month ∙ ap (λ m. Int (pos m)) numbered)) refl)) in
+            let there = both.complete r q assigned.1 quoted.1 passes in
+            let stands : shown_month_quote (shape r q) ≡ Some f =
+            ap (λ o. and_then o (λ b. and_then (quote_behind (shape r q)) (λ z. Some (frozen_quote b z)))) slot.shown
+            ∙ ap (λ o. and_then o (λ z. Some (frozen_quote a z))) (quote_shown_in q c w quoted.2) ∙ g in
+            has_read shown_month_quote rows xs (shape r q) f read there stands
+
+    pub month_read : IsInOrder quote_cmp series_key xs → xs ≡ month_rows month (office_in old.now.trees)
+    month_read order =
+        same_in_order quote_total series_key xs (month_rows month (office_in old.now.trees)) order
+        (frozen_in_order month (quotes_in (old.now.trees 13)) (assignments_in (old.now.trees 11)) assignments_named
+        (listed_in_order (held_total nat_cmp_total) (held_key (λ (a : Assignment). a.slot)) assignment_in
+        (old.now.trees 11)))
+        read_frozen frozen_read
+
+pub month_plain : (s : State) → HasTables s → IsPlain (understood s.now.schema month_rows_text)
+month_plain s has = subst (λ x. IsPlain (understood x month_rows_text)) (sym has.schema) month_rows_is.2

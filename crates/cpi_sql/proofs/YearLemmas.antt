@@ -1,0 +1,155 @@
+-- The plans of the years, read year by year.
+use Rattle.std.proofs.Common.{◌≡◌, ◌≢◌, ◌⊎◌, inl, inr, ℕ, zero, suc, ◌+◌, pos, List, [], ◌∷◌, ◌++◌, Bool, true}
+use Rattle.std.proofs.Common.{false, None, Some, Option, refl, sym, ap, subst, ◌∙◌, arith}
+use Rattle.std.specs.Prelude.{filter_map, if◌then◌else◌}
+use Rattle.std.specs.Option.{option_to_list}
+use Rattle.std.specs.Ordering.{nat_cmp}
+use Rattle.std.proofs.lemmas.Cmp.{nat_cmp_total}
+use Rattle.sqlite.specs.declared.types.Value.TheVariants.{Null, Int}
+use Rattle.sqlite.specs.Order.{Row, column}
+use Rattle.sqlite.specs.Listing.{understood}
+use Rattle.sqlite.specs.State.{State, Shown}
+use Rattle.sqlite.proofs.Callers.{IsPlain}
+use Rattle.cpi_codes.specs.CodeOrder.{code_cmp}
+use Rattle.cpi_codes.specs.contracts.codes.CodeOrd.TheImpl.Laws.{total-law}
+use Rattle.cpi_rows.specs.Keyed.{IsInOrder}
+use Rattle.cpi_rows.specs.Held.{held_by}
+use Rattle.cpi_plan.specs.Plan.{Plan, IsPlan}
+use Rattle.cpi_plan.specs.Stored.{plan_from, is_whole}
+use Rattle.cpi_plan.specs.declared.plan_rows.Node.{Node}
+use Rattle.cpi_plan.specs.declared.plan_rows.Place.{Place}
+use Rattle.cpi_plan.proofs.StoredLemmas.{plan_whole}
+use Rattle.cpi_sql.specs.Texts.{is_first, nodes_text, places_text}
+use Rattle.cpi_sql.specs.Read.{AreRead}
+use Rattle.cpi_sql.specs.Lists.{and_then, ranged, node_from, node_in, nodes_in, shown_node, place_from}
+use Rattle.cpi_sql.specs.Lists.{place_in, places_in, shown_place, numbers, years, if_whole, plan_at, plans_of}
+use Rattle.cpi_sql.specs.Shelf.{HasTables, equals}
+use Rattle.cpi_sql.proofs.Texts.{nodes_is, places_is}
+use Rattle.cpi_sql.proofs.Reading.{equality}
+use Rattle.cpi_sql.proofs.Lists.{Shows, held_read, bound_is, ranged_is, same_number, equal_number}
+use Rattle.cpi_sql.proofs.Whole.{asked}
+
+some_is : {X : Type 0} {x y : X} → ◌≡◌ {A = Option X} (Some x) (Some y) → x ≡ y
+some_is e = cc
+
+abbrev mine : ℕ → Row → Bool
+mine c r = equals (column r 1) (Int (pos c))
+
+-- rows that begin with the number of their holder
+module _ {X : Type 0} (low high : ℕ) (from : Row → Option X) where
+  abbrev entry : Row → Option (ℕ × X)
+  entry r = and_then (ranged low high (column r 1)) (λ c. and_then (from r) (λ x. Some (c, x)))
+
+  abbrev stands : Row → Option X
+  stands r = and_then (ranged low high (column r 1)) (λ _. from r)
+
+  same : (c : ℕ) (r : Row) (x : X) → mine c r ≡ true → stands r ≡ Some x → entry r ≡ Some (c, x)
+  same c r x test e =
+      let it = bound_is (ranged low high (column r 1)) _ _ e in
+      let is : it.0 ≡ c = same_number (column r 1) it.0 c (ranged_is low high (column r 1) it.0 it.1) test in
+      let found : from r ≡ Some x = it.2 in
+      ap (λ o. and_then o (λ n. and_then (from r) (λ w. Some (n, w)))) it.1
+      ∙ ap (λ o. and_then o (λ w. Some (it.0, w))) found ∙ ap (λ n. Some (n, x)) is
+
+  back : (c : ℕ) (r : Row) (x : X) → entry r ≡ Some (c, x) → (mine c r ≡ true) × (stands r ≡ Some x)
+  back c r x e =
+      let one = bound_is (ranged low high (column r 1)) _ _ e in
+      let two = bound_is (from r) _ _ one.2 in
+      let pair : ◌≡◌ {A = ℕ × X} (one.0, two.0) (c, x) = some_is two.2 in (
+        equal_number (column r 1) c (ranged_is low high (column r 1) one.0 one.1
+            ∙ ap (λ (p : ℕ × X). Int (pos p.0)) pair),
+        ap (λ o. and_then o (λ n. from r)) one.1 ∙ two.1
+            ∙ ap (λ (p : ℕ × X). Some p.1) pair,
+      )
+
+abbrev node_shape : Row → Row
+node_shape r = column r 1 ∷ column r 2 ∷ column r 3 ∷ column r 4 ∷ []
+
+abbrev node_at : Row → Option Node
+node_at r = node_from (column r 2) (column r 3) (column r 4)
+
+pub nodes_read : (old new : State) (c : ℕ) (rows : List Row) (xs : List Node) → HasTables old
+    → Shown nodes_text (Int (pos c) ∷ []) old new rows → AreRead shown_node rows xs
+    → IsInOrder code_cmp (λ n. n.code) xs → xs ≡ held_by c (nodes_in (old.now.trees 6))
+nodes_read old new c rows xs has h read order =
+    let m = asked nodes_text 6 (is_first 1) (1 ∷ 2 ∷ 3 ∷ 4 ∷ []) (1 ∷ 2 ∷ []) _ nodes_is old new (Int (pos c)
+    ∷ []) has.schema rows h in
+    let shows : Shows (mine c) node_shape (old.now.trees 6) rows = record {
+      sound = λ x k. let it = m.sound x k in (it.0, it.1, sym (equality (column it.0 1) (pos c)) ∙ it.2, it.3);
+      complete = λ r k is. m.complete r k (equality (column r 1) (pos c) ∙ is);
+    } in
+    held_read total-law (λ (n : Node). n.code) node_in shown_node node_shape (mine c) c (same 2000 2199 node_at c)
+    (back 2000 2199 node_at c) (old.now.trees 6) rows xs has.plans.nodes shows read order
+
+pub nodes_plain : (s : State) → HasTables s → IsPlain (understood s.now.schema nodes_text)
+nodes_plain s has = subst (λ x. IsPlain (understood x nodes_text)) (sym has.schema) nodes_is.2
+
+abbrev place_shape : Row → Row
+place_shape r = column r 1 ∷ column r 2 ∷ column r 3 ∷ []
+
+abbrev place_at : Row → Option Place
+place_at r = place_from (column r 2) (column r 3)
+
+pub places_read : (old new : State) (c : ℕ) (rows : List Row) (xs : List Place) → HasTables old
+    → Shown places_text (Int (pos c) ∷ []) old new rows → AreRead shown_place rows xs
+    → IsInOrder nat_cmp (λ p. p.item) xs → xs ≡ held_by c (places_in (old.now.trees 8))
+places_read old new c rows xs has h read order =
+    let m = asked places_text 8 (is_first 1) (1 ∷ 2 ∷ 3 ∷ []) (1 ∷ 2 ∷ []) _ places_is old new (Int (pos c)
+    ∷ []) has.schema rows h in
+    let shows : Shows (mine c) place_shape (old.now.trees 8) rows = record {
+      sound = λ x k. let it = m.sound x k in (it.0, it.1, sym (equality (column it.0 1) (pos c)) ∙ it.2, it.3);
+      complete = λ r k is. m.complete r k (equality (column r 1) (pos c) ∙ is);
+    } in
+    held_read nat_cmp_total (λ (p : Place). p.item) place_in shown_place place_shape (mine c) c
+    (same 2000 2199 place_at c) (back 2000 2199 place_at c) (old.now.trees 8) rows xs has.plans.places shows read
+    order
+
+pub places_plain : (s : State) → HasTables s → IsPlain (understood s.now.schema places_text)
+places_plain s has = subst (λ x. IsPlain (understood x places_text)) (sym has.schema) places_is.2
+
+-- a plan passes the tests
+pub whole_is : (p : Plan) → IsPlan p → if_whole p ≡ Some p
+whole_is p v = rw (plan_whole p v) refl
+
+-- a year without nodes has no plan
+pub none_made : (year : ℕ) (nodes : List Node) (places : List Place) → nodes ≡ []
+    → None ≡ if_whole (plan_from year nodes places)
+none_made year nodes places e = rw e refl
+
+pub stored_is : (p q : Plan) → IsPlan p → p ≡ q → Some p ≡ if_whole q
+stored_is p q v e = ap Some e ∙ sym (whole_is q (subst IsPlan e v))
+
+pub no_years : (nodes : List (ℕ × Node)) (places : List (ℕ × Place)) → plans_of (years 0) nodes places ≡ []
+unfolding years
+no_years nodes places = refl
+
+numbers_more : (first n : ℕ) → numbers first (n + 1) ≡ numbers first n ++ (first + n) ∷ []
+numbers_more first zero = ap (λ k. k ∷ []) (omega arith)
+numbers_more first (suc n) =
+    let more : suc n + 1 ≡ suc (n + 1) = omega arith in
+    ap (numbers first) more
+    ∙ ap (λ ks. first ∷ ks) (numbers_more (first + 1) n ∙ ap (λ k. numbers (first + 1) n ++ k ∷ []) (omega arith))
+
+made_one : {X Y : Type 0} (f : X → Option Y) (o : Option Y) (x : X) → f x ≡ o → filter_map f (x ∷ []) ≡ option_to_list o
+made_one f None x e = rw e refl
+made_one f (Some y) x e = rw e refl
+
+made_append : {X Y : Type 0} (f : X → Option Y) (xs ys : List X) → filter_map f (xs ++ ys) ≡ filter_map f xs
+    ++ filter_map f ys
+made_append f [] ys = refl
+made_append f (x ∷ xs) ys = at (f x) refl (made_append f xs ys)
+  where
+    at : (o : Option _) → f x ≡ o → filter_map f (xs ++ ys) ≡ filter_map f xs ++ filter_map f ys
+        → filter_map f (x ∷ (xs ++ ys)) ≡ filter_map f (x ∷ xs) ++ filter_map f ys
+    at None e h = rw e h
+    at (Some y) e h = rw e (ap (λ zs. y ∷ zs) h)
+
+-- one year more
+pub plans_more : (nodes : List (ℕ × Node)) (places : List (ℕ × Place)) (n : ℕ) (o : Option Plan)
+    → o ≡ plan_at nodes places (2000 + n)
+    → plans_of (years (n + 1)) nodes places ≡ plans_of (years n) nodes places ++ option_to_list o
+unfolding years
+plans_more nodes places n o e =
+    ap (filter_map (plan_at nodes places)) (numbers_more 2000 n)
+    ∙ made_append (plan_at nodes places) (numbers 2000 n) ((2000 + n) ∷ [])
+    ∙ ap (λ zs. plans_of (numbers 2000 n) nodes places ++ zs) (made_one (plan_at nodes places) o (2000 + n) (sym e))

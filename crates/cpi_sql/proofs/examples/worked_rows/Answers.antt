@@ -1,0 +1,41 @@
+use lib.Utf8.{encode}
+use Rattle.std.proofs.Common.{refl}
+use Rattle.cpi_codes.specs.CodeOf.{code_of}
+use Rattle.cpi_codes.specs.ItemCode.{item_code_of}
+use Rattle.cpi_codes.specs.Name.{is_name}
+use Rattle.std.specs.Str.{is_utf8, chars}
+use Rattle.cpi_sql.proofs.examples.worked_rows.Goals as goal
+
+pub returns-clause-items : goal.returns-clause-items
+unfolding item_code_of is_name is_utf8 chars encode
+returns-clause-items c = (refl, refl, refl)
+
+pub returns-clause-calendar : goal.returns-clause-calendar
+returns-clause-calendar c = (refl, refl, refl, refl)
+
+pub returns-clause-quotes : goal.returns-clause-quotes
+returns-clause-quotes c = (refl, refl, refl, refl)
+
+pub returns-clause-assignments : goal.returns-clause-assignments
+unfolding item_code_of
+returns-clause-assignments c = (refl, refl)
+
+pub returns-clause-nodes : goal.returns-clause-nodes
+unfolding code_of is_name is_utf8 chars encode
+returns-clause-nodes c = (refl, refl)
+
+pub returns-clause-headers : goal.returns-clause-headers
+unfolding code_of
+returns-clause-headers c = (refl, refl, refl)
+
+pub returns-clause-frozen : goal.returns-clause-frozen
+unfolding item_code_of
+returns-clause-frozen c = (refl, refl)
+
+pub returns-clause-carried : goal.returns-clause-carried
+unfolding item_code_of
+returns-clause-carried c = (refl, refl, refl)
+
+pub returns-clause-levels : goal.returns-clause-levels
+unfolding code_of is_name is_utf8 chars encode
+returns-clause-levels c = (refl, refl, refl, refl, refl)

@@ -1,0 +1,23 @@
+use Rattle.std.proofs.Common.{◌≡◌, ℕ, Some, take, IsTrue}
+use Rattle.sqlite.specs.State.{HasCleanDisk, KeepsCommit, Survives}
+use Rattle.sqlite.specs.Held.{state}
+use Rattle.cpi_sql.specs.Lists.{month_at}
+use Rattle.cpi_sql.specs.ReleaseRows.{carried_after}
+use Rattle.cpi_sql.specs.ReleaseSteps.{AddsMonth}
+use Rattle.cpi_sql.specs.Shelf.{HasRowids}
+use Rattle.cpi_sql.specs.Steps.{IsStep}
+use Rattle.cpi_sql.specs.Tables.{office_schema}
+use Rattle.cpi_sql.proofs.release_lists.add_all_carried.Given as goal
+
+abbrev pub invariant-all : goal.invariant-all
+invariant-all g l =
+    let old = state g.S.Store l.fn.tx.conn.now in
+    let now = state g.S.Store l.tx.conn.now in record {
+      same_reference : l.tx.conn.ghost_name ≡ l.fn.tx.conn.ghost_name;
+      survives : Survives old now (λ _. ⊥);
+      kept : HasCleanDisk now → KeepsCommit old now;
+      added : HasCleanDisk now → IsTrue old.in_transaction → old.now.schema ≡ office_schema
+          → HasRowids (old.now.trees 18)
+          → (month : ℕ) → month_at l.fn.number ≡ Some month
+          → IsStep 18 (AddsMonth carried_after month (take l.price-index l.prices)) old now;
+    }

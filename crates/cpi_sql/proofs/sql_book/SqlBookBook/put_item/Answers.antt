@@ -1,0 +1,52 @@
+use Rattle.std.proofs.Common.{◌≡◌, arith}
+use Rattle.sqlite.specs.Held.{state}
+use Rattle.cpi_sql.proofs.Calls.{writes, write_fails}
+use Rattle.cpi_sql.proofs.Followed.{kept_sound, item_stands, tables_of}
+use Rattle.cpi_sql.proofs.sql_book.SqlBookBook.put_item.Goals as goal
+
+pub returns-in-Err : goal.returns-in-Err
+returns-in-Err g c =
+    let old = state g.S.Store c.self.inside.conn in
+    let new = state g.S.Store c.put_item.new.conn in
+    let owed = rw (← c.self.view_is) at c.requires.new in
+    rw (← c.self.view_is) (record {
+      writes = write_fails old new c.self.inside.failed.count
+          (tables_of old _ c.self.invariant) _ _ c.put_item.ensures.crash c.put_item.ensures.clean
+          (λ clean db made. made (tables_of old _ c.self.invariant clean) (owed clean)) _ _ (omega (
+            arith,
+            c.counted.ensures.count,
+          )) c.in-Err.ensures.kept;
+    })
+
+pub returns-in-Ok : goal.returns-in-Ok
+returns-in-Ok g c =
+    let old = state g.S.Store c.self.inside.conn in
+    let new = state g.S.Store c.put_item.new.conn in
+    let owed = rw (← c.self.view_is) at c.requires.new in
+    rw (← c.self.view_is) (record {
+      writes = writes old new c.self.inside.failed.count
+          (tables_of old _ c.self.invariant) _ _ c.put_item.ensures.crash c.put_item.ensures.clean
+          (λ clean db made. made (tables_of old _ c.self.invariant clean) (owed clean)) _ c.in-Ok.ensures.open
+          (λ clean. let was = c.put_item.ensures.clean clean in
+          let done = c.in-Ok.ensures.done clean (tables_of old _ c.self.invariant was) (owed was) in
+          (done.tables, done.office)) c.settle.ensures;
+    })
+
+pub invariant_of-self : goal.invariant_of-self
+invariant_of-self g c =
+    let old = state g.S.Store c.self.inside.conn in
+    let new = state g.S.Store c.put_item.new.conn in
+    let owed = rw (← c.self.view_is) at c.requires.new in
+    record {
+      order = c.self.invariant.order;
+      stands = λ clean.
+          let was = c.put_item.ensures.clean clean in
+          let before = c.self.invariant.stands was in
+          item_stands c.args.item old new _ _ _ (c.in-Ok.ensures.done clean before.tables (owed was)) before
+          c.follow_item.ensures;
+    }
+
+pub invariant_of-self-in-Err-1 : goal.invariant_of-self-in-Err-1
+invariant_of-self-in-Err-1 g c =
+    kept_sound (state g.S.Store c.self.inside.conn) (state g.S.Store c.put_item.new.conn) _ c.put_item.ensures.clean
+    c.in-Err.ensures.kept c.self.invariant

@@ -1,0 +1,15 @@
+pub mod Tables
+pub mod Lists
+pub mod Texts
+pub mod Read
+pub mod Shelf
+pub mod Numbered
+pub mod Making
+pub mod Steps
+pub mod Finding
+pub mod MonthRows
+pub mod LevelTables
+pub mod ReleaseRows
+pub mod ReleaseSteps
+pub mod Headers
+pub mod WorkedRows

@@ -1,0 +1,69 @@
+-- The stored quotes of a month, each read beside its assignment.
+use Rattle.std.specs.Prelude.{ℕ, pos, negsuc, false, List, [], ◌∷◌, ◌++◌, Option, Some, None, codes}
+use Rattle.sqlite.specs.Collation.TheVariants.{Binary}
+use Rattle.sqlite_value.specs.declared.keys.Key.{Key}
+use Rattle.sqlite.specs.declared.types.Value.TheVariants.{Int}
+use Rattle.sqlite.specs.Order.{Row, column}
+use Rattle.sqlite.specs.Term.{Term, lit, col, op2}
+use Rattle.sqlite_sql.specs.declared.ops.BinaryOp.TheVariants.{Compare}
+use Rattle.sqlite_sql.specs.declared.ops.CompareOp.TheVariants.{Eq}
+use Rattle.sqlite.specs.Query.{Query, inner, end}
+use Rattle.sqlite.specs.Command.{Command}
+use Rattle.sqlite.specs.Command.TheVariants.{Select}
+use Rattle.cpi_survey.specs.Quote.{QuoteRow}
+use Rattle.cpi_index.specs.Frozen.{Frozen}
+use Rattle.cpi_store.specs.Office.{frozen_quote}
+use Rattle.cpi_sql.specs.Lists.{and_then, ranged, quote_from, shown_assignment}
+use Rattle.cpi_sql.specs.Texts.{by_columns}
+
+-- a query on two tables with no limit
+abbrev pub join_query : ℕ → ℕ → List Term → List Term → List (Term × Key) → Query
+join_query first second terms project order = record {
+  from = inner first (inner second end);
+  filter = terms;
+  group = None;
+  project = project;
+  distinct = false;
+  collations = [];
+  order = order;
+  limit = lit (Int (negsuc 0));
+  offset = lit (Int (pos 0));
+}
+
+abbrev pub month_rows_text : List ℕ
+month_rows_text =
+    codes "SELECT a.collector, a.slot, a.outlet, a.item, a.first_month, a.last_month, "
+    ++ codes "q.collector, q.slot, q.month, q.mark, q.value, q.receipt FROM assignment AS a JOIN quote AS q "
+    ++ codes "ON q.collector = a.collector AND q.slot = a.slot AND q.month = ?1 ORDER BY a.collector, a.slot"
+
+-- the quote is in the assignment's slot, and of the month
+abbrev pub of_month : List Term
+of_month =
+    op2 (Compare Eq Binary) (col 2 1) (col 1 1) ∷ op2 (Compare Eq Binary) (col 2 2) (col 1 2)
+    ∷ op2 (Compare Eq Binary) (col 2 3) (col 0 0) ∷ []
+
+-- the assignment's columns, and then the quote's
+abbrev pub both_shown : List Term
+both_shown =
+    col 1 1 ∷ col 1 2 ∷ col 1 3 ∷ col 1 4 ∷ col 1 5 ∷ col 1 6
+    ∷ col 2 1 ∷ col 2 2 ∷ col 2 3 ∷ col 2 4 ∷ col 2 5 ∷ col 2 6 ∷ []
+
+abbrev pub month_rows_command : Command
+month_rows_command =
+    Select (record { lets = []; body = join_query 11 13 of_month both_shown (by_columns (1 ∷ 2 ∷ [])) })
+    (codes "collector" ∷ codes "slot" ∷ codes "outlet" ∷ codes "item" ∷ codes "first_month" ∷ codes "last_month"
+    ∷ codes "collector" ∷ codes "slot" ∷ codes "month" ∷ codes "mark" ∷ codes "value" ∷ codes "receipt" ∷ [])
+
+-- the quote behind the six columns of its assignment
+abbrev pub quote_behind : Row → Option QuoteRow
+quote_behind x =
+    and_then (ranged 1 9999 (column x 6))
+    (λ _. quote_from (column x 7) (column x 8) (column x 9) (column x 10) (column x 11))
+
+-- both together, as they are frozen
+abbrev pub shown_month_quote : Row → Option Frozen
+shown_month_quote x = and_then (shown_assignment x) (λ a. and_then (quote_behind x) (λ q. Some (frozen_quote a q)))
+
+-- what they are listed by
+abbrev pub series_key : Frozen → ℕ × ℕ
+series_key f = (f.series.collector, f.series.slot)

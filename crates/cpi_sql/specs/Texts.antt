@@ -1,0 +1,314 @@
+-- The fixed statements, and what each means under the schema.
+use Rattle.std.specs.Prelude.{ℕ, pos, negsuc, true, false, List, [], ◌∷◌, Some, None, codes}
+use Rattle.sqlite.specs.Collation.TheVariants.{Binary}
+use Rattle.sqlite_value.specs.Keys.{ascending}
+use Rattle.sqlite_value.specs.declared.keys.Key.{Key}
+use Rattle.sqlite.specs.declared.types.Value.TheVariants.{Null, Int}
+use Rattle.sqlite.specs.Term.{Term, lit, col, op2}
+use Rattle.sqlite_sql.specs.declared.ops.BinaryOp.TheVariants.{Compare}
+use Rattle.sqlite_sql.specs.declared.ops.CompareOp.TheVariants.{Eq}
+use Rattle.sqlite.specs.Query.{Query, inner, end}
+use Rattle.sqlite.specs.Source.TheVariants.{Values}
+use Rattle.sqlite.specs.Command.{Command}
+use Rattle.sqlite.specs.Command.TheVariants.{Insert, InsertOr, Delete, Select}
+use Rattle.sqlite_schema.specs.declared.command.Conflict.TheVariants.{Abort}
+use Rattle.sqlite_schema.specs.declared.command.Upsert.{Upsert}
+
+-- a query on one table with no limit
+abbrev pub whole_query : ℕ → List Term → List Term → List (Term × Key) → Query
+whole_query tree terms project order =
+    record {
+      from = inner tree end;
+      filter = terms;
+      group = None;
+      project = project;
+      distinct = false;
+      collations = [];
+      order = order;
+      limit = lit (Int (negsuc 0));
+      offset = lit (Int (pos 0));
+    }
+
+-- the column is the first parameter
+abbrev pub is_first : ℕ → List Term
+is_first place = op2 (Compare Eq Binary) (col 1 place) (col 0 0) ∷ []
+
+abbrev pub by_columns : List ℕ → List (Term × Key)
+by_columns [] = []
+by_columns (c ∷ cs) = (col 1 c, ascending Binary) ∷ by_columns cs
+
+abbrev pub columns : List ℕ → List Term
+columns [] = []
+columns (c ∷ cs) = col 1 c ∷ columns cs
+
+abbrev pub select : ℕ → List Term → List ℕ → List ℕ → List (List ℕ) → Command
+select tree terms shown order names = Select (record {
+  lets = [];
+  body = whole_query tree terms (columns shown) (by_columns order);
+}) names
+
+-- ---- the number of the schema
+
+abbrev pub put_version_text : List ℕ
+put_version_text = codes "INSERT INTO version (number) VALUES (1)"
+
+abbrev pub put_version_command : Command
+put_version_command = Insert 0 (Values (lit (Int (pos 1)) ∷ lit Null ∷ []) 2)
+
+-- ---- collectors
+
+abbrev pub bearers_text : List ℕ
+bearers_text = codes "SELECT number, key FROM collector ORDER BY number"
+
+abbrev pub bearers_command : Command
+bearers_command = select 1 [] (0 ∷ 2 ∷ []) (0 ∷ []) (codes "number" ∷ codes "key" ∷ [])
+
+abbrev pub put_collector_text : List ℕ
+put_collector_text = codes "INSERT INTO collector (number, key) VALUES (?1, ?2)"
+
+-- a row is its rowid, and then its columns, where the key is NULL
+abbrev pub given_pair : List Term
+given_pair = col 0 0 ∷ lit Null ∷ col 0 1 ∷ []
+
+abbrev pub put_collector_command : Command
+put_collector_command = Insert 1 (Values given_pair 3)
+
+-- ---- outlets
+
+abbrev pub outlets_text : List ℕ
+outlets_text = codes "SELECT number, name FROM outlet ORDER BY number"
+
+abbrev pub outlets_command : Command
+outlets_command = select 3 [] (0 ∷ 2 ∷ []) (0 ∷ []) (codes "number" ∷ codes "name" ∷ [])
+
+abbrev pub put_outlet_text : List ℕ
+put_outlet_text = codes "INSERT INTO outlet (number, name) VALUES (?1, ?2)"
+
+abbrev pub put_outlet_command : Command
+put_outlet_command = Insert 2 (Values given_pair 3)
+
+-- ---- items
+
+abbrev pub items_text : List ℕ
+items_text = codes "SELECT code, text, unit, low, high FROM item ORDER BY code"
+
+abbrev pub items_command : Command
+items_command = select 4 [] (1 ∷ 2 ∷ 3 ∷ 4 ∷ 5 ∷ []) (1 ∷ []) (codes "code" ∷ codes "text" ∷ codes "unit"
+    ∷ codes "low" ∷ codes "high" ∷ [])
+
+abbrev pub put_item_text : List ℕ
+put_item_text = codes "INSERT INTO item (code, text, unit, low, high) VALUES (?1, ?2, ?3, ?4, ?5)"
+
+abbrev pub put_item_command : Command
+put_item_command = Insert 3 (Values (lit Null ∷ col 0 0 ∷ col 0 1 ∷ col 0 2 ∷ col 0 3 ∷ col 0 4 ∷ []) 6)
+
+-- ---- calendar
+
+abbrev pub calendar_text : List ℕ
+calendar_text = codes "SELECT month, opens, closes, publishes FROM calendar ORDER BY month"
+
+abbrev pub calendar_command : Command
+calendar_command = select 10 [] (0 ∷ 2 ∷ 3 ∷ 4 ∷ []) (0 ∷ []) (codes "month" ∷ codes "opens" ∷ codes "closes"
+    ∷ codes "publishes" ∷ [])
+
+abbrev pub put_calendar_text : List ℕ
+put_calendar_text = codes
+    "INSERT INTO calendar (month, opens, closes, publishes) VALUES (?1, ?2, ?3, ?4) ON CONFLICT (month) DO UPDATE SET opens = excluded.opens, closes = excluded.closes, publishes = excluded.publishes"
+
+abbrev pub given_calendar : List Term
+given_calendar = col 0 0 ∷ lit Null ∷ col 0 1 ∷ col 0 2 ∷ col 0 3 ∷ []
+
+-- the parameters are followed by the rowid of the row that is there, and by the new row
+abbrev pub update_calendar : Query
+update_calendar = whole_query 10 (op2 (Compare Eq Binary) (col 1 0) (col 0 4) ∷ []) (col 1 0 ∷ col 1 0 ∷ lit Null
+    ∷ col 0 7 ∷ col 0 8 ∷ col 0 9 ∷ []) []
+
+abbrev pub put_calendar_command : Command
+put_calendar_command = InsertOr 6 Abort (Values given_calendar 5) (record {
+  target = Some (0 ∷ []);
+  update = Some (record { lets = []; body = update_calendar });
+} ∷ [])
+
+-- ---- assignments
+
+abbrev pub assignments_text : List ℕ
+assignments_text = codes
+    "SELECT collector, slot, outlet, item, first_month, last_month FROM assignment WHERE collector = ?1 ORDER BY collector, slot"
+
+abbrev pub assignments_command : Command
+assignments_command = select 11 (is_first 1) (1 ∷ 2 ∷ 3 ∷ 4 ∷ 5 ∷ 6 ∷ []) (1 ∷ 2 ∷ [])
+    (codes "collector" ∷ codes "slot" ∷ codes "outlet" ∷ codes "item" ∷ codes "first_month" ∷ codes "last_month" ∷ [])
+
+abbrev pub put_assignment_text : List ℕ
+put_assignment_text =
+    codes "INSERT INTO assignment (collector, slot, outlet, item, first_month, last_month) VALUES (?1, ?2, ?3, ?4, ?5, ?6)"
+
+abbrev pub put_assignment_command : Command
+put_assignment_command = Insert 7 (Values (lit Null ∷ col 0 0 ∷ col 0 1 ∷ col 0 2 ∷ col 0 3 ∷ col 0 4 ∷ col 0 5 ∷ []) 7)
+
+-- ---- quotes
+
+abbrev pub quotes_text : List ℕ
+quotes_text = codes "SELECT collector, slot, month, mark, value, receipt FROM quote WHERE collector = ?1 ORDER BY collector, slot, month"
+
+abbrev pub quotes_command : Command
+quotes_command = select 13 (is_first 1) (1 ∷ 2 ∷ 3 ∷ 4 ∷ 5 ∷ 6 ∷ []) (1 ∷ 2 ∷ 3 ∷ [])
+    (codes "collector" ∷ codes "slot" ∷ codes "month" ∷ codes "mark" ∷ codes "value" ∷ codes "receipt" ∷ [])
+
+abbrev pub put_quote_text : List ℕ
+put_quote_text = codes
+    "INSERT INTO quote (collector, slot, month, mark, value, receipt) VALUES (?1, ?2, ?3, ?4, ?5, ?6) ON CONFLICT (collector, slot, month) DO UPDATE SET collector = excluded.collector, slot = excluded.slot, month = excluded.month, mark = excluded.mark, value = excluded.value, receipt = excluded.receipt"
+
+abbrev pub given_quote : List Term
+given_quote = lit Null ∷ col 0 0 ∷ col 0 1 ∷ col 0 2 ∷ col 0 3 ∷ col 0 4 ∷ col 0 5 ∷ []
+
+-- six parameters, the rowid that is there, and then the new row's rowid and columns
+abbrev pub update_quote : Query
+update_quote = whole_query 13 (op2 (Compare Eq Binary) (col 1 0) (col 0 6) ∷ []) (col 1 0 ∷ col 1 0 ∷ col 0 8
+    ∷ col 0 9 ∷ col 0 10 ∷ col 0 11 ∷ col 0 12 ∷ col 0 13 ∷ []) []
+
+abbrev pub put_quote_command : Command
+put_quote_command = InsertOr 8 Abort (Values given_quote 7) (record {
+  target = Some (1 ∷ 2 ∷ 3 ∷ []);
+  update = Some (record { lets = []; body = update_quote });
+} ∷ [])
+
+-- ---- plans
+
+abbrev pub nodes_text : List ℕ
+nodes_text = codes "SELECT year, code, title, weight FROM node WHERE year = ?1 ORDER BY year, code"
+
+abbrev pub nodes_command : Command
+nodes_command = select 6 (is_first 1) (1 ∷ 2 ∷ 3 ∷ 4 ∷ []) (1 ∷ 2 ∷ []) (codes "year" ∷ codes "code" ∷ codes "title"
+    ∷ codes "weight" ∷ [])
+
+abbrev pub places_text : List ℕ
+places_text = codes "SELECT year, item, code FROM plan_item WHERE year = ?1 ORDER BY year, item"
+
+abbrev pub places_command : Command
+places_command = select 8 (is_first 1) (1 ∷ 2 ∷ 3 ∷ []) (1 ∷ 2 ∷ []) (codes "year" ∷ codes "item" ∷ codes "code" ∷ [])
+
+abbrev pub add_node_text : List ℕ
+add_node_text = codes "INSERT INTO node (year, code, title, weight) VALUES (?1, ?2, ?3, ?4)"
+
+abbrev pub add_node_command : Command
+add_node_command = Insert 4 (Values (lit Null ∷ col 0 0 ∷ col 0 1 ∷ col 0 2 ∷ col 0 3 ∷ []) 5)
+
+abbrev pub add_place_text : List ℕ
+add_place_text = codes "INSERT INTO plan_item (year, item, code) VALUES (?1, ?2, ?3)"
+
+abbrev pub add_place_command : Command
+add_place_command = Insert 5 (Values (lit Null ∷ col 0 0 ∷ col 0 1 ∷ col 0 2 ∷ []) 4)
+
+abbrev pub drop_nodes_text : List ℕ
+drop_nodes_text = codes "DELETE FROM node WHERE year = ?1"
+
+abbrev pub drop_nodes_command : Command
+drop_nodes_command = Delete 4 (record { lets = []; body = whole_query 6 (is_first 1) (col 1 0 ∷ []) [] })
+
+abbrev pub drop_places_text : List ℕ
+drop_places_text = codes "DELETE FROM plan_item WHERE year = ?1"
+
+abbrev pub drop_places_command : Command
+drop_places_command = Delete 5 (record { lets = []; body = whole_query 8 (is_first 1) (col 1 0 ∷ []) [] })
+
+-- ---- releases
+
+abbrev pub headers_text : List ℕ
+headers_text = codes "SELECT month, frozen_at, publishes, carry FROM release ORDER BY month"
+
+abbrev pub headers_command : Command
+headers_command = select 15 [] (0 ∷ 2 ∷ 3 ∷ 4 ∷ []) (0 ∷ [])
+    (codes "month" ∷ codes "frozen_at" ∷ codes "publishes" ∷ codes "carry" ∷ [])
+
+abbrev pub frozen_text : List ℕ
+frozen_text =
+    codes "SELECT month, collector, slot, item, last_month, mark, value FROM frozen WHERE month = ?1 ORDER BY month, collector, slot"
+
+abbrev pub frozen_command : Command
+frozen_command = select 16 (is_first 1) (1 ∷ 2 ∷ 3 ∷ 4 ∷ 5 ∷ 6 ∷ 7 ∷ []) (1 ∷ 2 ∷ 3 ∷ [])
+    (codes "month" ∷ codes "collector" ∷ codes "slot" ∷ codes "item" ∷ codes "last_month" ∷ codes "mark" ∷
+    codes "value" ∷ [])
+
+abbrev pub carried_text : List ℕ
+carried_text =
+    codes "SELECT month, collector, slot, item, last_month, ticks, knum, kden, observed, imputed FROM carried WHERE month = ?1 ORDER BY month, collector, slot"
+
+abbrev pub carried_command : Command
+carried_command = select 18 (is_first 1) (1 ∷ 2 ∷ 3 ∷ 4 ∷ 5 ∷ 6 ∷ 7 ∷ 8 ∷ 9 ∷ 10 ∷ []) (1 ∷ 2 ∷ 3 ∷ [])
+    (codes "month" ∷ codes "collector" ∷ codes "slot" ∷ codes "item" ∷ codes "last_month" ∷ codes "ticks" ∷
+    codes "knum" ∷ codes "kden" ∷ codes "observed" ∷ codes "imputed" ∷ [])
+
+abbrev pub levels_text : List ℕ
+levels_text =
+    codes "SELECT month, code, title, weight, within, chained, month_change, year_change, imputed FROM level WHERE month = ?1 ORDER BY month, code"
+
+abbrev pub levels_command : Command
+levels_command = select 20 (is_first 1) (1 ∷ 2 ∷ 3 ∷ 4 ∷ 5 ∷ 6 ∷ 7 ∷ 8 ∷ 9 ∷ []) (1 ∷ 2 ∷ [])
+    (codes "month" ∷ codes "code" ∷ codes "title" ∷ codes "weight" ∷ codes "within" ∷ codes "chained" ∷
+    codes "month_change" ∷ codes "year_change" ∷ codes "imputed" ∷ [])
+
+abbrev pub add_header_text : List ℕ
+add_header_text =
+    codes "INSERT INTO release (month, frozen_at, publishes, carry) VALUES (?1, ?2, ?3, ?4)"
+
+abbrev pub add_header_terms : List Term
+add_header_terms =
+    col 0 0 ∷ lit Null ∷ col 0 1 ∷ col 0 2 ∷ col 0 3 ∷ []
+
+abbrev pub add_header_command : Command
+add_header_command = Insert 9 (Values add_header_terms 5)
+
+abbrev pub add_frozen_text : List ℕ
+add_frozen_text =
+    codes "INSERT INTO frozen (month, collector, slot, item, last_month, mark, value) VALUES (?1, ?2, ?3, ?4, ?5, ?6, ?7)"
+
+abbrev pub add_frozen_terms : List Term
+add_frozen_terms =
+    lit Null ∷ col 0 0 ∷ col 0 1 ∷ col 0 2 ∷ col 0 3 ∷ col 0 4 ∷ col 0 5 ∷ col 0 6 ∷ []
+
+abbrev pub add_frozen_command : Command
+add_frozen_command = Insert 10 (Values add_frozen_terms 8)
+
+abbrev pub add_carried_text : List ℕ
+add_carried_text =
+    codes "INSERT INTO carried (month, collector, slot, item, last_month, ticks, knum, kden, observed, imputed) VALUES (?1, ?2, ?3, ?4, ?5, ?6, ?7, ?8, ?9, ?10)"
+
+abbrev pub add_carried_terms : List Term
+add_carried_terms =
+    lit Null ∷ col 0 0 ∷ col 0 1 ∷ col 0 2 ∷ col 0 3 ∷ col 0 4 ∷ col 0 5 ∷ col 0 6 ∷ col 0 7 ∷ col 0 8 ∷ col 0 9 ∷ []
+
+abbrev pub add_carried_command : Command
+add_carried_command = Insert 11 (Values add_carried_terms 11)
+
+abbrev pub add_level_text : List ℕ
+add_level_text =
+    codes "INSERT INTO level (month, code, title, weight, within, chained, month_change, year_change, imputed) VALUES (?1, ?2, ?3, ?4, ?5, ?6, ?7, ?8, ?9)"
+
+abbrev pub add_level_terms : List Term
+add_level_terms =
+    lit Null ∷ col 0 0 ∷ col 0 1 ∷ col 0 2 ∷ col 0 3 ∷ col 0 4 ∷ col 0 5 ∷ col 0 6 ∷ col 0 7 ∷ col 0 8 ∷ []
+
+abbrev pub add_level_command : Command
+add_level_command = Insert 12 (Values add_level_terms 10)
+
+abbrev pub drop_frozen_text : List ℕ
+drop_frozen_text = codes "DELETE FROM frozen WHERE month = ?1"
+
+abbrev pub drop_frozen_command : Command
+drop_frozen_command =
+    Delete 10 (record { lets = []; body = whole_query 16 (is_first 1) (col 1 0 ∷ []) [] })
+
+abbrev pub drop_carried_text : List ℕ
+drop_carried_text = codes "DELETE FROM carried WHERE month = ?1"
+
+abbrev pub drop_carried_command : Command
+drop_carried_command =
+    Delete 11 (record { lets = []; body = whole_query 18 (is_first 1) (col 1 0 ∷ []) [] })
+
+abbrev pub drop_level_text : List ℕ
+drop_level_text = codes "DELETE FROM level WHERE month = ?1"
+
+abbrev pub drop_level_command : Command
+drop_level_command =
+    Delete 12 (record { lets = []; body = whole_query 20 (is_first 1) (col 1 0 ∷ []) [] })

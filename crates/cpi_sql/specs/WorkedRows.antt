@@ -1,0 +1,193 @@
+-- Rows of the tables, computed: what each stands for, and rows that stand for nothing.
+use Rattle.std.specs.Prelude.{◌≡◌, ℕ, ℤ, pos, negsuc, true, false, refl, List, [], ◌∷◌, Option, Some, None, codes}
+use Rattle.sqlite.specs.declared.types.Value.{Value}
+use Rattle.sqlite.specs.declared.types.Value.TheVariants.{Null, Int, Text}
+use Rattle.sqlite.specs.Order.{Row}
+use Rattle.cpi_codes.specs.declared.codes.Code.{Code}
+use Rattle.cpi_survey.specs.declared.mark.Mark.TheVariants.{Price, Missing}
+use Rattle.cpi_survey.specs.declared.mark.Reason.TheVariants.{Stock}
+use Rattle.cpi_index.specs.Carried.{Carried}
+use Rattle.cpi_release.specs.declared.level.Level.{Level}
+use Rattle.cpi_sql.specs.Lists.{item_in, calendar_in, assignment_in, quote_in, node_in, header_in}
+use Rattle.cpi_sql.specs.Lists.{frozen_in, carried_in, level_in}
+
+-- ---- values. A row is its rowid, and then its columns; where the key is the rowid, its column is NULL
+
+abbrev pub number : ℕ → Value
+number n = Int (pos n)
+
+abbrev pub word : List ℕ → Value
+word text = Text text
+
+-- the code RICE, whose bytes with eight zeros after them are this number
+abbrev pub rice_code : ℕ
+rice_code = 25466340061561856917373976576
+
+abbrev pub rice : Code
+rice = record { division = 1; group = Some 1; class = Some 1; subclass = Some 1; aggregate = Some 1; valid = refl }
+
+abbrev pub flour : Code
+flour = record { division = 1; group = Some 1; class = Some 1; subclass = Some 2; aggregate = Some 1; valid = refl }
+
+-- ---- items
+
+abbrev pub item_row : ℕ → ℕ → Row
+item_row low high =
+    number 1 ∷ word (codes "RICE") ∷ word (codes "Rice, white") ∷ word (codes "1 kg") ∷ number low ∷ number high ∷ []
+
+abbrev pub Items : Type 0
+Items =
+    (item_in (item_row 700 1500) ≡ Some (record {
+      code = rice_code;
+      text = codes "Rice, white";
+      unit = codes "1 kg";
+      low = 700;
+      high = 1500;
+    }))
+    × (item_in (item_row 0 1500) ≡ None)
+    × (item_in (item_row 700 999) ≡ None)
+
+-- ---- calendar: January 2026 is month 312
+
+abbrev pub calendar_row : ℕ → ℕ → ℕ → ℕ → Row
+calendar_row month opens closes publishes =
+    number month ∷ Null ∷ number opens ∷ number closes ∷ number publishes ∷ []
+
+abbrev pub Calendar : Type 0
+Calendar =
+    (calendar_in (calendar_row 202601 1000 2000 3000) ≡ Some (record {
+      month = 312;
+      opens = 1000;
+      closes = 2000;
+      publishes = 3000;
+    }))
+    × (calendar_in (calendar_row 202613 1000 2000 3000) ≡ None)
+    × (calendar_in (calendar_row 202600 1000 2000 3000) ≡ None)
+    × (calendar_in (calendar_row 202601 2000 2000 3000) ≡ None)
+
+-- ---- quotes of collector 7: December 2025 is month 311
+
+abbrev pub quote_row : List ℕ → ℕ → Row
+quote_row mark value =
+    number 5 ∷ number 7 ∷ number 4 ∷ number 202512 ∷ word mark ∷ number value ∷ number 9 ∷ []
+
+abbrev pub Quotes : Type 0
+Quotes =
+    (quote_in (quote_row (codes "price") 200)
+    ≡ Some (7, record { slot = 4; month = 311; mark = Price 200; receipt = 9 }))
+    × (quote_in (quote_row (codes "stock") 0)
+    ≡ Some (7, record { slot = 4; month = 311; mark = Missing Stock; receipt = 9 }))
+    × (quote_in (quote_row (codes "price") 0) ≡ None)
+    × (quote_in (quote_row (codes "prices") 200) ≡ None)
+
+-- ---- assignments: December 2026 is month 323
+
+abbrev pub assignment_row : ℕ → Row
+assignment_row slot =
+    number 5 ∷ number 7 ∷ number slot ∷ number 10 ∷ word (codes "RICE") ∷ number 202512 ∷ number 202612 ∷ []
+
+abbrev pub Assignments : Type 0
+Assignments =
+    (assignment_in (assignment_row 400) ≡ Some (
+      7,
+      record {
+        slot = 400;
+        outlet = 10;
+        item = rice_code;
+        first_month = 311;
+        last_month = 323;
+        series = record { collector = 7; slot = 400 };
+      },
+    ))
+    × (assignment_in (assignment_row 401) ≡ None)
+
+-- ---- nodes
+
+abbrev pub node_row : List ℕ → Row
+node_row code = number 5 ∷ number 2026 ∷ word code ∷ word (codes "Rice, packed") ∷ number 600000 ∷ []
+
+abbrev pub Nodes : Type 0
+Nodes =
+    (node_in (node_row (codes "01.1.1.1-01"))
+    ≡ Some (2026, record { code = rice; title = codes "Rice, packed"; weight = 600000 }))
+    × (node_in (node_row (codes "01.1.1.1-00")) ≡ None)
+
+-- ---- releases
+
+abbrev pub header_row : List ℕ → Row
+header_row carry = number 202601 ∷ Null ∷ number 2000 ∷ number 3000 ∷ word carry ∷ []
+
+abbrev pub Headers : Type 0
+Headers =
+    (header_in (header_row (codes "01.1.1.1-01 01.1.1.2-01"))
+    ≡ Some (record { month = 312; frozen_at = 2000; publishes = 3000; carry = rice ∷ flour ∷ [] }))
+    × (header_in (header_row []) ≡ Some (record { month = 312; frozen_at = 2000; publishes = 3000; carry = [] }))
+    × (header_in (header_row (codes "01.1.1.1-01  01.1.1.2-01")) ≡ None)
+
+abbrev pub frozen_row : ℕ → Row
+frozen_row last =
+    number 5 ∷ number 202601 ∷ number 7 ∷ number 1 ∷ word (codes "RICE") ∷ number last ∷ word (codes "price")
+    ∷ number 210 ∷ []
+
+abbrev pub FrozenQuotes : Type 0
+FrozenQuotes =
+    (frozen_in (frozen_row 202612) ≡ Some (
+      312,
+      record {
+        series = record { collector = 7; slot = 1 };
+        item = rice_code;
+        last_month = 323;
+        mark = Price 210;
+      },
+    ))
+    × (frozen_in (frozen_row 202613) ≡ None)
+
+-- observed as a replacement, at 3,040,000 ticks for 400
+abbrev pub carried_row : ℕ → Row
+carried_row imputed =
+    number 5 ∷ number 202603 ∷ number 7 ∷ number 2 ∷ word (codes "RICE") ∷ number 202612 ∷ number 3040000
+    ∷ number 3040000 ∷ number 400 ∷ number 1 ∷ number imputed ∷ []
+
+abbrev pub carried_price : Carried
+carried_price = record {
+  series = record { collector = 7; slot = 2 };
+  item = rice_code;
+  last_month = 323;
+  ticks = 3040000;
+  knum = 3040000;
+  kden = 400;
+  observed = true;
+  imputed = false;
+}
+
+abbrev pub CarriedPrices : Type 0
+CarriedPrices =
+    (carried_in (carried_row 0) ≡ Some (314, carried_price))
+    × (carried_in (carried_row 1) ≡ Some (314, record carried_price { imputed = true }))
+    × (carried_in (carried_row 2) ≡ None)
+
+-- 98 points, which is 2.0 percent less than the month before
+abbrev pub level_row : Value → ℕ → Row
+level_row year_change imputed =
+    number 5 ∷ number 202601 ∷ word (codes "01.1.1.2-01") ∷ word (codes "Flour, wheat") ∷ number 400000
+    ∷ number 98000000 ∷ number 98000000 ∷ Int (negsuc 19) ∷ year_change ∷ number imputed ∷ []
+
+abbrev pub level_with : Option ℤ → Level
+level_with year_change = record {
+  code = flour;
+  title = codes "Flour, wheat";
+  weight = 400000;
+  within = 98000000;
+  chained = 98000000;
+  month_change = negsuc 19;
+  year_change = year_change;
+  imputed = false;
+}
+
+abbrev pub Levels : Type 0
+Levels =
+    (level_in (level_row Null 0) ≡ Some (312, level_with None))
+    × (level_in (level_row (number 35) 0) ≡ Some (312, level_with (Some (pos 35))))
+    × (level_in (level_row (Int (negsuc 19)) 0) ≡ Some (312, level_with (Some (negsuc 19))))
+    × (level_in (level_row (word (codes "0")) 0) ≡ None)
+    × (level_in (level_row Null 2) ≡ None)

@@ -1,0 +1,415 @@
+//! The rows of a release, dropped and added within a transaction.
+ghost use Rattle.std.specs.Prelude.{◌≡◌, ℕ, ℤ, [], ◌∷◌, IfOk, IsTrue, Ok, OnOk, Option, Some, pos};
+ghost use Rattle.sqlite.specs.declared.types.Value.TheVariants.{Int, Null, Text};
+ghost use Rattle.sqlite.specs.Held.{state};
+ghost use Rattle.sqlite.specs.State.{Executes, HasCleanDisk, KeepsCommit, Survives};
+ghost use Rattle.sqlite.specs.Values.{bound};
+ghost use Rattle.cpi_sql.specs.Lists.{flag_in, month_at, ranged};
+ghost use Rattle.cpi_sql.specs.Lists.{carried_in, frozen_in, level_in};
+ghost use Rattle.cpi_index.specs.Carried.{Carried, IsTicks};
+ghost use Rattle.cpi_index.specs.Frozen.{Frozen};
+ghost use Rattle.cpi_release.specs.declared.level.Level.{Level as LevelRow};
+ghost use Rattle.cpi_sql.specs.ReleaseRows.{annual, frozen_after, carried_after, level_after};
+ghost use Rattle.cpi_sql.specs.ReleaseSteps.{AddsMonth};
+ghost use Rattle.cpi_sql.specs.Shelf.{HasRowids};
+ghost use Rattle.cpi_sql.specs.Steps.{HasDropped, IsStep};
+ghost use Rattle.cpi_sql.specs.Tables.{office_schema};
+
+use crate::stored::Unread;
+use crate::writes::{
+    code_text, collector_number, item_text, mark_text, mark_value, month_number, name_text,
+    slot_number,
+};
+use cpi_codes::{ItemCode, Month, SeriesId};
+use cpi_index::{CarriedPrice, ChainedLevel, FrozenQuote, Index};
+use cpi_release::Level;
+use cpi_survey::Mark;
+use sqlite::types::Value;
+use sqlite::{Alter, Transaction, params};
+use sqlite_value::value::ValueRef;
+use std::alloc::Global;
+
+// A number as a column has it; an error where it is 2^63 or more.
+fn number_value(number: u64) -> Result<Value, Unread>
+    ensures { IfOk result (λ v. v ≡ Int (pos number)) }
+{
+    match i64::try_from(number) {
+        Ok(column) => Ok(Value::Int(column)),
+        Err(_) => Err(Unread),
+    }
+}
+
+fn month_change(level: &Level) -> Value
+    ensures { result ≡ Int level.now.month_change }
+{
+    Value::Int(level.month_change)
+}
+
+fn year_change(level: &Level) -> Value
+    ensures { result ≡ annual level.now.year_change }
+{
+    match level.year_change {
+        Some(change) => Value::Int(change),
+        None => Value::Null,
+    }
+}
+
+fn flag_number(flag: bool) -> u32
+    ensures { flag_in (Int (pos result)) ≡ Some flag }
+{
+    if flag { 1 } else { 0 }
+}
+
+/// Runs a statement of the transaction.
+pub fn run_inside<S: Alter>(
+    tx: &mut Transaction<'_, S>,
+    text: &str,
+    params: &[ValueRef<'_>],
+) -> Result<(), Unread>
+    ensures same_reference { tx.new.conn.ghost_name ≡ tx.old.conn.ghost_name }
+    ensures ran { HasCleanDisk (state S.Store tx.new.conn.now) →
+        IsTrue (state S.Store tx.old.conn.now).in_transaction →
+        OnOk result ((count : ℕ) × Executes text.now (bound params.now)
+        (state S.Store tx.old.conn.now) (state S.Store tx.new.conn.now) (Ok count)) }
+    ensures kept { HasCleanDisk (state S.Store tx.new.conn.now) →
+        KeepsCommit (state S.Store tx.old.conn.now) (state S.Store tx.new.conn.now) }
+    ensures survives { Survives (state S.Store tx.old.conn.now) (state S.Store tx.new.conn.now) (λ _. ⊥) }
+{
+    let _count = tx.execute(text, params)?;
+    Ok(())
+}
+
+const DROP_FROZEN: &str = "DELETE FROM frozen WHERE month = ?1";
+
+/// Drops the rows of a month.
+pub fn drop_frozen<S: Alter>(tx: &mut Transaction<'_, S>, number: u32) -> Result<(), Unread>
+    ensures same_reference { tx.new.conn.ghost_name ≡ tx.old.conn.ghost_name }
+    ensures dropped { HasCleanDisk (state S.Store tx.new.conn.now) →
+        IsTrue (state S.Store tx.old.conn.now).in_transaction →
+        (state S.Store tx.old.conn.now).now.schema ≡ office_schema →
+        HasRowids ((state S.Store tx.old.conn.now).now.trees 16) →
+        OnOk result (IsStep 16 (HasDropped number)
+        (state S.Store tx.old.conn.now) (state S.Store tx.new.conn.now)) }
+    ensures kept { HasCleanDisk (state S.Store tx.new.conn.now) →
+        KeepsCommit (state S.Store tx.old.conn.now) (state S.Store tx.new.conn.now) }
+    ensures survives { Survives (state S.Store tx.old.conn.now) (state S.Store tx.new.conn.now) (λ _. ⊥) }
+{
+    run_inside(tx, DROP_FROZEN, params![number])
+}
+
+const DROP_CARRIED: &str = "DELETE FROM carried WHERE month = ?1";
+
+/// Drops the rows of a month.
+pub fn drop_carried<S: Alter>(tx: &mut Transaction<'_, S>, number: u32) -> Result<(), Unread>
+    ensures same_reference { tx.new.conn.ghost_name ≡ tx.old.conn.ghost_name }
+    ensures dropped { HasCleanDisk (state S.Store tx.new.conn.now) →
+        IsTrue (state S.Store tx.old.conn.now).in_transaction →
+        (state S.Store tx.old.conn.now).now.schema ≡ office_schema →
+        HasRowids ((state S.Store tx.old.conn.now).now.trees 18) →
+        OnOk result (IsStep 18 (HasDropped number)
+        (state S.Store tx.old.conn.now) (state S.Store tx.new.conn.now)) }
+    ensures kept { HasCleanDisk (state S.Store tx.new.conn.now) →
+        KeepsCommit (state S.Store tx.old.conn.now) (state S.Store tx.new.conn.now) }
+    ensures survives { Survives (state S.Store tx.old.conn.now) (state S.Store tx.new.conn.now) (λ _. ⊥) }
+{
+    run_inside(tx, DROP_CARRIED, params![number])
+}
+
+const DROP_LEVEL: &str = "DELETE FROM level WHERE month = ?1";
+
+/// Drops the rows of a month.
+pub fn drop_level<S: Alter>(tx: &mut Transaction<'_, S>, number: u32) -> Result<(), Unread>
+    ensures same_reference { tx.new.conn.ghost_name ≡ tx.old.conn.ghost_name }
+    ensures dropped { HasCleanDisk (state S.Store tx.new.conn.now) →
+        IsTrue (state S.Store tx.old.conn.now).in_transaction →
+        (state S.Store tx.old.conn.now).now.schema ≡ office_schema →
+        HasRowids ((state S.Store tx.old.conn.now).now.trees 20) →
+        OnOk result (IsStep 20 (HasDropped number)
+        (state S.Store tx.old.conn.now) (state S.Store tx.new.conn.now)) }
+    ensures kept { HasCleanDisk (state S.Store tx.new.conn.now) →
+        KeepsCommit (state S.Store tx.old.conn.now) (state S.Store tx.new.conn.now) }
+    ensures survives { Survives (state S.Store tx.old.conn.now) (state S.Store tx.new.conn.now) (λ _. ⊥) }
+{
+    run_inside(tx, DROP_LEVEL, params![number])
+}
+
+const ADD_FROZEN: &str =
+    "INSERT INTO frozen (month, collector, slot, item, last_month, mark, value) \
+    VALUES (?1, ?2, ?3, ?4, ?5, ?6, ?7)";
+
+fn insert_frozen<S: Alter>(
+    tx: &mut Transaction<'_, S>,
+    number: u32,
+    collector: u32,
+    slot: u32,
+    item: &str,
+    last: u32,
+    word: &str,
+    value: u32,
+) -> Result<(), Unread>
+    ensures same_reference { tx.new.conn.ghost_name ≡ tx.old.conn.ghost_name }
+    ensures added { HasCleanDisk (state S.Store tx.new.conn.now) →
+        IsTrue (state S.Store tx.old.conn.now).in_transaction →
+        (state S.Store tx.old.conn.now).now.schema ≡ office_schema →
+        HasRowids ((state S.Store tx.old.conn.now).now.trees 16) →
+        OnOk result ((month : ℕ) (x : Frozen) →
+        frozen_in (Null ∷ Int (pos number) ∷ Int (pos collector) ∷ Int (pos slot) ∷ Text item.now ∷ Int (pos last)
+        ∷ Text word.now ∷ Int (pos value) ∷ []) ≡ Some (month, x) →
+        IsStep 16 (AddsMonth frozen_after month (x ∷ []))
+        (state S.Store tx.old.conn.now) (state S.Store tx.new.conn.now)) }
+    ensures kept { HasCleanDisk (state S.Store tx.new.conn.now) →
+        KeepsCommit (state S.Store tx.old.conn.now) (state S.Store tx.new.conn.now) }
+    ensures survives { Survives (state S.Store tx.old.conn.now) (state S.Store tx.new.conn.now) (λ _. ⊥) }
+{
+    run_inside(
+        tx,
+        ADD_FROZEN,
+        params![number, collector, slot, item, last, word, value],
+    )
+}
+
+// The quote's series.
+fn quote_series(quote: &FrozenQuote) -> SeriesId
+    ensures { result ≡ quote.now.series }
+{
+    quote.series
+}
+
+fn quote_item(quote: &FrozenQuote) -> ItemCode
+    ensures { result ≡ quote.now.item }
+{
+    quote.item
+}
+
+fn quote_last(quote: &FrozenQuote) -> Month
+    ensures { result ≡ quote.now.last_month }
+{
+    quote.last_month
+}
+
+fn quote_mark(quote: &FrozenQuote) -> Mark
+    ensures { result ≡ quote.now.mark }
+{
+    quote.mark
+}
+
+/// Adds a frozen quote beside its month.
+pub fn add_frozen<S: Alter>(
+    tx: &mut Transaction<'_, S>,
+    alloc: Global,
+    number: u32,
+    quote: &FrozenQuote,
+) -> Result<(), Unread>
+    ensures same_reference { tx.new.conn.ghost_name ≡ tx.old.conn.ghost_name }
+    ensures added { HasCleanDisk (state S.Store tx.new.conn.now) →
+        IsTrue (state S.Store tx.old.conn.now).in_transaction →
+        (state S.Store tx.old.conn.now).now.schema ≡ office_schema →
+        HasRowids ((state S.Store tx.old.conn.now).now.trees 16) →
+        (month : ℕ) → month_at number ≡ Some month →
+        OnOk result (IsStep 16 (AddsMonth frozen_after month (quote.now ∷ []))
+        (state S.Store tx.old.conn.now) (state S.Store tx.new.conn.now)) }
+    ensures kept { HasCleanDisk (state S.Store tx.new.conn.now) →
+        KeepsCommit (state S.Store tx.old.conn.now) (state S.Store tx.new.conn.now) }
+    ensures survives { Survives (state S.Store tx.old.conn.now) (state S.Store tx.new.conn.now) (λ _. ⊥) }
+{
+    let series = quote_series(quote);
+    let collector = collector_number(series.collector);
+    let slot = slot_number(series.slot);
+    let item = item_text(alloc, quote_item(quote))?;
+    let last = month_number(quote_last(quote));
+    let word = mark_text(quote_mark(quote));
+    let value = mark_value(quote_mark(quote));
+    insert_frozen(tx, number, collector, slot, &item, last, word, value)
+}
+
+fn ticks_value(ticks: u64) -> Value
+    requires { IsTicks ticks }
+    ensures value { result ≡ Int (pos ticks) }
+    ensures range { ranged 1 1000000000000000 (Int (pos ticks)) ≡ Some ticks }
+{
+    Value::Int(ticks as i64)
+}
+
+fn denominator(price: &CarriedPrice) -> u32
+    ensures { ranged 1 100000000 (Int (pos result)) ≡ Some price.now.kden }
+{
+    price.kden()
+}
+
+const ADD_CARRIED: &str =
+    "INSERT INTO carried (month, collector, slot, item, last_month, ticks, knum, kden, observed, imputed) \
+    VALUES (?1, ?2, ?3, ?4, ?5, ?6, ?7, ?8, ?9, ?10)";
+
+fn insert_carried<S: Alter>(
+    tx: &mut Transaction<'_, S>,
+    number: u32,
+    collector: u32,
+    slot: u32,
+    item: &str,
+    last: u32,
+    ticks: &Value,
+    knum: &Value,
+    kden: u32,
+    observed: u32,
+    imputed: u32,
+) -> Result<(), Unread>
+    ensures same_reference { tx.new.conn.ghost_name ≡ tx.old.conn.ghost_name }
+    ensures added { HasCleanDisk (state S.Store tx.new.conn.now) →
+        IsTrue (state S.Store tx.old.conn.now).in_transaction →
+        (state S.Store tx.old.conn.now).now.schema ≡ office_schema →
+        HasRowids ((state S.Store tx.old.conn.now).now.trees 18) →
+        OnOk result ((t n : ℕ) → ticks.now ≡ Int (pos t) → knum.now ≡ Int (pos n) → (month : ℕ) (x : Carried) →
+        carried_in (Null ∷ Int (pos number) ∷ Int (pos collector) ∷ Int (pos slot) ∷ Text item.now ∷ Int (pos last)
+        ∷ Int (pos t) ∷ Int (pos n) ∷ Int (pos kden) ∷ Int (pos observed) ∷ Int (pos imputed) ∷ []) ≡ Some (month, x) →
+        IsStep 18 (AddsMonth carried_after month (x ∷ []))
+        (state S.Store tx.old.conn.now) (state S.Store tx.new.conn.now)) }
+    ensures kept { HasCleanDisk (state S.Store tx.new.conn.now) →
+        KeepsCommit (state S.Store tx.old.conn.now) (state S.Store tx.new.conn.now) }
+    ensures survives { Survives (state S.Store tx.old.conn.now) (state S.Store tx.new.conn.now) (λ _. ⊥) }
+{
+    run_inside(
+        tx,
+        ADD_CARRIED,
+        params![
+            number, collector, slot, item, last, ticks, knum, kden, observed, imputed
+        ],
+    )
+}
+
+/// Adds a carried price beside its month.
+pub fn add_carried<S: Alter>(
+    tx: &mut Transaction<'_, S>,
+    alloc: Global,
+    number: u32,
+    price: &CarriedPrice,
+) -> Result<(), Unread>
+    ensures same_reference { tx.new.conn.ghost_name ≡ tx.old.conn.ghost_name }
+    ensures added { HasCleanDisk (state S.Store tx.new.conn.now) →
+        IsTrue (state S.Store tx.old.conn.now).in_transaction →
+        (state S.Store tx.old.conn.now).now.schema ≡ office_schema →
+        HasRowids ((state S.Store tx.old.conn.now).now.trees 18) →
+        (month : ℕ) → month_at number ≡ Some month →
+        OnOk result (IsStep 18 (AddsMonth carried_after month (price.now ∷ []))
+        (state S.Store tx.old.conn.now) (state S.Store tx.new.conn.now)) }
+    ensures kept { HasCleanDisk (state S.Store tx.new.conn.now) →
+        KeepsCommit (state S.Store tx.old.conn.now) (state S.Store tx.new.conn.now) }
+    ensures survives { Survives (state S.Store tx.old.conn.now) (state S.Store tx.new.conn.now) (λ _. ⊥) }
+{
+    let series = price.series();
+    let collector = collector_number(series.collector);
+    let slot = slot_number(series.slot);
+    let item = item_text(alloc, price.item())?;
+    let last = month_number(price.last_month());
+    let ticks = ticks_value(price.ticks());
+    let knum = ticks_value(price.knum());
+    let kden = denominator(price);
+    let observed = flag_number(price.was_observed());
+    let imputed = flag_number(price.was_imputed());
+    insert_carried(
+        tx, number, collector, slot, &item, last, &ticks, &knum, kden, observed, imputed,
+    )
+}
+
+fn index_value(index: Index) -> Value
+    ensures value { result ≡ Int (pos index) }
+    ensures range { ranged 1 10000000000000 (Int (pos index)) ≡ Some index }
+{
+    Value::Int(index.millionths() as i64)
+}
+
+fn chained_value(level: ChainedLevel) -> Value
+    ensures value { result ≡ Int (pos level) }
+    ensures range { ranged 1 1000000000000000 (Int (pos level)) ≡ Some level }
+{
+    Value::Int(level.millionths() as i64)
+}
+
+const ADD_LEVEL: &str =
+    "INSERT INTO level (month, code, title, weight, within, chained, month_change, year_change, imputed) \
+    VALUES (?1, ?2, ?3, ?4, ?5, ?6, ?7, ?8, ?9)";
+
+fn insert_level<S: Alter>(
+    tx: &mut Transaction<'_, S>,
+    number: u32,
+    code: &str,
+    title: &str,
+    weight: &Value,
+    within: &Value,
+    chained: &Value,
+    month_change: &Value,
+    year_change: &Value,
+    imputed: u32,
+) -> Result<(), Unread>
+    ensures same_reference { tx.new.conn.ghost_name ≡ tx.old.conn.ghost_name }
+    ensures added { HasCleanDisk (state S.Store tx.new.conn.now) →
+        IsTrue (state S.Store tx.old.conn.now).in_transaction →
+        (state S.Store tx.old.conn.now).now.schema ≡ office_schema →
+        HasRowids ((state S.Store tx.old.conn.now).now.trees 20) →
+        OnOk result ((w i l : ℕ) (z : ℤ) (y : Option ℤ) → weight.now ≡ Int (pos w) →
+        within.now ≡ Int (pos i) → chained.now ≡ Int (pos l) → month_change.now ≡ Int z →
+        year_change.now ≡ annual y → (month : ℕ) (x : LevelRow) →
+        level_in (Null ∷ Int (pos number) ∷ Text code.now ∷ Text title.now ∷ Int (pos w) ∷ Int (pos i)
+        ∷ Int (pos l) ∷ Int z ∷ annual y ∷ Int (pos imputed) ∷ []) ≡ Some (month, x) →
+        IsStep 20 (AddsMonth level_after month (x ∷ []))
+        (state S.Store tx.old.conn.now) (state S.Store tx.new.conn.now)) }
+    ensures kept { HasCleanDisk (state S.Store tx.new.conn.now) →
+        KeepsCommit (state S.Store tx.old.conn.now) (state S.Store tx.new.conn.now) }
+    ensures survives { Survives (state S.Store tx.old.conn.now) (state S.Store tx.new.conn.now) (λ _. ⊥) }
+{
+    run_inside(
+        tx,
+        ADD_LEVEL,
+        params![
+            number,
+            code,
+            title,
+            weight,
+            within,
+            chained,
+            month_change,
+            year_change,
+            imputed
+        ],
+    )
+}
+
+/// Adds a row of the table of a month.
+pub fn add_level<S: Alter>(
+    tx: &mut Transaction<'_, S>,
+    alloc: Global,
+    number: u32,
+    level: &Level,
+) -> Result<(), Unread>
+    ensures same_reference { tx.new.conn.ghost_name ≡ tx.old.conn.ghost_name }
+    ensures added { HasCleanDisk (state S.Store tx.new.conn.now) →
+        IsTrue (state S.Store tx.old.conn.now).in_transaction →
+        (state S.Store tx.old.conn.now).now.schema ≡ office_schema →
+        HasRowids ((state S.Store tx.old.conn.now).now.trees 20) →
+        (month : ℕ) → month_at number ≡ Some month →
+        OnOk result (IsStep 20 (AddsMonth level_after month (level.now ∷ []))
+        (state S.Store tx.old.conn.now) (state S.Store tx.new.conn.now)) }
+    ensures kept { HasCleanDisk (state S.Store tx.new.conn.now) →
+        KeepsCommit (state S.Store tx.old.conn.now) (state S.Store tx.new.conn.now) }
+    ensures survives { Survives (state S.Store tx.old.conn.now) (state S.Store tx.new.conn.now) (λ _. ⊥) }
+{
+    let code = code_text(alloc, level.code)?;
+    let title = name_text(&level.title);
+    let weight = number_value(level.weight)?;
+    let within = index_value(level.within);
+    let chained = chained_value(level.chained);
+    let month_change = month_change(level);
+    let year_change = year_change(level);
+    let imputed = flag_number(level.imputed);
+    insert_level(
+        tx,
+        number,
+        &code,
+        title,
+        &weight,
+        &within,
+        &chained,
+        &month_change,
+        &year_change,
+        imputed,
+    )
+}

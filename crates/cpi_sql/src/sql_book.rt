@@ -1,0 +1,471 @@
+use crate::ask::settle;
+use crate::follow::{
+    follow_calendar, follow_collector, follow_item, follow_outlet, follow_plan, follow_quote,
+};
+use crate::history::{all_months, find_table, level_of, months_published, sample_rows};
+use crate::level_table::{LevelTable, lent_table};
+use crate::month_rows::month_rows;
+use crate::open::{OpenFault, open_office};
+use crate::owned::{ready_own, ready_parts};
+use crate::put_plan::put_plan;
+use crate::put_release::put_release;
+use crate::ready::{find_key, ready_bearers, ready_outlets, ready_public};
+use crate::release_rows::Header;
+use crate::writes::{put_assignment, put_calendar, put_collector, put_item, put_outlet, put_quote};
+use cpi_codes::{Code, CollectorId, Key, Moment, Month, OutletId};
+use cpi_index::{ChainedLevel, FrozenQuote, GroupRow};
+use cpi_plan::{CalendarRow, Item, YearPlan};
+use cpi_release::{Cached, Failures, FrozenMonth, GroupFault, Groups, Level, Release};
+use cpi_rows::{Rows, RowsByKey, find_row};
+use cpi_store::{Bearer, Book, Outlet, Parts, StoreFault};
+use cpi_survey::{Assigned, Own, Public, Quote};
+use sqlite::{Alter, Connection};
+use std::alloc::Global;
+use std::marker::Model;
+
+// What is lent of a book.
+#[derive(Drop)]
+struct Lent {
+    public: Public,
+    own: Own,
+}
+
+impl Lent {
+    ghost use Rattle.std.specs.Prelude.{◌≡◌};
+
+    fn parts(&self) -> Parts<'_>
+        ensures public { result.public.now ≡ self.now.public }
+        ensures own { result.own.now ≡ self.now.own }
+    {
+        Parts {
+            public: &self.public,
+            own: &self.own,
+        }
+    }
+}
+
+/// An office in a database. What everybody may see, the collectors and the outlets are read once and kept in memory,
+/// and so are what the collector has who was last asked for, what the releases say beside their lists, the tables of
+/// earlier months that are asked for, and the samples of the month that is being frozen. Each write changes what is
+/// kept, or drops it.
+#[derive(Drop)]
+pub struct SqlBook<S: Alter> {
+    conn: Connection<S>,
+    // by number
+    bearers: Vec<Bearer>,
+    has_bearers: bool,
+    outlets: RowsByKey<Outlet>,
+    has_outlets: bool,
+    has_public: bool,
+    // what everybody may see, and what the collector has who was last asked for
+    lent: Lent,
+    whose: Option<CollectorId>,
+    // of all releases, by month
+    headers: Vec<Header>,
+    has_headers: bool,
+    // the tables of earlier months
+    tables: Vec<LevelTable>,
+    // the samples of the month that is being frozen; none once anything is written
+    cached: Option<Cached>,
+    failed: Failures,
+    alloc: Global,
+}
+
+impl<S: Alter> Model for SqlBook<S> {
+    ghost use Rattle.sqlite.specs.Held.{state};
+    ghost use Rattle.cpi_sql.specs.Shelf.{Shelf, shelf_code, IsSound};
+
+    ghost Value = { Shelf S };
+
+    ghost coded = { shelf_code S.code };
+
+    ghost view = { λ b. record { held = b.conn; failures = b.failed.count } };
+
+    ghost invariant = { λ b. IsSound (state S.Store b.conn) (record {
+      has_bearers = b.has_bearers;
+      bearers = b.bearers.items;
+      has_outlets = b.has_outlets;
+      outlets = b.outlets;
+      has_public = b.has_public;
+      public = b.lent.public;
+      whose = b.whose;
+      own = b.lent.own;
+      releases = record {
+        has_headers = b.has_headers;
+        headers = b.headers.items;
+        tables = b.tables.items;
+        samples = b.cached;
+      };
+    }) };
+}
+
+impl<S: Alter + Drop> SqlBook<S> {
+    ghost use Rattle.std.specs.Prelude.{◌≡◌, false, IfOk};
+    ghost use Rattle.sqlite.specs.Held.{state};
+    ghost use Rattle.cpi_sql.specs.Shelf.{IsCleanBook};
+    ghost use Rattle.sqlite.specs.State.{Survives};
+    ghost use Rattle.cpi_sql.specs.Finding.{IsOpened, MayBeMade};
+
+    /// The office in the database. Where it has no table, the tables are made, all or none; else they are to be those
+    /// of the office with the row 1 in `version`, and no row changes.
+    pub fn new(alloc: Global, conn: Connection<S>) -> Result<SqlBook<S>, OpenFault>
+        requires { (state S.Store conn).in_transaction ≡ false }
+        ensures opened { IfOk result (λ b.
+            IsCleanBook (state S.Store b.held) → IsOpened (state S.Store conn) (state S.Store b.held)) }
+        ensures crash { IfOk result (λ b.
+            Survives (state S.Store conn) (state S.Store b.held) (MayBeMade (state S.Store conn))) }
+        ensures count { IfOk result (λ b. b.failures ≡ 0) }
+    {
+        let mut conn = conn;
+        match open_office(&mut conn, alloc) {
+            Ok(()) => Ok(SqlBook {
+                conn,
+                bearers: Vec::new(alloc),
+                has_bearers: false,
+                outlets: RowsByKey::new(alloc),
+                has_outlets: false,
+                has_public: false,
+                lent: Lent {
+                    public: Public::new(alloc),
+                    own: Own::new(alloc),
+                },
+                whose: None,
+                headers: Vec::new(alloc),
+                has_headers: false,
+                tables: Vec::new(alloc),
+                cached: None,
+                failed: Failures::none(),
+                alloc,
+            }),
+            Err(fault) => Err(fault),
+        }
+    }
+
+    /// The connection, given back.
+    pub fn into_connection(self) -> Connection<S>
+        ensures { result ≡ self.held }
+    {
+        self.conn
+    }
+}
+
+impl<S: Alter> Groups for SqlBook<S> {
+    ghost use Rattle.cpi_store.specs.Office.{Office};
+    ghost use Rattle.cpi_store.specs.Sources.{office_sources};
+    ghost use Rattle.cpi_release.specs.Cached.{IsFit};
+    ghost use Rattle.cpi_sql.specs.Shelf.{book_state};
+
+    ghost Held = { Office };
+
+    ghost holds = { book_state S.Store };
+
+    ghost sources = { office_sources };
+
+    ghost is_sound = { λ o. IsFit (office_sources o) };
+
+    ghost has_sound = { λ o s. s.0 };
+
+    fn rows(&mut self, _year: u16, month: Month, code: Code) -> Result<Vec<GroupRow>, GroupFault> {
+        match sample_rows(
+            &mut self.conn,
+            self.alloc,
+            &mut self.headers,
+            &mut self.has_headers,
+            &mut self.lent.public,
+            &mut self.has_public,
+            &mut self.cached,
+            month,
+            code,
+        ) {
+            Ok(rows) => Ok(rows),
+            Err(_) => Err(self.failed.counted(GroupFault)),
+        }
+    }
+
+    fn chained(&mut self, month: Month, code: Code) -> Result<Option<ChainedLevel>, GroupFault> {
+        match level_of(
+            &mut self.conn,
+            self.alloc,
+            &mut self.headers,
+            &mut self.has_headers,
+            &mut self.tables,
+            month,
+            code,
+        ) {
+            Ok(level) => Ok(level),
+            Err(_) => Err(self.failed.counted(GroupFault)),
+        }
+    }
+}
+
+impl<S: Alter> Book for SqlBook<S> {
+    ghost use Rattle.std.specs.Prelude.{◌≡◌, refl};
+    ghost use Rattle.cpi_sql.specs.Shelf.{book_state};
+
+    ghost state = { book_state S.Store };
+
+    ghost finds_always = { ⊥ };
+
+    ghost groups_are = { λ b. record { failures = refl; kept = λ x. x; clean = λ x. x; is_clean = λ x. x } };
+
+    ghost groups_keep = { λ a b keeps. keeps };
+
+    ghost sources_are = { λ b. refl };
+
+    ghost sound_is = { λ b s. s };
+
+    fn bearer_of(&mut self, key: Key) -> Result<Option<Bearer>, StoreFault> {
+        match ready_bearers(
+            &mut self.conn,
+            self.alloc,
+            &mut self.bearers,
+            &mut self.has_bearers,
+        ) {
+            Ok(()) => Ok(find_key(&self.bearers, key)),
+            Err(_) => Err(self.failed.counted(StoreFault)),
+        }
+    }
+
+    fn bearer_at(&mut self, number: CollectorId) -> Result<Option<Bearer>, StoreFault> {
+        match ready_bearers(
+            &mut self.conn,
+            self.alloc,
+            &mut self.bearers,
+            &mut self.has_bearers,
+        ) {
+            Ok(()) => Ok(find_row(&self.bearers, &number).copied()),
+            Err(_) => Err(self.failed.counted(StoreFault)),
+        }
+    }
+
+    fn collector_of(&mut self, key: Key) -> Result<Option<CollectorId>, StoreFault> {
+        match ready_bearers(
+            &mut self.conn,
+            self.alloc,
+            &mut self.bearers,
+            &mut self.has_bearers,
+        ) {
+            Ok(()) => Ok(find_key(&self.bearers, key).map(|bearer| bearer.number)),
+            Err(_) => Err(self.failed.counted(StoreFault)),
+        }
+    }
+
+    fn collector_key(&mut self, number: CollectorId) -> Result<Option<Key>, StoreFault> {
+        match ready_bearers(
+            &mut self.conn,
+            self.alloc,
+            &mut self.bearers,
+            &mut self.has_bearers,
+        ) {
+            Ok(()) => Ok(find_row(&self.bearers, &number).map(|bearer| bearer.key)),
+            Err(_) => Err(self.failed.counted(StoreFault)),
+        }
+    }
+
+    fn outlet(&mut self, number: OutletId) -> Result<Option<&Outlet>, StoreFault> {
+        match ready_outlets(
+            &mut self.conn,
+            self.alloc,
+            &mut self.outlets,
+            &mut self.has_outlets,
+        ) {
+            Ok(()) => Ok(self.outlets.find(&number)),
+            Err(_) => Err(self.failed.counted(StoreFault)),
+        }
+    }
+
+    fn public_part(&mut self) -> Result<&Public, StoreFault> {
+        match ready_public(
+            &mut self.conn,
+            self.alloc,
+            &mut self.lent.public,
+            &mut self.has_public,
+        ) {
+            Ok(()) => Ok(&self.lent.public),
+            Err(_) => Err(self.failed.counted(StoreFault)),
+        }
+    }
+
+    fn own(&mut self, collector: CollectorId) -> Result<&Own, StoreFault> {
+        match ready_own(
+            &mut self.conn,
+            self.alloc,
+            &mut self.outlets,
+            &mut self.has_outlets,
+            &mut self.lent.own,
+            &mut self.whose,
+            collector,
+        ) {
+            Ok(()) => Ok(&self.lent.own),
+            Err(_) => Err(self.failed.counted(StoreFault)),
+        }
+    }
+
+    fn parts(&mut self, collector: CollectorId) -> Result<Parts<'_>, StoreFault> {
+        match ready_parts(
+            &mut self.conn,
+            self.alloc,
+            &mut self.lent.public,
+            &mut self.has_public,
+            &mut self.outlets,
+            &mut self.has_outlets,
+            &mut self.lent.own,
+            &mut self.whose,
+            collector,
+        ) {
+            Ok(()) => Ok(self.lent.parts()),
+            Err(_) => Err(self.failed.counted(StoreFault)),
+        }
+    }
+
+    fn frozen_months(&mut self) -> Result<Vec<FrozenMonth>, StoreFault> {
+        match all_months(
+            &mut self.conn,
+            self.alloc,
+            &mut self.headers,
+            &mut self.has_headers,
+        ) {
+            Ok(found) => Ok(found),
+            Err(_) => Err(self.failed.counted(StoreFault)),
+        }
+    }
+
+    fn month_rows(&mut self, month: Month) -> Result<Vec<FrozenQuote>, StoreFault> {
+        match month_rows(&mut self.conn, self.alloc, month) {
+            Ok(found) => Ok(found),
+            Err(_) => Err(self.failed.counted(StoreFault)),
+        }
+    }
+
+    fn tables_until(&mut self, until: Moment) -> Result<Vec<FrozenMonth>, StoreFault> {
+        match months_published(
+            &mut self.conn,
+            self.alloc,
+            &mut self.headers,
+            &mut self.has_headers,
+            until,
+        ) {
+            Ok(found) => Ok(found),
+            Err(_) => Err(self.failed.counted(StoreFault)),
+        }
+    }
+
+    fn table(&mut self, month: Month, until: Moment) -> Result<Option<&Rows<Level>>, StoreFault> {
+        match find_table(
+            &mut self.conn,
+            self.alloc,
+            &mut self.headers,
+            &mut self.has_headers,
+            &mut self.tables,
+            month,
+            until,
+        ) {
+            Ok(is_there) => Ok(lent_table(&self.tables, is_there, month)),
+            Err(_) => Err(self.failed.counted(StoreFault)),
+        }
+    }
+
+    fn put_item(&mut self, item: Item) -> Result<(), StoreFault> {
+        match put_item(&mut self.conn, self.alloc, &item) {
+            Ok(()) => {
+                settle(&self.conn);
+                self.cached = None;
+                follow_item(&mut self.lent.public, &mut self.has_public, item);
+                Ok(())
+            }
+            Err(_) => Err(self.failed.counted(StoreFault)),
+        }
+    }
+
+    fn put_plan(&mut self, plan: YearPlan) -> Result<(), StoreFault> {
+        match put_plan(&mut self.conn, self.alloc, &plan) {
+            Ok(()) => {
+                settle(&self.conn);
+                self.cached = None;
+                follow_plan(&mut self.lent.public, &mut self.has_public, plan);
+                Ok(())
+            }
+            Err(_) => Err(self.failed.counted(StoreFault)),
+        }
+    }
+
+    fn put_calendar(&mut self, row: CalendarRow) -> Result<(), StoreFault> {
+        match put_calendar(&mut self.conn, row) {
+            Ok(()) => {
+                settle(&self.conn);
+                self.cached = None;
+                follow_calendar(&mut self.lent.public, &mut self.has_public, row);
+                Ok(())
+            }
+            Err(_) => Err(self.failed.counted(StoreFault)),
+        }
+    }
+
+    fn put_collector(&mut self, bearer: Bearer) -> Result<(), StoreFault> {
+        let row = Bearer {
+            number: bearer.number,
+            key: bearer.key,
+        };
+        match put_collector(&mut self.conn, self.alloc, bearer) {
+            Ok(()) => {
+                settle(&self.conn);
+                self.cached = None;
+                follow_collector(&mut self.bearers, &mut self.has_bearers, row);
+                Ok(())
+            }
+            Err(_) => Err(self.failed.counted(StoreFault)),
+        }
+    }
+
+    fn put_outlet(&mut self, outlet: Outlet) -> Result<(), StoreFault> {
+        match put_outlet(&mut self.conn, &outlet) {
+            Ok(()) => {
+                settle(&self.conn);
+                self.cached = None;
+                // the names beside the assignments come from the outlets
+                self.whose = None;
+                follow_outlet(&mut self.outlets, &mut self.has_outlets, outlet);
+                Ok(())
+            }
+            Err(_) => Err(self.failed.counted(StoreFault)),
+        }
+    }
+
+    fn put_assignment(&mut self, bearer: Bearer, assigned: Assigned) -> Result<(), StoreFault> {
+        match put_assignment(&mut self.conn, self.alloc, bearer, &assigned) {
+            Ok(()) => {
+                settle(&self.conn);
+                self.cached = None;
+                self.whose = None;
+                Ok(())
+            }
+            Err(_) => Err(self.failed.counted(StoreFault)),
+        }
+    }
+
+    fn put_quote(&mut self, bearer: Bearer, quote: Quote) -> Result<(), StoreFault> {
+        let collector = bearer.number;
+        match put_quote(&mut self.conn, bearer, quote) {
+            Ok(()) => {
+                settle(&self.conn);
+                self.cached = None;
+                follow_quote(&mut self.lent.own, &mut self.whose, collector, quote);
+                Ok(())
+            }
+            Err(_) => Err(self.failed.counted(StoreFault)),
+        }
+    }
+
+    fn put_release(&mut self, release: Release) -> Result<(), StoreFault> {
+        match put_release(&mut self.conn, self.alloc, &release) {
+            Ok(()) => {
+                settle(&self.conn);
+                self.cached = None;
+                self.tables.clear();
+                self.has_headers = false;
+                Ok(())
+            }
+            Err(_) => Err(self.failed.counted(StoreFault)),
+        }
+    }
+}
