@@ -82,7 +82,7 @@ module _ {B : Type 0} (state : B → State Office) where
   rows-clean t k p q (None ∷ rows) (r ∷ rs) a clean = subst (λ y. (state y).is_clean) a.1.1 (rows-clean t k a.0 q rows rs a.2 clean)
   rows-clean t k p q (Some row ∷ rows) (r ∷ rs) a clean = a.1.was_clean (rows-clean t k a.0 q rows rs a.2 clean)
 
-  record-clean : (p q : B) (asked : Ask) (told : Answer) → Answers state p asked told q → (state q).is_clean → (state p).is_clean
+  pub record-clean : (p q : B) (asked : Ask) (told : Answer) → Answers state p asked told q → (state q).is_clean → (state p).is_clean
   record-clean p q ask.Bad (answer.One reply) a clean = subst (λ y. (state y).is_clean) a.1 clean
   record-clean p q ask.Bad (answer.Rows replies) a clean = absurd a
   record-clean p q (ask.One t k r) (answer.One reply) a clean = a.was_clean clean
@@ -128,7 +128,7 @@ module _ {B C : Type 0} (state : B → State Office) (state' : C → State Offic
       (subst IsSound (sym here.1) (next_sound one (state p).held s)) (subst IsSound (sym there.1) (next_sound one (state' q).held z))
       (ap (view k t) here.1 ∙ view-alike t k other (state p).held (state' q).held e row s z ∙ sym (ap (view k t) there.1)) f.1 g.1)
 
-  record-alike : (asked : Ask) (p p' : B) (q q' : C) (told told' : Answer) → IsFrom k asked
+  pub record-alike : (asked : Ask) (p p' : B) (q q' : C) (told told' : Answer) → IsFrom k asked
       → Answers state p asked told p' → Answers state' q asked told' q' → (state p').is_clean → (state' q').is_clean
       → IsSound (state p).held → IsSound (state' q).held → view k (moment_of asked) (state p).held ≡ view k (moment_of asked) (state' q).held
       → NoneFails (all_replies told) → NoneFails (all_replies told') → told ≡ told'

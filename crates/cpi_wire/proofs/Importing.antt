@@ -1,5 +1,5 @@
 -- The rows of an import, carried out one after the other, and the line of their replies so far.
-use Rattle.std.proofs.Common.{◌≡◌, ◌∙◌, refl, sym, ap, ap₂, ℕ, List, [], ◌∷◌, ◌++◌, Bool, true, false, codes, map, Option, Some, Result, Ok, Err, OnErr, append_assoc, append-nil}
+use Rattle.std.proofs.Common.{◌≡◌, ◌∙◌, refl, sym, ap, ap₂, ℕ, List, [], ◌∷◌, ◌++◌, Bool, true, false, ◌||◌, codes, map, Option, Some, Result, Ok, Err, OnErr, append_assoc, append-nil}
 use Rattle.serde_json.specs.View.{items_of}
 use Rattle.serde_json.specs.Written.{comma_if, compact_text, items_text}
 use Rattle.serde_json.proofs.OnLiterals.{serde_json_on_literals}
@@ -13,7 +13,8 @@ use Rattle.cpi_office.specs.declared.refusal.Refusal.TheVariants.{BadRequest}
 use Rattle.cpi_wire.specs.declared.asks.Ask.{Ask}
 use Rattle.cpi_wire.specs.declared.asks.Ask.TheVariants as ask
 use Rattle.cpi_wire.specs.Answer as answer
-use Rattle.cpi_wire.specs.Answers.{Begins, FirstRowsAnswer, IsServed, RowAnswers, RowsAnswer, Tells}
+use Rattle.cpi_office.specs.Calls.{is_failure}
+use Rattle.cpi_wire.specs.Answers.{Begins, FirstRowsAnswer, IsServed, RowAnswers, RowsAnswer, Tells, some_fails}
 use Rattle.cpi_wire.specs.Line.{data_of, line_of}
 use Rattle.cpi_wire.specs.Rows.{added_text, rows_line}
 use Rattle.cpi_wire.proofs.Answered.{in-turn-more}
@@ -61,21 +62,30 @@ line-joined : (rs : List Reply) → (codes "{\"rows\":[" ++ joined false rs) ++ 
 unfolding serde_json_on_literals
 line-joined rs = ap (λ ys. codes "{\"rows\":[" ++ ys) (ended rs)
 
+-- whether some reply fails, and one more
+fails-more : (rs : List Reply) (r : Reply) → some_fails (rs ++ r ∷ []) ≡ (some_fails rs || is_failure r)
+fails-more [] r = elim (is_failure r) as (λ b. (b || false) ≡ b) [ true ↦ refl | false ↦ refl ]
+fails-more (x ∷ rs) r =
+    ap (λ b. is_failure x || b) (fails-more rs r)
+    ∙ elim (is_failure x) as (λ b. (b || (some_fails rs || is_failure r)) ≡ ((b || some_fails rs) || is_failure r)) [ true ↦ refl | false ↦ refl ]
+
 -- ---- the rows
 
 module _ {B : Type 0} (state : B → State Office) (now : ℕ) (caller : Caller) where
   -- some first rows were carried out, and the line is that of their replies, without its end
-  pub record RowsSoFar (old : B) (rows rest : List (Option Request)) (is_first : Bool) (line : List ℕ) (new : B)
+  pub record RowsSoFar (old : B) (rows rest : List (Option Request)) (is_first failed : Bool) (line : List ℕ) (new : B)
       : Type 0 where
     pub front : List (Option Request)
     pub replies : List Reply
     pub split : rows ≡ front ++ rest
     pub answers : RowsAnswer state now caller old front replies new
     pub first : is_first ≡ none_yet replies
+    pub fails : failed ≡ some_fails replies
     pub written : line ≡ codes "{\"rows\":[" ++ joined false replies
 
-  pub so-far-none : (old : B) (rows : List (Option Request)) → RowsSoFar old rows rows true (codes "{\"rows\":[") old
-  so-far-none old rows = record { front = []; replies = []; split = refl; answers = refl; first = refl; written = refl }
+  pub so-far-none : (old : B) (rows : List (Option Request)) → RowsSoFar old rows rows true false (codes "{\"rows\":[") old
+  so-far-none old rows =
+      record { front = []; replies = []; split = refl; answers = refl; first = refl; fails = refl; written = refl }
 
   split-more : (rows front rest more : List (Option Request)) (row : Option Request)
       → rows ≡ front ++ rest → rest ≡ row ∷ more → rows ≡ (front ++ row ∷ []) ++ more
@@ -87,11 +97,11 @@ module _ {B : Type 0} (state : B → State Office) (now : ℕ) (caller : Caller)
   none-more (x ∷ rs) r = refl
 
   -- one row more was carried out
-  pub first-rows : (old mid new : B) (rows rest more : List (Option Request)) (is_first : Bool) (line : List ℕ)
+  pub first-rows : (old mid new : B) (rows rest more : List (Option Request)) (is_first failed : Bool) (line : List ℕ)
       (row : Option Request) (reply : Reply)
-      → RowsSoFar old rows rest is_first line mid → rest ≡ row ∷ more → RowAnswers state now caller mid row reply new
+      → RowsSoFar old rows rest is_first failed line mid → rest ≡ row ∷ more → RowAnswers state now caller mid row reply new
       → FirstRowsAnswer state now caller old rows new
-  first-rows old mid new rows rest more is_first line row reply so_far next one = record {
+  first-rows old mid new rows rest more is_first failed line row reply so_far next one = record {
     front = so_far.front ++ row ∷ [];
     rest = more;
     replies = so_far.replies ++ reply ∷ [];
@@ -101,18 +111,20 @@ module _ {B : Type 0} (state : B → State Office) (now : ℕ) (caller : Caller)
   }
 
   -- and its reply was written
-  pub so-far-more : (old mid new : B) (rows rest more : List (Option Request)) (is_first : Bool) (line told : List ℕ)
-      (row : Option Request) (reply : Reply)
-      → RowsSoFar old rows rest is_first line mid → rest ≡ row ∷ more → RowAnswers state now caller mid row reply new
-      → told ≡ line ++ added_text is_first reply
-      → RowsSoFar old rows more false told new
-  so-far-more old mid new rows rest more is_first line told row reply so_far next one text = record {
+  pub so-far-more : (old mid new : B) (rows rest more : List (Option Request)) (is_first failed fails : Bool)
+      (line told : List ℕ) (row : Option Request) (reply : Reply)
+      → RowsSoFar old rows rest is_first failed line mid → rest ≡ row ∷ more
+      → RowAnswers state now caller mid row reply new
+      → told ≡ line ++ added_text is_first reply → fails ≡ is_failure reply
+      → RowsSoFar old rows more false (failed || fails) told new
+  so-far-more old mid new rows rest more is_first failed fails line told row reply so_far next one text same = record {
     front = so_far.front ++ row ∷ [];
     replies = so_far.replies ++ reply ∷ [];
     split = split-more rows so_far.front rest more row so_far.split next;
     answers =
         in-turn-more (RowAnswers state now caller) old mid new so_far.front so_far.replies row reply so_far.answers one;
     first = none-more so_far.replies reply;
+    fails = ap₂ (λ a b. a || b) so_far.fails same ∙ sym (fails-more so_far.replies reply);
     written =
         text ∙ ap₂ (λ ys first. ys ++ added_text first reply) so_far.written so_far.first
         ∙ ap (λ ys. codes "{\"rows\":[" ++ ys) (sym (joined-more so_far.replies reply));
@@ -122,9 +134,9 @@ module _ {B : Type 0} (state : B → State Office) (now : ℕ) (caller : Caller)
   rows-none old rows = record { front = []; rest = rows; replies = []; split = refl; answers = refl }
 
   -- where memory is refused
-  pub rows-until : (old new : B) (rows rest : List (Option Request)) (is_first : Bool) (line : List ℕ)
-      → RowsSoFar old rows rest is_first line new → FirstRowsAnswer state now caller old rows new
-  rows-until old new rows rest is_first line so_far = record {
+  pub rows-until : (old new : B) (rows rest : List (Option Request)) (is_first failed : Bool) (line : List ℕ)
+      → RowsSoFar old rows rest is_first failed line new → FirstRowsAnswer state now caller old rows new
+  rows-until old new rows rest is_first failed line so_far = record {
     front = so_far.front;
     rest = rest;
     replies = so_far.replies;
@@ -133,12 +145,13 @@ module _ {B : Type 0} (state : B → State Office) (now : ℕ) (caller : Caller)
   }
 
   -- no row is left, and the line was ended
-  pub rows-whole : (old new : B) (rows rest : List (Option Request)) (is_first : Bool) (line told : List ℕ)
-      → RowsSoFar old rows rest is_first line new → rest ≡ [] → told ≡ line ++ codes "]}\n"
+  pub rows-whole : (old new : B) (rows rest : List (Option Request)) (is_first failed : Bool) (line told : List ℕ)
+      → RowsSoFar old rows rest is_first failed line new → rest ≡ [] → told ≡ line ++ codes "]}\n"
       → (replies : List Reply) × RowsAnswer state now caller old rows replies new × (told ≡ rows_line replies)
-  rows-whole old new rows rest is_first line told so_far none text =
+      × (failed ≡ some_fails replies)
+  rows-whole old new rows rest is_first failed line told so_far none text =
       let all = so_far.split ∙ ap (λ ys. so_far.front ++ ys) none ∙ append-nil so_far.front in
-      (so_far.replies, rw all so_far.answers, text ∙ rw so_far.written (line-joined so_far.replies))
+      (so_far.replies, rw all so_far.answers, text ∙ rw so_far.written (line-joined so_far.replies), so_far.fails)
 
   -- ---- any record
 
@@ -158,10 +171,11 @@ module _ {B : Type 0} (state : B → State Office) (now : ℕ) (caller : Caller)
       → Tells state old (ask.One now caller request) line new
   tells-one old new request reply line one text = record { told = answer.One reply; answers = one; line_is = text }
 
-  pub tells-rows : (old new : B) (rows : List (Option Request)) (line : List ℕ)
-      → ((replies : List Reply) × RowsAnswer state now caller old rows replies new × (line ≡ rows_line replies))
+  pub tells-rows : (old new : B) (rows : List (Option Request)) (line : List ℕ) (failed : Bool)
+      → ((replies : List Reply) × RowsAnswer state now caller old rows replies new × (line ≡ rows_line replies)
+      × (failed ≡ some_fails replies))
       → Tells state old (ask.Import now caller rows) line new
-  tells-rows old new rows line told = record { told = answer.Rows told.0; answers = told.1; line_is = told.2 }
+  tells-rows old new rows line failed told = record { told = answer.Rows told.0; answers = told.1; line_is = told.2 }
 
 module _ {B : Type 0} (state : B → State Office) where
   pub tells-bad : (old : B) (line : List ℕ) → line ≡ line_of (Refused BadRequest) → Tells state old ask.Bad line old

@@ -22,10 +22,10 @@ use Rattle.cpi_wire.specs.Laws.{AreARun, asked, replied, rows_asked, rows_replie
 
 module _ {B : Type 0} (state : B → State Office) where
   -- a run over a book, with a reply for each request
-  abbrev IsRunSoFar : B → B → List Asking → List Reply → Type 0
+  abbrev pub IsRunSoFar : B → B → List Asking → List Reply → Type 0
   IsRunSoFar start new front told = (length told ≡ length front) × Ran (state start) (state new) front told
 
-  run-none : (old : B) → IsRunSoFar old old [] []
+  pub run-none : (old : B) → IsRunSoFar old old [] []
   run-none old = (refl, record { was_clean = λ clean. clean; run = λ clean s. record { answers = refl; office = refl }; lasts = λ clean s none o left. inr (refl, left) })
 
   same-more : (front : List Asking) (told : List Reply) (a : Asking) (reply : Reply) → length told ≡ length front → length (told ++ reply ∷ []) ≡ length (front ++ a ∷ [])
@@ -46,7 +46,7 @@ module _ {B : Type 0} (state : B → State Office) where
       rw (append_assoc front (one ∷ []) (rows_asked t k qs), append_assoc told (p ∷ []) (rows_replied qs ps)) at more
 
   -- one record more
-  run-one : (start old new : B) (front : List Asking) (told : List Reply) (k : Ask) (reply : Answer)
+  pub run-one : (start old new : B) (front : List Asking) (told : List Reply) (k : Ask) (reply : Answer)
       → IsRunSoFar start old front told → Answers state old k reply new
       → IsRunSoFar start new (front ++ asked k) (told ++ replied k reply)
   run-one start old new front told ask.Bad (answer.One reply) ran a = rw (append-nil front, append-nil told, a.1) ran

@@ -1,9 +1,10 @@
 -- What a record is answered, and what it does.
-use Rattle.std.specs.Prelude.{◌≡◌, ℕ, List, [], ◌∷◌, ◌++◌, Option, Some, None}
+use Rattle.std.specs.Prelude.{◌≡◌, ℕ, Bool, List, [], ◌∷◌, ◌++◌, Option, Some, None}
+use Rattle.std.specs.List.{list_any}
 use Rattle.cpi_release.specs.State.{State}
 use Rattle.cpi_store.specs.Office.{Office}
 use Rattle.cpi_store.specs.Sound.{IsSound}
-use Rattle.cpi_office.specs.Calls.{ServesWhere}
+use Rattle.cpi_office.specs.Calls.{ServesWhere, is_failure}
 use Rattle.cpi_office.specs.Runs.{reply_to, after_one}
 use Rattle.cpi_office.specs.declared.caller.Caller.{Caller}
 use Rattle.cpi_office.specs.declared.request.Request.{Request}
@@ -22,6 +23,10 @@ InTurn step old [] [] new = new ≡ old
 InTurn step old [] (y ∷ ys) new = ⊥
 InTurn step old (x ∷ xs) [] new = ⊥
 InTurn {B} step old (x ∷ xs) (y ∷ ys) new = (mid : B) × step old x y mid × InTurn step mid xs ys new
+
+-- one of the replies says that the office is unavailable
+abbrev pub some_fails : List Reply → Bool
+some_fails replies = list_any is_failure replies
 
 -- over a book of this state
 module _ {B : Type 0} (state : B → State Office) where

@@ -17,14 +17,23 @@ records_of input = records default_config (strip_bom input)
 abbrev pub AreFirst : List Record → List ℕ → Type 0
 AreFirst rows input = (more : List Record) × (records_of input ≡ rows ++ more)
 
+-- what was read of the input has given these records, and no part of another
+abbrev pub HasGiven : {R : Type 0} → (R → Option (List ℕ)) → List ℕ → List Record → Reader R → Type 0
+HasGiven rem input rows s = (rest : List ℕ) × (source_of rem s ≡ Some rest)
+    × Reached default_config st.StartRecord (strip_bom input) rows s.state rest
+
 -- the reader has given these records of the input
-pub record IsAt {R : Type 0} (rem : R → Option (List ℕ)) (input : Option (List ℕ)) (rows : List Record) (s : Reader R) : Type 0 where
+pub record IsAt {R : Type 0} (rem : R → Option (List ℕ)) (input : Option (List ℕ)) (rows : List Record)
+    (s : Reader R) : Type 0 where
   pub trim : s.trim ≡ trim.None
   pub ready : Ready s
   pub config : s.config ≡ default_config
-  pub reached : IfSome input (λ xs. (y : List ℕ) × (source_of rem s ≡ Some y) × Reached default_config st.StartRecord (strip_bom xs) rows s.state y)
+  pub reached : IfSome input (λ xs. HasGiven rem xs rows s)
 
 -- the reader gave one record more, or had given all of them
-abbrev pub TakesNext : {R : Type 0} (rem : R → Option (List ℕ)) (old new : Reader R) (row : Record) (found : Bool) → Type 0
-TakesNext rem old new row true = (input : Option (List ℕ)) (rows : List Record) → IsAt rem input rows old → IsAt rem input (rows ++ row ∷ []) new
-TakesNext rem old new row false = (input : Option (List ℕ)) (rows : List Record) → IsAt rem input rows old → IfSome input (λ xs. rows ≡ records_of xs)
+abbrev pub TakesNext : {R : Type 0} (rem : R → Option (List ℕ)) (old new : Reader R) (row : Record) (found : Bool)
+    → Type 0
+TakesNext rem old new row true =
+    (input : Option (List ℕ)) (rows : List Record) → IsAt rem input rows old → IsAt rem input (rows ++ row ∷ []) new
+TakesNext rem old new row false =
+    (input : Option (List ℕ)) (rows : List Record) → IsAt rem input rows old → IfSome input (λ xs. rows ≡ records_of xs)

@@ -8,6 +8,7 @@ pub mod Json
 pub mod Laws
 pub mod Line
 pub mod Lines
+pub mod OnlyRows
 pub mod PlanBody
 pub mod PlanRows
 pub mod Record

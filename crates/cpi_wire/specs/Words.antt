@@ -1,5 +1,6 @@
 -- The words of requests, each with its arguments.
-use Rattle.std.specs.Prelude.{ℕ, List, [], ◌∷◌, ◌&&◌, if◌then◌else◌, nat_lt, nat_le, Option, Some, None, bytes_eq, codes}
+use Rattle.std.specs.Prelude.{ℕ, List, [], ◌∷◌, ◌&&◌, if◌then◌else◌, nat_lt, nat_le, Option, Some, None}
+use Rattle.std.specs.Prelude.{bytes_eq, codes}
 use Rattle.cpi_codes.specs.Following.{◌>>=◌}
 use Rattle.cpi_codes.specs.ItemCode.{item_code_of}
 use Rattle.cpi_codes.specs.Key.{key_of}
@@ -13,7 +14,8 @@ use Rattle.cpi_wire.specs.declared.words.Word.{Word}
 use Rattle.cpi_wire.specs.declared.words.Word.TheVariants as word
 use Rattle.cpi_wire.specs.Arguments.{Text, none, one, two, four, four_and_confirm, five, six}
 use Rattle.cpi_wire.specs.PlanBody.{body_of}
-use Rattle.cpi_wire.specs.Values.{time, year, month, collector, slot, outlet, low_tolerance, high_tolerance, name, mark_of, form_of, elementary_code}
+use Rattle.cpi_wire.specs.Values.{time, year, month, collector, slot, outlet, low_tolerance, high_tolerance}
+use Rattle.cpi_wire.specs.Values.{name, mark_of, form_of, elementary_code}
 
 -- a row of the calendar opens before it closes, and is published no earlier
 abbrev pub calendar_row : ℕ → ℕ → ℕ → ℕ → Option CalendarPart

@@ -1,7 +1,8 @@
 //! Carrying out what a record asks, and the line of what it is answered.
 ghost use Rattle.std.specs.Prelude.{◌≡◌, ◌++◌, List, IfOk, OnOk, OnErr};
+ghost use Rattle.cpi_office.specs.Calls.{is_failure as is_failure_of};
 ghost use Rattle.cpi_office.specs.declared.reply.Reply.{Reply};
-ghost use Rattle.cpi_wire.specs.Answers.{Begins, FirstRowsAnswer, RowAnswers, RowsAnswer, Tells};
+ghost use Rattle.cpi_wire.specs.Answers.{Begins, FirstRowsAnswer, RowAnswers, RowsAnswer, Tells, some_fails};
 ghost use Rattle.cpi_wire.specs.Rows.{added_text, rows_line};
 
 use crate::asks::Ask;
@@ -12,6 +13,22 @@ use cpi_codes::Moment;
 use cpi_office::{Caller, Office, Refusal, Reply, Request};
 use cpi_store::Book;
 use std::alloc::{AllocError, Global};
+
+/// What the rows of an import are told.
+#[derive(Debug, Drop)]
+pub struct RowsTold {
+    /// The line of their replies.
+    pub line: Vec<u8>,
+    /// One of the replies is that the office is unavailable.
+    pub failed: bool,
+}
+
+/// Whether a reply says that the office is unavailable.
+pub fn is_failure(reply: &Reply) -> bool
+    ensures { result ≡ is_failure_of reply.now }
+{
+    matches!(reply, Reply::Refused(Refusal::Unavailable))
+}
 
 // Carries out one row of an import.
 fn answer_request<B: Book>(
@@ -28,7 +45,7 @@ fn answer_request<B: Book>(
     }
 }
 
-// Carries out one row of an import, and adds its reply to the line.
+// Carries out one row of an import, adds its reply to the line, and tells whether the office was unavailable.
 fn tell_row<B: Book>(
     alloc: Global,
     office: &mut Office<B>,
@@ -37,37 +54,40 @@ fn tell_row<B: Book>(
     row: Option<Request>,
     line: &mut Vec<u8>,
     is_first: bool,
-) -> Result<(), AllocError>
+) -> Result<bool, AllocError>
     ensures { (reply : Reply) × RowAnswers B.state now caller.now office.old.book row reply office.new.book
-        × OnOk result (line.new.items ≡ line.old.items ++ added_text is_first reply) }
+        × OnOk result (line.new.items ≡ line.old.items ++ added_text is_first reply)
+        × IfOk result (λ fails. fails ≡ is_failure_of reply) }
 {
     let reply = answer_request(office, now, caller, row);
-    add_reply(alloc, line, is_first, &reply)
+    add_reply(alloc, line, is_first, &reply)?;
+    Ok(is_failure(&reply))
 }
 
-// Carries out the rows of an import in their order, and writes each reply into the line before the next row is
-// carried out. Without memory some first rows were carried out, and no other.
-fn answer_rows<B: Book>(
+/// Carries out the rows of an import in their order, and writes each reply into the line before the next row is
+/// carried out. Without memory some first rows were carried out, and no other.
+pub fn answer_rows<B: Book>(
     alloc: Global,
     office: &mut Office<B>,
     now: Moment,
     caller: &Caller,
     rows: ImportRows,
-) -> Result<Vec<u8>, AllocError>
-    ensures ok { IfOk result (λ line. (replies : List Reply)
+) -> Result<RowsTold, AllocError>
+    ensures ok { IfOk result (λ told. (replies : List Reply)
         × RowsAnswer B.state now caller.now office.old.book rows replies office.new.book
-        × (line.items ≡ rows_line replies)) }
+        × (told.line.items ≡ rows_line replies) × (told.failed ≡ some_fails replies)) }
     ensures err { OnErr result (FirstRowsAnswer B.state now caller.now office.old.book rows office.new.book) }
 {
     let mut line = begin_rows(alloc)?;
     let mut is_first = true;
+    let mut failed = false;
     let mut rest = rows.rows.into_iter();
     while let Some(row) = rest.next() {
-        tell_row(alloc, office, now, caller, row, &mut line, is_first)?;
+        failed |= tell_row(alloc, office, now, caller, row, &mut line, is_first)?;
         is_first = false;
     }
     end_rows(&mut line)?;
-    Ok(line)
+    Ok(RowsTold { line, failed })
 }
 
 /// Carries out what a record asks, and gives the line of its answer. Without memory the record may have been begun.
@@ -85,6 +105,9 @@ pub(crate) fn answer_line<B: Book>(
             let reply = office.handle(now, caller, request);
             reply_line(alloc, &reply)
         }
-        Ask::Import(now, caller, rows) => answer_rows(alloc, office, now, &caller, rows),
+        Ask::Import(now, caller, rows) => {
+            let RowsTold { line, .. } = answer_rows(alloc, office, now, &caller, rows)?;
+            Ok(line)
+        }
     }
 }

@@ -6,7 +6,7 @@ use csv::ByteRecord;
 use std::alloc::{AllocError, Global};
 
 /// The fields of a record, side by side.
-pub(crate) fn field_list(alloc: Global, row: &ByteRecord) -> Result<Vec<&[u8]>, AllocError>
+pub fn field_list(alloc: Global, row: &ByteRecord) -> Result<Vec<&[u8]>, AllocError>
     ensures { IfOk result (λ v. map (λ f. f.now) v.items ≡ fields_of row.now) }
 {
     let mut fields = Vec::with_capacity(alloc, row.len())?;

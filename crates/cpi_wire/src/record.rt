@@ -37,8 +37,9 @@ fn import_of(
     }
 }
 
-// What a word with its arguments asks.
-fn asks_of(
+/// What a word with its arguments asks at a moment, in seconds since 1970 UTC; none where they are of no form, or
+/// outside the limits. Civil times are read by the clock of the zone.
+pub fn asks_of(
     alloc: Global,
     zone: &Zone,
     now: Moment,

@@ -1,7 +1,8 @@
 //! What is told of a refusal.
 ghost use Rattle.std.specs.Prelude.{◌≡◌, IfOk};
 ghost use Rattle.serde_json.specs.View.{view};
-ghost use Rattle.cpi_wire.specs.Refusals.{plan_fault_number as number_of_plan_fault, told_sum as sum_told, numbered_at, plan_fault_data, index_fault_data, refusal_data};
+ghost use Rattle.cpi_wire.specs.Refusals.{plan_fault_number as number_of_plan_fault, told_sum as sum_told};
+ghost use Rattle.cpi_wire.specs.Refusals.{numbered_at, plan_fault_data, index_fault_data, refusal_data};
 
 use cpi_codes::Code;
 use cpi_index::IndexFault;

@@ -1,6 +1,10 @@
 //! The words of requests, each with its arguments.
 ghost use Rattle.std.specs.Prelude.{◌≡◌, map, IfOk};
-ghost use Rattle.cpi_wire.specs.Words.{word_of as spelled_word, items_request, work_request, quotes_request, quote_request, item_request, outlet_request, collector_request, assign_request, calendar_request, plan_request, tables_request, table_request, elementary_codes, freeze_request, request_of as spelled_request};
+ghost use Rattle.cpi_wire.specs.Words.{word_of as spelled_word, items_request, work_request, quotes_request};
+ghost use Rattle.cpi_wire.specs.Words.{quote_request, item_request, outlet_request, collector_request};
+ghost use Rattle.cpi_wire.specs.Words.{assign_request, calendar_request, plan_request, tables_request};
+ghost use Rattle.cpi_wire.specs.Words.{table_request, elementary_codes, freeze_request};
+ghost use Rattle.cpi_wire.specs.Words.{request_of as spelled_request};
 
 use crate::arguments::{five, four, four_and_confirm, no_more, one, six, two};
 use crate::plan_body::plan_body;

@@ -24,11 +24,10 @@ returns-in-One-clause-err g c =
     (one-begun g.B.Book.state one.now one.caller c.args.office.now.book handled.new.self.book
     one.request handled.result handled.ensures.serves))
 
-pub returns-in-Import-clause-ok : goal.returns-in-Import-clause-ok
-returns-in-Import-clause-ok g c =
+pub returns-in_ok-line-in-Import-clause-ok : goal.returns-in_ok-line-in-Import-clause-ok
+returns-in_ok-line-in-Import-clause-ok g c =
     let import = c.in-Import in
     let answered = c.answer_rows in
-    rw import.is (IfOk-weaker answered.result _ _
-    (λ line told. tells-rows g.B.Book.state import.now import.caller c.args.office.now.book answered.new.office.book
-    import.rows line.items told)
-    answered.ensures.ok)
+    let told = c.in_ok-line-in-Import.ensures.ok in
+    rw import.is (tells-rows g.B.Book.state import.now import.caller c.args.office.now.book answered.new.office.book
+    import.rows _ _ told)

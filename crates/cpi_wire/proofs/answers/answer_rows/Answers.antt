@@ -8,18 +8,18 @@ returns-in_err-line-clause-err g c =
     on-err c.from_residual.result
     (rows-none g.B.Book.state c.args.now c.args.caller.now c.args.office.now.book c.args.rows)
 
-pub returns-in_err-tell_row-clause-err : goal.returns-in_err-tell_row-clause-err
-returns-in_err-tell_row-clause-err g c =
+pub returns-in_err-failed-clause-err : goal.returns-in_err-failed-clause-err
+returns-in_err-failed-clause-err g c =
     let told = c.tell_row.ensures in
-    on-err c.from_residual-in_err-tell_row.result
-    (first-rows _ _ _ _ _ _ _ _ _ _ _ c.in-Some.row told.0 c.loop-row.invariant c.in-Some.ensures.items told.1)
+    on-err c.from_residual-in_err-failed.result
+    (first-rows _ _ _ _ _ _ _ _ _ _ _ _ c.in-Some.row told.0 c.loop-row.invariant c.in-Some.ensures.items told.1)
 
 pub loop-row-preserved : goal.loop-row-preserved
 loop-row-preserved g c =
-    let told = c.in_ok-tell_row.ensures in
-    so-far-more _ _ _ _ _ _ _ _ _ _ _ _ c.in-Some.row told.0 c.loop-row.invariant c.in-Some.ensures.items told.1 told.2
+    let told = c.in_ok-failed.ensures in
+    so-far-more _ _ _ _ _ _ _ _ _ _ _ _ _ _ c.in-Some.row told.0 c.loop-row.invariant c.in-Some.ensures.items told.1 told.2 told.3
 
 pub returns-clause-ok : goal.returns-clause-ok
 returns-clause-ok g c =
     let none = nil_from_length _ (sym c.loop-row.rest.rest.ok.0 ∙ c.in_default.ensures.cases.0) in
-    rows-whole _ _ _ _ _ _ _ _ _ _ c.loop-row.invariant none c.in_ok-end_rows.ensures
+    rows-whole _ _ _ _ _ _ _ _ _ _ _ c.loop-row.invariant none c.in_ok-end_rows.ensures

@@ -1,0 +1,41 @@
+use Rattle.std.proofs.Common.{◌≡◌, ◌∙◌, sym, ap, rules, refl, ℕ, List, [], ◌∷◌, ◌++◌, Option, Some, None, true, false}
+use Rattle.csv.specs.Records.{fields_of}
+use Rattle.cpi_wire.specs.Input.{Record, AreFirst, records_of}
+use Rattle.cpi_wire.specs.OnlyRows.{only, only_row}
+use Rattle.cpi_wire.proofs.Reading.{at-front}
+use Rattle.cpi_wire.proofs.only_rows.only_row.Goals as goal
+
+no-row : (text : List ℕ) → [] ≡ records_of text → None ≡ only_row text
+unfolding only_row
+no-row text all = ap only all
+
+one-row : (text : List ℕ) (row : Record) → row ∷ [] ≡ records_of text → Some row ≡ only_row text
+unfolding only_row
+one-row text row all = ap only all
+
+more-rows : (text : List ℕ) (row other : Record) → AreFirst (row ∷ other ∷ []) text → None ≡ only_row text
+unfolding only_row
+more-rows text row other first = ap only (sym first.1)
+
+pub returns-then-not-branch : goal.returns-then-not-branch
+returns-then-not-branch c =
+    let none : c.in_ok-next_row.field-0 ≡ false = search rules in
+    no-row c.args.text.now ((rw none at c.in_ok-next_row.ensures) (Some c.args.text.now) [] c.record_reader-reader.ensures)
+
+pub returns-then-branch : goal.returns-then-branch
+returns-then-branch c =
+    let f = fields_of c.next_row.new.row in
+    let g = fields_of c.next_row-2.new.row in
+    let one : c.in_ok-next_row.field-0 ≡ true = search rules in
+    let two : c.in_ok-next_row-2.field-0 ≡ true = search rules in
+    let at = (rw one at c.in_ok-next_row.ensures) (Some c.args.text.now) [] c.record_reader-reader.ensures in
+    let next = (rw two at c.in_ok-next_row-2.ensures) (Some c.args.text.now) (f ∷ []) at in
+    more-rows c.args.text.now f g (at-front _ (Some c.args.text.now) (f ∷ g ∷ []) c.next_row-2.new.reader next)
+
+pub returns : goal.returns
+returns c =
+    let f = fields_of c.next_row.new.row in
+    let one : c.in_ok-next_row.field-0 ≡ true = search rules in
+    let none : c.in_ok-next_row-2.field-0 ≡ false = search rules in
+    let at = (rw one at c.in_ok-next_row.ensures) (Some c.args.text.now) [] c.record_reader-reader.ensures in
+    one-row c.args.text.now f ((rw none at c.in_ok-next_row-2.ensures) (Some c.args.text.now) (f ∷ []) at)
