@@ -1,0 +1,6 @@
+pub mod Alike
+pub mod Carrying
+pub mod FieldValues
+pub mod Front
+pub mod Serving
+pub mod Unique

@@ -1,0 +1,34 @@
+use Rattle.std.proofs.Common.{◌≡◌, Result, Ok, Err, codes, ap, ◌∙◌}
+use Rattle.matchit.specs.declared.error.InsertError.{InsertError}
+use Rattle.matchit.specs.Route.{Scan, parse_route}
+use Rattle.matchit.specs.Router.{InsertsRead}
+use Rattle.cpi_pages.specs.declared.routes.Page.{Page}
+use Rattle.cpi_pages.specs.declared.routes.Page.TheVariants as page
+use Rattle.cpi_pages.specs.Routes.{Routes, with_parsed, with_page, page_routes}
+use Rattle.cpi_pages.proofs.routes.page_routes.Goals as goal
+
+-- an insert that succeeds adds what the route's text gives
+inserted : (scan : Result Scan InsertError) (p : Page) (old new : Routes) → InsertsRead scan p old new (Ok tt)
+    → new ≡ with_parsed scan p old
+inserted (Ok s) p old new h = h.1
+inserted (Err e) p old new h = h.0
+
+pub returns : goal.returns
+unfolding page_routes
+returns c =
+    let e0 = c.new-router.ensures in
+    let e1 = inserted (parse_route (codes "/items")) _ _ _ c.in_ok-insert.ensures
+    ∙ ap (λ r. with_page r page.Items) e0 in
+    let e2 = inserted (parse_route (codes "/tables")) _ _ _ c.in_ok-insert-2.ensures
+    ∙ ap (λ r. with_page r page.Tables) e1 in
+    let e3 = inserted (parse_route (codes "/table/{month}/{form}")) _ _ _ c.in_ok-insert-3.ensures
+    ∙ ap (λ r. with_page r page.Table) e2 in
+    let e4 = inserted (parse_route (codes "/work/{month}")) _ _ _ c.in_ok-insert-4.ensures
+    ∙ ap (λ r. with_page r page.Work) e3 in
+    let e5 = inserted (parse_route (codes "/quotes/{first}/{last}")) _ _ _ c.in_ok-insert-5.ensures
+    ∙ ap (λ r. with_page r page.Quotes) e4 in
+    let e6 = inserted (parse_route (codes "/quote/{slot}/{month}")) _ _ _ c.in_ok-insert-6.ensures
+    ∙ ap (λ r. with_page r page.Quote) e5 in
+    let e7 = inserted (parse_route (codes "/plan/{year}")) _ _ _ c.in_ok-insert-7.ensures
+    ∙ ap (λ r. with_page r page.Plan) e6 in
+    inserted (parse_route (codes "/import")) _ _ _ c.in_ok-insert-8.ensures ∙ ap (λ r. with_page r page.Import) e7

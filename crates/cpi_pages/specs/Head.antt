@@ -1,0 +1,40 @@
+-- The head of a request within the limits of the office (RFC 9112, sections 2 to 5).
+use Rattle.std.specs.Prelude.{All, ◌⊎◌, ◌≢◌, ◌≡◌, ℕ, ◌≤◌, List, [], ◌∷◌, ◌++◌, length, Option, None, Some}
+use Rattle.httparse.specs.Grammar.{RequestHead, ReadsRequest, print_request, MayBecomeRequest}
+
+-- the most bytes of a head, its empty line among them
+abbrev pub max_head_length : ℕ
+max_head_length = 8192
+
+-- the most fields of a head
+abbrev pub max_fields : ℕ
+max_fields = 64
+
+-- the bytes are the head h, which is within the limits, and then rest
+pub record ReadsHead (bytes : List ℕ) (h : RequestHead) (rest : List ℕ) : Type 0 where
+  pub reads : ReadsRequest bytes h rest
+  pub short : length (print_request h) ≤ max_head_length
+  pub few : length h.fields ≤ max_fields
+
+-- no head within the limits stands at the front
+abbrev pub HasNoHead : List ℕ → Type 0
+HasNoHead bytes = (h : RequestHead) (rest : List ℕ) → ¬ (ReadsHead bytes h rest)
+
+-- whatever bytes follow, no head within the limits stands at the front
+abbrev pub NeverHasHead : List ℕ → Type 0
+NeverHasHead bytes = (more : List ℕ) → HasNoHead (bytes ++ more)
+
+-- no line ends in these bytes
+abbrev pub HasNoLineEnd : List ℕ → Type 0
+HasNoLineEnd bytes = All (λ b. b ≢ 10) bytes
+
+-- the whole lines among the bytes may become a request head
+abbrev pub MayGoOn : List ℕ → Type 0
+MayGoOn bytes =
+    (lines : List ℕ) × (tail : List ℕ) × (bytes ≡ lines ++ tail) × HasNoLineEnd tail
+    × ((lines ≡ []) ⊎ MayBecomeRequest lines)
+
+-- a byte that came, as a list
+abbrev pub byte_list : Option ℕ → List ℕ
+byte_list None = []
+byte_list (Some b) = b ∷ []

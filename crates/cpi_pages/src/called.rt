@@ -1,0 +1,36 @@
+//! The page that a head calls, and who calls it.
+ghost use Rattle.std.specs.Prelude.{◌≡◌, length, map, All, IsUtf8};
+ghost use Rattle.httparse.specs.Spans.{IsHeaderWithin, header_bytes};
+ghost use Rattle.cpi_pages.specs.Called.{called_of};
+ghost use Rattle.cpi_pages.specs.Routes.{page_routes};
+
+use crate::callers::caller_of;
+use crate::routes::{Page, page_of};
+use cpi_codes::Key;
+use cpi_office::Caller;
+use http::StatusCode;
+use httparse::spans::HeaderSpan;
+use matchit::Router;
+
+/// The page and the caller of a head, or the status that refuses it: 404 without a route, then 400 without a caller.
+pub(crate) fn called_of(
+    routes: &Router<Page>,
+    desk_key: Key,
+    buf: &[u8],
+    fields: &[HeaderSpan],
+    method: &[u8],
+    path: &[u8],
+) -> Result<(Page, Caller), StatusCode>
+    requires routes { routes.now ≡ page_routes }
+    requires within { All (IsHeaderWithin (length buf.now)) fields.now }
+    requires text { IsUtf8 path.now }
+    ensures { result ≡ called_of desk_key (map (header_bytes buf.now) fields.now) method.now path.now }
+{
+    let Some(page) = page_of(routes, method, path) else {
+        return Err(StatusCode::NOT_FOUND);
+    };
+    match caller_of(desk_key, buf, fields) {
+        Some(caller) => Ok((page, caller)),
+        None => Err(StatusCode::BAD_REQUEST),
+    }
+}

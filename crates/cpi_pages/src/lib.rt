@@ -1,0 +1,23 @@
+//! Pages: one HTTP message in, carried out on an office, and its response out, to the byte.
+#![tactic(auto)]
+
+mod asked;
+mod body;
+mod bytes;
+mod called;
+mod callers;
+mod fields;
+mod framing;
+mod head;
+mod laws;
+mod page_asks;
+mod read;
+mod responses;
+mod routes;
+mod serve;
+mod statuses;
+
+pub use bytes::Content;
+pub use laws::{messages_are_a_run, one_message, responses_are_alike};
+pub use routes::{Page, examples};
+pub use serve::{Served, serve_one};
