@@ -1,23 +1,52 @@
 -- The command line of the program: its subcommands, and the job that words give.
-use Rattle.std.specs.Prelude.{◌≡◌, List, [], Some, unwrap_or, codes, true}
-use Rattle.clap.specs.Words.{App, Row, Rule, Text, first_of, new_app, new_rule, with_rule, with_subcommand, subcommand_of}
+use Rattle.std.specs.Prelude.{◌≡◌, ◌≤◌, ◌⊎◌, ℕ, List, [], Some, Ok, unwrap_or, option_map, codes, true}
+use Rattle.std.specs.Str.Parse.{ParsesUnsigned}
+use Rattle.clap.specs.Words.{App, Row, Rule, Text, first_of, one_of, new_app, new_rule, with_rule, with_subcommand, subcommand_of}
+use Rattle.clap.specs.declared.builder.value_parser.ValueParser.TheVariants as parser
 use Rattle.cpi_app.specs.declared.job.Job.{Job}
-use Rattle.cpi_app.specs.declared.job.Job.TheVariants.{Replay}
+use Rattle.cpi_app.specs.declared.job.Job.TheVariants.{Replay, Serve, Table}
 
 -- an option --name VALUE
 abbrev pub option : Text → Rule
 option name = record (new_rule name) { long = Some name }
 
+-- an option that has to be given
+abbrev pub required : Text → Rule
+required name = record (option name) { required = true }
+
+-- a number in a range, which has to be given
+abbrev pub number : Text → ℕ → ℕ → Rule
+number name low high = record (required name) { parser = Some (parser.Unsigned low high) }
+
 -- the subcommands
 abbrev pub replay : App
-replay = with_rule (new_app (codes "replay")) (option (codes "zone"))
+replay = with_rule (with_rule (new_app (codes "replay")) (option (codes "zone"))) (option (codes "db"))
+
+abbrev pub serve : App
+serve = with_rule (with_rule (with_rule (with_rule (with_rule (new_app (codes "serve"))
+    (required (codes "db"))) (number (codes "port") 1 65535)) (required (codes "desk-key")))
+    (number (codes "limit") 1 1000000)) (option (codes "zone"))
+
+abbrev pub table : App
+table = with_rule (with_rule (with_rule (with_rule (new_app (codes "table"))
+    (required (codes "db"))) (required (codes "month"))) (required (codes "form")))
+    (number (codes "at") 0 9999999999)
 
 -- the program: the words begin with a subcommand
 abbrev pub bare : App
 bare = record { top = record (new_app (codes "cpi")).top { no_binary_name = true; subcommand_required = true }; subs = [] }
 
 abbrev pub cpi : App
-cpi = with_subcommand bare replay.top
+cpi = with_subcommand (with_subcommand (with_subcommand bare replay.top) serve.top) table.top
+
+-- the option has this value
+abbrev pub HasText : List Row → Text → Text → Type 0
+HasText rows name text = first_of name rows ≡ Some text
+
+-- the option's one value is this number, of at most that many bits
+abbrev pub HasNumber : ℕ → List Row → Text → ℕ → Type 0
+HasNumber bits rows name n =
+    (text : Text) × (one_of name rows ≡ Some text) × ParsesUnsigned {E = Unit {0}} bits 10 text (Ok n)
 
 -- the zone that was given, or UTC0
 abbrev pub HasZone : List Row → Text → Type 0
@@ -25,7 +54,17 @@ HasZone rows zone = zone ≡ unwrap_or (first_of (codes "zone") rows) (codes "UT
 
 -- the job is that subcommand, with the values of its options
 abbrev pub IsJob : Text × List Row → Job → Type 0
-IsJob sub (Replay zone) = (sub.0 ≡ codes "replay") × HasZone sub.1 zone.now
+IsJob sub (Replay zone db) = (sub.0 ≡ codes "replay") × HasZone sub.1 zone.now
+    × (option_map (λ t. t.now) db ≡ first_of (codes "db") sub.1)
+IsJob sub (Serve db port key limit zone) = (sub.0 ≡ codes "serve") × HasText sub.1 (codes "db") db.now
+    × HasNumber 16 sub.1 (codes "port") port × (1 ≤ port)
+    × HasText sub.1 (codes "desk-key") key.now
+    × HasNumber 32 sub.1 (codes "limit") limit × (1 ≤ limit) × (limit ≤ 1000000)
+    × HasZone sub.1 zone.now
+IsJob sub (Table db month form at) = (sub.0 ≡ codes "table") × HasText sub.1 (codes "db") db.now
+    × HasText sub.1 (codes "month") month.now
+    × HasText sub.1 (codes "form") form.now × ((form.now ≡ codes "text") ⊎ (form.now ≡ codes "csv"))
+    × HasNumber 64 sub.1 (codes "at") at × (at ≤ 9999999999)
 
 -- the words name a subcommand, and the job is that one
 abbrev pub GivesJob : List Text → Job → Type 0

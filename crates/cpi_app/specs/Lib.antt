@@ -1,3 +1,7 @@
 pub mod Command
+pub mod Connection
+pub mod Database
+pub mod Desk
 pub mod Fault
 pub mod Replay
+pub mod Table

@@ -1,25 +1,22 @@
 //! The words of the command line.
-ghost use Rattle.std.specs.Prelude.{◌≡◌, IfOk, IfSome, map, option_map, false, codes, Some, List};
-ghost use Rattle.clap.specs.Words.{app_of, rule_of, found_of, rows_of, first_of, subcommand_rows_of, Text, Row};
+ghost use Rattle.std.specs.Prelude.{◌≡◌, IfOk, IfSome, map, false, codes, Some, List};
+ghost use Rattle.clap.specs.Words.{app_of, found_of, rows_of, subcommand_rows_of, Text, Row};
 ghost use Rattle.clap.specs.declared.builder.command.Command.TheViews.{out-Command};
 ghost use Rattle.cpi_app.specs.Command as line;
 ghost use Rattle.cpi_app.specs.Command.{GivesJob, IsJob};
 
 use crate::job::Job;
+use crate::options::{
+    form_of, limit_of, number, option, port_of, required, second_of, text_of, zone_of,
+};
 use clap::error::ErrorKind;
-use clap::{Arg, ArgMatches, Command, Error};
+use clap::{ArgMatches, Command, Error};
 use std::alloc::{AllocError, Global};
 
 const ZONE_HELP: &str =
     "The clock of civil times, as a POSIX rule like CET-1CEST,M3.5.0,M10.5.0/3; UTC0 where it isn't given";
 
-// An option with a value, and what help says of it.
-fn option<'a>(alloc: Global, name: &'a str, help: &'a str) -> Arg<'a>
-    ensures rule { rule_of result ≡ line.option name.entry.now }
-    ensures local { result.global ≡ false }
-{
-    Arg::new(alloc, name).long(name).help(help)
-}
+const FILE_HELP: &str = "The database file of the office; it is made where it isn't there";
 
 fn replay_command<'a>(alloc: Global) -> Result<Command<'a>, AllocError>
     ensures app { IfOk result (λ c. app_of c ≡ line.replay) }
@@ -27,7 +24,57 @@ fn replay_command<'a>(alloc: Global) -> Result<Command<'a>, AllocError>
 {
     Command::new(alloc, "replay")
         .about("Reads records from standard input, and writes the line of each reply")
+        .arg(option(alloc, "zone", ZONE_HELP))?
+        .arg(option(alloc, "db", FILE_HELP))
+}
+
+fn serve_command<'a>(alloc: Global) -> Result<Command<'a>, AllocError>
+    ensures app { IfOk result (λ c. app_of c ≡ line.serve) }
+    ensures local { IfOk result (λ c. (out-Command c).has_globals ≡ false) }
+{
+    Command::new(alloc, "serve")
+        .about(
+            "Serves the pages of the office at a port of this machine, one connection after another",
+        )
+        .arg(required(alloc, "db", FILE_HELP))?
+        .arg(number(
+            alloc,
+            "port",
+            "The port at 127.0.0.1, 1 to 65535",
+            1,
+            65_535,
+        ))?
+        .arg(required(
+            alloc,
+            "desk-key",
+            "The key of the desk, 32 characters of 0-9 and a-f",
+        ))?
+        .arg(number(
+            alloc,
+            "limit",
+            "How many connections are served, 1 to 1000000",
+            1,
+            1_000_000,
+        ))?
         .arg(option(alloc, "zone", ZONE_HELP))
+}
+
+fn table_command<'a>(alloc: Global) -> Result<Command<'a>, AllocError>
+    ensures app { IfOk result (λ c. app_of c ≡ line.table) }
+    ensures local { IfOk result (λ c. (out-Command c).has_globals ≡ false) }
+{
+    Command::new(alloc, "table")
+        .about("Prints the table of a month as it was published by a moment")
+        .arg(required(alloc, "db", FILE_HELP))?
+        .arg(required(alloc, "month", "The month, like 2026-01"))?
+        .arg(required(alloc, "form", "text or csv"))?
+        .arg(number(
+            alloc,
+            "at",
+            "The moment, in seconds since 1970 UTC",
+            0,
+            9_999_999_999,
+        ))
 }
 
 // The whole command line.
@@ -40,24 +87,9 @@ fn cpi_command<'a>(alloc: Global) -> Result<Command<'a>, AllocError>
         .no_binary_name(true)
         .subcommand_required(true)
         .bin_name("cpi")?
-        .subcommand(replay_command(alloc)?)
-}
-
-// The value of an option.
-fn text_of<'a>(matches: &ArgMatches<'a>, name: &str) -> Option<&'a str>
-    ensures { option_map (λ t. t.now) result ≡ first_of name.now (rows_of (found_of matches.now)) }
-{
-    matches.get_str(name)
-}
-
-// The zone that was given, or UTC.
-fn zone_of<'a>(matches: &ArgMatches<'a>) -> &'a str
-    ensures { line.HasZone (rows_of (found_of matches.now)) result.now }
-{
-    match text_of(matches, "zone") {
-        Some(zone) => zone,
-        None => "UTC0",
-    }
+        .subcommand(replay_command(alloc)?)?
+        .subcommand(serve_command(alloc)?)?
+        .subcommand(table_command(alloc)?)
 }
 
 fn replay_of<'a>(matches: &ArgMatches<'a>) -> Job<'a>
@@ -65,7 +97,31 @@ fn replay_of<'a>(matches: &ArgMatches<'a>) -> Job<'a>
 {
     Job::Replay {
         zone: zone_of(matches),
+        db: text_of(matches, "db"),
     }
+}
+
+fn serve_of<'a>(matches: &ArgMatches<'a>) -> Option<Job<'a>>
+    ensures { IfSome result (IsJob (codes "serve", rows_of (found_of matches.now))) }
+{
+    Some(Job::Serve {
+        db: text_of(matches, "db")?,
+        port: port_of(matches)?,
+        key: text_of(matches, "desk-key")?,
+        limit: limit_of(matches)?,
+        zone: zone_of(matches),
+    })
+}
+
+fn table_of<'a>(matches: &ArgMatches<'a>) -> Option<Job<'a>>
+    ensures { IfSome result (IsJob (codes "table", rows_of (found_of matches.now))) }
+{
+    Some(Job::Table {
+        db: text_of(matches, "db")?,
+        month: text_of(matches, "month")?,
+        form: form_of(matches)?,
+        at: second_of(matches)?,
+    })
 }
 
 // The job of the subcommand that was used.
@@ -75,6 +131,8 @@ fn job_of<'a>(matches: &ArgMatches<'a>) -> Option<Job<'a>>
     let (name, options) = matches.subcommand()?;
     match name {
         "replay" => Some(replay_of(options)),
+        "serve" => serve_of(options),
+        "table" => table_of(options),
         _ => None,
     }
 }
@@ -87,6 +145,6 @@ pub fn job_of_words<'a>(alloc: Global, words: &'a [&'a str]) -> Result<Job<'a>, 
     let matches = command.try_get_matches_from_mut(words)?;
     match job_of(&matches) {
         Some(job) => Ok(job),
-        None => Err(command.error(ErrorKind::InvalidSubcommand, "no such job")?),
+        None => Err(command.error(ErrorKind::InvalidValue, "a form is text or csv")?),
     }
 }

@@ -1,7 +1,8 @@
 //! Why a job was not done to its end.
 ghost use Rattle.std.specs.Prelude.{◌≡◌};
-ghost use Rattle.cpi_app.specs.Fault.{status_of};
+ghost use Rattle.cpi_app.specs.Fault.{status_of, open_line};
 
+use cpi_sql::OpenFault;
 use cpi_wire::WireFault;
 use std::alloc::AllocFailed;
 use std::fmt;
@@ -13,8 +14,30 @@ pub enum RunFault {
     BadWord,
     /// The zone is no rule of a clock.
     BadZone,
+    /// The desk's key isn't 32 characters of 0-9 and a-f.
+    BadKey,
+    /// The month isn't a year from 2000 to 2199 with a month, like `2026-01`.
+    BadMonth,
+    /// The database couldn't be opened as an office, or failed later.
+    Database(OpenFault),
+    /// No table of the month was published by then.
+    NoTable,
+    /// The machine's clock can't be read.
+    NoClock,
+    /// The port can't be listened at.
+    NoPort,
     /// The input was given up.
     Wire(WireFault),
+}
+
+/// The line of a fault of an open, without its end.
+pub fn fault_line(fault: &OpenFault) -> &'static str
+    ensures { result.now ≡ open_line fault.now }
+{
+    match fault {
+        OpenFault::UnknownSchema => "cpi: unknown schema",
+        OpenFault::Store => "cpi: database failed",
+    }
 }
 
 impl RunFault {
@@ -24,7 +47,9 @@ impl RunFault {
     {
         match self {
             RunFault::BadWord => 2,
-            RunFault::BadZone | RunFault::Wire(_) => 1,
+            RunFault::BadZone | RunFault::BadKey | RunFault::BadMonth => 1,
+            RunFault::Database(_) | RunFault::NoTable | RunFault::NoClock | RunFault::NoPort => 1,
+            RunFault::Wire(_) => 1,
         }
     }
 }
@@ -37,6 +62,17 @@ impl From<WireFault> for RunFault {
 
     fn from(fault: WireFault) -> RunFault {
         RunFault::Wire(fault)
+    }
+}
+
+impl From<OpenFault> for RunFault {
+    ghost use Rattle.cpi_app.specs.declared.fault.RunFault.TheVariants.{Database};
+    ghost use Rattle.std.specs.Prelude.{◌≡◌};
+
+    ghost from_gives = { λ fault e. e ≡ Database fault };
+
+    fn from(fault: OpenFault) -> RunFault {
+        RunFault::Database(fault)
     }
 }
 
@@ -62,6 +98,12 @@ impl fmt::Display for RunFault {
         match self {
             RunFault::BadWord => write!(f, "cpi: a word isn't UTF-8"),
             RunFault::BadZone => write!(f, "cpi: bad zone"),
+            RunFault::BadKey => write!(f, "cpi: bad key"),
+            RunFault::BadMonth => write!(f, "cpi: bad month"),
+            RunFault::Database(fault) => f.write_str(fault_line(fault)),
+            RunFault::NoTable => write!(f, "cpi: no table"),
+            RunFault::NoClock => write!(f, "cpi: no clock"),
+            RunFault::NoPort => write!(f, "cpi: no port"),
             RunFault::Wire(fault) => write!(f, "cpi: {fault}"),
         }
     }

@@ -3,6 +3,26 @@
 /// A subcommand with the values of its options, as the words give them.
 #[derive(Clone, Copy, Debug, PartialEq, Eq)]
 pub enum Job<'a> {
-    /// Records from standard input, reply lines to standard output; civil times are read by the clock of the zone.
-    Replay { zone: &'a str },
+    /// Records from standard input, reply lines to standard output, in the office of the database, or in one in memory
+    /// that is empty at first; civil times are read by the clock of the zone.
+    Replay {
+        zone: &'a str,
+        db: Option<&'a str>,
+    },
+    /// Pages of the office of the database at a port of this machine, for `limit` connections one after another; the key
+    /// is the desk's.
+    Serve {
+        db: &'a str,
+        port: u16,
+        key: &'a str,
+        limit: u32,
+        zone: &'a str,
+    },
+    /// The table of a month as it was published by that moment (seconds since 1970 UTC), as `text` or as `csv`.
+    Table {
+        db: &'a str,
+        month: &'a str,
+        form: &'a str,
+        at: u64,
+    },
 }

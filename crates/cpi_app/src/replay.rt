@@ -1,15 +1,42 @@
 //! The job of a replay.
-ghost use Rattle.std.specs.Prelude.{◌≡◌, ◌↔◌, IsNone, OnOk, IfErr, IsErrOf};
+ghost use Rattle.std.specs.Prelude.{◌≡◌, ◌↔◌, IsNone, OnOk, IfOk, IfErr, IsErrOf};
 ghost use Rattle.jiff.specs.Words.{read_whole};
-ghost use Rattle.cpi_app.specs.Replay.{Replayed, EndedEarly};
+ghost use Rattle.sqlite.specs.WalFiles.{image_at};
+ghost use Rattle.cpi_wire.specs.Records.{AnsweredInput, GaveUp};
+ghost use Rattle.cpi_app.specs.Replay.{Replayed, EndedEarly, IsReplayedIn};
 
+use crate::database::{FileBook, open_book};
 use crate::fault::RunFault;
-use cpi_codes::zone_of;
+use cpi_codes::{Zone, zone_of};
 use cpi_office::Office;
-use cpi_store::VecBook;
+use cpi_store::{Book, VecBook};
 use cpi_wire::{WireFault, replay};
+use sqlite::Start;
 use std::alloc::Global;
 use std::io::{BufReader, Read, Write};
+
+/// Answers the records of the reader in the office of a book, each by its line before the next one is carried out, and
+/// hands back the book, also after a fault: what was carried out stands in it. Civil times are read by the clock of the
+/// zone. Input is read through a buffer.
+pub fn replay_over<R: Read, W: Write, B: Book>(
+    alloc: Global,
+    zone: &Zone,
+    book: B,
+    reader: &mut R,
+    writer: &mut W,
+) -> (B, Result<(), WireFault>)
+    ensures ok { OnOk result.1 (AnsweredInput zone.now B.state (R.remaining reader.old)
+        book result.0 (W.contents writer.old) (W.contents writer.new)) }
+    ensures err { IfErr result.1 (GaveUp zone.now B.state (R.remaining reader.old)
+        book result.0 (W.contents writer.old) (W.contents writer.new)) }
+{
+    let Ok(records) = BufReader::new(alloc, reader) else {
+        return (book, Err(WireFault::NoMemory));
+    };
+    let mut office = Office::new(alloc, book);
+    let outcome = replay(alloc, records, writer, zone, &mut office);
+    (office.into_book(), outcome)
+}
 
 /// Answers the records of the reader, each by its line before the next one is carried out, in an office that is empty
 /// at first. Civil times are read by the clock of the zone; where that is no rule of a clock, nothing is read and
@@ -30,10 +57,30 @@ pub fn run_replay<R: Read, W: Write>(
     let Ok(zone) = zone_of(zone) else {
         return Err(RunFault::BadZone);
     };
-    let Ok(records) = BufReader::new(alloc, reader) else {
-        return Err(RunFault::Wire(WireFault::NoMemory));
-    };
-    let mut office = Office::new(alloc, VecBook::new(alloc));
-    replay(alloc, records, writer, &zone, &mut office)?;
+    let (_book, outcome) = replay_over(alloc, &zone, VecBook::new(alloc), reader, writer);
+    outcome?;
     Ok(())
+}
+
+/// The same in the office of the file at the path, of which `start` says how a crash is read. A zone that is no rule of a
+/// clock is told before the file is opened, and where it can't be opened nothing is read and nothing is written. The book
+/// is handed back with what became of the input.
+pub fn run_replay_in<S: Start, R: Read, W: Write>(
+    rt: &HostRuntime,
+    zone: &str,
+    path: &str,
+    start: S,
+    reader: &mut R,
+    writer: &mut W,
+) -> Result<(FileBook<S>, Result<(), WireFault>), RunFault>
+    ensures done { IfOk result (λ it. IsReplayedIn (image_at S.Start) zone.now (R.remaining reader.old)
+        (W.contents writer.old) (W.contents writer.new) it.0 it.1) }
+    ensures bad_zone { IsErrOf result RunFault.BadZone ↔ IsNone (read_whole zone.now) }
+    ensures untouched { IfErr result (λ _. (reader.new ≡ reader.old) × (writer.new ≡ writer.old)) }
+{
+    let Ok(clock) = zone_of(zone) else {
+        return Err(RunFault::BadZone);
+    };
+    let book = open_book(rt, path, start)?;
+    Ok(replay_over(rt.alloc(), &clock, book, reader, writer))
 }

@@ -1,0 +1,25 @@
+-- The office that is found in a file.
+use Rattle.std.specs.Prelude.{◌≡◌}
+use Rattle.sqlite_disk.specs.declared.Disk.{Ghosts}
+use Rattle.sqlite.specs.Recovery.{Image}
+use Rattle.sqlite.specs.declared.FileStore.{FileStore}
+use Rattle.sqlite.specs.Files.{file_state, IsOpened}
+use Rattle.sqlite.specs.Start.{FindsIn}
+use Rattle.sqlite.specs.Held.{Held}
+use Rattle.cpi_release.specs.State.{State}
+use Rattle.cpi_store.specs.Office.{Office}
+use Rattle.cpi_sql.specs.Shelf.{Shelf, office_state}
+use Rattle.cpi_sql.specs.Finding as office
+
+-- the office of a file, as a book over it shows that
+abbrev pub file_book : {D : Type 0} {g : Ghosts D} → Shelf (FileStore D g) → State Office
+file_book book = office_state (file_state book.held) book.failures
+
+-- the book holds the rows that the files held, which are those of an office, or the tables of an office that holds
+-- nothing where the files held no table; none of its calls has failed
+pub record IsOfficeOf {D : Type 0} {g : Ghosts D} (start : Image) (book : Shelf (FileStore D g)) : Type 0 where
+  pub was : Held (FileStore D g)
+  pub opened : IsOpened was
+  pub found : FindsIn start (file_state was)
+  pub office : office.IsOpened (file_state was) (file_state book.held)
+  pub count : book.failures ≡ 0

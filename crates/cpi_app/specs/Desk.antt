@@ -1,0 +1,15 @@
+-- The desk that words name, and what is told where they name none.
+use Rattle.std.specs.Prelude.{◌≡◌, ℕ, List, Some, IsNone, IsSome}
+use Rattle.jiff.specs.Placed.{IsPosixZone}
+use Rattle.jiff.specs.Words.{read_whole}
+use Rattle.cpi_codes.specs.Key.{key_of}
+use Rattle.cpi_app.specs.declared.desk.Desk.{Desk}
+
+-- the desk's clock goes by the rule that the zone's text is, and its key is the one that the other text spells
+pub record IsDeskOf (zone key : List ℕ) (desk : Desk) : Type 0 where
+  pub clock : IsPosixZone zone desk.zone
+  pub bearer : key_of key ≡ Some desk.key
+
+-- the zone's text is a rule, and the other text is no key
+abbrev pub HasNoKey : List ℕ → List ℕ → Type 0
+HasNoKey zone key = IsSome (read_whole zone) × IsNone (key_of key)

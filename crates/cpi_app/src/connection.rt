@@ -1,0 +1,137 @@
+//! One connection: its message is read and answered, each within its time.
+ghost use Rattle.std.specs.Prelude.{◌≡◌, IfOk, IfErr, None};
+ghost use Rattle.cpi_pages.specs.Message.{setting};
+ghost use Rattle.cpi_pages.specs.Served.{messages};
+ghost use Rattle.cpi_app.specs.Connection.{ServesFront, GivesUpFront, is_shaken};
+
+use crate::desk::Desk;
+use crate::timed::Timed;
+use cpi_codes::Moment;
+use cpi_office::Office;
+use cpi_pages::{Served, serve_one};
+use cpi_store::Book;
+use cpi_wire::WireFault;
+use std::alloc::Global;
+use std::io;
+use std::io::{BufReader, Read, Write};
+use std::net::{Shutdown, TcpStream};
+use std::time::{Clock, Duration};
+
+/// How many seconds a peer may take to send its message, and again to take the response.
+const MESSAGE_SECONDS: u64 = 10;
+
+/// How many seconds a peer may send nothing of its message, or take nothing of the response.
+const SILENT_SECONDS: u64 = 5;
+
+/// How many seconds a peer may take to close after its response.
+const CLOSING_SECONDS: u64 = 1;
+
+/// How many times a peer is heard after its response.
+const CLOSING_READS: u32 = 1024;
+
+/// How many bytes are taken each time.
+const CLOSING_BYTES: usize = 4096;
+
+/// Serves one message of the reader, read through a buffer: bytes after the message may have been read too, and are
+/// thrown away.
+pub fn serve_front<R: Read, W: Write, B: Book>(
+    alloc: Global,
+    reader: &mut R,
+    writer: &mut W,
+    now: Moment,
+    desk: &Desk,
+    office: &mut Office<B>,
+) -> Result<Served, WireFault>
+    ensures ok { IfOk result (ServesFront B.state (messages (setting now desk.now.zone desk.now.key))
+        (R.remaining reader.old)
+        (record {
+          before = office.old.book;
+          now = office.new.book;
+          written = W.contents writer.old;
+          writing = W.contents writer.new;
+        })) }
+    ensures err { IfErr result (GivesUpFront B.state (messages (setting now desk.now.zone desk.now.key))
+        (R.remaining reader.old)
+        (record {
+          before = office.old.book;
+          now = office.new.book;
+          written = W.contents writer.old;
+          writing = W.contents writer.new;
+        })) }
+{
+    let Ok(mut buffered) = BufReader::new(alloc, reader) else {
+        return Err(WireFault::NoMemory);
+    };
+    serve_one(
+        alloc,
+        &mut buffered,
+        writer,
+        now,
+        &desk.zone,
+        desk.key,
+        office,
+    )
+}
+
+/// Whether the book has to be opened again after a connection: one of the replies was that the office was unavailable,
+/// a response wasn't written whole, or memory was refused.
+pub fn is_shaken(served: Result<Served, WireFault>) -> bool
+    ensures { result ≡ is_shaken served }
+{
+    match served {
+        Ok(Served::Answered(_, failed)) => failed,
+        Ok(Served::Cut) | Err(WireFault::Read) => false,
+        Err(WireFault::Write) | Err(WireFault::NoMemory) => true,
+    }
+}
+
+// Ends the response, and takes what the peer still sends, for a short time: to close while bytes lie unread would reset
+// the connection, and the peer might lose its response.
+fn hang_up<C: Clock>(clock: &C, stream: &TcpStream) -> io::Result<()> {
+    let time = Duration::from_secs(CLOSING_SECONDS);
+    stream.shutdown(Shutdown::Write)?;
+    stream.set_read_timeout(Some(time))?;
+    let mut reader = Timed::new(clock, stream, time);
+    let mut rest = [0; CLOSING_BYTES];
+    for _ in 0..CLOSING_READS {
+        if reader.read(&mut rest)? == 0 {
+            break;
+        }
+    }
+    Ok(())
+}
+
+// Bounds each wait for the peer.
+fn bound_waits(stream: &TcpStream) -> io::Result<()> {
+    let time = Duration::from_secs(SILENT_SECONDS);
+    stream.set_read_timeout(Some(time))?;
+    stream.set_write_timeout(Some(time))
+}
+
+/// Serves the message of a connection at a moment. A peer that sends or takes too slowly is given up with `Read` or
+/// `Write`. What the peer sent after its message is thrown away.
+pub fn serve_connection<C: Clock, B: Book>(
+    alloc: Global,
+    clock: &C,
+    stream: &TcpStream,
+    now: Moment,
+    desk: &Desk,
+    office: &mut Office<B>,
+) -> Result<Served, WireFault>
+    ensures ok { IfOk result (ServesFront B.state (messages (setting now desk.now.zone desk.now.key)) None
+        (record { before = office.old.book; now = office.new.book; written = None; writing = None })) }
+    ensures err { IfErr result (GivesUpFront B.state (messages (setting now desk.now.zone desk.now.key)) None
+        (record { before = office.old.book; now = office.new.book; written = None; writing = None })) }
+{
+    let Ok(()) = bound_waits(stream) else {
+        return Err(WireFault::Read);
+    };
+    let time = Duration::from_secs(MESSAGE_SECONDS);
+    let mut reader = Timed::new(clock, stream, time);
+    let mut writer = Timed::new(clock, stream, time);
+    let served = serve_front(alloc, &mut reader, &mut writer, now, desk, office);
+    if let Ok(Served::Answered(_, _)) = served {
+        let _ = hang_up(clock, stream);
+    }
+    served
+}

@@ -1,0 +1,98 @@
+//! The options of the command line, and their values.
+ghost use Rattle.std.specs.Prelude.{◌≡◌, ◌≤◌, ◌⊎◌, IfSome, codes, false, option_map};
+ghost use Rattle.clap.specs.Words.{rule_of, found_of, rows_of, first_of};
+ghost use Rattle.cpi_app.specs.Command as line;
+
+use clap::builder::ValueParser;
+use clap::{Arg, ArgMatches};
+use std::alloc::Global;
+
+/// The greatest second that a moment can be.
+const LAST_SECOND: u64 = 9_999_999_999;
+
+/// The greatest number of connections that are served.
+const MOST_CONNECTIONS: u32 = 1_000_000;
+
+/// An option with a value, and what help says of it.
+pub fn option<'a>(alloc: Global, name: &'a str, help: &'a str) -> Arg<'a>
+    ensures rule { rule_of result ≡ line.option name.entry.now }
+    ensures local { result.global ≡ false }
+{
+    Arg::new(alloc, name).long(name).help(help)
+}
+
+/// An option that has to be given.
+pub fn required<'a>(alloc: Global, name: &'a str, help: &'a str) -> Arg<'a>
+    ensures rule { rule_of result ≡ line.required name.entry.now }
+    ensures local { result.global ≡ false }
+{
+    option(alloc, name, help).required(true)
+}
+
+/// A number in a range, which has to be given.
+pub fn number<'a>(alloc: Global, name: &'a str, help: &'a str, low: u64, high: u64) -> Arg<'a>
+    ensures rule { rule_of result ≡ line.number name.entry.now low high }
+    ensures local { result.global ≡ false }
+{
+    required(alloc, name, help).value_parser(ValueParser::Unsigned(low, high))
+}
+
+/// The value of an option.
+pub fn text_of<'a>(matches: &ArgMatches<'a>, name: &str) -> Option<&'a str>
+    ensures { option_map (λ t. t.now) result ≡ first_of name.now (rows_of (found_of matches.now)) }
+{
+    matches.get_str(name)
+}
+
+/// The zone that was given, or UTC.
+pub fn zone_of<'a>(matches: &ArgMatches<'a>) -> &'a str
+    ensures { line.HasZone (rows_of (found_of matches.now)) result.now }
+{
+    match text_of(matches, "zone") {
+        Some(zone) => zone,
+        None => "UTC0",
+    }
+}
+
+/// The number of a port.
+pub fn port_of(matches: &ArgMatches) -> Option<u16>
+    ensures { IfSome result (λ n. line.HasNumber 16 (rows_of (found_of matches.now)) (codes "port") n × (1 ≤ n)) }
+{
+    match matches.get_one::<u16>("port") {
+        Some(port) if port >= 1 => Some(port),
+        _ => None,
+    }
+}
+
+/// How many connections are to be served.
+pub fn limit_of(matches: &ArgMatches) -> Option<u32>
+    ensures { IfSome result (λ n.
+        line.HasNumber 32 (rows_of (found_of matches.now)) (codes "limit") n × (1 ≤ n) × (n ≤ 1000000)) }
+{
+    match matches.get_one::<u32>("limit") {
+        Some(limit) if limit >= 1 && limit <= MOST_CONNECTIONS => Some(limit),
+        _ => None,
+    }
+}
+
+/// The second of a moment.
+pub fn second_of(matches: &ArgMatches) -> Option<u64>
+    ensures { IfSome result (λ n.
+        line.HasNumber 64 (rows_of (found_of matches.now)) (codes "at") n × (n ≤ 9999999999)) }
+{
+    match matches.get_one::<u64>("at") {
+        Some(second) if second <= LAST_SECOND => Some(second),
+        _ => None,
+    }
+}
+
+/// The form of a table.
+pub fn form_of<'a>(matches: &ArgMatches<'a>) -> Option<&'a str>
+    ensures { IfSome result (λ t. line.HasText (rows_of (found_of matches.now)) (codes "form") t.now
+        × ((t.now ≡ codes "text") ⊎ (t.now ≡ codes "csv"))) }
+{
+    match text_of(matches, "form") {
+        Some(form) if form == "text" || form == "csv" => Some(form),
+        _ => None,
+    }
+}
