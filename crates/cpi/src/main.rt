@@ -4,8 +4,12 @@
 
 use clap::Error;
 use clap::error::ErrorKind;
-use cpi_app::{Job, RunFault, job_of_words, run_replay};
+use cpi_app::{
+    Job, RunFault, asked_table, close_book, job_of_words, run_replay, run_replay_in, run_serve,
+    run_table,
+};
 use cpi_wire::WireFault;
+use sqlite::Unknown;
 use std::process::ExitCode;
 use std::{env, io};
 
@@ -41,11 +45,56 @@ fn tell_refused(rt: &HostRuntime, error: &Error) -> Result<u8, RunFault> {
     }
 }
 
-// Hands standard input and standard output to the run of the job.
-fn run_job(rt: &HostRuntime, job: Job) -> Result<(), RunFault> {
+// Answers the records of standard input in the office of a file, and closes it. A fault of the input is told before one of
+// the close.
+fn replay_in(rt: &HostRuntime, zone: &str, path: &str) -> Result<(), RunFault> {
+    let mut reader = rt.reader();
+    let mut writer = io::writer(rt);
+    let (book, outcome) = run_replay_in(rt, zone, path, Unknown, &mut reader, &mut writer)?;
+    let closed = close_book(book);
+    outcome?;
+    Ok(closed?)
+}
+
+// Hands what stands outside to the run of the job, and answers the exit status.
+fn run_job(rt: &HostRuntime, job: Job) -> Result<u8, RunFault> {
     match job {
-        Job::Replay { zone } => {
-            run_replay(rt.alloc(), zone, &mut rt.reader(), &mut io::writer(rt))
+        Job::Replay { zone, db: None } => {
+            run_replay(rt.alloc(), zone, &mut rt.reader(), &mut io::writer(rt))?;
+            Ok(0)
+        }
+        Job::Replay {
+            zone,
+            db: Some(path),
+        } => {
+            replay_in(rt, zone, path)?;
+            Ok(0)
+        }
+        Job::Serve {
+            db,
+            port,
+            key,
+            limit,
+            zone,
+        } => {
+            run_serve(rt, db, port, key, limit, zone)?;
+            Ok(0)
+        }
+        Job::Table {
+            db,
+            month,
+            form,
+            at,
+        } => {
+            let asked = asked_table(month, form, at)?;
+            run_table(
+                rt,
+                db,
+                Unknown,
+                asked,
+                &mut io::writer(rt),
+                &mut rt.stderr(),
+            )
         }
     }
 }
@@ -58,10 +107,7 @@ fn run(rt: &HostRuntime) -> Result<u8, RunFault> {
         words.push(word.as_str())?;
     }
     match job_of_words(rt.alloc(), words.as_slice()) {
-        Ok(job) => {
-            run_job(rt, job)?;
-            Ok(0)
-        }
+        Ok(job) => run_job(rt, job),
         Err(error) => tell_refused(rt, &error),
     }
 }
