@@ -19,6 +19,10 @@ mod moments;
 #[cfg(test)]
 mod office;
 #[cfg(test)]
+mod page_messages;
+#[cfg(test)]
+mod pages;
+#[cfg(test)]
 mod records;
 #[cfg(test)]
 mod release;
