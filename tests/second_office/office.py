@@ -29,8 +29,11 @@ class Office:
         self.index = Index(self.plans, {}, {})  # over the frozen months
         self.tables = {}  # by frozen month: the moment of publishing, the rows
 
+    def written(self, reply):
+        return json.dumps(reply, separators=(",", ":"), sort_keys=True, ensure_ascii=False)
+
     def line(self, record):
-        return json.dumps(self.reply(record), separators=(",", ":"), sort_keys=True, ensure_ascii=False)
+        return self.written(self.reply(record))
 
     def reply(self, record):
         if len(record) < 3:

@@ -44,7 +44,11 @@ def moment(text):
 
 
 def name(text):
-    data = text.encode()
+    data = text.encode(errors="surrogateescape")
+    try:
+        data.decode()
+    except UnicodeDecodeError:
+        return None
     return text if 1 <= len(data) <= 400 and all(byte >= 0x20 and byte != 0x7F for byte in data) else None
 
 
