@@ -1,0 +1,78 @@
+"""What the data files of this folder say, and the desk's records of it."""
+
+import calendar
+import collections
+import csv
+import io
+import os
+
+HERE = os.path.dirname(os.path.abspath(__file__))
+ZONE = "CET-1CEST,M3.5.0,M10.5.0/3"
+
+Series = collections.namedtuple("Series", "collector slot outlet item first last")
+
+
+def rows_of(name):
+    """The rows of a data file, each by the names of its columns."""
+    with open(os.path.join(HERE, f"{name}.csv"), encoding="utf-8", newline="") as file:
+        return list(csv.DictReader(file))
+
+
+def text_of(rows):
+    written = io.StringIO()
+    csv.writer(written, lineterminator="\n").writerows(rows)
+    return written.getvalue()
+
+
+def moment(month, day, hour):
+    """Seconds since 1970 of a full hour, UTC."""
+    year, number = map(int, month.split("-"))
+    return calendar.timegm((year, number, day, hour, 0, 0))
+
+
+class Office:
+    """The example's office as its desk knows it."""
+
+    def __init__(self):
+        self.basket, self.outlets = rows_of("basket"), rows_of("outlets")
+        self.items = {row["item"]: row for row in rows_of("items")}
+        self.calendar = {row["month"]: row for row in rows_of("calendar")}
+        self.months = sorted(self.calendar)
+        self.keys = {int(row["collector"]): row["key"] for row in rows_of("collectors")}
+        self.series = list(self.assigned())
+
+    def assigned(self):
+        """Every outlet prices each item of its kind; a collector's slots are counted outlet by outlet."""
+        slots = collections.Counter()
+        for outlet in self.outlets:
+            collector = int(outlet["collector"])
+            for item in sorted(self.items):
+                if self.items[item]["sold_in"] == outlet["kind"]:
+                    slots[collector] += 1
+                    place = collector, slots[collector], int(outlet["outlet"])
+                    yield Series(*place, item, outlet["first"], outlet["last"])
+
+    def weights(self, year):
+        """The weights of a year by aggregate; an aggregate without one isn't in that year's plan."""
+        column = f"weight_{year}"
+        return {row["code"]: int(row[column]) for row in self.basket if row[column]}
+
+    # ---- the desk's records
+
+    def registered(self):
+        """The bodies of the imports by which the office begins."""
+        goods = self.items.values()
+        yield [("item", *(row[name] for name in ("item", "text", "unit", "low", "high"))) for row in goods]
+        yield [("outlet", row["outlet"], row["name"]) for row in self.outlets]
+        yield [("collector", number, key) for number, key in self.keys.items()]
+        yield [("assign", *series) for series in self.series]
+
+    def plan(self, year):
+        weights = self.weights(year)
+        titles = [("T", row["code"], row["title"]) for row in self.basket]
+        placed = [(item, row["aggregate"]) for item, row in self.items.items() if row["aggregate"] in weights]
+        return text_of([*titles, *(("W", *pair) for pair in weights.items()), *(("I", *pair) for pair in placed)])
+
+    def window(self, month):
+        row = self.calendar[month]
+        return [month, row["opens"], row["closes"], row["publishes"]]

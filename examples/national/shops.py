@@ -1,0 +1,188 @@
+"""What the shops ask for, and what the collectors send of it: the one part of the example that no data file holds.
+
+Everything is drawn from the seed, and computed with sums, products and quotients alone, so that one seed gives the same
+records on every machine.
+"""
+
+import collections
+import random
+
+from office import moment, rows_of, text_of
+
+SUMMER = [0, 0, 0.1, 0.3, 0.5, 0.8, 1, 1, 0.6, 0.3, 0.1, 0]  # how much of it is in each month, January first
+SALE_MONTHS = ("01", "07")
+CLOSED_MONTHS = 14  # of one outlet each
+PER_MILLE = {"stock": 8, "refused": 1, "gone": 4, "comparable": 4, "other": 2}
+LATE, SLIP, CORRECTED = 0.002, 0.003, 0.002
+
+Entry = collections.namedtuple("Entry", "day slot mark value confirm")
+
+
+class Trends:
+    """How the prices of each aggregate move: its level in each month, over that of the first."""
+
+    def __init__(self, office, seed):
+        self.rows = {row.pop("code"): {name: float(text) for name, text in row.items()} for row in rows_of("trends")}
+        self.months, self.seed = office.months, seed
+        self.levels = {}
+
+    def row(self, aggregate):
+        """The row of the longest code that the aggregate begins with."""
+        return next(self.rows[aggregate[:end]] for end in range(len(aggregate), 1, -1) if aggregate[:end] in self.rows)
+
+    def level(self, aggregate, turn):
+        if aggregate not in self.levels:
+            self.levels[aggregate] = self.moved(self.row(aggregate), random.Random(f"{self.seed} {aggregate}"))
+        return self.levels[aggregate][turn]
+
+    def moved(self, row, drawn):
+        levels, trend, unrest = [], 1.0, 0.0
+        for turn, month in enumerate(self.months):
+            if turn:
+                trend *= 1 + (row["first_year"] if turn <= 12 else row["second_year"]) / 1200
+            unrest = 0.8 * unrest + row["unrest"] / 500 * (drawn.random() + drawn.random() - 1)
+            levels.append(trend * (1 + unrest) * (1 + row["summer"] / 100 * SUMMER[int(month[5:]) - 1]))
+        return levels
+
+
+def tagged(price):
+    """A price as it stands on a tag."""
+    if price < 500:
+        return max(1, int(price + 0.5))
+    if price < 10_000:
+        return int(price / 10) * 10 + 9
+    return max(1, int(price / 100 + 0.5)) * 100 - (10 if price < 100_000 else 0)
+
+
+def is_out_of_season(months, turn, month):
+    """Whether a month lies in a gap like 10-3. In the first month every price is asked for."""
+    if not months or not turn:
+        return False
+    first, last = map(int, months.split("-"))
+    number = int(month[5:])
+    return first <= number <= last if first <= last else number >= first or number <= last
+
+
+class Shelf:
+    """One item in one outlet: what is found there, and what is sent of it."""
+
+    def __init__(self, office, trends, series, closed):
+        self.series, self.closed = series, closed
+        self.item = office.items[series.item]
+        self.trends, self.row = trends, trends.row(self.item["aggregate"])
+        self.drawn = random.Random(f"{trends.seed} {series.collector} {series.slot}")
+        self.usual = int(self.item["price"]) * (0.9 + 0.2 * self.drawn.random())
+        self.price = self.last = None
+        self.away, self.reason, self.is_replaced = 0, None, False
+
+    def chance(self, share):
+        return self.drawn.random() < share
+
+    # ---- what is found
+
+    def missing(self, turn, month):
+        """Why there is no price in a month, if there is none."""
+        if month in self.closed:
+            return "closed"
+        if is_out_of_season(self.item["out_of_season"], turn, month):
+            return "stock"
+        if self.away:
+            self.away -= 1
+            return self.reason
+        for reason, most in (("stock", 3), ("refused", 5), ("gone", 1)):
+            if self.chance(PER_MILLE[reason] / 1000):
+                self.reason, self.away = reason, self.drawn.randrange(most)
+                self.is_replaced = reason == "gone" and self.last is not None
+                return reason
+        return None
+
+    def mark(self):
+        """Price, or the kind of a replacement; a replacement has a price of its own."""
+        mark = "price"
+        if self.is_replaced:
+            mark = "comparable" if self.chance(0.6) else "other"
+        elif self.last is not None:
+            mark = next((kind for kind in ("comparable", "other") if self.chance(PER_MILLE[kind] / 1000)), "price")
+        self.is_replaced = False
+        if mark == "comparable":
+            self.usual *= 0.97 + 0.07 * self.drawn.random()
+        if mark == "other":
+            self.usual *= 0.75 + 0.6 * self.drawn.random()
+        return mark
+
+    def found(self, turn, month):
+        """The mark of a month with its price or reason."""
+        reason = self.missing(turn, month)
+        if reason:
+            return "missing", reason
+        mark = self.mark()
+        if self.price is None or mark != "price" or self.chance(self.row["changing"] / 100):
+            self.price = tagged(self.usual * self.trends.level(self.item["aggregate"], turn))
+        if self.chance(self.row["on_sale"] / 100 * (self.row["in_sale_months"] if month[5:] in SALE_MONTHS else 1)):
+            return mark, tagged(self.price * (0.9 - 0.35 * self.drawn.random() * self.drawn.random()))
+        return mark, self.price
+
+    # ---- what is sent
+
+    def is_inside(self, price):
+        low, high = int(self.item["low"]), int(self.item["high"])
+        return self.last is None or -(-self.last * low // 1000) <= price <= self.last * high // 1000
+
+    def sent(self, turn, month):
+        """The entries of a month. What the office takes of them is the next month's last price."""
+        day = 2 + int(self.series.outlet) * 7 % 18
+        mark, value = self.found(turn, month)
+        entry = Entry(day, self.series.slot, mark, value, False)
+        if mark == "missing":
+            return [entry]
+        if self.chance(LATE):
+            return [entry._replace(day=25)]
+        entries = self.with_slip(entry) if turn and mark == "price" else [entry]
+        if mark != "other" and not self.is_inside(value):
+            entries.append(entry._replace(day=day + 2, confirm=True))
+        if mark == "other" or self.is_inside(entries[-1].value) or entries[-1].confirm:
+            self.last = entries[-1].value
+        return entries
+
+    def with_slip(self, entry):
+        """The entry, or one with a slip of the pen before it; nine in ten of those that are refused come again."""
+        if self.chance(CORRECTED) and self.is_inside(entry.value + 1):
+            return [entry._replace(value=entry.value + 1), entry._replace(day=entry.day + 2)]
+        wrong = entry.value * 10 if self.chance(0.5) else max(1, entry.value // 10)
+        if self.chance(SLIP) and not self.is_inside(wrong):
+            again = [entry._replace(day=entry.day + 2)] if self.chance(0.9) else []
+            return [entry._replace(value=wrong), *again]
+        return [entry]
+
+
+class Shops:
+    """All shops of the country: the records that come of a month, in the order of their moments."""
+
+    def __init__(self, office, seed):
+        self.office, self.seed = office, seed
+        trends, closed, drawn = Trends(office, seed), collections.defaultdict(set), random.Random(f"{seed} outlets")
+        for _ in range(CLOSED_MONTHS):
+            closed[int(drawn.choice(office.outlets)["outlet"])].add(drawn.choice(office.months[1:]))
+        self.shelves = [Shelf(office, trends, series, closed[series.outlet]) for series in office.series]
+
+    def records(self, month):
+        """Moment, key and body of each import of a month."""
+        turn, drawn = self.office.months.index(month), random.Random(f"{self.seed} {month}")
+        visits = collections.defaultdict(list)
+        for shelf in self.shelves:
+            if shelf.series.first <= month <= shelf.series.last:
+                for entry in shelf.sent(turn, month):
+                    visits[entry.day, shelf.series.collector].append(entry)
+        found = []
+        for (day, collector), entries in sorted(visits.items()):
+            body = text_of(row_of(entry, month) for entry in entries)
+            found.append((moment(month, day, 10), self.office.keys[collector], body))
+            if drawn.random() < 0.01:  # before the window opens
+                found.append((moment(month, 1, 3), self.office.keys[collector], body.split("\n")[0] + "\n"))
+            if drawn.random() < 0.02:  # the answer was lost, so the same comes again
+                found.append((moment(month, day, 11), self.office.keys[collector], body))
+        return sorted(found)
+
+
+def row_of(entry, month):
+    return ["quote", entry.slot, month, entry.mark, entry.value, *(["confirm"] if entry.confirm else [])]
