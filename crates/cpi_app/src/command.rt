@@ -5,6 +5,7 @@ ghost use Rattle.clap.specs.declared.builder.command.Command.TheViews.{out-Comma
 ghost use Rattle.cpi_app.specs.Command as line;
 ghost use Rattle.cpi_app.specs.Command.{GivesJob, IsJob};
 
+use crate::help;
 use crate::job::Job;
 use crate::options::{
     form_of, limit_of, number, option, port_of, required, second_of, text_of, zone_of,
@@ -13,8 +14,7 @@ use clap::error::ErrorKind;
 use clap::{ArgMatches, Command, Error};
 use std::alloc::{AllocError, Global};
 
-const ZONE_HELP: &str =
-    "The clock of civil times, as a POSIX rule like CET-1CEST,M3.5.0,M10.5.0/3; UTC0 where it isn't given";
+const ZONE_HELP: &str = "The clock's POSIX rule, like CET-1CEST,M3.5.0,M10.5.0/3; else UTC0";
 
 const FILE_HELP: &str = "The database file of the office; it is made where it isn't there";
 
@@ -24,6 +24,7 @@ fn replay_command<'a>(alloc: Global) -> Result<Command<'a>, AllocError>
 {
     Command::new(alloc, "replay")
         .about("Reads records from standard input, and writes the line of each reply")
+        .after_help(help::REPLAY)
         .arg(option(alloc, "zone", ZONE_HELP))?
         .arg(option(alloc, "db", FILE_HELP))
 }
@@ -36,6 +37,7 @@ fn serve_command<'a>(alloc: Global) -> Result<Command<'a>, AllocError>
         .about(
             "Serves the pages of the office at a port of this machine, one connection after another",
         )
+        .after_help(help::SERVE)
         .arg(required(alloc, "db", FILE_HELP))?
         .arg(number(
             alloc,
@@ -65,6 +67,7 @@ fn table_command<'a>(alloc: Global) -> Result<Command<'a>, AllocError>
 {
     Command::new(alloc, "table")
         .about("Prints the table of a month as it was published by a moment")
+        .after_help(help::TABLE)
         .arg(required(alloc, "db", FILE_HELP))?
         .arg(required(alloc, "month", "The month, like 2026-01"))?
         .arg(required(alloc, "form", "text or csv"))?
@@ -84,6 +87,7 @@ fn cpi_command<'a>(alloc: Global) -> Result<Command<'a>, AllocError>
 {
     Command::new(alloc, "cpi")
         .about("The office of a consumer price survey")
+        .after_help(help::CPI)
         .no_binary_name(true)
         .subcommand_required(true)
         .bin_name("cpi")?

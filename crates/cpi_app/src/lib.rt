@@ -7,6 +7,7 @@ mod connection;
 mod database;
 mod desk;
 mod fault;
+mod help;
 mod job;
 mod options;
 mod replay;

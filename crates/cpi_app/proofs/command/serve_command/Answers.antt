@@ -6,7 +6,7 @@ use Rattle.cpi_app.proofs.command.serve_command.Goals as goal
 
 pub returns-clause-app : goal.returns-clause-app
 returns-clause-app c =
-    let bare : app_of c.about.result ≡ new_app (codes "serve") = search rules in
+    let bare : app_of c.after_help.result ≡ new_app (codes "serve") = search rules in
     let one = c.in_ok-arg.ensures.shape (search rules) ∙ ap₂ with_rule bare c.required.ensures.rule in
     let two = c.in_ok-arg-2.ensures.shape (search rules) ∙ ap₂ with_rule one c.number.ensures.rule in
     let three = c.in_ok-arg-3.ensures.shape (search rules) ∙ ap₂ with_rule two c.required-2.ensures.rule in
@@ -15,7 +15,7 @@ returns-clause-app c =
 
 pub returns-clause-local : goal.returns-clause-local
 returns-clause-local c =
-    let plain : (out-Command c.about.result).has_globals ≡ false = search rules in
+    let plain : (out-Command c.after_help.result).has_globals ≡ false = search rules in
     let one = c.in_ok-arg.ensures.globals in
     let two = c.in_ok-arg-2.ensures.globals in
     let three = c.in_ok-arg-3.ensures.globals in
