@@ -4,10 +4,8 @@
 
 use clap::Error;
 use clap::error::ErrorKind;
-use cpi_app::{
-    Job, RunFault, asked_table, close_book, job_of_words, run_replay, run_replay_in, run_serve,
-    run_table,
-};
+use cpi_app::{Job, RunFault, asked_table, job_of_words, run_replay};
+use cpi_files::{replay_in_file, run_serve, table_in_file};
 use cpi_wire::WireFault;
 use sqlite::Unknown;
 use std::process::ExitCode;
@@ -45,17 +43,6 @@ fn tell_refused(rt: &HostRuntime, error: &Error) -> Result<u8, RunFault> {
     }
 }
 
-// Answers the records of standard input in the office of a file, and closes it. A fault of the input is told before one of
-// the close.
-fn replay_in(rt: &HostRuntime, zone: &str, path: &str) -> Result<(), RunFault> {
-    let mut reader = rt.reader();
-    let mut writer = io::writer(rt);
-    let (book, outcome) = run_replay_in(rt, zone, path, Unknown, &mut reader, &mut writer)?;
-    let closed = close_book(book);
-    outcome?;
-    Ok(closed?)
-}
-
 // Hands what stands outside to the run of the job, and answers the exit status.
 fn run_job(rt: &HostRuntime, job: Job) -> Result<u8, RunFault> {
     match job {
@@ -67,7 +54,14 @@ fn run_job(rt: &HostRuntime, job: Job) -> Result<u8, RunFault> {
             zone,
             db: Some(path),
         } => {
-            replay_in(rt, zone, path)?;
+            replay_in_file(
+                rt,
+                zone,
+                path,
+                Unknown,
+                &mut rt.reader(),
+                &mut io::writer(rt),
+            )?;
             Ok(0)
         }
         Job::Serve {
@@ -87,7 +81,7 @@ fn run_job(rt: &HostRuntime, job: Job) -> Result<u8, RunFault> {
             at,
         } => {
             let asked = asked_table(month, form, at)?;
-            run_table(
+            table_in_file(
                 rt,
                 db,
                 Unknown,

@@ -1,6 +1,5 @@
 pub mod Command
 pub mod Connection
-pub mod Database
 pub mod Desk
 pub mod Fault
 pub mod Replay

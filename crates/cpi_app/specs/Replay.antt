@@ -1,16 +1,10 @@
 -- What the job of a replay does: its records are answered by an office that was empty.
-use Rattle.std.specs.Prelude.{ℕ, List, Option, IsNone, Result, OnOk, IfErr}
+use Rattle.std.specs.Prelude.{ℕ, List, Option, IsNone}
 use Rattle.jiff.specs.Placed.{IsPosixZone}
 use Rattle.jiff.specs.Words.{read_whole}
-use Rattle.sqlite.specs.Files.{file_state}
-use Rattle.sqlite.specs.Recovery.{Image}
-use Rattle.sqlite.specs.declared.FileStore.{FileStore}
-use Rattle.sqlite_disk.specs.declared.Disk.{Ghosts}
 use Rattle.cpi_codes.specs.Zone.{ZoneRule}
 use Rattle.cpi_store.specs.Office.{empty_office}
 use Rattle.cpi_store.specs.Holders.{Kept, kept_state}
-use Rattle.cpi_sql.specs.Shelf.{Shelf, IsCleanBook}
-use Rattle.cpi_app.specs.Database.{IsOfficeOf, file_book}
 use Rattle.cpi_wire.specs.declared.fault.WireFault.{WireFault}
 use Rattle.cpi_wire.specs.Records.{AnsweredInput, GaveUp}
 use Rattle.cpi_app.specs.declared.fault.RunFault.{RunFault}
@@ -46,14 +40,3 @@ EndedEarly zone input was is NoTable = ⊥
 EndedEarly zone input was is NoClock = ⊥
 EndedEarly zone input was is NoPort = ⊥
 EndedEarly zone input was is (Wire fault) = GaveUpReplay zone input was is fault
-
--- The records of the input were answered, or after a fault the first of them, from what the files held on, by the clock
--- that the zone's text means.
-pub record IsReplayedIn {D : Type 0} {g : Ghosts D} {T : Type 0} (start : Image) (zone : List ℕ)
-    (input was is : Option (List ℕ)) (now : Shelf (FileStore D g)) (outcome : Result T WireFault) : Type 0 where
-  pub rule : ZoneRule
-  pub clock : IsPosixZone zone rule
-  pub book : Shelf (FileStore D g)
-  pub found : IsCleanBook (file_state book.held) → IsOfficeOf start book
-  pub answered : OnOk outcome (AnsweredInput rule file_book input book now was is)
-  pub gave_up : IfErr outcome (GaveUp rule file_book input book now was is)

@@ -4,7 +4,6 @@
 
 mod command;
 mod connection;
-mod database;
 mod desk;
 mod fault;
 mod help;
@@ -17,11 +16,10 @@ mod timed;
 
 pub use command::job_of_words;
 pub use connection::{is_shaken, serve_connection, serve_front};
-pub use database::{FileBook, close_book, open_book};
 pub use desk::{Desk, desk_of};
 pub use fault::{RunFault, fault_line};
 pub use job::Job;
-pub use replay::{replay_over, run_replay, run_replay_in};
-pub use serve::run_serve;
-pub use table::{AskedTable, asked_table, print_table, run_table, write_table};
+pub use replay::{replay_over, run_replay};
+pub use serve::{listen, serve_book};
+pub use table::{AskedTable, asked_table, print_table, write_table};
 pub use timed::Timed;

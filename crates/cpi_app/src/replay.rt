@@ -1,17 +1,14 @@
 //! The job of a replay.
-ghost use Rattle.std.specs.Prelude.{◌≡◌, ◌↔◌, IsNone, OnOk, IfOk, IfErr, IsErrOf};
+ghost use Rattle.std.specs.Prelude.{◌≡◌, ◌↔◌, IsNone, OnOk, IfErr, IsErrOf};
 ghost use Rattle.jiff.specs.Words.{read_whole};
-ghost use Rattle.sqlite.specs.WalFiles.{image_at};
 ghost use Rattle.cpi_wire.specs.Records.{AnsweredInput, GaveUp};
-ghost use Rattle.cpi_app.specs.Replay.{Replayed, EndedEarly, IsReplayedIn};
+ghost use Rattle.cpi_app.specs.Replay.{Replayed, EndedEarly};
 
-use crate::database::{FileBook, open_book};
 use crate::fault::RunFault;
 use cpi_codes::{Zone, zone_of};
 use cpi_office::Office;
 use cpi_store::{Book, VecBook};
 use cpi_wire::{WireFault, replay};
-use sqlite::Start;
 use std::alloc::Global;
 use std::io::{BufReader, Read, Write};
 
@@ -60,27 +57,4 @@ pub fn run_replay<R: Read, W: Write>(
     let (_book, outcome) = replay_over(alloc, &zone, VecBook::new(alloc), reader, writer);
     outcome?;
     Ok(())
-}
-
-/// The same in the office of the file at the path, of which `start` says how a crash is read. A zone that is no rule of a
-/// clock is told before the file is opened, and where it can't be opened nothing is read and nothing is written. The book
-/// is handed back with what became of the input.
-pub fn run_replay_in<S: Start, R: Read, W: Write>(
-    rt: &HostRuntime,
-    zone: &str,
-    path: &str,
-    start: S,
-    reader: &mut R,
-    writer: &mut W,
-) -> Result<(FileBook<S>, Result<(), WireFault>), RunFault>
-    ensures done { IfOk result (λ it. IsReplayedIn (image_at S.Start) zone.now (R.remaining reader.old)
-        (W.contents writer.old) (W.contents writer.new) it.0 it.1) }
-    ensures bad_zone { IsErrOf result RunFault.BadZone ↔ IsNone (read_whole zone.now) }
-    ensures untouched { IfErr result (λ _. (reader.new ≡ reader.old) × (writer.new ≡ writer.old)) }
-{
-    let Ok(clock) = zone_of(zone) else {
-        return Err(RunFault::BadZone);
-    };
-    let book = open_book(rt, path, start)?;
-    Ok(replay_over(rt.alloc(), &clock, book, reader, writer))
 }

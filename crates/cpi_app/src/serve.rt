@@ -1,16 +1,15 @@
-//! The job of serving pages.
-ghost use Rattle.std.specs.Prelude.{IsNone, IsErrOf};
-ghost use Rattle.jiff.specs.Words.{read_whole};
-ghost use Rattle.cpi_app.specs.Desk.{HasNoKey};
+//! Serving connections, one after another.
+ghost use Rattle.std.specs.Prelude.{◌≤◌, ℕ, List, length, IfOk};
+ghost use Rattle.cpi_app.specs.Connection.{AreServed};
 
 use crate::connection::{is_shaken, serve_connection};
-use crate::database::{FileBook, close_book, open_book};
-use crate::desk::{Desk, desk_of};
+use crate::desk::Desk;
 use crate::fault::RunFault;
 use cpi_codes::Moment;
 use cpi_office::Office;
+use cpi_store::Book;
 use cpi_wire::WireFault;
-use sqlite::{Start, Unknown};
+use std::alloc::Global;
 use std::net::{Net, TcpListener, TcpStream};
 use std::time::{Clock, SystemTime, UNIX_EPOCH};
 
@@ -21,56 +20,8 @@ fn moment_of<C: Clock>(clock: &C) -> Option<Moment> {
     Moment::new(since.as_secs())
 }
 
-// Serves up to so many connections one after another, each at the moment of the machine's clock, until one of them
-// shakes the book. Closes the book, and answers how many connections are left. A connection that can't be accepted is one
-// of them.
-fn serve_book<S: Start>(
-    rt: &HostRuntime,
-    listener: &TcpListener,
-    limit: u32,
-    desk: &Desk,
-    book: FileBook<S>,
-) -> Result<u32, RunFault> {
-    let mut office = Office::new(rt.alloc(), book);
-    for served in 0..limit {
-        let Ok((stream, _)) = listener.accept() else {
-            continue;
-        };
-        let Some(now) = moment_of(rt) else {
-            let _ = close_book(office.into_book());
-            return Err(RunFault::NoClock);
-        };
-        if is_shaken(serve_connection(rt.alloc(), rt, &stream, now, desk, &mut office)) {
-            let _ = close_book(office.into_book());
-            return Ok(limit - served - 1);
-        }
-    }
-    close_book(office.into_book())?;
-    Ok(0)
-}
-
-// Serves so many connections, over a book that is opened again wherever one of them shook it.
-fn serve_all(
-    rt: &HostRuntime,
-    path: &str,
-    listener: &TcpListener,
-    limit: u32,
-    desk: &Desk,
-    book: FileBook<Unknown>,
-) -> Result<(), RunFault> {
-    let mut left = serve_book(rt, listener, limit, desk, book)?;
-    for _ in 0..limit {
-        if left == 0 {
-            break;
-        }
-        let book = open_book(rt, path, Unknown)?;
-        left = serve_book(rt, listener, left, desk, book)?;
-    }
-    Ok(())
-}
-
-// Listens at the port, and says so.
-fn listen<R>(rt: &R, port: u16) -> Result<TcpListener, RunFault>
+/// Listens at the port of this machine, and says so on standard output.
+pub fn listen<R>(rt: &R, port: u16) -> Result<TcpListener, RunFault>
 where
     R: Net<Listener = TcpListener, Stream = TcpStream> + Print,
 {
@@ -83,27 +34,31 @@ where
     }
 }
 
-/// Serves the pages of the office in the database file at the path at a port of this machine, for so many connections
-/// one after another. The faults are those of the zone, of the key, of the database and of the port, in this order, and
-/// then those of the run.
-pub fn run_serve(
-    rt: &HostRuntime,
-    path: &str,
-    port: u16,
-    key: &str,
+/// Serves up to so many connections one after another, each at the moment of the clock, until one of them shakes the
+/// book. Hands back the book, with how many connections are left. A connection that can't be accepted is one of them.
+pub fn serve_book<C: Clock, B: Book>(
+    alloc: Global,
+    clock: &C,
+    listener: &TcpListener,
     limit: u32,
-    zone: &str,
-) -> Result<(), RunFault>
-    ensures bad_zone { IsNone (read_whole zone.now) → IsErrOf result RunFault.BadZone }
-    ensures bad_key { HasNoKey zone.now key.now → IsErrOf result RunFault.BadKey }
+    desk: &Desk,
+    book: B,
+) -> (B, Result<u32, RunFault>)
+    ensures served { (moments : List ℕ) × (length moments ≤ limit)
+        × AreServed B.state desk.now.zone desk.now.key book moments result.0 }
+    ensures left { IfOk result.1 (λ left. left ≤ limit) }
 {
-    let desk = desk_of(zone, key)?;
-    let book = open_book(rt, path, Unknown)?;
-    match listen(rt, port) {
-        Ok(listener) => serve_all(rt, path, &listener, limit, &desk, book),
-        Err(fault) => {
-            let _ = close_book(book);
-            Err(fault)
+    let mut office = Office::new(alloc, book);
+    for served in 0..limit {
+        let Ok((stream, _)) = listener.accept() else {
+            continue;
+        };
+        let Some(now) = moment_of(clock) else {
+            return (office.into_book(), Err(RunFault::NoClock));
+        };
+        if is_shaken(serve_connection(alloc, clock, &stream, now, desk, &mut office)) {
+            return (office.into_book(), Ok(limit - served - 1));
         }
     }
+    (office.into_book(), Ok(0))
 }

@@ -6,14 +6,12 @@ ghost use Rattle.cpi_release.specs.PublishedTables.{printed_bytes};
 ghost use Rattle.cpi_release.specs.State.{Keeps};
 ghost use Rattle.cpi_app.specs.Table.{IsTable, IsWritten, IsNotWritten, IsPrinted};
 
-use crate::database::{close_book, open_book};
 use crate::fault::RunFault;
 use cpi_codes::{Moment, Month};
 use cpi_release::{Form, PrintedTable, printed};
 use cpi_sql::OpenFault;
 use cpi_store::Book;
 use cpi_wire::{WireFault, write_whole};
-use sqlite::Start;
 use std::alloc::Global;
 use std::io::Write;
 
@@ -109,24 +107,4 @@ pub fn asked_table(month: &str, form: &str, at: u64) -> Result<AskedTable, RunFa
     };
     let form = if form == "csv" { Form::Csv } else { Form::Text };
     Ok(AskedTable { month, form, until })
-}
-
-/// Prints a table from the office of the file at the path, of which `start` says how a crash is read, and answers the
-/// status to end with. Where the file can't be opened nothing is written.
-pub fn run_table<S: Start, W: Write, E: Write>(
-    rt: &HostRuntime,
-    path: &str,
-    start: S,
-    asked: AskedTable,
-    out: &mut W,
-    err: &mut E,
-) -> Result<u8, RunFault>
-    ensures untouched { IfErr result (λ _. (out.new ≡ out.old) × (err.new ≡ err.old)) }
-{
-    let AskedTable { month, form, until } = asked;
-    let mut book = open_book(rt, path, start)?;
-    let status = print_table(rt.alloc(), &mut book, month, form, until, out, err);
-    // (nothing was written to it, so that nothing is lost where its log can't be copied)
-    let _ = close_book(book);
-    Ok(status)
 }

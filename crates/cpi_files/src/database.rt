@@ -3,7 +3,7 @@ ghost use Rattle.std.specs.Prelude.{IfOk};
 ghost use Rattle.sqlite.specs.WalFiles.{image_at};
 ghost use Rattle.sqlite.specs.Files.{file_state};
 ghost use Rattle.cpi_sql.specs.Shelf.{IsCleanBook};
-ghost use Rattle.cpi_app.specs.Database.{IsOfficeOf};
+ghost use Rattle.cpi_files.specs.Database.{IsOfficeOf};
 
 use cpi_sql::{OpenFault, SqlBook};
 use sqlite::{Connection, FileFrom, FileStore, Start};

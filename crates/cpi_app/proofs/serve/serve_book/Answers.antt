@@ -1,0 +1,42 @@
+use Rattle.std.proofs.Common.{[], ◌∷◌, arith, rules}
+use Rattle.cpi_app.proofs.serve.serve_book.Goals as goal
+
+pub loop-served-init : goal.loop-served-init
+loop-served-init g c = ([], omega arith, c.new-office.ensures)
+
+-- a connection that wasn't accepted
+pub loop-served-preserved-in_default : goal.loop-served-preserved-in_default
+loop-served-preserved-in_default g c =
+    let inv = c.loop-served.invariant in
+    (inv.0, omega (arith, inv.1), inv.2)
+
+-- no clock
+pub returns-in_default-moment_of-clause-served : goal.returns-in_default-moment_of-clause-served
+returns-in_default-moment_of-clause-served g c =
+    let inv = c.loop-served.invariant in
+    (inv.0, omega (arith, inv.1, c.loop-served-test.true), rw c.into_book.ensures inv.2)
+
+-- a connection that shook the book
+pub returns-then-is_shaken-clause-served : goal.returns-then-is_shaken-clause-served
+returns-then-is_shaken-clause-served g c =
+    let inv = c.loop-served.invariant in
+    let call = c.serve_connection in (
+      c.in-Some.now ∷ inv.0,
+      omega (arith, inv.1, c.loop-served-test.true),
+      rw c.into_book-then-is_shaken.ensures
+          (c.loop-served.office.book, inv.2, (call.result, call.ensures.ok, call.ensures.err)),
+    )
+
+pub loop-served-preserved : goal.loop-served-preserved
+loop-served-preserved g c =
+    let inv = c.loop-served.invariant in
+    let call = c.serve_connection in (
+      c.in-Some.now ∷ inv.0,
+      omega (arith, inv.1),
+      (c.loop-served.office.book, inv.2, (call.result, call.ensures.ok, call.ensures.err)),
+    )
+
+pub returns-clause-served : goal.returns-clause-served
+returns-clause-served g c =
+    let inv = c.loop-served.invariant in
+    (inv.0, omega (arith, inv.1, c.loop-served.auto.served-end), rw c.into_book-2.ensures inv.2)
