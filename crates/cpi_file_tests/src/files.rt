@@ -1,0 +1,194 @@
+//! An office in a database file and its log, both in memory.
+use cpi_codes::zone_of;
+use cpi_office::Office;
+use cpi_sql::SqlBook;
+use cpi_store::{Book, VecBook};
+use cpi_wire::replay;
+use sqlite::{Connection, FileStore, Files, Options};
+use sqlite_disk::{Crash, Disk, Fuse, Memory};
+use std::alloc::Global;
+use std::io;
+use std::io::{ErrorKind, Write};
+use std::test::Fail;
+
+/// What is told to a caller who leaves at the first reply that the office is unavailable: the lines before it.
+#[derive(Drop)]
+pub(crate) struct Told {
+    pub(crate) lines: Vec<u8>,
+    /// Whether each record has its line.
+    pub(crate) is_whole: bool,
+}
+
+impl Write for Told {
+    fn write(&mut self, buf: &[u8]) -> io::Result<usize> {
+        if buf.starts_with(b"{\"refused\":90}".as_slice()) {
+            return Err(io::Error::from(ErrorKind::BrokenPipe));
+        }
+        match self.lines.extend_from_slice(buf) {
+            Ok(()) => Ok(buf.len()),
+            Err(_) => Err(io::Error::from(ErrorKind::OutOfMemory)),
+        }
+    }
+
+    fn flush(&mut self) -> io::Result<()> {
+        Ok(())
+    }
+}
+
+// Sends records to the office of a book, up to the first that is unavailable. Gives the book back.
+fn answered<B: Book>(alloc: Global, book: B, records: &str) -> (B, Told) {
+    let mut told = Told {
+        lines: Vec::new(alloc),
+        is_whole: false,
+    };
+    let Ok(zone) = zone_of("UTC0") else {
+        return (book, told);
+    };
+    let mut office = Office::new(alloc, book);
+    let done = replay(alloc, records.as_bytes(), &mut told, &zone, &mut office);
+    told.is_whole = done.is_ok();
+    (office.into_book(), told)
+}
+
+/// What is told of records in an office in memory, in which other ones were carried out before.
+pub(crate) fn told_in_memory(alloc: Global, before: &str, records: &str) -> Told {
+    let (book, _) = answered(alloc, VecBook::new(alloc), before);
+    let (_, told) = answered(alloc, book, records);
+    told
+}
+
+/// What the log and the database file hold.
+#[derive(Drop)]
+pub(crate) struct Held {
+    log: Vec<u8>,
+    db: Vec<u8>,
+}
+
+impl Held {
+    /// Files that aren't there yet.
+    pub(crate) fn nothing(alloc: Global) -> Held {
+        Held {
+            log: Vec::new(alloc),
+            db: Vec::new(alloc),
+        }
+    }
+}
+
+/// How many calls a file takes before it stops.
+#[derive(Clone, Copy, Debug, PartialEq, Eq)]
+pub(crate) struct Calls {
+    pub(crate) log: u64,
+    pub(crate) db: u64,
+}
+
+/// So many that no file stops.
+pub(crate) const ENOUGH: Calls = Calls {
+    log: u64::MAX,
+    db: u64::MAX,
+};
+
+/// What a run leaves.
+#[derive(Drop)]
+pub(crate) struct Left {
+    pub(crate) told: Told,
+    /// What the files hold.
+    pub(crate) files: Held,
+    /// What they hold where the machine stops: what was synced.
+    pub(crate) synced: Held,
+}
+
+// A file that holds the bytes, and will hold them after a crash.
+fn file_of(alloc: Global, bytes: &[u8], calls: u64) -> Result<Fuse<Memory>, Fail> {
+    let mut file = Memory::new(alloc);
+    file.write_at(0, bytes)?;
+    file.sync()?;
+    Ok(Fuse::new(file, calls))
+}
+
+fn files_of(alloc: Global, held: &Held, calls: Calls) -> Result<Files<Fuse<Memory>>, Fail> {
+    Ok(Files {
+        log: file_of(alloc, &held.log, calls.log)?,
+        db: file_of(alloc, &held.db, calls.db)?,
+    })
+}
+
+fn held_by(alloc: Global, files: &Files<Fuse<Memory>>) -> Result<Held, Fail> {
+    Ok(Held {
+        log: files.log.inner().bytes().to_vec(alloc)?,
+        db: files.db.inner().bytes().to_vec(alloc)?,
+    })
+}
+
+// The office of the files. Their log is copied into the database file whenever it is some commands long.
+fn opened<D: Disk + Drop>(alloc: Global, files: Files<D>) -> Option<SqlBook<FileStore<D>>> {
+    if !files.may_be_used() {
+        return None;
+    }
+    let mut options = Options::new(7);
+    options.checkpoint_frames = 6;
+    match Connection::open_files(alloc, files, options) {
+        Ok(conn) => SqlBook::new(alloc, conn).ok(),
+        Err(_) => None,
+    }
+}
+
+/// How an office in files is let go.
+#[derive(Clone, Copy, Debug, PartialEq, Eq)]
+pub(crate) enum End {
+    /// Its process ends.
+    Process,
+    /// It is closed.
+    Closed,
+}
+
+// The files, given back. None where they can't be closed.
+fn let_go<D: Disk + Drop>(book: SqlBook<FileStore<D>>, end: End) -> Option<Files<D>> {
+    let conn = book.into_connection();
+    if end == End::Process {
+        return Some(conn.into_store().close());
+    }
+    match conn.close_files() {
+        Ok(files) => Some(files),
+        Err((_, store)) => {
+            drop(store.close());
+            None
+        }
+    }
+}
+
+// Sends records to the office of the files, which is then let go.
+fn sent<D: Disk + Drop>(
+    alloc: Global,
+    files: Files<D>,
+    end: End,
+    records: &str,
+) -> Option<(Told, Files<D>)> {
+    let book = opened(alloc, files)?;
+    let (book, told) = answered(alloc, book, records);
+    let files = let_go(book, end)?;
+    Some((told, files))
+}
+
+/// Sends records to the office of files that hold so much and take so many calls, and lets it go. None where it can't
+/// be opened or closed.
+pub(crate) fn run(
+    alloc: Global,
+    held: &Held,
+    calls: Calls,
+    end: End,
+    records: &str,
+) -> Result<Option<Left>, Fail> {
+    let files = files_of(alloc, held, calls)?;
+    let Some((told, mut files)) = sent(alloc, files, end, records) else {
+        return Ok(None);
+    };
+    let written = held_by(alloc, &files)?;
+    files.log.crash();
+    files.db.crash();
+    let synced = held_by(alloc, &files)?;
+    Ok(Some(Left {
+        told,
+        files: written,
+        synced,
+    }))
+}

@@ -1,0 +1,194 @@
+//! Files that stop at each of their calls.
+use crate::files::{Calls, ENOUGH, End, Held, Told, run};
+use crate::script::{lines, script, states, trial};
+use std::alloc::Global;
+use std::test::Fail;
+
+// The script, what is sent to what it leaves, what that is told after each of its records, and what the files of an
+// office hold that has its tables and nothing else.
+#[derive(Drop)]
+struct Prepared {
+    script: String,
+    trial: String,
+    states: Vec<Told>,
+    made: Held,
+}
+
+fn prepare(alloc: Global) -> Result<Prepared, Fail> {
+    let trial = trial(alloc)?;
+    let states = states(alloc, trial.as_str())?;
+    let made = run(alloc, &Held::nothing(alloc), ENOUGH, End::Closed, "")?.ok_or("no office")?;
+    Ok(Prepared {
+        script: script().concat(alloc)?,
+        trial,
+        states,
+        made: made.files,
+    })
+}
+
+// What is found of a command in what the files hold.
+#[derive(Clone, Copy, Debug, PartialEq, Eq)]
+enum Found {
+    // the office before it
+    Before,
+    // the office after it
+    After,
+    // no office, or another one
+    Wrong,
+}
+
+// Whether the lines are those of the state after so many records.
+fn is_state(states: &[Told], count: usize, lines: &[u8]) -> bool {
+    match states.get(count) {
+        Some(told) => told.lines.as_slice() == lines,
+        None => false,
+    }
+}
+
+fn find(alloc: Global, prepared: &Prepared, held: &Held, place: usize) -> Result<Found, Fail> {
+    let Some(left) = run(alloc, held, ENOUGH, End::Process, prepared.trial.as_str())? else {
+        return Ok(Found::Wrong);
+    };
+    if is_state(&prepared.states, place, &left.told.lines) {
+        return Ok(Found::Before);
+    }
+    if is_state(&prepared.states, place.saturating_add(1), &left.told.lines) {
+        return Ok(Found::After);
+    }
+    Ok(Found::Wrong)
+}
+
+// What became of a run.
+#[derive(Clone, Copy, Debug, PartialEq, Eq)]
+enum Outcome {
+    // A file stopped before the office was open.
+    Unopened,
+    // A file stopped in the command at the place, all before it being answered as they are to be: what is found of it
+    // where the process ended, and where the machine did.
+    Stopped(usize, Found, Found),
+    // No file stopped.
+    Whole,
+    // The lines aren't those of the script, or what they tell isn't kept.
+    Wrong,
+}
+
+// How many lines there are.
+fn line_count(lines: &[u8]) -> usize {
+    lines.iter().filter(|byte| **byte == b'\n').count()
+}
+
+fn try_with(alloc: Global, prepared: &Prepared, calls: Calls) -> Result<Outcome, Fail> {
+    let Some(left) = run(
+        alloc,
+        &prepared.made,
+        calls,
+        End::Process,
+        prepared.script.as_str(),
+    )?
+    else {
+        return Ok(Outcome::Unopened);
+    };
+    if !lines().starts_with(&left.told.lines) {
+        return Ok(Outcome::Wrong);
+    }
+    let place = line_count(&left.told.lines);
+    let ended = find(alloc, prepared, &left.files, place)?;
+    let synced = find(alloc, prepared, &left.synced, place)?;
+    if !left.told.is_whole {
+        return Ok(Outcome::Stopped(place, ended, synced));
+    }
+    if place == script().len() && ended == Found::Before && synced == Found::Before {
+        return Ok(Outcome::Whole);
+    }
+    Ok(Outcome::Wrong)
+}
+
+// What is seen of runs in which a file stops ever later.
+#[derive(Clone, Copy, Debug, PartialEq, Eq)]
+struct Seen {
+    // how many commands were stopped, and the place of the last
+    commands: u32,
+    last: Option<usize>,
+    has_before: bool,
+    has_after: bool,
+    // how many calls were made where no file stopped
+    whole: Option<u64>,
+    // after how many calls an answered command isn't there, or one is there in part
+    wrong: Option<u64>,
+}
+
+impl Seen {
+    fn new() -> Seen {
+        Seen {
+            commands: 0,
+            last: None,
+            has_before: false,
+            has_after: false,
+            whole: None,
+            wrong: None,
+        }
+    }
+
+    fn see(&mut self, calls: u64, outcome: Outcome) {
+        match outcome {
+            Outcome::Unopened => {}
+            Outcome::Whole => self.whole = Some(calls),
+            Outcome::Wrong => self.wrong = Some(calls),
+            Outcome::Stopped(place, ended, synced) => {
+                if self.last != Some(place) {
+                    self.commands = self.commands.saturating_add(1);
+                }
+                self.last = Some(place);
+                self.has_before |= synced == Found::Before;
+                self.has_after |= ended == Found::After;
+                if ended == Found::Wrong || synced == Found::Wrong {
+                    self.wrong = Some(calls);
+                }
+            }
+        }
+    }
+}
+
+// Stops the log, or the database file, after each number of calls, until a run has no stop.
+fn see_stops(alloc: Global, is_log: bool) -> Result<Seen, Fail> {
+    let prepared = prepare(alloc)?;
+    let mut seen = Seen::new();
+    for stop in 0..1000 {
+        let calls = Calls {
+            log: if is_log { stop } else { u64::MAX },
+            db: if is_log { u64::MAX } else { stop },
+        };
+        seen.see(stop, try_with(alloc, &prepared, calls)?);
+        if seen.whole.is_some() || seen.wrong.is_some() {
+            break;
+        }
+    }
+    Ok(seen)
+}
+
+#[test]
+fn a_log_that_stops_leaves_each_command_whole_or_not_at_all(rt: HostRuntime) -> Result<(), Fail> {
+    let seen = see_stops(rt.alloc(), true)?;
+    assert_eq!(rt; seen.wrong, None);
+    assert!(rt; seen.whole.is_some());
+    // all but the two quotes that come again
+    assert_eq!(rt; seen.commands, 21);
+    assert!(rt; seen.has_before && seen.has_after);
+    Ok(())
+}
+
+#[test]
+fn a_database_file_that_stops_leaves_each_command_whole_or_not_at_all(
+    rt: HostRuntime,
+) -> Result<(), Fail> {
+    let seen = see_stops(rt.alloc(), false)?;
+    assert_eq!(rt; seen.wrong, None);
+    assert!(rt; seen.whole.is_some());
+    assert!(rt;
+        seen.commands > 1,
+        "{} commands, whole after {:?} calls",
+        seen.commands,
+        seen.whole
+    );
+    Ok(())
+}
