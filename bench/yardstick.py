@@ -6,6 +6,11 @@ price) and quotes, with the checks of an office that a valid input meets.
 
     yardstick.py < RECORDS          the office is in memory
     yardstick.py FILE < RECORDS     it is in a new database file, and each record that is accepted is one durable commit
+
+    yardstick.py --freezes FILE < RECORDS
+
+The words freeze and tables alone, over an office of docs/FORMATS.md that stands in the file. A month is computed from
+the rows that a freeze reads, and its release is one durable commit.
 """
 
 import csv
@@ -98,6 +103,157 @@ class Office:
         return {"receipt": receipt}
 
 
+MONTH_QUOTES = """SELECT a.collector, a.slot, a.item, a.last_month, q.mark, q.value FROM assignment AS a JOIN quote AS q
+    ON q.collector = a.collector AND q.slot = a.slot AND q.month = ? ORDER BY a.collector, a.slot"""
+FROZEN_QUOTES = "SELECT collector, slot, item, last_month, mark, value FROM frozen WHERE month = ?"
+CARRIED = """SELECT collector, slot, item, last_month, ticks, knum, kden, observed FROM carried WHERE month = ?
+    ORDER BY collector, slot"""
+WHOLE, MOST = 10**8, 10**15
+
+
+def rounded(a, b):
+    return (2 * a + b) // (2 * b)
+
+
+def change(before, now):
+    size = rounded(1000 * abs(now - before), before)
+    return size if now >= before else -size
+
+
+class Fault(Exception):
+    """A freeze is refused by 49, with a fault and the code where it is."""
+
+
+class Releases:
+    """The freezes of an office whose tables stand in a file, by the rules of docs/OFFICE.md."""
+
+    def __init__(self, file):
+        self.db = sqlite3.connect(file, isolation_level=None)
+        self.db.execute("PRAGMA journal_mode = WAL")
+        self.db.execute("PRAGMA synchronous = FULL")
+        self.db.execute("PRAGMA foreign_keys = ON")
+
+    def rows(self, statement, *values):
+        return self.db.execute(statement, values).fetchall()
+
+    def reply(self, fields):
+        moment, _, word, *rest = fields
+        if word == "tables":
+            rows = self.rows("SELECT month, publishes FROM release WHERE publishes <= ? ORDER BY month", int(moment))
+            return {"tables": [[text_of(at), publishes] for at, publishes in rows]}
+        at, carry = month(rest[0]), rest[1:]
+        months = [it for (it,) in self.rows("SELECT month FROM release ORDER BY month")]
+        if at in months:
+            return {"refused": 50}
+        if at != after(months[-1]) if months else at % 100 != 12:
+            return {"refused": 46}
+        window = self.rows("SELECT closes, publishes FROM calendar WHERE month = ?", at)
+        if not window:
+            return {"refused": 21}
+        if int(moment) < window[0][0]:
+            return {"refused": 47}
+        try:
+            return self.freeze(int(moment), window[0][1], at, carry, months[-1] if months else None)
+        except Fault as fault:
+            return {"code": fault.args[1], "fault": fault.args[0], "refused": 49}
+
+    def freeze(self, moment, publishes, at, carry, last):
+        quotes, prices, levels = self.rows(MONTH_QUOTES, at), [], []
+        if last:
+            nodes = self.rows("SELECT code, title, weight FROM node WHERE year = ? ORDER BY code", at // 100)
+            if not nodes:
+                return {"refused": 48}
+            link = at // 100 * 100 - 88
+            sample = self.sample(at // 100, link)
+            prices = moved(sample, self.before(sample, link, last), quotes, carry)
+            levels = [*self.table(at, link, last, nodes, sample, prices)]
+        self.db.execute("BEGIN IMMEDIATE")
+        header = at, moment, publishes, " ".join(sorted(set(carry)))
+        self.db.execute("INSERT INTO release VALUES (?, ?, ?, ?)", header)
+        self.db.executemany("INSERT INTO frozen VALUES (?, ?, ?, ?, ?, ?, ?)", ((at, *row) for row in quotes))
+        self.db.executemany(f"INSERT INTO carried VALUES ({at}, {', '.join('?' * 9)})", prices)
+        self.db.executemany(f"INSERT INTO level VALUES ({at}, {', '.join('?' * 8)})", levels)
+        self.db.execute("COMMIT")
+        return {"done": True}
+
+    def sample(self, year, link):
+        """By series, in order: the aggregate, and the base as a row of `carried`."""
+        places = dict(self.rows("SELECT item, code FROM plan_item WHERE year = ?", year))
+        bases = {row[:2]: row for row in self.rows(CARRIED, link)}
+        for collector, slot, item, last, _, value in self.rows(FROZEN_QUOTES, link):
+            if value:
+                bases[collector, slot] = collector, slot, item, last, 10_000 * value, 10_000, 1, 1
+        taken = sorted(series for series, row in bases.items() if row[3] > link and row[2] in places)
+        return {series: (places[bases[series][2]], bases[series]) for series in taken}
+
+    def before(self, sample, link, last):
+        """What the sample's series count as in the month before, as rows of `carried`."""
+        return (row for _, row in sample.values()) if last == link else self.rows(CARRIED, last)
+
+    def table(self, at, link, last, nodes, sample, prices):
+        """The rows of the table, by code."""
+        ups, downs, sums = {}, {}, {}
+        for (code, base), price in zip(sample.values(), prices):
+            ups[code] = ups.get(code, 0) + price[4]
+            downs[code] = downs.get(code, 0) + base[4]
+            if price[8]:
+                sums.setdefault(code, [0, 0])[1] = 1
+        for code, _, weight in nodes:
+            if len(code) < 11:
+                continue
+            if code not in ups:
+                raise Fault(1, code)
+            index, (_, is_imputed) = rounded(WHOLE * ups[code], downs[code]), sums.get(code, (0, 0))
+            for node in ("00", code[:2], code[:4], code[:6], code[:8], code):
+                whole = sums.setdefault(node, [0, 0])
+                whole[0] += weight * index
+                whole[1] |= is_imputed
+        links, befores, years = (
+            dict(self.rows("SELECT code, chained FROM level WHERE month = ?", it)) for it in (link, last, at - 100)
+        )
+        for code, title, weight in nodes:
+            base, within = links.get(code, WHOLE), rounded(sums[code][0], weight)
+            level = rounded(base * within, WHOLE)
+            if not 1 <= level <= MOST:
+                raise Fault(3, code)
+            year = base if at % 100 == 12 else years.get(code)
+            by_month = change(base if last == link else befores[code], level)
+            yield code, title, weight, within, level, by_month, year and change(year, level), sums[code][1]
+
+
+def moved(sample, before, quotes, carry):
+    """The carried prices of a month, by series, as rows of `carried`."""
+    found = {(collector, slot): (mark, value) for collector, slot, _, _, mark, value in quotes}
+    ups, downs, prices, rest = {}, {}, [], []
+    for row in before:
+        collector, slot, item, last, ticks, up, down, was_observed = row
+        code, mark, value = sample[collector, slot][0], *found.get((collector, slot), ("", 0))
+        if mark != "price" and mark != "comparable":
+            rest.append((len(prices), code, value))
+            prices.append(row)
+            continue
+        now = (2 * value * up + down) // (2 * down)
+        if was_observed:
+            ups[code] = ups.get(code, 0) + now
+            downs[code] = downs.get(code, 0) + ticks
+        prices.append((collector, slot, item, last, now, up, down, 1, 0))
+    for at, code, value in rest:
+        collector, slot, item, last, ticks, up, down, _ = prices[at]
+        if code in downs:
+            ticks = (2 * ticks * ups[code] + downs[code]) // (2 * downs[code])
+        elif code not in carry:
+            raise Fault(2, min(code for _, code, _ in rest if code not in downs and code not in carry))
+        prices[at] = (collector, slot, item, last, ticks, *((ticks, value, 1) if value else (up, down, 0)), 1)
+    for row in prices:
+        if not 1 <= row[4] <= MOST:
+            raise Fault(3, min(sample[row[:2]][0] for row in prices if not 1 <= row[4] <= MOST))
+    return prices
+
+
+def after(at):
+    return at + 1 if at % 100 < 12 else at + 89
+
+
 def month(text):
     return int(text[:4]) * 100 + int(text[5:])
 
@@ -107,7 +263,8 @@ def text_of(at):
 
 
 def main():
-    office = Office(sys.argv[1] if len(sys.argv) > 1 else None)
+    words = sys.argv[1:]
+    office = Releases(words[1]) if words[:1] == ["--freezes"] else Office(words[0] if words else None)
     for fields in csv.reader(sys.stdin):
         sys.stdout.write(json.dumps(office.reply(fields), separators=(",", ":"), sort_keys=True) + "\n")
 
