@@ -11,4 +11,5 @@ pub mod Sound
 pub mod GroupAt
 pub mod Walks
 pub mod Late
+pub mod LatestRows
 pub mod Texts

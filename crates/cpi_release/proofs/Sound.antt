@@ -86,7 +86,7 @@ can_ask s month p frozen order after h = record {
 }
 
 abbrev release_with : Freeze → List Carried → List Level → Release
-release_with x carried levels = record { month = x.month; frozen_at = x.frozen_at; publishes = x.publishes; frozen = x.frozen; carry = x.carry; carried = carried; levels = levels }
+release_with x carried levels = record { month = x.month; revision = x.revision; frozen_at = x.frozen_at; publishes = x.publishes; frozen = x.frozen; carry = x.carry; carried = carried; levels = levels }
 
 pub released : (p : Plan) (releases : List Release) (x : Freeze) (carried : List Carried) (levels : List Level) (r : Release) → r ≡ release_with x carried levels → carried ≡ carry_month p (rows_in p releases x.month x.frozen) → levels ≡ table_of p releases x.month (rows_in p releases x.month x.frozen) → r ≡ published (Some p) releases x
 released p releases x carried levels r e c l = e ∙ ap (λ z. release_with x z levels) c ∙ ap (release_with x (carry_month p (rows_in p releases x.month x.frozen))) l

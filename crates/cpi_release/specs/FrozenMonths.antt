@@ -1,27 +1,27 @@
 -- Which months were frozen, which may be frozen next, and by which plan.
-use Rattle.std.specs.Prelude.{ℕ, ◌+◌, ◌%◌, ◌==◌, ◌&&◌, Bool, nat_lt, List, [], ◌∷◌, map, Option, None, is_none}
-use Rattle.std.specs.Prelude.{if◌then◌else◌}
+use Rattle.std.specs.Prelude.{ℕ, ◌+◌, ◌%◌, ◌==◌, ◌&&◌, ◌||◌, Bool, false, not, nat_lt, List, [], ◌∷◌, map}
+use Rattle.std.specs.Prelude.{Option, None, Some, is_none, if◌then◌else◌}
 use Rattle.std.specs.List.{list_any}
 use Rattle.std.specs.declared.cmp.Ordering.{Ordering}
-use Rattle.std.specs.Ordering.{nat_cmp}
+use Rattle.std.specs.Ordering.{nat_cmp, ordering_then}
 use Rattle.cpi_codes.specs.Month.{year_of}
 use Rattle.cpi_rows.specs.Keyed.{at}
 use Rattle.cpi_plan.specs.Plan.{Plan}
 use Rattle.cpi_release.specs.declared.release.Release.{Release}
 use Rattle.cpi_release.specs.declared.frozen_month.FrozenMonth.{FrozenMonth}
 
--- what releases and their tables are listed by
+-- what releases and their tables are listed by: month, and then revision
 abbrev pub ReleaseKey : Type 0
-ReleaseKey = ℕ
+ReleaseKey = ℕ × ℕ
 
 abbrev pub release_cmp : ReleaseKey → ReleaseKey → Ordering
-release_cmp a b = nat_cmp a b
+release_cmp a b = ordering_then (nat_cmp a.0 b.0) (nat_cmp a.1 b.1)
 
 abbrev pub release_key : Release → ReleaseKey
-release_key r = r.month
+release_key r = (r.month, r.revision)
 
 abbrev pub frozen_month : Release → FrozenMonth
-frozen_month r = record { month = r.month; publishes = r.publishes }
+frozen_month r = record { month = r.month; revision = r.revision; publishes = r.publishes }
 
 abbrev pub frozen_months : List Release → List FrozenMonth
 frozen_months releases = map frozen_month releases
@@ -37,12 +37,41 @@ is_year_frozen year frozen = list_any (λ f. year_of f.month == year) frozen
 abbrev pub is_after_first : ℕ → List FrozenMonth → Bool
 is_after_first month frozen = list_any (λ f. nat_lt f.month month) frozen
 
--- the month after the last one, or a December where there is none
-abbrev pub is_next : ℕ → List FrozenMonth → Bool
-is_next month [] = month % 12 == 11
-is_next month (last ∷ []) = month == last.month + 1
-is_next month (_ ∷ later ∷ frozen) = is_next month (later ∷ frozen)
+-- the last frozen month, in its latest revision
+abbrev pub last_frozen : List FrozenMonth → Option FrozenMonth
+last_frozen [] = None
+last_frozen (last ∷ []) = Some last
+last_frozen (_ ∷ later ∷ frozen) = last_frozen (later ∷ frozen)
 
+-- ---- what may be frozen next
+-- the last one again, or the month after it; a December where there is none
+abbrev pub follows : ℕ → Option FrozenMonth → Bool
+follows month None = month % 12 == 11
+follows month (Some last) = last.month == month || month == last.month + 1
+
+abbrev pub is_next : ℕ → List FrozenMonth → Bool
+is_next month frozen = follows month (last_frozen frozen)
+
+-- the revision in which such a month is frozen: one more than the last one has, if it is that one, else the first
+abbrev pub revision_after : ℕ → Option FrozenMonth → ℕ
+revision_after month None = 1
+revision_after month (Some last) = if last.month == month then last.revision + 1 else 1
+
+abbrev pub next_revision : ℕ → List FrozenMonth → ℕ
+next_revision month frozen = revision_after month (last_frozen frozen)
+
+-- ---- what may be frozen again
+-- the last one, with a table that is published later than that of its latest revision, of which it has fewer than nine
+abbrev pub is_reopened : ℕ → Option ℕ → Option FrozenMonth → Bool
+is_reopened month publishes None = false
+is_reopened month None (Some last) = false
+is_reopened month (Some publishes) (Some last) =
+    last.month == month && nat_lt last.revision 9 && nat_lt last.publishes publishes
+
+abbrev pub stays_frozen : ℕ → Option ℕ → List FrozenMonth → Bool
+stays_frozen month publishes frozen = is_frozen month frozen && not (is_reopened month publishes (last_frozen frozen))
+
+-- ---- plans
 -- the plan of the month's year, which the first release doesn't use
 abbrev pub plan_for : List Plan → List FrozenMonth → ℕ → Option Plan
 plan_for plans frozen month = if is_after_first month frozen then at (λ y. y.year) (year_of month) plans else None

@@ -45,7 +45,14 @@ abbrev pub priced : ℕ → ℕ → Mark → Frozen
 priced slot item mark = quote slot item 335 mark
 
 abbrev pub freeze : ℕ → List Frozen → Freeze
-freeze month quotes = record { month = month; frozen_at = 0; publishes = 0; frozen = quotes; carry = [] }
+freeze month quotes = record {
+  month = month;
+  revision = 1;
+  frozen_at = 0;
+  publishes = 0;
+  frozen = quotes;
+  carry = [];
+}
 
 abbrev pub under_carry : List Code → Freeze → Freeze
 under_carry aggregates x = record x { carry = aggregates }
@@ -75,6 +82,7 @@ fault_after plans before x = fault_of (plan_of plans before x.month) before x
 abbrev pub december : ℕ → List Frozen → List Carried → List Level → Release
 december month quotes carried levels = record {
   month = month;
+  revision = 1;
   frozen_at = 0;
   publishes = 0;
   frozen = quotes;

@@ -1,4 +1,5 @@
 pub mod Change
+pub mod Latest
 pub mod Releases
 pub mod MonthTable
 pub mod Publishing

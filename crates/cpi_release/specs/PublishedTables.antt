@@ -1,7 +1,8 @@
 -- Which tables are published at a moment, and how one is printed.
-use Rattle.std.specs.Prelude.{ℕ, nat_le, List, map, filter}
+use Rattle.std.specs.Prelude.{ℕ, ◌==◌, nat_le, Bool, true, List, Option, None, Some, map, filter}
 use Rattle.cpi_release.specs.TextTable.{text_table}
 use Rattle.cpi_release.specs.CsvTable.{csv_table}
+use Rattle.cpi_release.specs.Latest.{latest}
 use Rattle.cpi_release.specs.FrozenMonths.{ReleaseKey}
 use Rattle.cpi_release.specs.declared.level.Level.{Level}
 use Rattle.cpi_release.specs.declared.release.Release.{Release}
@@ -11,14 +12,20 @@ use Rattle.cpi_release.specs.declared.form.Form.TheVariants.{Text, Csv}
 
 pub record PublishedTable : Type 0 where
   pub month : ℕ
+  pub revision : ℕ
   pub publishes : ℕ
   pub levels : List Level
 
 abbrev pub published_table : Release → PublishedTable
-published_table r = record { month = r.month; publishes = r.publishes; levels = r.levels }
+published_table r = record {
+  month = r.month;
+  revision = r.revision;
+  publishes = r.publishes;
+  levels = r.levels;
+}
 
 abbrev pub published_key : PublishedTable → ReleaseKey
-published_key t = t.month
+published_key t = (t.month, t.revision)
 
 -- the tables whose moment of publishing has come
 abbrev pub published_until : ℕ → List Release → List PublishedTable
@@ -26,8 +33,16 @@ published_until now releases = map published_table (filter (λ r. nat_le r.publi
 
 -- what is told of a table without its rows
 abbrev pub frozen_month_of : PublishedTable → FrozenMonth
-frozen_month_of t = record { month = t.month; publishes = t.publishes }
+frozen_month_of t = record { month = t.month; revision = t.revision; publishes = t.publishes }
 
-abbrev pub printed_bytes : Form → ℕ → List Level → List ℕ
-printed_bytes Text month levels = text_table month levels
-printed_bytes Csv month levels = csv_table levels
+-- ---- the table that is asked for: of a month in one revision, or, where none is named, in the latest
+abbrev pub is_asked : Option ℕ → ℕ → Bool
+is_asked None revision = true
+is_asked (Some asked) revision = revision == asked
+
+abbrev pub asked_table : ℕ → Option ℕ → List PublishedTable → Option PublishedTable
+asked_table month revision tables = latest (λ t. t.month) month (filter (λ t. is_asked revision t.revision) tables)
+
+abbrev pub printed_bytes : Form → ℕ → ℕ → List Level → List ℕ
+printed_bytes Text month revision levels = text_table month revision levels
+printed_bytes Csv month revision levels = csv_table levels

@@ -1,5 +1,5 @@
 -- What a freeze publishes, and which histories are sound.
-use Rattle.std.specs.Prelude.{◌≡◌, ℕ, ◌+◌, ◌<◌, ◌%◌, Bool, true, List, [], ◌∷◌, ◌++◌, length, map, fold, Contains}
+use Rattle.std.specs.Prelude.{◌≡◌, ◌⊎◌, ℕ, ◌+◌, ◌<◌, ◌%◌, Bool, true, List, [], ◌∷◌, ◌++◌, length, map, fold, Contains}
 use Rattle.std.specs.Prelude.{Option, Some, None, IsSome, nat_lt, slice_index_or, if◌then◌else◌}
 use Rattle.std.specs.List.{list_any}
 use Rattle.std.specs.Ordering.{nat_cmp}
@@ -19,6 +19,7 @@ use Rattle.cpi_release.specs.declared.release.Release.{Release}
 -- what is frozen with a release
 pub record Freeze : Type 0 where
   pub month : ℕ
+  pub revision : ℕ
   pub frozen_at : ℕ
   pub publishes : ℕ
   pub frozen : List Frozen
@@ -27,6 +28,7 @@ pub record Freeze : Type 0 where
 abbrev pub freeze_of : Release → Freeze
 freeze_of r = record {
   month = r.month;
+  revision = r.revision;
   frozen_at = r.frozen_at;
   publishes = r.publishes;
   frozen = r.frozen;
@@ -45,6 +47,7 @@ plan_of plans releases month = if has_earlier releases month then at (λ p. p.ye
 abbrev pub published : Option Plan → List Release → Freeze → Release
 published plan releases x = record {
   month = x.month;
+  revision = x.revision;
   frozen_at = x.frozen_at;
   publishes = x.publishes;
   frozen = x.frozen;
@@ -71,10 +74,11 @@ abbrev pub all_frozen : List Release → List Frozen
 all_frozen [] = []
 all_frozen (r ∷ rs) = r.frozen ++ all_frozen rs
 
--- the first month is a December, and each further one follows the one before
+-- the first month is a December, and each further one is the one before again, or follows it
 pub record AreMonths (months : List ℕ) : Type 0 where
   pub first : (d : ℕ) → 0 < length months → slice_index_or months 0 d % 12 ≡ 11
-  pub next : (k : ℕ) (d : ℕ) → k + 1 < length months → slice_index_or months (k + 1) d ≡ slice_index_or months k d + 1
+  pub next : (k : ℕ) (d : ℕ) → k + 1 < length months → (slice_index_or months (k + 1) d ≡ slice_index_or months k d)
+      ⊎ (slice_index_or months (k + 1) d ≡ slice_index_or months k d + 1)
 
 -- a release whose lists are in their order
 pub record IsOrdered (r : Release) : Type 0 where
@@ -82,7 +86,8 @@ pub record IsOrdered (r : Release) : Type 0 where
   pub carried : is_by_series carried_serial r.carried ≡ true
   pub levels : IsInOrder code_cmp (λ l. l.code) r.levels
 
--- releases that a month can be read from: month follows month from a December, and the lists of each are in their order
+-- releases that a month can be read from: month follows month from a December, each once or in revisions that follow one
+-- another, and the lists of the latest are in their order
 pub record AreInOrder (releases : List Release) : Type 0 where
   pub months : AreMonths (map (λ r. r.month) releases)
   pub ordered : (month : ℕ) (r : Release) → release_of releases month ≡ Some r → IsOrdered r

@@ -4,13 +4,14 @@ use Rattle.std.specs.Prelude.{if◌then◌else◌}
 use Rattle.std.specs.Option.{option_map_or}
 use Rattle.cpi_codes.specs.CodeOrder.{code_cmp}
 use Rattle.cpi_codes.specs.declared.codes.Code.{Code}
-use Rattle.cpi_rows.specs.Keyed.{row_at, at}
+use Rattle.cpi_rows.specs.Keyed.{row_at}
 use Rattle.cpi_plan.specs.Plan.{Plan}
 use Rattle.cpi_index.specs.Carried.{Carried}
 use Rattle.cpi_index.specs.Frozen.{Frozen}
 use Rattle.cpi_index.specs.Row.{Row}
 use Rattle.cpi_index.specs.Sample.{bases_of_year}
 use Rattle.cpi_index.specs.Month.{rows_of}
+use Rattle.cpi_release.specs.Latest.{latest}
 use Rattle.cpi_release.specs.declared.level.Level.{Level}
 use Rattle.cpi_release.specs.declared.release.Release.{Release}
 
@@ -26,9 +27,9 @@ abbrev pub is_december : ℕ → Bool
 is_december month = month % 12 == 11
 
 -- ---- what stands in the releases
--- the release of a month, by which every earlier month is read
+-- the latest release of a month, by which every earlier month is read
 abbrev pub release_of : List Release → ℕ → Option Release
-release_of releases month = at (λ r. r.month) month releases
+release_of releases month = latest (λ r. r.month) month releases
 
 abbrev pub frozen_of : List Release → ℕ → List Frozen
 frozen_of releases month = option_map_or (λ r. r.frozen) (release_of releases month) []

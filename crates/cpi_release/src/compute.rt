@@ -11,6 +11,7 @@ use crate::by_group::{Made, make};
 use crate::freeze_fault::FreezeFault;
 use crate::groups::Groups;
 use crate::release::Release;
+use crate::revision::Revision;
 use cpi_codes::{Code, Moment, Month};
 use cpi_index::FrozenQuote;
 use cpi_plan::YearPlan;
@@ -20,6 +21,7 @@ use std::alloc::Global;
 // The release of what is frozen and what was made of it.
 fn release_with(
     month: Month,
+    revision: Revision,
     frozen_at: Moment,
     publishes: Moment,
     frozen: Vec<FrozenQuote>,
@@ -28,6 +30,7 @@ fn release_with(
 ) -> Release
     ensures { result ≡ record {
       month = month;
+      revision = revision;
       frozen_at = frozen_at;
       publishes = publishes;
       frozen = frozen.items;
@@ -38,6 +41,7 @@ fn release_with(
 {
     Release {
         month,
+        revision,
         frozen_at,
         publishes,
         frozen: Rows::of(frozen),
@@ -56,6 +60,7 @@ impl Release {
         groups: &mut G,
         plan: Option<&YearPlan>,
         month: Month,
+        revision: Revision,
         frozen_at: Moment,
         publishes: Moment,
         frozen: Vec<FrozenQuote>,
@@ -66,10 +71,12 @@ impl Release {
         ensures count { (G.holds groups.old).failures ≤ (G.holds groups.new).failures }
         ensures group { IfErr result (λ f. f ≡ Group → (G.holds groups.old).failures < (G.holds groups.new).failures) }
         ensures month { IfOk result (λ r. r.month ≡ month) }
+        ensures revision { IfOk result (λ r. r.revision ≡ revision) }
         ensures exact { (G.holds groups.new).is_clean → G.is_sound (G.holds groups.old).held →
             let s = G.sources (G.holds groups.old).held in
             let x : Freeze = record {
               month = month;
+              revision = revision;
               frozen_at = frozen_at;
               publishes = publishes;
               frozen = frozen.items;
@@ -85,12 +92,14 @@ impl Release {
                 carried: Vec::new(alloc),
                 levels: Vec::new(alloc),
             };
-            return Ok(release_with(month, frozen_at, publishes, frozen, carry, nothing));
+            return Ok(release_with(
+                month, revision, frozen_at, publishes, frozen, carry, nothing,
+            ));
         };
         let made = match make(alloc, groups, plan, month, &carry) {
             Ok(made) => made,
             Err(fault) => return Err(fault),
         };
-        Ok(release_with(month, frozen_at, publishes, frozen, carry, made))
+        Ok(release_with(month, revision, frozen_at, publishes, frozen, carry, made))
     }
 }

@@ -1,9 +1,11 @@
 //! What is told of a frozen month without its table.
+use crate::revision::Revision;
 use cpi_codes::{Moment, Month};
 
-/// A frozen month, and the moment at which its table is published.
+/// A frozen month in one of its revisions, and the moment at which the table of that revision is published.
 #[derive(Clone, Copy, Debug, PartialEq, Eq)]
 pub struct FrozenMonth {
     pub month: Month,
+    pub revision: Revision,
     pub publishes: Moment,
 }

@@ -26,6 +26,7 @@ mod pass;
 mod passing;
 mod printed_table;
 mod release;
+mod revision;
 mod text_table;
 mod whole;
 
@@ -46,4 +47,5 @@ pub use level::Level;
 pub use month_rows::level_in;
 pub use printed_table::{PrintedTable, printed};
 pub use release::{History, Release};
+pub use revision::Revision;
 pub use text_table::table_text;

@@ -23,16 +23,17 @@ use std::alloc::{AllocError, Global};
 
 const JANUARY: u8 = 1;
 
-// The release of a month.
+// The latest release of a month.
 fn release_of(releases: &[Release], month: Month) -> Option<&Release>
     ensures { option_copied result ≡ release_in releases.now month }
 {
+    let mut found = None;
     for release in releases {
         if release.month == month {
-            return Some(release);
+            found = Some(release);
         }
     }
-    None
+    found
 }
 
 // The carried prices of a month.

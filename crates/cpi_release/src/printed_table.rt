@@ -7,6 +7,7 @@ ghost use Rattle.cpi_release.specs.CsvTable.{csv_table};
 use crate::csv_table::csv_bytes;
 use crate::form::Form;
 use crate::level::Level;
+use crate::revision::Revision;
 use crate::text_table::{heading, line_of};
 use cpi_codes::Month;
 use std::alloc::{AllocError, Global};
@@ -44,10 +45,15 @@ impl PrintedTable {
 }
 
 // The lines of a table, one after the other.
-fn lines(alloc: Global, month: Month, levels: &[Level]) -> Result<String, AllocError>
-    ensures { IfOk result (λ text. string_bytes text ≡ text_table month levels.now) }
+fn lines(
+    alloc: Global,
+    month: Month,
+    revision: Revision,
+    levels: &[Level],
+) -> Result<String, AllocError>
+    ensures { IfOk result (λ text. string_bytes text ≡ text_table month revision levels.now) }
 {
-    let mut text = heading(alloc, month)?;
+    let mut text = heading(alloc, month, revision)?;
     for level in levels {
         let line = line_of(alloc, level)?;
         text.push_str(line.as_str())?;
@@ -68,17 +74,18 @@ fn records(alloc: Global, levels: &[Level]) -> Result<String, AllocError>
     }
 }
 
-/// Prints the table of a month.
+/// Prints the table of a month in one of its revisions.
 pub fn printed(
     alloc: Global,
     form: Form,
     month: Month,
+    revision: Revision,
     levels: &[Level],
 ) -> Result<PrintedTable, AllocError>
-    ensures { IfOk result (λ printed. printed ≡ printed_bytes form month levels.now) }
+    ensures { IfOk result (λ printed. printed ≡ printed_bytes form month revision levels.now) }
 {
     let text = match form {
-        Form::Text => lines(alloc, month, levels)?,
+        Form::Text => lines(alloc, month, revision, levels)?,
         Form::Csv => records(alloc, levels)?,
     };
     Ok(PrintedTable { text })

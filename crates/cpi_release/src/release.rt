@@ -4,15 +4,18 @@ ghost use Rattle.cpi_release.specs.FrozenMonths.{frozen_month};
 
 use crate::frozen_month::FrozenMonth;
 use crate::level::Level;
+use crate::revision::Revision;
 use cpi_codes::{Code, Moment, Month};
 use cpi_index::{CarriedPrice, FrozenQuote};
 use cpi_plan::YearPlan;
 use cpi_rows::{Keyed, Rows};
 
-/// The release of a month: what was frozen, and what the index made of it.
+/// The release of a month in one of its revisions: what was frozen, and what the index made of it.
 #[derive(Debug, Drop)]
 pub struct Release {
     pub month: Month,
+    /// 1 where the month was frozen first.
+    pub revision: Revision,
     /// When the month was frozen.
     pub frozen_at: Moment,
     /// When its table is published.
@@ -27,7 +30,7 @@ pub struct Release {
     pub levels: Rows<Level>,
 }
 
-/// The plans by year, and the releases by month.
+/// The plans by year, and the releases by month and revision.
 #[derive(Debug, Drop)]
 pub struct History {
     pub plans: Rows<YearPlan>,
@@ -35,22 +38,23 @@ pub struct History {
 }
 
 impl Keyed for Release {
-    type Key = Month;
+    type Key = (Month, Revision);
 
-    ghost key = { λ r. r.month };
+    ghost key = { λ r. (r.month, r.revision) };
 
-    fn key(&self) -> Month {
-        self.month
+    fn key(&self) -> (Month, Revision) {
+        (self.month, self.revision)
     }
 }
 
 impl Release {
-    /// The release's month, and when its table is published.
+    /// The release's month and revision, and when its table is published.
     pub fn frozen_month(&self) -> FrozenMonth
         ensures { result ≡ frozen_month self.now }
     {
         FrozenMonth {
             month: self.month,
+            revision: self.revision,
             publishes: self.publishes,
         }
     }

@@ -14,6 +14,7 @@ use crate::freeze_fault::FreezeFault;
 use crate::history_groups::HistoryGroups;
 use crate::month_rows::plan_of;
 use crate::release::{History, Release};
+use crate::revision::Revision;
 use cpi_codes::{Code, Moment, Month};
 use cpi_index::{FrozenQuote, IndexFault};
 use std::alloc::Global;
@@ -41,6 +42,7 @@ fn over(
     history: &History,
     lent: &[FrozenQuote],
     month: Month,
+    revision: Revision,
     frozen_at: Moment,
     publishes: Moment,
     frozen: Vec<FrozenQuote>,
@@ -50,6 +52,7 @@ fn over(
         let plan = plan_in plans releases month in
         let x : Freeze = record {
           month = month;
+          revision = revision;
           frozen_at = frozen_at;
           publishes = publishes;
           frozen = frozen.items;
@@ -68,6 +71,7 @@ fn over(
             &mut groups,
             plan,
             month,
+            revision,
             frozen_at,
             publishes,
             frozen,
@@ -79,6 +83,7 @@ fn over(
             &mut groups,
             None,
             month,
+            revision,
             frozen_at,
             publishes,
             frozen,
@@ -95,6 +100,7 @@ impl Release {
         alloc: Global,
         history: &History,
         month: Month,
+        revision: Revision,
         frozen_at: Moment,
         publishes: Moment,
         frozen: Vec<FrozenQuote>,
@@ -104,6 +110,7 @@ impl Release {
             let plan = plan_in plans releases month in
             let x : Freeze = record {
               month = month;
+              revision = revision;
               frozen_at = frozen_at;
               publishes = publishes;
               frozen = frozen.items;
@@ -120,7 +127,7 @@ impl Release {
             return Err(IndexFault::NoMemory);
         };
         let computed = over(
-            alloc, history, &lent, month, frozen_at, publishes, frozen, carry,
+            alloc, history, &lent, month, revision, frozen_at, publishes, frozen, carry,
         );
         match computed {
             Ok(release) => Ok(release),

@@ -16,7 +16,7 @@ use crate::told::tell;
 use cpi_codes::{Moment, Month};
 use cpi_index::FrozenQuote;
 use cpi_plan::YearPlan;
-use cpi_release::{History, HistoryGroups, Release, table_csv};
+use cpi_release::{History, HistoryGroups, Release, Revision, table_csv};
 use cpi_rows::Rows;
 use std::process::ExitCode;
 use std::time::Instant;
@@ -77,6 +77,7 @@ fn release(
         &mut groups,
         plan,
         month,
+        Revision::first(),
         moment,
         moment,
         frozen,

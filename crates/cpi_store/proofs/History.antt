@@ -1,9 +1,11 @@
 -- What a sound office says of its releases, in the words of the index.
-use Rattle.std.proofs.Common.{◌≡◌, ℕ, zero, suc, ◌+◌, ◌<◌, Bool, true, false, List, [], ◌∷◌, ◌++◌, map, length, Some, None, Option, refl, sym, ap, ◌∙◌, subst, arith, append_assoc}
+use Rattle.std.proofs.Common.{◌≡◌, ◌≢◌, ◌⊎◌, inl, inr, eqb, ℕ, zero, suc, ◌+◌, ◌<◌, ◌≤◌, Bool, true, false, List, [], ◌∷◌, ◌++◌, map, length, Some, None, Option, refl, sym, ap, ◌∙◌, subst, arith, append_assoc}
 use Rattle.std.specs.Prelude.{◌%◌, ◌==◌, ◌||◌, ◌&&◌, nat_lt, is_none, IsSome, fold, slice_index_or, if◌then◌else◌}
 use Rattle.std.specs.List.{AllByRecursion}
-use Rattle.std.specs.declared.cmp.Ordering.TheVariants.{Less}
-use Rattle.std.specs.Ordering.{nat_cmp, is_eq}
+use Rattle.std.specs.declared.cmp.Ordering.{Ordering}
+use Rattle.std.specs.declared.cmp.Ordering.TheVariants.{Less, Equal, Greater}
+use Rattle.std.specs.Ordering.{nat_cmp, is_eq, ordering_then}
+use Rattle.std.proofs.lemmas.Bool.Decides.{eqb_tells}
 use Rattle.std.proofs.lemmas.Bool.{eqb-true, false≢true, lt-leb}
 use Rattle.std.proofs.lemmas.Cmp.{ranked}
 use Rattle.std.proofs.lemmas.Map.Keys.{sorted_head, sorted_tail}
@@ -14,16 +16,16 @@ use Rattle.cpi_codes.specs.CodeOrder.{code_cmp}
 use Rattle.std.specs.List.Sorted.{IsStrictlySortedBy}
 use Rattle.cpi_rows.proofs.Places.{none_in_order}
 use Rattle.cpi_rows.specs.Keyed.{at, IsInOrder}
-use Rattle.cpi_rows.proofs.Found.{at_key}
 use Rattle.cpi_plan.specs.Plan.{Plan}
 use Rattle.cpi_plan.specs.declared.plan_rows.Node.{Node}
 use Rattle.cpi_index.specs.Row.{Row}
 use Rattle.cpi_index.specs.Series.{is_by_series, frozen_serial, carried_serial}
-use Rattle.cpi_release.specs.FrozenMonths.{frozen_months, is_next, is_after_first, release_cmp, release_key, plan_for}
+use Rattle.cpi_release.specs.FrozenMonths.{ReleaseKey, frozen_months, is_next, is_after_first, release_cmp, release_key, plan_for}
 use Rattle.cpi_release.specs.Publishing.{Freeze, published, freeze_of, has_earlier, plan_of, AreMonths, IsOrdered}
-use Rattle.cpi_release.specs.Releases.{rows_in}
+use Rattle.cpi_release.specs.Releases.{release_of, rows_in}
 use Rattle.cpi_release.specs.MonthTable.{level_row}
 use Rattle.cpi_release.specs.declared.level.Level.{Level}
+use Rattle.cpi_release.proofs.LatestRows.{latest_all}
 use Rattle.cpi_release.proofs.Sound.{carry_in_order}
 use Rattle.cpi_release.specs.declared.release.Release.{Release}
 use Rattle.cpi_store.specs.PublishedReleases.{IsPublished, ArePublished}
@@ -54,55 +56,84 @@ module _ (plans : List Plan) where
       ∙ all_same (before ++ r ∷ []) rs all.1
       ∙ append_assoc before (r ∷ []) rs
 
-  -- ---- one month after the other
-  next_after : (month : ℕ) (before : List Release) (x : Release) → is_next month (frozen_months (before ++ x ∷ [])) ≡ (month == x.month + 1)
+  -- ---- a month again, or the one after it
+  pub next_after : (month : ℕ) (before : List Release) (x : Release) → is_next month (frozen_months (before ++ x ∷ [])) ≡ (x.month == month || month == x.month + 1)
   next_after month [] x = refl
   next_after month (b ∷ []) x = refl
   next_after month (b ∷ d ∷ before) x = next_after month (d ∷ before) x
 
-  steps : (before : List Release) (x : Release) (rs : List Release) → ArePublished plans (before ++ x ∷ []) rs → (k d : ℕ) → k + 1 < length (x.month ∷ map (λ (r : Release). r.month) rs) →
-      slice_index_or (x.month ∷ map (λ (r : Release). r.month) rs) (k + 1) d ≡ slice_index_or (x.month ∷ map (λ (r : Release). r.month) rs) k d + 1
+  pub again_or_next : (a b : ℕ) → (a == b || b == a + 1) ≡ true → (b ≡ a) ⊎ (b ≡ a + 1)
+  again_or_next a b e = by (eqb_tells a b)
+    where
+      by : ((eqb a b ≡ true) × (a ≡ b)) ⊎ ((eqb a b ≡ false) × (a ≢ b)) → (b ≡ a) ⊎ (b ≡ a + 1)
+      by (inl same) = inl (sym same.1)
+      by (inr apart) = inr (eqb-true b (a + 1) (rw apart.0 at e))
+
+  abbrev months_in : Release → List Release → List ℕ
+  months_in x rs = x.month ∷ map (λ (r : Release). r.month) rs
+
+  steps : (before : List Release) (x : Release) (rs : List Release) → ArePublished plans (before ++ x ∷ []) rs → (k d : ℕ) → k + 1 < length (months_in x rs) →
+      (slice_index_or (months_in x rs) (k + 1) d ≡ slice_index_or (months_in x rs) k d) ⊎ (slice_index_or (months_in x rs) (k + 1) d ≡ slice_index_or (months_in x rs) k d + 1)
   steps before x [] all k d lt = absurd (omega (arith, lt))
-  steps before x (r ∷ rs) all zero d lt = eqb-true r.month (x.month + 1) (sym (next_after r.month before x) ∙ all.0.follows)
+  steps before x (r ∷ rs) all zero d lt = again_or_next x.month r.month (sym (next_after r.month before x) ∙ all.0.follows)
   steps before x (r ∷ rs) all (suc k) d lt =
       let one : suc k + 1 ≡ suc (k + 1) = omega arith in
-      ap (λ n. slice_index_or (x.month ∷ r.month ∷ map (λ (r : Release). r.month) rs) n d) one
-      ∙ steps (before ++ x ∷ []) r rs all.1 k d (omega (arith, lt))
+      let here = ap (λ n. slice_index_or (months_in x (r ∷ rs)) n d) one in
+      elim (steps (before ++ x ∷ []) r rs all.1 k d (omega (arith, lt))) [
+        | inl again ↦ inl (here ∙ again)
+        | inr next ↦ inr (here ∙ next)
+      ]
 
   months : (rs : List Release) → ArePublished plans [] rs → AreMonths (map (λ r. r.month) rs)
   months [] all = record { first = λ d lt. absurd (omega (arith, lt)); next = λ k d lt. absurd (omega (arith, lt)) }
   months (r ∷ rs) all = record { first = λ d lt. eqb-true (r.month % 12) 11 all.0.follows; next = λ k d lt. steps [] r rs all.1 k d lt }
 
   -- ---- each but the first has its plan
-  none_below : (month : ℕ) (rs : List Release) → AllByRecursion (λ (s : Release). nat_cmp month s.month ≡ Less) rs → has_earlier rs month ≡ false
-  none_below month [] all = refl
-  none_below month (s ∷ rs) all =
-      let above : month < s.month = ranked month s.month Less (sym all.0) in
-      rw (lt-leb (suc s.month) month (omega (arith, above))) (none_below month rs all.1)
+  pub month_up : (a b : ReleaseKey) → release_cmp a b ≡ Less → a.0 ≤ b.0
+  month_up a b e = by (nat_cmp a.0 b.0) refl
+    where
+      by : (o : Ordering) → nat_cmp a.0 b.0 ≡ o → a.0 ≤ b.0
+      by Less f = omega (arith, ranked a.0 b.0 Less (sym f))
+      by Equal f = omega (arith, ranked a.0 b.0 Equal (sym f))
+      by Greater f = let no : Greater ≡ Less = sym (ap (λ o. ordering_then o (nat_cmp a.1 b.1)) f) ∙ e in cc
+
+  none_earlier : (r : Release) (rs : List Release) → AllByRecursion (λ (s : Release). release_cmp (release_key r) (release_key s) ≡ Less) rs → has_earlier rs r.month ≡ false
+  none_earlier r [] all = refl
+  none_earlier r (s ∷ rs) all =
+      let up = month_up (release_key r) (release_key s) all.0 in
+      rw (lt-leb (suc s.month) r.month (omega (arith, up))) (none_earlier r rs all.1)
 
   has_plan : (w : Option Plan) (b : Bool) → (b && is_none w) ≡ false → b ≡ true → IsSome w
   has_plan None true e h = absurd (false≢true (sym e))
   has_plan None false e h = absurd (false≢true h)
   has_plan (Some p) b e h = refl
 
-  planned : (before rs : List Release) → IsInOrder release_cmp release_key rs → ArePublished plans before rs → (month : ℕ) → IsSome (at (λ (r : Release). r.month) month rs) → has_earlier (before ++ rs) month ≡ true → IsSome (at (λ (y : Plan). y.year) (year_of month) plans)
-  planned before [] sorted all month found early = absurd (false≢true found)
-  planned before (r ∷ rs) sorted all month found early = by (is_eq (nat_cmp r.month month)) refl (planned (before ++ r ∷ []) rs (sorted_tail (λ (a b : Release). nat_cmp a.month b.month) r rs sorted) all.1 month)
-    where
-      last_false : (a b : Bool) → (a || b) ≡ true → b ≡ false → a ≡ true
-      last_false true b e f = refl
-      last_false false b e f = absurd (false≢true (sym f ∙ e))
+  last_false : (a b : Bool) → (a || b) ≡ true → b ≡ false → a ≡ true
+  last_false true b e f = refl
+  last_false false b e f = absurd (false≢true (sym f ∙ e))
 
-      by : (b : Bool) → is_eq (nat_cmp r.month month) ≡ b → (IsSome (at (λ (r : Release). r.month) month rs) → has_earlier ((before ++ r ∷ []) ++ rs) month ≡ true → IsSome (at (λ (y : Plan). y.year) (year_of month) plans)) → IsSome (at (λ (y : Plan). y.year) (year_of month) plans)
-      by true e rest =
-          let here : at (λ (r : Release). r.month) month (r ∷ rs) ≡ Some r = rw e refl in
-          let is : r.month ≡ month = at_key (λ (r : Release). r.month) month r (r ∷ rs) here in
-          let not_itself : nat_lt r.month r.month ≡ false = lt-leb (suc r.month) r.month (omega arith) in
-          let none : has_earlier (r ∷ rs) r.month ≡ false = rw not_itself (none_below r.month rs (sorted_head (λ (a b : Release). nat_cmp a.month b.month) r rs sorted)) in
-          let before_it : has_earlier before r.month ≡ true = last_false (has_earlier before r.month) (has_earlier (r ∷ rs) r.month) (sym (list_any-append (λ (s : Release). nat_lt s.month r.month) before (r ∷ rs)) ∙ ap (has_earlier (before ++ r ∷ rs)) is ∙ early) none in
-          subst (λ m. IsSome (at (λ (y : Plan). y.year) (year_of m) plans)) is
-          (has_plan (at (λ (y : Plan). y.year) (year_of r.month) plans) (is_after_first r.month (frozen_months before)) all.0.planned (sym (earlier_is r.month before) ∙ before_it))
-      by false e rest = rest (rw e at found) (ap (λ xs. has_earlier xs month) (append_assoc before (r ∷ []) rs) ∙ early)
+  abbrev IsPlanned : List Release → Release → Type 0
+  IsPlanned all r = has_earlier all r.month ≡ true → IsSome (at (λ (y : Plan). y.year) (year_of r.month) plans)
+
+  all_planned : (before rs : List Release) → IsInOrder release_cmp release_key rs → ArePublished plans before rs → AllByRecursion (IsPlanned (before ++ rs)) rs
+  all_planned before [] sorted all = tt
+  all_planned before (r ∷ rs) sorted all = (
+    λ early.
+        let not_itself : nat_lt r.month r.month ≡ false = lt-leb (suc r.month) r.month (omega arith) in
+        let none : has_earlier (r ∷ rs) r.month ≡ false = rw not_itself (none_earlier r rs (sorted_head (λ (a b : Release). release_cmp (release_key a) (release_key b)) r rs sorted)) in
+        let before_it : has_earlier before r.month ≡ true = last_false (has_earlier before r.month) (has_earlier (r ∷ rs) r.month) (sym (list_any-append (λ (s : Release). nat_lt s.month r.month) before (r ∷ rs)) ∙ early) none in
+        has_plan (at (λ (y : Plan). y.year) (year_of r.month) plans) (is_after_first r.month (frozen_months before)) all.0.planned (sym (earlier_is r.month before) ∙ before_it),
+    subst (λ xs. AllByRecursion (IsPlanned xs) rs) (append_assoc before (r ∷ []) rs) (all_planned (before ++ r ∷ []) rs (sorted_tail (λ (a b : Release). release_cmp (release_key a) (release_key b)) r rs sorted) all.1),
+  )
+
+  planned : (rs : List Release) → IsInOrder release_cmp release_key rs → ArePublished plans [] rs → (month : ℕ) → IsSome (release_of rs month) → has_earlier rs month ≡ true → IsSome (at (λ (y : Plan). y.year) (year_of month) plans)
+  planned rs sorted all month found early = by (release_of rs month) refl found
+    where
+      by : (o : Option Release) → release_of rs month ≡ o → IsSome o → IsSome (at (λ (y : Plan). y.year) (year_of month) plans)
+      by None e some = absurd (false≢true some)
+      by (Some r) e some =
+          let one = latest_all (λ (x : Release). x.month) month (IsPlanned rs) rs r (all_planned [] rs sorted all) e in
+          subst (λ m. IsSome (at (λ (y : Plan). y.year) (year_of m) plans)) one.1 (one.0 (ap (has_earlier rs) one.1 ∙ early))
 
 -- ---- the lists of each release are in their order
 
@@ -151,7 +182,7 @@ module _ (plans : List Plan) (nodes : AllByRecursion HasNodesInOrder plans) wher
       }
       by (Some p) e = let is : r ≡ published (Some p) before (freeze_of r) = one.computed ∙ ap (λ w. published w before (freeze_of r)) e in record {
         frozen = frozen;
-        carried = ap (λ (x : Release). is_by_series carried_serial x.carried) is ∙ carry_in_order before (λ month s found. at_all IsOrdered (λ (x : Release). x.month) month s before done found) p r.month r.frozen;
+        carried = ap (λ (x : Release). is_by_series carried_serial x.carried) is ∙ carry_in_order before (λ month s found. (latest_all (λ (x : Release). x.month) month IsOrdered before s done found).0) p r.month r.frozen;
         levels = subst (λ (x : Release). IsInOrder code_cmp (λ l. l.code) x.levels) (sym is) (table_in_order p before r.month (rows_in p before r.month r.frozen) p.nodes (plan_ordered p before r.month e));
       }
 
@@ -167,9 +198,9 @@ releases_sound o s = let frozen = frozen_by_serial o.assignments s.made o.releas
   years = s.plans;
   in_order = record {
     months = months o.plans o.releases s.published;
-    ordered = λ month r found. at_all IsOrdered (λ (x : Release). x.month) month r o.releases (all_ordered o.plans s.nodes [] o.releases tt frozen s.published) found;
+    ordered = λ month r found. (latest_all (λ (x : Release). x.month) month IsOrdered o.releases r (all_ordered o.plans s.nodes [] o.releases tt frozen s.published) found).0;
   };
-  planned = planned o.plans [] o.releases s.releases s.published;
+  planned = planned o.plans o.releases s.releases s.published;
   consistent = consistent o.assignments s.made o.releases s.frozen;
   computed = sym (all_same o.plans [] o.releases s.published);
 }

@@ -1,13 +1,14 @@
 -- What is frozen of a month, and the releases one after the other.
 use Rattle.std.proofs.Common.{◌≡◌, ◌≢◌, ℕ, ◌+◌, true, false, eqb, List, [], ◌∷◌, ◌++◌, Some, None, Option, refl, sym, ap, ◌∙◌, subst, arith, inl, inr, append_assoc}
 use Rattle.std.specs.Prelude.{◌⊎◌, ◌==◌, is_none, ◌&&◌, if◌then◌else◌}
-use Rattle.std.specs.declared.cmp.Ordering.TheVariants.{Less}
+use Rattle.std.specs.declared.cmp.Ordering.TheVariants.{Less, Equal}
 use Rattle.std.specs.Ordering.{nat_cmp, ordering_then, is_eq}
 use Rattle.std.specs.List.{AllByRecursion, filter_map}
 use Rattle.std.specs.List.Sorted.{IsStrictlySortedBy}
 use Rattle.std.proofs.lemmas.Bool.{eqb-true, lt-ltb}
 use Rattle.std.proofs.lemmas.Bool.Decides.{eqb_tells}
-use Rattle.std.proofs.lemmas.Cmp.{nat_cmp_total, tied_itself}
+use Rattle.std.proofs.lemmas.Cmp.{nat_cmp_total, tied_itself, then_total, on_total}
+use Rattle.std.specs.Cmp.{IsTotalOrder}
 use Rattle.std.proofs.lemmas.Map.Keys.{sorted_head, sorted_tail}
 use Rattle.std.proofs.lemmas.List.{append-nil}
 use Rattle.cpi_rows.specs.Keyed.{IsInOrder, at, row_at, put_by}
@@ -19,7 +20,7 @@ use Rattle.cpi_survey.specs.Quote.{QuoteRow, quote_cmp, quote_key}
 use Rattle.cpi_survey.specs.declared.assignment.Assignment.{Assignment}
 use Rattle.cpi_plan.specs.Plan.{Plan}
 use Rattle.cpi_index.specs.Frozen.{Frozen}
-use Rattle.cpi_release.specs.FrozenMonths.{release_cmp, release_key, frozen_months, is_next, is_year_frozen, is_after_first, plan_for}
+use Rattle.cpi_release.specs.FrozenMonths.{ReleaseKey, release_cmp, release_key, frozen_month, frozen_months, follows, revision_after, is_next, next_revision, is_year_frozen, is_after_first, plan_for}
 use Rattle.cpi_release.specs.Publishing.{published, fault_of, freeze_of}
 use Rattle.cpi_release.specs.declared.release.Release.{Release}
 use Rattle.cpi_store.specs.Office.{Office, frozen_row, month_rows, put_release}
@@ -91,20 +92,35 @@ newly_frozen o s r is = record {
   of_assignments = subst (AllByRecursion (IsOfAssignment o.assignments)) (sym is) (month_assigned r.month o.quotes o.assignments o.assignments s.made (each_found (λ a. a.slot) o.assignments s.assignments));
 }
 
--- ---- the next month is put at the end
+-- ---- what follows is put at the end
 
--- a month below the next
-next_month : (month n : ℕ) → (n == month + 1) ≡ true → nat_cmp month n ≡ Less
-next_month month n e = let is : n ≡ month + 1 = eqb-true n (month + 1) e in rw (lt-ltb month n (omega (arith, is))) refl
+pub release_total : IsTotalOrder release_cmp
+release_total = then_total (on_total (λ k. k.0) nat_cmp_total) (on_total (λ k. k.1) nat_cmp_total)
 
--- each release is of an earlier month
-earlier : (n : ℕ) (rs : List Release) → IsInOrder release_cmp release_key rs → is_next n (frozen_months rs) ≡ true → AllByRecursion (λ (r : Release). nat_cmp r.month n ≡ Less) rs
-earlier n [] sorted e = tt
-earlier n (r ∷ []) sorted e = (next_month r.month n e, tt)
-earlier n (r ∷ x ∷ rs) sorted e =
-    let rest = earlier n (x ∷ rs) (sorted_tail (λ (a b : Release). nat_cmp a.month b.month) r (x ∷ rs) sorted) e in
-    let head = sorted_head (λ (a b : Release). nat_cmp a.month b.month) r (x ∷ rs) sorted in
-    (nat_cmp_total.trans r.month x.month n head.0 rest.0, rest)
+below_next : (n : ℕ) → nat_cmp n (n + 1) ≡ Less
+below_next n = rw (lt-ltb n (n + 1) (omega arith)) refl
+
+-- the last release, and one that follows it
+last_below : (r : Release) (month : ℕ) → follows month (Some (frozen_month r)) ≡ true → release_cmp (release_key r) (month, revision_after month (Some (frozen_month r))) ≡ Less
+last_below r month e = by (eqb_tells r.month month) e
+  where
+    by : ((eqb r.month month ≡ true) × (r.month ≡ month)) ⊎ ((eqb r.month month ≡ false) × (r.month ≢ month)) → follows month (Some (frozen_month r)) ≡ true → release_cmp (release_key r) (month, revision_after month (Some (frozen_month r))) ≡ Less
+    by (inl same) e =
+        let level : nat_cmp r.month month ≡ Equal = ap (λ k. nat_cmp k month) same.1 ∙ tied_itself nat_cmp_total month in
+        rw (level, same.0) (below_next r.revision)
+    by (inr apart) e =
+        let is : month ≡ r.month + 1 = eqb-true month (r.month + 1) (rw apart.0 at e) in
+        let less : nat_cmp r.month month ≡ Less = ap (nat_cmp r.month) is ∙ below_next r.month in
+        rw less refl
+
+-- each release is listed before the one that follows
+all_below : (month : ℕ) (rs : List Release) → IsInOrder release_cmp release_key rs → is_next month (frozen_months rs) ≡ true → AllByRecursion (λ r. release_cmp (release_key r) (month, next_revision month (frozen_months rs)) ≡ Less) rs
+all_below month [] sorted e = tt
+all_below month (r ∷ []) sorted e = (last_below r month e, tt)
+all_below month (r ∷ x ∷ rs) sorted e =
+    let rest = all_below month (x ∷ rs) (sorted_tail (λ (a b : Release). release_cmp (release_key a) (release_key b)) r (x ∷ rs) sorted) e in
+    let head = sorted_head (λ (a b : Release). release_cmp (release_key a) (release_key b)) r (x ∷ rs) sorted in
+    (release_total.trans (release_key r) (release_key x) (month, next_revision month (frozen_months (x ∷ rs))) head.0 rest.0, rest)
 
 -- ---- one more release
 
@@ -113,11 +129,20 @@ published_append plans before [] r all one = (subst (λ b. IsPublished plans b r
 published_append plans before (x ∷ rs) r all one =
     (all.0, published_append plans (before ++ x ∷ []) rs r all.1 (subst (λ b. IsPublished plans b r) (sym (append_assoc before (x ∷ []) rs)) one))
 
-pub put_at_end : (rs : List Release) (r : Release) → IsInOrder release_cmp release_key rs → is_next r.month (frozen_months rs) ≡ true → put_release r rs ≡ rs ++ r ∷ []
-put_at_end rs r sorted follows = put_last nat_cmp_total release_key r rs (earlier r.month rs sorted follows)
+pub put_at_end : (rs : List Release) (r : Release) → IsInOrder release_cmp release_key rs → is_next r.month (frozen_months rs) ≡ true → r.revision ≡ next_revision r.month (frozen_months rs) → put_release r rs ≡ rs ++ r ∷ []
+put_at_end rs r sorted follows is =
+    put_last release_total release_key r rs (subst (λ v. AllByRecursion (λ (s : Release). release_cmp (release_key s) (r.month, v) ≡ Less) rs) (sym is) (all_below r.month rs sorted follows))
+
+-- a release that follows is not there yet
+pub none_follows : (month : ℕ) (rs : List Release) → IsInOrder release_cmp release_key rs → is_next month (frozen_months rs) ≡ true → row_at release_cmp release_key (month, next_revision month (frozen_months rs)) rs ≡ None
+none_follows month rs sorted follows = none_below (month, next_revision month (frozen_months rs)) rs (all_below month rs sorted follows)
+  where
+    none_below : (k : ReleaseKey) (rs : List Release) → AllByRecursion (λ (s : Release). release_cmp (release_key s) k ≡ Less) rs → row_at release_cmp release_key k rs ≡ None
+    none_below k [] all = refl
+    none_below k (s ∷ rs) all = rw (ap is_eq all.0) (none_below k rs all.1)
 
 pub published_more : (plans : List Plan) (rs : List Release) → IsInOrder release_cmp release_key rs → (r : Release) → ArePublished plans [] rs → IsPublished plans rs r → ArePublished plans [] (put_release r rs)
-published_more plans rs sorted r all one = subst (ArePublished plans []) (sym (put_at_end rs r sorted one.follows)) (published_append plans [] rs r all one)
+published_more plans rs sorted r all one = subst (ArePublished plans []) (sym (put_at_end rs r sorted one.follows one.revision)) (published_append plans [] rs r all one)
 
 -- ---- another plan of a year without a release
 
@@ -134,6 +159,7 @@ module _ (plans : List Plan) (p : Plan) (sorted : IsInOrder nat_cmp (λ y. y.yea
       let plan : plan_for others (frozen_months before) r.month ≡ plan_for plans (frozen_months before) r.month = ap (λ w. if is_after_first r.month (frozen_months before) then w else None) same in
       record {
         follows = one.follows;
+        revision = one.revision;
         planned = ap (λ w. is_after_first r.month (frozen_months before) && is_none w) same ∙ one.planned;
         faultless = ap (λ w. fault_of w before (freeze_of r)) plan ∙ one.faultless;
         computed = one.computed ∙ sym (ap (λ w. published w before (freeze_of r)) plan);

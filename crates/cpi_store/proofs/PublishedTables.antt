@@ -1,72 +1,74 @@
--- The table of a month among those that are published by a moment.
-use Rattle.std.proofs.Common.{◌≡◌, ◌≤◌, ◌<◌, arith, inl, inr, leb, ℕ, Bool, true, false, List, [], ◌∷◌, Some, None, Option, refl, sym, ap, ◌∙◌}
+-- The table that is asked for, with one more release behind the others.
+use Rattle.std.proofs.Common.{◌≡◌, ◌≢◌, ◌⊎◌, inl, inr, ◌≤◌, ◌<◌, arith, leb, eqb, ℕ, Bool, true, false, List, [], ◌∷◌, ◌++◌, map, filter, Some, None, Option, refl, sym, ap, ◌∙◌}
 use Rattle.std.specs.declared.cmp.Ordering.{Ordering}
 use Rattle.std.specs.declared.cmp.Ordering.TheVariants.{Less, Equal, Greater}
-use Rattle.std.proofs.lemmas.Bool.Decides.{leb_tells}
-use Rattle.std.specs.Prelude.{◌⊎◌, filter, nat_le, option_map}
-use Rattle.std.specs.Ordering.{nat_cmp, is_eq, is_le}
-use Rattle.std.proofs.lemmas.Cmp.{nat_cmp_total, ranked}
-use Rattle.std.proofs.lemmas.Map.Keys.{sorted_tail}
-use Rattle.cpi_rows.specs.Keyed.{row_at, at, IsInOrder}
-use Rattle.cpi_rows.proofs.Found.{at-map}
-use Rattle.cpi_rows.proofs.Puts.{first_apart}
-use Rattle.cpi_release.specs.FrozenMonths.{release_cmp, release_key}
-use Rattle.cpi_release.specs.PublishedTables.{published_table, published_key, published_until}
+use Rattle.std.proofs.lemmas.Bool.{false≢true}
+use Rattle.std.proofs.lemmas.Bool.Decides.{leb_tells, eqb_tells}
+use Rattle.std.specs.Prelude.{nat_le, ◌==◌}
+use Rattle.std.specs.Ordering.{nat_cmp, is_le}
+use Rattle.std.proofs.lemmas.Cmp.{ranked}
+use Rattle.std.proofs.lemmas.List.{append-nil, map-append}
+use Rattle.std.proofs.lemmas.List.Elements.{filter-append}
+use Rattle.cpi_release.specs.Latest.{latest}
+use Rattle.cpi_release.specs.PublishedTables.{PublishedTable, published_table, published_until, is_asked}
 use Rattle.cpi_release.specs.declared.release.Release.{Release}
+use Rattle.cpi_release.proofs.LatestRows.{latest_own, latest_other}
+use Rattle.cpi_store.specs.Tables.{table_until, wanted}
 
-module _ {X : Type 0} (key : X → ℕ) (p : X → Bool) (k : ℕ) where
-  -- a row that isn't there isn't there among those that pass
-  none_passes : (rows : List X) → row_at nat_cmp key k rows ≡ None → row_at nat_cmp key k (filter p rows) ≡ None
-  none_passes [] e = refl
-  none_passes (r ∷ rows) e = by (p r) (is_eq (nat_cmp (key r) k)) refl refl (none_passes rows)
+module _ (month : ℕ) (revision : Option ℕ) (until : ℕ) where
+  abbrev asked : PublishedTable → Bool
+  asked t = is_asked revision t.revision
+
+  abbrev due : Release → Bool
+  due r = nat_le r.publishes until
+
+  abbrev in_month : PublishedTable → ℕ
+  in_month t = t.month
+
+  -- the tables that are asked for of some releases
+  abbrev of : List Release → List PublishedTable
+  of rs = filter asked (published_until until rs)
+
+  of_behind : (rs : List Release) (r : Release) → of (rs ++ r ∷ []) ≡ of rs ++ of (r ∷ [])
+  of_behind rs r =
+      ap (λ xs. filter asked (map published_table xs)) (filter-append due rs (r ∷ []))
+      ∙ ap (filter asked) (map-append published_table (filter due rs) (filter due (r ∷ [])))
+      ∙ filter-append asked (published_until until rs) (published_until until (r ∷ []))
+
+  one_more : (rs : List Release) (r : Release) (ts : List PublishedTable) → of (r ∷ []) ≡ ts → table_until month revision until (rs ++ r ∷ []) ≡ latest in_month month (of rs ++ ts)
+  one_more rs r ts is = ap (latest in_month month) (of_behind rs r ∙ ap (λ xs. of rs ++ xs) is)
+
+  none_more : (rs : List Release) (r : Release) → of (r ∷ []) ≡ [] → table_until month revision until (rs ++ r ∷ []) ≡ table_until month revision until rs
+  none_more rs r is = one_more rs r [] is ∙ ap (latest in_month month) (append-nil (of rs))
+
+  pub table_wanted : (rs : List Release) (r : Release) → wanted month revision until r ≡ true → table_until month revision until (rs ++ r ∷ []) ≡ Some (published_table r)
+  table_wanted rs r e = by (due r) (asked (published_table r)) refl refl (eqb_tells r.month month)
     where
-      by : (s w : Bool) → p r ≡ s → is_eq (nat_cmp (key r) k) ≡ w → (row_at nat_cmp key k rows ≡ None → row_at nat_cmp key k (filter p rows) ≡ None) → row_at nat_cmp key k (filter p (r ∷ rows)) ≡ None
-      by s true f g rest = let no : Some r ≡ None = rw g at e in cc
-      by true false f g rest = rw (f, g) (rest (rw g at e))
-      by false false f g rest = rw f (rest (rw g at e))
+      by : (d a : Bool) → due r ≡ d → asked (published_table r) ≡ a → ((eqb r.month month ≡ true) × (r.month ≡ month)) ⊎ ((eqb r.month month ≡ false) × (r.month ≢ month)) → table_until month revision until (rs ++ r ∷ []) ≡ Some (published_table r)
+      by true true f g (inl same) = one_more rs r (published_table r ∷ []) (rw (f, g) refl) ∙ latest_own in_month month (of rs) (published_table r) same.1
+      by true true f g (inr apart) = absurd (false≢true (rw (f, g, apart.0) at e))
+      by true false f g tells = absurd (false≢true (rw (f, g) at e))
+      by false a f g tells = absurd (false≢true (rw f at e))
 
-  passes : (x : X) (rows : List X) → row_at nat_cmp key k rows ≡ Some x → p x ≡ true → row_at nat_cmp key k (filter p rows) ≡ Some x
-  passes x [] e t = let no : None ≡ Some x = e in cc
-  passes x (r ∷ rows) e t = by (p r) (is_eq (nat_cmp (key r) k)) refl refl (passes x rows)
+  pub table_unwanted : (rs : List Release) (r : Release) → wanted month revision until r ≡ false → table_until month revision until (rs ++ r ∷ []) ≡ table_until month revision until rs
+  table_unwanted rs r e = by (due r) (asked (published_table r)) refl refl (eqb_tells r.month month)
     where
-      by : (s w : Bool) → p r ≡ s → is_eq (nat_cmp (key r) k) ≡ w → (row_at nat_cmp key k rows ≡ Some x → p x ≡ true → row_at nat_cmp key k (filter p rows) ≡ Some x) → row_at nat_cmp key k (filter p (r ∷ rows)) ≡ Some x
-      by true true f g rest = rw (f, g) (rw g at e)
-      by false true f g rest =
-          let here : Some r ≡ Some x = rw g at e in
-          let is : r ≡ x = cc in
-          let no : false ≡ true = sym f ∙ ap p is ∙ t in cc
-      by true false f g rest = rw (f, g) (rest (rw g at e) t)
-      by false false f g rest = rw f (rest (rw g at e) t)
+      by : (d a : Bool) → due r ≡ d → asked (published_table r) ≡ a → ((eqb r.month month ≡ true) × (r.month ≡ month)) ⊎ ((eqb r.month month ≡ false) × (r.month ≢ month)) → table_until month revision until (rs ++ r ∷ []) ≡ table_until month revision until rs
+      by true true f g (inl same) = absurd (false≢true (sym (rw (f, g, same.0) at e)))
+      by true true f g (inr apart) = one_more rs r (published_table r ∷ []) (rw (f, g) refl) ∙ latest_other in_month month (of rs) (published_table r) apart.1
+      by true false f g tells = none_more rs r (rw (f, g) refl)
+      by false a f g tells = none_more rs r (rw f refl)
 
-  stopped : (x : X) (rows : List X) → IsInOrder nat_cmp key rows → row_at nat_cmp key k rows ≡ Some x → p x ≡ false → row_at nat_cmp key k (filter p rows) ≡ None
-  stopped x [] sorted e t = let no : None ≡ Some x = e in cc
-  stopped x (r ∷ rows) sorted e t = by (p r) (is_eq (nat_cmp (key r) k)) refl refl (stopped x rows (sorted_tail (λ a b. nat_cmp (key a) (key b)) r rows sorted))
-    where
-      absent : is_eq (nat_cmp (key r) k) ≡ true → (w : Option X) → row_at nat_cmp key k rows ≡ w → row_at nat_cmp key k rows ≡ None
-      absent g None f = f
-      absent g (Some y) f = let no : true ≡ false = sym g ∙ first_apart nat_cmp_total key k r y rows sorted f in cc
+-- a revision that is named is one of those that may be latest
+pub wanted_named : (month revision until : ℕ) (r : Release) → (r.revision == revision) ≡ true → wanted month (Some revision) until r ≡ wanted month None until r
+wanted_named month revision until r e = rw e refl
 
-      by : (s w : Bool) → p r ≡ s → is_eq (nat_cmp (key r) k) ≡ w → (row_at nat_cmp key k rows ≡ Some x → p x ≡ false → row_at nat_cmp key k (filter p rows) ≡ None) → row_at nat_cmp key k (filter p (r ∷ rows)) ≡ None
-      by true true f g rest =
-          let here : Some r ≡ Some x = rw g at e in
-          let is : r ≡ x = cc in
-          let no : true ≡ false = sym f ∙ ap p is ∙ t in cc
-      by false true f g rest = rw f (none_passes rows (absent g (row_at nat_cmp key k rows) refl))
-      by true false f g rest = rw (f, g) (rest (rw g at e) t)
-      by false false f g rest = rw f (rest (rw g at e) t)
-
-module _ (t month : ℕ) (rs : List Release) where
-  among : row_at release_cmp published_key month (published_until t rs) ≡ option_map published_table (row_at release_cmp release_key month (filter (λ r. nat_le r.publishes t) rs))
-  among = at-map published_table published_key month (filter (λ (r : Release). nat_le r.publishes t) rs)
-
-  pub published_found : (r : Release) → row_at release_cmp release_key month rs ≡ Some r → nat_le r.publishes t ≡ true → row_at release_cmp published_key month (published_until t rs) ≡ Some (published_table r)
-  published_found r e p = among ∙ ap (option_map published_table) (passes release_key (λ r. nat_le r.publishes t) month r rs e p)
-
-  pub published_later : (r : Release) → IsInOrder release_cmp release_key rs → row_at release_cmp release_key month rs ≡ Some r → nat_le r.publishes t ≡ false → row_at release_cmp published_key month (published_until t rs) ≡ None
-  published_later r sorted e p = among ∙ ap (option_map published_table) (stopped release_key (λ r. nat_le r.publishes t) month r rs sorted e p)
-
-  pub published_never : row_at release_cmp release_key month rs ≡ None → row_at release_cmp published_key month (published_until t rs) ≡ None
-  published_never e = among ∙ ap (option_map published_table) (none_passes release_key (λ r. nat_le r.publishes t) month rs e)
+pub wanted_other : (month revision until : ℕ) (r : Release) → (r.revision == revision) ≡ false → wanted month (Some revision) until r ≡ false
+wanted_other month revision until r e = by (nat_le r.publishes until) refl
+  where
+    by : (b : Bool) → nat_le r.publishes until ≡ b → wanted month (Some revision) until r ≡ false
+    by true f = rw (f, e) refl
+    by false f = rw f refl
 
 pub le_is : (a b : ℕ) → nat_le a b ≡ is_le (nat_cmp a b)
 le_is a b = by (leb_tells a b) (nat_cmp a b) refl

@@ -28,7 +28,7 @@ pub record Office : Type 0 where
   pub outlets : List Outlet  -- by number
   pub assignments : List (ℕ × Assignment)  -- by collector and slot
   pub quotes : List (ℕ × QuoteRow)  -- by collector, slot and month
-  pub releases : List Release  -- by month
+  pub releases : List Release  -- by month and revision
 
 abbrev pub empty_office : Office
 empty_office = record {

@@ -1,12 +1,12 @@
 -- The table that is lent to whoever asks for it.
-use Rattle.std.specs.Prelude.{ℕ, List, Option, option_map}
-use Rattle.cpi_rows.specs.Keyed.{row_at}
-use Rattle.cpi_release.specs.FrozenMonths.{release_cmp}
-use Rattle.cpi_release.specs.PublishedTables.{published_key, published_until}
-use Rattle.cpi_release.specs.declared.level.Level.{Level}
+use Rattle.std.specs.Prelude.{ℕ, ◌==◌, ◌&&◌, nat_le, Bool, List, Option}
+use Rattle.cpi_release.specs.PublishedTables.{PublishedTable, asked_table, is_asked, published_until}
 use Rattle.cpi_release.specs.declared.release.Release.{Release}
 
--- the rows of the month's table, where it is published by the moment
-abbrev pub levels_until : ℕ → ℕ → List Release → Option (List Level)
-levels_until month until releases =
-    option_map (λ t. t.levels) (row_at release_cmp published_key month (published_until until releases))
+-- the table that is asked for, among those that are published by the moment
+abbrev pub table_until : ℕ → Option ℕ → ℕ → List Release → Option PublishedTable
+table_until month revision until releases = asked_table month revision (published_until until releases)
+
+-- whether a release is the one that is asked for
+abbrev pub wanted : ℕ → Option ℕ → ℕ → Release → Bool
+wanted month revision until r = nat_le r.publishes until && is_asked revision r.revision && r.month == month

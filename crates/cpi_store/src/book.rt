@@ -1,4 +1,4 @@
-ghost use Rattle.std.specs.Prelude.{◌≡◌, ◌<◌, ◌≤◌, IsOk, IsSome, None, Some, false, map};
+ghost use Rattle.std.specs.Prelude.{◌≡◌, ◌<◌, ◌≤◌, IsOk, IsSome, None, Some, false, map, option_map};
 ghost use Rattle.std.specs.Option.{option_copied};
 
 use crate::bearer::Bearer;
@@ -6,7 +6,7 @@ use crate::outlet::Outlet;
 use cpi_codes::{CollectorId, Key, Moment, Month, OutletId};
 use cpi_index::FrozenQuote;
 use cpi_plan::{CalendarRow, Item, YearPlan};
-use cpi_release::{FrozenMonth, Groups, Level, Release};
+use cpi_release::{FrozenMonth, Groups, Level, Release, Revision};
 use cpi_rows::Rows;
 use cpi_survey::{Assigned, Own, Public, Quote};
 
@@ -24,7 +24,8 @@ pub struct Parts<'a> {
 }
 
 /// An office that is kept somewhere: items by code, plans by year, calendar rows by month, collectors by number,
-/// outlets by number, assignments by collector and slot, quotes by collector, slot and month, releases by month.
+/// outlets by number, assignments by collector and slot, quotes by collector, slot and month, releases by month
+/// and revision.
 ///
 /// The samples of a month are read from the office itself (`Groups`), and so is what is said of a state.
 /// Each call answers a `StoreFault` only where the count of failures rose during the call, and the office is as it
@@ -42,11 +43,11 @@ pub trait Book: Groups {
     ghost use Rattle.cpi_release.specs.State.{State, Keeps, Reads};
     ghost use Rattle.cpi_store.specs.Calls.{Writes, IsOffice, EndsAs};
     ghost use Rattle.cpi_store.specs.Sources.{office_sources};
-    ghost use Rattle.cpi_store.specs.Tables.{levels_until};
+    ghost use Rattle.cpi_store.specs.Tables.{table_until};
     ghost use Rattle.cpi_release.specs.Cached.{IsFit};
     ghost use Rattle.cpi_plan.specs.Plan.{has_unknown};
     ghost use Rattle.cpi_rows.specs.Held.{held_by};
-    ghost use Rattle.cpi_rows.specs.Keyed.{at, row_at};
+    ghost use Rattle.cpi_rows.specs.Keyed.{IsInOrder, at, row_at};
     ghost use Rattle.cpi_release.specs.FrozenMonths.{frozen_months, release_cmp, release_key};
     ghost use Rattle.cpi_release.specs.PublishedTables.{frozen_month_of, published_until};
 
@@ -110,7 +111,8 @@ pub trait Book: Groups {
             × (parts.own.now ≡ own_part collector (state self.old).held)))) }
         ensures always { finds_always → IsOk result };
 
-    /// The frozen months, each with the moment at which its table is published, by month.
+    /// The frozen months in each of their revisions, with the moment at which its table is published, by month and
+    /// revision.
     fn frozen_months(&mut self) -> Result<Vec<FrozenMonth>, StoreFault>
         ensures reads { Reads (state self.old) (state self.new) result (λ found.
             found.items ≡ frozen_months (state self.old).held.releases) };
@@ -120,16 +122,34 @@ pub trait Book: Groups {
         ensures reads { Reads (state self.old) (state self.new) result (λ found.
             found.items ≡ month_rows month (state self.old).held) };
 
-    /// The months whose tables are published by the moment, each with its moment of publishing, by month.
+    /// The months and revisions whose tables are published by the moment, each with its moment of publishing, by month
+    /// and revision.
     fn tables_until(&mut self, until: Moment) -> Result<Vec<FrozenMonth>, StoreFault>
         ensures reads { Reads (state self.old) (state self.new) result (λ found.
             found.items ≡ map frozen_month_of (published_until until (state self.old).held.releases)) };
 
-    /// The rows of the month's table, by code, where it is published by the moment; none where there is no such table.
-    fn table(&mut self, month: Month, until: Moment) -> Result<Option<&Rows<Level>>, StoreFault>
+    /// The latest revision of the month whose table is published by the moment; none where there is no such table.
+    fn revision_until(
+        &mut self,
+        month: Month,
+        until: Moment,
+    ) -> Result<Option<Revision>, StoreFault>
+        ensures reads { Reads (state self.old) (state self.new) result (λ found.
+            found ≡ option_map (λ t. t.revision) (table_until month None until (state self.old).held.releases)) }
+        ensures always { finds_always → IsOk result };
+
+    /// The rows of the month's table in the revision, by code, where it is published by the moment; none where there is
+    /// no such table.
+    fn table(
+        &mut self,
+        month: Month,
+        revision: Revision,
+        until: Moment,
+    ) -> Result<Option<&Rows<Level>>, StoreFault>
         ensures* reads { sem 𝓛 (EndsAs Self.row self.entry (λ book.
             Reads (state self.old) (state book) result (λ found.
-            option_copied found ≡ levels_until month until (state self.old).held.releases))) }
+            option_copied found
+            ≡ option_map (λ t. t.levels) (table_until month (Some revision) until (state self.old).held.releases)))) }
         ensures always { finds_always → IsOk result };
 
     /// Puts a new item. The caller owes that no item has its code.
@@ -197,10 +217,11 @@ pub trait Book: Groups {
         ensures writes { Writes (state self.old) (state self.new) result
             (changed (Quotes bearer quote) (state self.old).held) };
 
-    /// Puts the release of a month that was not frozen. The caller owes that there is none of the month.
+    /// Puts a release. The caller owes that there is none of its month and revision, where the releases are in order.
     fn put_release(&mut self, release: Release) -> Result<(), StoreFault>
         requires new { (state self.old).is_clean →
-            row_at release_cmp release_key release.month (state self.old).held.releases ≡ None }
+            IsInOrder release_cmp release_key (state self.old).held.releases →
+            row_at release_cmp release_key (release.month, release.revision) (state self.old).held.releases ≡ None }
         ensures writes { Writes (state self.old) (state self.new) result
             (changed (Freezes release) (state self.old).held) };
 

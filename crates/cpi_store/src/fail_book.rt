@@ -4,7 +4,7 @@ use crate::outlet::Outlet;
 use cpi_codes::{Code, CollectorId, Key, Moment, Month, OutletId};
 use cpi_index::{ChainedLevel, FrozenQuote, GroupRow};
 use cpi_plan::{CalendarRow, Item, YearPlan};
-use cpi_release::{Failures, FrozenMonth, GroupFault, Groups, Level, Release};
+use cpi_release::{Failures, FrozenMonth, GroupFault, Groups, Level, Release, Revision};
 use cpi_rows::Rows;
 use cpi_survey::{Assigned, Own, Public, Quote};
 
@@ -182,9 +182,23 @@ impl<B: Book> Book for FailBook<B> {
         self.inner.tables_until(until)
     }
 
-    fn table(&mut self, month: Month, until: Moment) -> Result<Option<&Rows<Level>>, StoreFault> {
+    fn revision_until(
+        &mut self,
+        month: Month,
+        until: Moment,
+    ) -> Result<Option<Revision>, StoreFault> {
         self.count()?;
-        self.inner.table(month, until)
+        self.inner.revision_until(month, until)
+    }
+
+    fn table(
+        &mut self,
+        month: Month,
+        revision: Revision,
+        until: Moment,
+    ) -> Result<Option<&Rows<Level>>, StoreFault> {
+        self.count()?;
+        self.inner.table(month, revision, until)
     }
 
     fn put_item(&mut self, item: Item) -> Result<(), StoreFault> {

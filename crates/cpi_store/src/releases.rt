@@ -1,13 +1,12 @@
-ghost use Rattle.std.specs.Prelude.{◌≡◌, IfOk, map};
+ghost use Rattle.std.specs.Prelude.{◌≡◌, None, Some, IfOk, map, option_map};
 ghost use Rattle.std.specs.Option.{option_copied};
-ghost use Rattle.cpi_rows.specs.Keyed.{IsInOrder};
-ghost use Rattle.cpi_release.specs.FrozenMonths.{frozen_months, release_cmp, release_key};
+ghost use Rattle.cpi_release.specs.FrozenMonths.{frozen_months};
 ghost use Rattle.cpi_release.specs.PublishedTables.{frozen_month_of, published_until};
-ghost use Rattle.cpi_store.specs.Tables.{levels_until};
+ghost use Rattle.cpi_store.specs.Tables.{table_until, wanted};
 
 use cpi_codes::{Moment, Month};
-use cpi_release::{FrozenMonth, Level, Release};
-use cpi_rows::{Rows, find_row};
+use cpi_release::{FrozenMonth, Level, Release, Revision};
+use cpi_rows::Rows;
 use std::alloc::{AllocError, Global};
 
 /// The frozen months, by month.
@@ -38,19 +37,40 @@ pub fn published_months(
     Ok(found)
 }
 
-/// The rows of the month's table, where it is published by the moment.
-pub fn table_until(releases: &[Release], month: Month, until: Moment) -> Option<&Rows<Level>>
-    requires { IsInOrder release_cmp release_key releases.now }
-    ensures { option_copied result ≡ levels_until month until releases.now }
+/// Whether the release is of the month, and its table is published by the moment.
+fn is_due(release: &Release, month: Month, until: Moment) -> bool
+    ensures { result ≡ wanted month None until release.now }
 {
-    match find_row(releases, &month) {
-        Some(release) => {
-            if release.publishes <= until {
-                Some(&release.levels)
-            } else {
-                None
-            }
+    release.publishes <= until && release.month == month
+}
+
+/// The latest revision of the month whose table is published by the moment.
+pub fn revision_until(releases: &[Release], month: Month, until: Moment) -> Option<Revision>
+    ensures { result ≡ option_map (λ t. t.revision) (table_until month None until releases.now) }
+{
+    let mut found = None;
+    for release in releases {
+        if is_due(release, month, until) {
+            found = Some(release.revision);
         }
-        None => None,
     }
+    found
+}
+
+/// The rows of the month's table in the revision, where it is published by the moment.
+pub fn table_until(
+    releases: &[Release],
+    month: Month,
+    revision: Revision,
+    until: Moment,
+) -> Option<&Rows<Level>>
+    ensures { option_copied result ≡ option_map (λ t. t.levels) (table_until month (Some revision) until releases.now) }
+{
+    let mut found = None;
+    for release in releases {
+        if release.revision == revision && is_due(release, month, until) {
+            found = Some(&release.levels);
+        }
+    }
+    found
 }

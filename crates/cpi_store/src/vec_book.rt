@@ -4,13 +4,13 @@ use crate::frozen::month_rows;
 use crate::holder::Holder;
 use crate::holders::{put_assignment_of, put_holder, put_quote_of};
 use crate::outlet::Outlet;
-use crate::releases::{frozen_months, published_months, table_until};
+use crate::releases::{frozen_months, published_months, revision_until, table_until};
 use cpi_codes::{Code, CollectorId, Key, Moment, Month, OutletId, Year};
 use cpi_index::{ChainedLevel, FrozenQuote, GroupRow};
 use cpi_plan::{CalendarRow, Item, YearPlan};
 use cpi_release::{
-    Cached, Failures, FrozenMonth, GroupFault, Groups, Level, Release, group_rows, level_in,
-    month_groups,
+    Cached, Failures, FrozenMonth, GroupFault, Groups, Level, Release, Revision, group_rows,
+    level_in, month_groups,
 };
 use cpi_rows::{Rows, RowsByKey, find_row, put_row};
 use cpi_survey::{Assigned, Own, Public, Quote};
@@ -29,7 +29,7 @@ pub struct VecBook {
     // by number
     holders: Vec<Holder>,
     outlets: RowsByKey<Outlet>,
-    // by month
+    // by month and revision
     releases: Vec<Release>,
     // the holders, by the key that each bears
     bearers: BTreeMap<Key, Bearer>,
@@ -296,8 +296,21 @@ impl Book for VecBook {
         }
     }
 
-    fn table(&mut self, month: Month, until: Moment) -> Result<Option<&Rows<Level>>, StoreFault> {
-        Ok(table_until(&self.releases, month, until))
+    fn revision_until(
+        &mut self,
+        month: Month,
+        until: Moment,
+    ) -> Result<Option<Revision>, StoreFault> {
+        Ok(revision_until(&self.releases, month, until))
+    }
+
+    fn table(
+        &mut self,
+        month: Month,
+        revision: Revision,
+        until: Moment,
+    ) -> Result<Option<&Rows<Level>>, StoreFault> {
+        Ok(table_until(&self.releases, month, revision, until))
     }
 
     fn put_item(&mut self, item: Item) -> Result<(), StoreFault> {

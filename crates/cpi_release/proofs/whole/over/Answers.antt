@@ -26,7 +26,7 @@ returns-then-has_earlier c = λ lent sound ordered after.
     let releases = c.args.history.now.releases in
     let month = c.args.month in
     let s = sources_of plans releases c.args.lent.now in
-    let x : Freeze = record { month = c.args.month; frozen_at = c.args.frozen_at; publishes = c.args.publishes; frozen = c.args.frozen.items; carry = c.args.carry.items } in
+    let x : Freeze = record { month = c.args.month; revision = c.args.revision; frozen_at = c.args.frozen_at; publishes = c.args.publishes; frozen = c.args.frozen.items; carry = c.args.carry.items } in
     let earlier : has_earlier releases month ≡ true = search rules in
     let read : option_copied c.plan_of-plan.result ≡ at (λ p. p.year) (year_of month) plans = rw (c.as_slice-then-has_earlier.ensures, c.year.ensures.value) at c.plan_of-plan.ensures in
     let plan_is : option_copied c.plan_of-plan.result ≡ plan_of plans releases month = read ∙ sym (ap (λ b. cond b (at (λ p. p.year) (year_of month) plans) None) earlier) in

@@ -1,25 +1,40 @@
-use Rattle.std.proofs.Common.{◌≡◌, Some, None, true, false, sym, ap, ◌∙◌}
-use Rattle.std.specs.Prelude.{option_map, nat_le}
+use Rattle.std.proofs.Common.{rules, ◌≡◌, ◌+◌, ◌++◌, ◌∷◌, [], None, Some, take, true, false, sym, ap, ◌∙◌}
+use Rattle.std.specs.Prelude.{option_map, ◌==◌}
 use Rattle.std.specs.Option.{option_copied}
-use Rattle.cpi_rows.specs.Keyed.{row_at}
-use Rattle.cpi_release.specs.FrozenMonths.{release_cmp, release_key}
+use Rattle.std.proofs.lemmas.List.{take_more}
 use Rattle.cpi_release.specs.PublishedTables.{PublishedTable}
-use Rattle.cpi_store.proofs.PublishedTables.{published_found, published_later, published_never, le_is}
+use Rattle.cpi_release.specs.declared.release.Release.{Release}
+use Rattle.cpi_store.specs.Tables.{table_until, wanted}
+use Rattle.cpi_store.proofs.PublishedTables.{table_wanted, table_unwanted, wanted_named, wanted_other}
 use Rattle.cpi_store.proofs.releases.table_until.Goals as goal
+use Rattle.cpi_store.proofs.releases.table_until.Goals.{then-eq+then-is_due, else-eq, else-eq-via-then-eq+else-is_due, else-eq-via-else-eq}
 
-pub returns-then-le : goal.returns-then-le
-returns-then-le c =
-    let found : row_at release_cmp release_key c.args.month c.args.releases.now ≡ Some c.in-Some.release.now = sym c.find_row.ensures ∙ ap option_copied c.in-Some.is in
-    let due : nat_le c.in-Some.release.now.publishes c.args.until ≡ true = le_is c.in-Some.release.now.publishes c.args.until ∙ sym c.le.ensures ∙ c.if-le.true in
-    sym (ap (option_map (λ (i : PublishedTable). i.levels)) (published_found c.args.until c.args.month c.args.releases.now c.in-Some.release.now found due))
-
-pub returns-else-le : goal.returns-else-le
-returns-else-le c =
-    let found : row_at release_cmp release_key c.args.month c.args.releases.now ≡ Some c.in-Some.release.now = sym c.find_row.ensures ∙ ap option_copied c.in-Some.is in
-    let later : nat_le c.in-Some.release.now.publishes c.args.until ≡ false = le_is c.in-Some.release.now.publishes c.args.until ∙ sym c.le.ensures ∙ c.if-le.false in
-    sym (ap (option_map (λ (i : PublishedTable). i.levels)) (published_later c.args.until c.args.month c.args.releases.now c.in-Some.release.now c.requires found later))
-
-pub returns-in-None : goal.returns-in-None
-returns-in-None c =
-    let never : row_at release_cmp release_key c.args.month c.args.releases.now ≡ None = sym c.find_row.ensures ∙ ap option_copied c.in-None.is in
-    sym (ap (option_map (λ (i : PublishedTable). i.levels)) (published_never c.args.until c.args.month c.args.releases.now never))
+pub loop-release-preserved : goal.loop-release-preserved
+loop-release-preserved c =
+    let rs = c.args.releases.now in
+    let i = c.loop-release.release-index in
+    let x = c.release-item.result in
+    let month = c.args.month in
+    let revision = c.args.revision in
+    let until = c.args.until in
+    let more = take_more rs i x c.loop-release-test.true ∙ ap (λ (z : Release). take i rs ++ z ∷ []) (sym c.release-item.is) in
+    let told = ap (λ xs. option_map (λ (t : PublishedTable). t.levels) (table_until month (Some revision) until xs)) more in
+    let kept : wanted month (Some revision) until x ≡ false → option_map (λ (t : PublishedTable). t.levels) (table_until month (Some revision) until (take i rs)) ≡ option_map (λ (t : PublishedTable). t.levels) (table_until month (Some revision) until (take (i + 1) rs)) =
+    λ unwanted. sym (told ∙ ap (option_map (λ (t : PublishedTable). t.levels)) (table_unwanted month (Some revision) until (take i rs) x unwanted)) in
+    elim c.if-eq.branch [
+      | then-eq+then-is_due w ↦
+          let named : (x.revision == revision) ≡ true = search rules in
+          let due : wanted month None until x ≡ true = search rules in
+          let is = wanted_named month revision until x named ∙ due in
+          ap option_copied w.found-is ∙ sym (told ∙ ap (option_map (λ (t : PublishedTable). t.levels)) (table_wanted month (Some revision) until (take i rs) x is))
+      | else-eq w ↦
+          ap option_copied w.found-is ∙ c.loop-release.invariant ∙ elim w.else-eq.branch [
+            | else-eq-via-then-eq+else-is_due v ↦
+                let named : (x.revision == revision) ≡ true = search rules in
+                let due : wanted month None until x ≡ false = search rules in
+                kept (wanted_named month revision until x named ∙ due)
+            | else-eq-via-else-eq v ↦
+                let other : (x.revision == revision) ≡ false = search rules in
+                kept (wanted_other month revision until x other)
+          ]
+    ]

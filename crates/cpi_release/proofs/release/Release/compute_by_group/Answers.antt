@@ -28,7 +28,7 @@ returns-clause-exact g c = λ clean sound asked.
     let p = c.in-Some.plan.now in
     let month = c.args.month in
     let frozen = c.args.frozen.items in
-    let x : Freeze = record { month = c.args.month; frozen_at = c.args.frozen_at; publishes = c.args.publishes; frozen = c.args.frozen.items; carry = c.args.carry.items } in
+    let x : Freeze = record { month = c.args.month; revision = c.args.revision; frozen_at = c.args.frozen_at; publishes = c.args.publishes; frozen = c.args.frozen.items; carry = c.args.carry.items } in
     let given : option_copied c.args.plan ≡ Some p = ap option_copied c.in-Some.is in
     let some : IsSome (option_copied c.args.plan) = rw given refl in
     let has = g.met.G.Groups.has_sound (g.G.Groups.holds c.args.groups.now).held sound in

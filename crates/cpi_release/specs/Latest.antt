@@ -1,0 +1,8 @@
+-- The latest of a month's rows: a list has them in the order of their revisions.
+use Rattle.std.specs.Prelude.{ℕ, ◌==◌, List, [], ◌∷◌, Option, Some, None, if◌then◌else◌}
+use Rattle.std.specs.Option.{option_or}
+
+-- the last row of the month
+abbrev pub latest : {X : Type 0} → (X → ℕ) → ℕ → List X → Option X
+latest month_of month [] = None
+latest month_of month (x ∷ xs) = option_or (latest month_of month xs) (if month_of x == month then Some x else None)
