@@ -29,20 +29,20 @@ module _ {X Y : Type 0} (f : X → Y) where
       at true more = ap (λ y. y ∷ map g (filter p xs)) (same x (inl refl)) ∙ ap (λ l. f x ∷ l) more
       at false more = more
 
-module _ {X Y K : Type 0} (R : K → K → Ordering) (key : X → K) (made : Y → K) (f g : X → Y)
-    (keys : (x : X) → made (f x) ≡ key x) where
-  -- g is f on what stands, and makes the row that is put
-  pub map_put : (x : X) (y : Y) (xs : List X) → g x ≡ y → made y ≡ key x → ((z : X) → Has xs z → g z ≡ f z)
-      → map g (put R key x xs) ≡ put R made y (map f xs)
-  map_put x y xs is same_key same =
+module _ {X Y K L : Type 0} (R : K → K → Ordering) (key : X → K) (Q : L → L → Ordering) (made : Y → L)
+    (f g : X → Y) where
+  -- g is f on what stands, and makes the row that is put; the rows that are made lie about it as those that stand do
+  pub map_put : (x : X) (y : Y) (xs : List X) → g x ≡ y → ((z : X) → Q (made (f z)) (made y) ≡ R (key z) (key x))
+      → ((z : X) → Has xs z → g z ≡ f z) → map g (put R key x xs) ≡ put Q made y (map f xs)
+  map_put x y xs is orders same =
       let below = filter (λ r. is_lt (R (key r) (key x))) xs in
       let above = filter (λ r. is_gt (R (key r) (key x))) xs in
-      let low = map_kept f g (λ r. is_lt (R (key r) (key x))) (λ r. is_lt (R (made r) (made y))) xs same
-      (λ z. ap (λ k. is_lt (R k (made y))) (keys z) ∙ ap (λ k. is_lt (R (key z) k)) same_key) in
-      let high = map_kept f g (λ r. is_gt (R (key r) (key x))) (λ r. is_gt (R (made r) (made y))) xs same
-      (λ z. ap (λ k. is_gt (R k (made y))) (keys z) ∙ ap (λ k. is_gt (R (key z) k)) same_key) in
+      let low = map_kept f g (λ r. is_lt (R (key r) (key x))) (λ r. is_lt (Q (made r) (made y))) xs same
+      (λ z. ap is_lt (orders z)) in
+      let high = map_kept f g (λ r. is_gt (R (key r) (key x))) (λ r. is_gt (Q (made r) (made y))) xs same
+      (λ z. ap is_gt (orders z)) in
       map_around g below above x
       ∙ ap (λ l. l ++ g x ∷ map g above) low
-      ∙ ap (λ l. filter (λ r. is_lt (R (made r) (made y))) (map f xs) ++ g x ∷ l) high
-      ∙ ap (λ z. filter (λ r. is_lt (R (made r) (made y))) (map f xs)
-      ++ z ∷ filter (λ r. is_gt (R (made r) (made y))) (map f xs)) is
+      ∙ ap (λ l. filter (λ r. is_lt (Q (made r) (made y))) (map f xs) ++ g x ∷ l) high
+      ∙ ap (λ z. filter (λ r. is_lt (Q (made r) (made y))) (map f xs)
+      ++ z ∷ filter (λ r. is_gt (Q (made r) (made y))) (map f xs)) is

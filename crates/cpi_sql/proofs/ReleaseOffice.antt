@@ -1,8 +1,9 @@
 -- The rows of a release written, as a change of the office.
 use Rattle.std.proofs.Common.{◌≡◌, ◌≢◌, ℕ, List, map, Some, None, arith, refl, sym, ap, subst, ◌∙◌}
 use Rattle.std.specs.Cmp.{tied_itself}
-use Rattle.std.specs.Ordering.{nat_cmp}
-use Rattle.std.specs.declared.cmp.Ordering.TheVariants.{Equal}
+use Rattle.std.specs.Ordering.{nat_cmp, ordering_then}
+use Rattle.std.specs.declared.cmp.Ordering.{Ordering}
+use Rattle.std.specs.declared.cmp.Ordering.TheVariants.{Less, Equal, Greater}
 use Rattle.std.proofs.lemmas.Cmp.{nat_cmp_total}
 use Rattle.sqlite.specs.Tree.{Trees}
 use Rattle.sqlite.specs.Effect.{Database}
@@ -23,7 +24,7 @@ use Rattle.cpi_sql.specs.Lists.{header_in, frozen_in, carried_in, level_in, head
 use Rattle.cpi_sql.specs.Lists.{levels_in}
 use Rattle.cpi_sql.specs.Lists.{month_at, office_in, release_from, releases_in}
 use Rattle.cpi_sql.specs.ReleaseRows.{frozen_after, carried_after, level_after}
-use Rattle.cpi_sql.specs.ReleaseSteps.{header_of, AddsHeader, AreInTurn, IsHeaderStep, IsWritten, Replaces, SameBeside}
+use Rattle.cpi_sql.specs.ReleaseSteps.{header_of, AddsHeader, FitsTables, IsHeaderStep, IsWritten, Replaces, SameBeside}
 use Rattle.cpi_sql.specs.Shelf.{HasReleases, HasRowids, HasTables, IsDone}
 use Rattle.cpi_sql.specs.Steps.{IsStep, outside}
 use Rattle.cpi_sql.proofs.Inserting.{inserted, none_apart}
@@ -38,8 +39,8 @@ use Rattle.cpi_sql.proofs.Unchanged.{same_plans}
 abbrev from_tables : Trees → Header → Release
 from_tables trees = release_from (frozens_in (trees 16)) (carrieds_in (trees 18)) (levels_in (trees 20))
 
-module _ (r : Release) (turn : AreInTurn r) (old new : State) (has : HasReleases old.now.trees)
-    (none : row_at release_cmp release_key r.month (releases_in old.now.trees) ≡ None) (w : IsWritten r old new) where
+module _ (r : Release) (fits : FitsTables r) (old new : State) (has : HasReleases old.now.trees)
+    (none : row_at release_cmp release_key (r.month, r.revision) (releases_in old.now.trees) ≡ None) (w : IsWritten r old new) where
   frozen_rows : ReplacesRows nat_cmp_total frozen_serial frozen_in r.month r.frozen (old.now.trees 16)
       (new.now.trees 16)
   frozen_rows = month_replaced nat_cmp_total frozen_serial frozen_after w.number r.month w.month r.frozen _ _ w.frozen
@@ -54,12 +55,23 @@ module _ (r : Release) (turn : AreInTurn r) (old new : State) (has : HasReleases
   level_rows = month_replaced total-law
       (λ (l : Level). l.code) level_after w.number r.month w.month r.levels _ _ w.levels
 
+  -- first revisions lie as their months do
+  first_order : (a b : ℕ) → release_cmp (a, 1) (b, r.revision) ≡ nat_cmp a b
+  first_order a b = rw fits.revision (alone (nat_cmp a b))
+    where
+      alone : (o : Ordering) → ordering_then o Equal ≡ o
+      alone Less = refl
+      alone Equal = refl
+      alone Greater = refl
+
   -- no header that stands is of the month
   headers_apart : (h : Header) → Has (headers_in (old.now.trees 15)) h → nat_cmp h.month r.month ≢ Equal
   unfolding releases_in
-  headers_apart h there =
-      none_apart release_cmp release_key r.month (releases_in old.now.trees) (from_tables old.now.trees h) none
+  headers_apart h there same =
+      none_apart release_cmp release_key (r.month, r.revision) (releases_in old.now.trees)
+      (from_tables old.now.trees h) none
       (has_map (from_tables old.now.trees) (headers_in (old.now.trees 15)) h there)
+      (first_order h.month r.month ∙ same)
 
   months_apart : (h : Header) → Has (headers_in (old.now.trees 15)) h → h.month ≢ r.month
   months_apart h there same = headers_apart h there (ap (λ m. nat_cmp m r.month) same
@@ -78,15 +90,18 @@ module _ (r : Release) (turn : AreInTurn r) (old new : State) (has : HasReleases
       has.releases header_put
 
   -- what is read of the month is the release
-  made_here : from_tables new.now.trees (header_of r) ≡ r
-  made_here = rw (
+  made_first : from_tables new.now.trees (header_of r) ≡ record r { revision = 1 }
+  made_first = rw (
     replaced_here nat_cmp_total frozen_serial frozen_in r.month r.frozen (old.now.trees 16) (new.now.trees 16)
-        has.frozen turn.frozen frozen_rows,
+        has.frozen fits.frozen frozen_rows,
     replaced_here nat_cmp_total carried_serial carried_in r.month r.carried (old.now.trees 18) (new.now.trees 18)
-        has.carried turn.carried carried_rows,
+        has.carried fits.carried carried_rows,
     replaced_here total-law (λ (l : Level). l.code) level_in r.month r.levels (old.now.trees 20) (new.now.trees 20)
-        has.levels turn.levels level_rows,
+        has.levels fits.levels level_rows,
   ) refl
+
+  made_here : from_tables new.now.trees (header_of r) ≡ r
+  made_here = made_first ∙ ap (λ n. record r { revision = n }) (sym fits.revision)
 
   -- and of the other months what was
   made_there : (h : Header) → Has (headers_in (old.now.trees 15)) h
@@ -95,20 +110,20 @@ module _ (r : Release) (turn : AreInTurn r) (old new : State) (has : HasReleases
       let apart = months_apart h there in
       rw (
         replaced_there nat_cmp_total frozen_serial frozen_in r.month r.frozen (old.now.trees 16) (new.now.trees 16)
-            has.frozen turn.frozen frozen_rows h.month apart,
+            has.frozen fits.frozen frozen_rows h.month apart,
         replaced_there nat_cmp_total carried_serial carried_in r.month r.carried (old.now.trees 18) (new.now.trees 18)
-            has.carried turn.carried carried_rows h.month apart,
+            has.carried fits.carried carried_rows h.month apart,
         replaced_there total-law (λ (l : Level). l.code) level_in r.month r.levels (old.now.trees 20) (new.now.trees 20)
-            has.levels turn.levels level_rows h.month apart,
+            has.levels fits.levels level_rows h.month apart,
       ) refl
 
   releases_now : releases_in new.now.trees ≡ put release_cmp release_key r (releases_in old.now.trees)
   unfolding releases_in
   releases_now =
       ap (λ hs. map (from_tables new.now.trees) hs) headers_now
-      ∙ map_put nat_cmp (λ (h : Header). h.month) release_key (from_tables old.now.trees) (from_tables new.now.trees)
-      (λ h. refl)
-      (header_of r) r (headers_in (old.now.trees 15)) made_here refl made_there
+      ∙ map_put nat_cmp (λ (h : Header). h.month) release_cmp release_key (from_tables old.now.trees)
+      (from_tables new.now.trees) (header_of r) r (headers_in (old.now.trees 15)) made_here
+      (λ h. first_order h.month r.month) made_there
 
   releases_hold : HasReleases new.now.trees
   releases_hold = record {
@@ -119,19 +134,19 @@ module _ (r : Release) (turn : AreInTurn r) (old new : State) (has : HasReleases
         (new.now.trees 15)
         has.releases header_put;
     frozen = replaced_keyed nat_cmp_total frozen_serial frozen_in r.month r.frozen (old.now.trees 16) (new.now.trees 16)
-        has.frozen turn.frozen frozen_rows;
+        has.frozen fits.frozen frozen_rows;
     carried = replaced_keyed nat_cmp_total carried_serial carried_in r.month r.carried (old.now.trees 18)
         (new.now.trees 18)
-        has.carried turn.carried carried_rows;
+        has.carried fits.carried carried_rows;
     levels = replaced_keyed total-law (λ (l : Level). l.code) level_in r.month r.levels (old.now.trees 20)
         (new.now.trees 20)
-        has.levels turn.levels level_rows;
+        has.levels fits.levels level_rows;
   }
 
-pub written_done : (r : Release) → AreInTurn r → (old new : State) → HasTables (outside old)
-    → row_at release_cmp release_key r.month (releases_in old.now.trees) ≡ None → IsWritten r old new
+pub written_done : (r : Release) → FitsTables r → (old new : State) → HasTables (outside old)
+    → row_at release_cmp release_key (r.month, r.revision) (releases_in old.now.trees) ≡ None → IsWritten r old new
     → IsDone (Freezes r) (outside old) (outside new)
-written_done r turn old new has none w = record {
+written_done r fits old new has none w = record {
   tables = record {
     schema = w.schema;
     alone = refl;
@@ -144,7 +159,7 @@ written_done r turn old new has none w = record {
     assignments = rw w.others.assignments has.assignments;
     quotes = rw w.others.quotes has.quotes;
     plans = same_plans old.now.trees new.now.trees w.others.nodes w.others.places has.plans;
-    releases = releases_hold r turn old new has.releases none w;
+    releases = releases_hold r fits old new has.releases none w;
   };
   office = rw (
     w.others.collectors,
@@ -155,7 +170,7 @@ written_done r turn old new has none w = record {
     w.others.quotes,
     w.others.nodes,
     w.others.places,
-    releases_now r turn old new has.releases none w,
+    releases_now r fits old new has.releases none w,
   ) refl;
 }
 
@@ -244,20 +259,20 @@ module _ (r : Release) (number : ℕ) (is : month_at number ≡ Some r.month) (f
 -- what a crash may leave of it
 pub release_survives : (r : Release) (a begun b c : State) → begun.now ≡ a.now → Survives a b (λ _. ⊥)
     → (HasCleanDisk b → HasTables (outside begun)
-    → row_at release_cmp release_key r.month (releases_in begun.now.trees) ≡ None
+    → row_at release_cmp release_key (r.month, r.revision) (releases_in begun.now.trees) ≡ None
     → IsDone (Freezes r) (outside begun) (outside b))
     → Survives b c (λ db. db ≡ b.now.trees)
-    → Survives a c (λ db. HasTables a → row_at release_cmp release_key r.month (releases_in a.now.trees) ≡ None
+    → Survives a c (λ db. HasTables a → row_at release_cmp release_key (r.month, r.revision) (releases_in a.now.trees) ≡ None
     → office_in db ≡ changed (Freezes r) (office_in a.now.trees))
 release_survives r a begun b c start one done two =
     survives_then a b c _ _ _ (λ _ db no. absurd no)
     (λ clean db is has none.
     let disk : HasCleanDisk b = omega (arith, two.clean) in
-    let begins = λ (d : Database). row_at release_cmp release_key r.month (releases_in d.trees) ≡ None in
+    let begins = λ (d : Database). row_at release_cmp release_key (r.month, r.revision) (releases_in d.trees) ≡ None in
     let put = done disk (tables_begun a begun start has) (subst begins (sym start) none) in
     ap office_in is ∙ put.office ∙ ap (λ (d : Database). changed (Freezes r) (office_in d.trees)) start) one two
 
 pub unwritten_survives : (r : Release) (a b c : State) → Survives a b (λ _. ⊥) → Survives b c (λ _. ⊥)
-    → Survives a c (λ db. HasTables a → row_at release_cmp release_key r.month (releases_in a.now.trees) ≡ None
+    → Survives a c (λ db. HasTables a → row_at release_cmp release_key (r.month, r.revision) (releases_in a.now.trees) ≡ None
     → office_in db ≡ changed (Freezes r) (office_in a.now.trees))
 unwritten_survives r a b c one two = survives_then a b c _ _ _ (λ _ db no. absurd no) (λ _ db no. absurd no) one two

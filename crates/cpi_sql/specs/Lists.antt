@@ -405,10 +405,11 @@ carrieds_in rows = listed (held_cmp nat_cmp) (held_key carried_serial) carried_i
 abbrev pub levels_in : List Row → List (ℕ × Level)
 levels_in rows = listed (held_cmp code_cmp) (held_key (λ l. l.code)) level_in rows
 
--- the release of a header, with what stands beside its month
+-- the release of a header, with what stands beside its month: a database holds the first revision alone
 abbrev pub release_from : List (ℕ × Frozen) → List (ℕ × Carried) → List (ℕ × Level) → Header → Release
 release_from frozen carried levels h = record {
   month = h.month;
+  revision = 1;
   frozen_at = h.frozen_at;
   publishes = h.publishes;
   frozen = held_by h.month frozen;

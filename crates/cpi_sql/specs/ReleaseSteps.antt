@@ -48,8 +48,9 @@ pub record IsHeaderStep (h : Header) (old new : State) : Type 0 where
 abbrev pub header_of : Release → Header
 header_of r = record { month = r.month; frozen_at = r.frozen_at; publishes = r.publishes; carry = r.carry }
 
--- its lists rise by their keys, as reads give them
-pub record AreInTurn (r : Release) : Type 0 where
+-- the tables can hold it: it is the first revision of its month, and its lists rise by their keys, as reads give them
+pub record FitsTables (r : Release) : Type 0 where
+  pub revision : r.revision ≡ 1
   pub frozen : IsInOrder nat_cmp frozen_serial r.frozen
   pub carried : IsInOrder nat_cmp carried_serial r.carried
   pub levels : IsInOrder code_cmp (λ l. l.code) r.levels

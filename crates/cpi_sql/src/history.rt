@@ -1,5 +1,5 @@
 //! What is read of the releases, by their headers that are kept.
-ghost use Rattle.std.specs.Prelude.{◌≡◌, ◌≤◌, IfOk, IsSome, IsTrue, OnOk, map};
+ghost use Rattle.std.specs.Prelude.{◌≡◌, ◌≤◌, IfOk, IsSome, IsTrue, None, OnOk, map, option_map};
 ghost use Rattle.sqlite.specs.Held.{state};
 ghost use Rattle.cpi_rows.specs.Keyed.{at};
 ghost use Rattle.cpi_release.specs.Cached.{AreKept, IsFit};
@@ -8,21 +8,22 @@ ghost use Rattle.cpi_release.specs.GroupCalls.{group_of};
 ghost use Rattle.cpi_release.specs.PublishedTables.{frozen_month_of, published_until};
 ghost use Rattle.cpi_release.specs.Releases.{level_at};
 ghost use Rattle.cpi_store.specs.Sources.{office_sources};
-ghost use Rattle.cpi_sql.specs.Headers.{is_published as published_in};
+ghost use Rattle.cpi_store.specs.Tables.{table_until};
+ghost use Rattle.cpi_sql.specs.Headers.{is_there as there_in};
 ghost use Rattle.cpi_sql.specs.LevelTables.{AreTablesOf};
 ghost use Rattle.cpi_sql.specs.Lists.{headers_in, office_in, releases_in};
 ghost use Rattle.cpi_sql.specs.Shelf.{HasTables, HeadersStand, IsCleanBook, IsLook, PublicStands, StaysOpen};
 
 use crate::chained::{chained_level, ready_table};
 use crate::groups::sample_of;
-use crate::headers::{frozen_months, is_published, published_months};
+use crate::headers::{frozen_months, is_there, published_months, revision_published};
 use crate::level_table::LevelTable;
 use crate::ready::{ready_headers, ready_public};
 use crate::release_rows::Header;
 use crate::stored::Unread;
 use cpi_codes::{Code, Moment, Month};
 use cpi_index::{ChainedLevel, GroupRow};
-use cpi_release::{Cached, FrozenMonth};
+use cpi_release::{Cached, FrozenMonth, Revision};
 use cpi_survey::Public;
 use sqlite::{Alter, Connection};
 use std::alloc::Global;
@@ -75,7 +76,30 @@ pub fn months_published<S: Alter>(
     }
 }
 
-/// Whether the month's table is published by the moment; it is kept from then on, if so.
+/// The latest revision of the month whose table is published by the moment.
+pub fn find_revision<S: Alter>(
+    conn: &mut Connection<S>,
+    alloc: Global,
+    headers: &mut Vec<Header>,
+    has_headers: &mut bool,
+    month: Month,
+    until: Moment,
+) -> Result<Option<Revision>, Unread>
+    ensures look { IsLook (state S.Store conn.old) (state S.Store conn.new) }
+    ensures open { OnOk result (StaysOpen (state S.Store conn.old) (state S.Store conn.new)) }
+    ensures headers { IsCleanBook (state S.Store conn.new) → HasTables (state S.Store conn.old) →
+        HeadersStand (state S.Store conn.old).now.trees has_headers.old headers.old.items →
+        HeadersStand (state S.Store conn.old).now.trees has_headers.new headers.new.items }
+    ensures read { IsCleanBook (state S.Store conn.new) → HasTables (state S.Store conn.old) →
+        HeadersStand (state S.Store conn.old).now.trees has_headers.old headers.old.items →
+        IfOk result (λ found. found ≡ option_map (λ t. t.revision)
+        (table_until month None until (releases_in (state S.Store conn.old).now.trees))) }
+{
+    ready_headers(conn, alloc, headers, has_headers)?;
+    Ok(revision_published(headers, month, until))
+}
+
+/// Whether the month's table in the revision is published by the moment; it is kept from then on, if so.
 pub fn find_table<S: Alter>(
     conn: &mut Connection<S>,
     alloc: Global,
@@ -83,6 +107,7 @@ pub fn find_table<S: Alter>(
     has_headers: &mut bool,
     tables: &mut Vec<LevelTable>,
     month: Month,
+    revision: Revision,
     until: Moment,
 ) -> Result<bool, Unread>
     ensures look { IsLook (state S.Store conn.old) (state S.Store conn.new) }
@@ -96,11 +121,11 @@ pub fn find_table<S: Alter>(
         AreTablesOf releases tables.old.items → AreTablesOf releases tables.new.items }
     ensures read { IsCleanBook (state S.Store conn.new) → HasTables (state S.Store conn.old) →
         HeadersStand (state S.Store conn.old).now.trees has_headers.old headers.old.items →
-        IfOk result (λ is. is ≡ published_in month until (headers_in ((state S.Store conn.old).now.trees 15))) }
+        IfOk result (λ is. is ≡ there_in month revision until (headers_in ((state S.Store conn.old).now.trees 15))) }
     ensures ready { IfOk result (λ is. IsTrue is → IsSome (at (λ t. t.month) month tables.new.items)) }
 {
     ready_headers(conn, alloc, headers, has_headers)?;
-    if !is_published(headers, month, until) {
+    if !is_there(headers, month, revision, until) {
         return Ok(false);
     }
     ready_table(conn, alloc, headers, tables, month)?;

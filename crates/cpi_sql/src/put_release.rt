@@ -6,7 +6,7 @@ ghost use Rattle.cpi_release.specs.FrozenMonths.{release_cmp, release_key};
 ghost use Rattle.cpi_rows.specs.Keyed.{row_at};
 ghost use Rattle.cpi_store.specs.Office.{changed, Freezes};
 ghost use Rattle.cpi_sql.specs.Lists.{office_in};
-ghost use Rattle.cpi_sql.specs.ReleaseSteps.{AreInTurn};
+ghost use Rattle.cpi_sql.specs.ReleaseSteps.{FitsTables};
 ghost use Rattle.cpi_sql.specs.Shelf.{HasTables, IsCleanBook, IsDone, IsKept};
 ghost use Rattle.cpi_sql.specs.Steps.{outside};
 
@@ -16,7 +16,7 @@ use crate::stored::Unread;
 use crate::writes::month_number;
 use cpi_codes::Month;
 use cpi_index::{CarriedPrice, FrozenQuote};
-use cpi_release::{Level, Release};
+use cpi_release::{Level, Release, Revision};
 use cpi_rows::are_in_order;
 use sqlite::{Alter, Connection, Transaction};
 use std::alloc::Global;
@@ -25,6 +25,12 @@ fn month_of(release: &Release) -> Month
     ensures { result ≡ release.now.month }
 {
     release.month
+}
+
+fn revision_of(release: &Release) -> Revision
+    ensures { result ≡ release.now.revision }
+{
+    release.revision
 }
 
 fn frozen_of(release: &Release) -> &[FrozenQuote]
@@ -45,11 +51,12 @@ fn levels_of(release: &Release) -> &[Level]
     release.levels.as_slice()
 }
 
-// Whether its lists rise by their keys.
-fn are_in_turn(release: &Release) -> bool
-    ensures { IsTrue result → AreInTurn release.now }
+// Whether the tables can hold it: the first revision, with lists that rise by their keys.
+fn fits_tables(release: &Release) -> bool
+    ensures { IsTrue result → FitsTables release.now }
 {
-    are_in_order(frozen_of(release))
+    revision_of(release).is_first()
+        && are_in_order(frozen_of(release))
         && are_in_order(carried_of(release))
         && are_in_order(levels_of(release))
 }
@@ -60,11 +67,11 @@ fn write_rows<S: Alter>(
     alloc: Global,
     release: &Release,
 ) -> Result<(), Unread>
-    requires in_turn { AreInTurn release.now }
+    requires fits { FitsTables release.now }
     ensures same_reference { tx.new.conn.ghost_name ≡ tx.old.conn.ghost_name }
     ensures written { HasCleanDisk (state S.Store tx.new.conn.now) →
         IsTrue (state S.Store tx.old.conn.now).in_transaction → HasTables (outside (state S.Store tx.old.conn.now)) →
-        row_at release_cmp release_key release.now.month
+        row_at release_cmp release_key (release.now.month, release.now.revision)
         (office_in (state S.Store tx.old.conn.now).now.trees).releases ≡ None →
         OnOk result (IsDone (Freezes release.now)
         (outside (state S.Store tx.old.conn.now)) (outside (state S.Store tx.new.conn.now))) }
@@ -86,19 +93,19 @@ fn write_release<S: Alter>(
     release: &Release,
 ) -> Result<(), Unread>
     requires alone { (state S.Store conn.old).in_transaction ≡ false }
-    requires in_turn { AreInTurn release.now }
+    requires fits { FitsTables release.now }
     ensures alone { (state S.Store conn.new).in_transaction ≡ false }
     ensures clean { IsCleanBook (state S.Store conn.new) → IsCleanBook (state S.Store conn.old) }
     ensures open { HasCleanDisk (state S.Store conn.new) → OnOk result (IsTrue (state S.Store conn.new).is_open) }
     ensures done { HasCleanDisk (state S.Store conn.new) → HasTables (state S.Store conn.old) →
-        row_at release_cmp release_key release.now.month
+        row_at release_cmp release_key (release.now.month, release.now.revision)
         (office_in (state S.Store conn.old).now.trees).releases ≡ None →
         OnOk result (IsDone (Freezes release.now) (state S.Store conn.old) (state S.Store conn.new)) }
     ensures undone { HasCleanDisk (state S.Store conn.new) → IsTrue (state S.Store conn.new).is_open →
         OnErr result ((state S.Store conn.new).now ≡ (state S.Store conn.old).now) }
     ensures crash { Survives (state S.Store conn.old) (state S.Store conn.new) (λ db.
         HasTables (state S.Store conn.old) →
-        row_at release_cmp release_key release.now.month
+        row_at release_cmp release_key (release.now.month, release.now.revision)
         (office_in (state S.Store conn.old).now.trees).releases ≡ None →
         office_in db ≡ changed (Freezes release.now) (office_in (state S.Store conn.old).now.trees)) }
 {
@@ -113,7 +120,8 @@ fn write_release<S: Alter>(
     }
 }
 
-/// Puts the release of a month that has none: all of its rows, or none.
+/// Puts the release of a month that has none: all of its rows, or none. One that isn't the first revision is
+/// refused before the database is asked.
 pub fn put_release<S: Alter>(
     conn: &mut Connection<S>,
     alloc: Global,
@@ -122,18 +130,18 @@ pub fn put_release<S: Alter>(
     ensures clean { IsCleanBook (state S.Store conn.new) → IsCleanBook (state S.Store conn.old) }
     ensures open { HasCleanDisk (state S.Store conn.new) → OnOk result (IsTrue (state S.Store conn.new).is_open) }
     ensures done { IsCleanBook (state S.Store conn.new) → HasTables (state S.Store conn.old) →
-        row_at release_cmp release_key release.now.month
+        row_at release_cmp release_key (release.now.month, release.now.revision)
         (office_in (state S.Store conn.old).now.trees).releases ≡ None →
         OnOk result (IsDone (Freezes release.now) (state S.Store conn.old) (state S.Store conn.new)) }
     ensures kept { IsCleanBook (state S.Store conn.new) → HasTables (state S.Store conn.old) →
         OnErr result (IsKept (state S.Store conn.old) (state S.Store conn.new)) }
     ensures crash { Survives (state S.Store conn.old) (state S.Store conn.new) (λ db.
         HasTables (state S.Store conn.old) →
-        row_at release_cmp release_key release.now.month
+        row_at release_cmp release_key (release.now.month, release.now.revision)
         (office_in (state S.Store conn.old).now.trees).releases ≡ None →
         office_in db ≡ changed (Freezes release.now) (office_in (state S.Store conn.old).now.trees)) }
 {
-    if !conn.is_autocommit() || !are_in_turn(release) {
+    if !fits_tables(release) || !conn.is_autocommit() {
         return Err(Unread);
     }
     write_release(conn, alloc, release)

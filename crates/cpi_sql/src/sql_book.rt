@@ -2,7 +2,9 @@ use crate::ask::settle;
 use crate::follow::{
     follow_calendar, follow_collector, follow_item, follow_outlet, follow_plan, follow_quote,
 };
-use crate::history::{all_months, find_table, level_of, months_published, sample_rows};
+use crate::history::{
+    all_months, find_revision, find_table, level_of, months_published, sample_rows,
+};
 use crate::level_table::{LevelTable, lent_table};
 use crate::month_rows::month_rows;
 use crate::open::{OpenFault, open_office};
@@ -15,7 +17,7 @@ use crate::writes::{put_assignment, put_calendar, put_collector, put_item, put_o
 use cpi_codes::{Code, CollectorId, Key, Moment, Month, OutletId};
 use cpi_index::{ChainedLevel, FrozenQuote, GroupRow};
 use cpi_plan::{CalendarRow, Item, YearPlan};
-use cpi_release::{Cached, Failures, FrozenMonth, GroupFault, Groups, Level, Release};
+use cpi_release::{Cached, Failures, FrozenMonth, GroupFault, Groups, Level, Release, Revision};
 use cpi_rows::{Rows, RowsByKey, find_row};
 use cpi_store::{Bearer, Book, Outlet, Parts, StoreFault};
 use cpi_survey::{Assigned, Own, Public, Quote};
@@ -48,6 +50,9 @@ impl Lent {
 /// and so are what the collector has who was last asked for, what the releases say beside their lists, the tables of
 /// earlier months that are asked for, and the samples of the month that is being frozen. Each write changes what is
 /// kept, or drops it.
+///
+/// A database holds the first revision of each month alone: any other release is refused with a `StoreFault`, and
+/// nothing is asked of the database.
 #[derive(Drop)]
 pub struct SqlBook<S: Alter> {
     conn: Connection<S>,
@@ -350,7 +355,30 @@ impl<S: Alter> Book for SqlBook<S> {
         }
     }
 
-    fn table(&mut self, month: Month, until: Moment) -> Result<Option<&Rows<Level>>, StoreFault> {
+    fn revision_until(
+        &mut self,
+        month: Month,
+        until: Moment,
+    ) -> Result<Option<Revision>, StoreFault> {
+        match find_revision(
+            &mut self.conn,
+            self.alloc,
+            &mut self.headers,
+            &mut self.has_headers,
+            month,
+            until,
+        ) {
+            Ok(found) => Ok(found),
+            Err(_) => Err(self.failed.counted(StoreFault)),
+        }
+    }
+
+    fn table(
+        &mut self,
+        month: Month,
+        revision: Revision,
+        until: Moment,
+    ) -> Result<Option<&Rows<Level>>, StoreFault> {
         match find_table(
             &mut self.conn,
             self.alloc,
@@ -358,6 +386,7 @@ impl<S: Alter> Book for SqlBook<S> {
             &mut self.has_headers,
             &mut self.tables,
             month,
+            revision,
             until,
         ) {
             Ok(is_there) => Ok(lent_table(&self.tables, is_there, month)),

@@ -1,7 +1,7 @@
 use Rattle.std.proofs.Common.{rules, ◌≡◌, true, sym, ap, ◌∙◌}
 use Rattle.sqlite.specs.Effect.{Database}
 use Rattle.sqlite.specs.Held.{state}
-use Rattle.cpi_sql.specs.Headers.{is_published}
+use Rattle.cpi_sql.specs.Headers.{is_there}
 use Rattle.cpi_sql.specs.LevelTables.{AreTablesOf}
 use Rattle.cpi_sql.specs.Lists.{headers_in, releases_in}
 use Rattle.cpi_sql.proofs.Kept.{kept_tables}
@@ -64,6 +64,6 @@ pub returns-clause-read : goal.returns-clause-read
 returns-clause-read g c = λ clean has stood.
     let before = c.ready_table.ensures.look.clean clean in
     let rows = c.ready_headers.ensures.stands before has stood c.in_ok-ready_headers.ensures.ready in
-    let told = c.is_published.ensures ∙ ap (is_published c.args.month c.args.until) (c.deref.ensures.value ∙ rows) in
-    let yes : c.is_published.result ≡ true = search rules in
+    let told = c.is_there.ensures ∙ ap (is_there c.args.month c.args.revision c.args.until) (c.deref.ensures.value ∙ rows) in
+    let yes : c.is_there.result ≡ true = search rules in
     sym yes ∙ told

@@ -32,7 +32,7 @@ returns-clause-written g c = λ clean inside has none.
     ∙ one.others.levels (λ n. absurd (omega (arith, n))))) has.releases.level_ids in
     on_then c.replace_levels.result _ _
     (c.replace_levels.ensures.replaced clean three.inside three.schema level_ids r.month is)
-    (λ four. written_done r c.requires.in_turn a f has none
+    (λ four. written_done r c.requires.fits a f has none
     (steps_written r c.month_number-number.result is c.frozen_of.result.now c.carried_of.result.now
     c.levels_of.result.now
     c.frozen_of.ensures c.carried_of.ensures c.levels_of.ensures a b d e f one two three four))

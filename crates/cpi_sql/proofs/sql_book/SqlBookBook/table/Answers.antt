@@ -53,7 +53,7 @@ returns-in-Ok g c =
             let stand = c.find_table.ensures.tables clean st.tables st.releases.headers st.releases.tables in
             let is = c.in-Ok.ensures.read clean st.tables st.releases.headers in
             let lent = rw c.deref.ensures.value at c.lent_table.ensures in
-            lent ∙ table_shown old.now.trees c.args.month c.args.until c.find_table.new.tables.items c.in-Ok.is_there
+            lent ∙ table_shown old.now.trees c.args.month c.args.revision c.args.until c.find_table.new.tables.items c.in-Ok.is_there
             is stand c.in-Ok.ensures.ready),
       ),
       record { reads = tt; always = λ no. absurd no },
