@@ -4,7 +4,7 @@ use Rattle.std.specs.Prelude.{IsSome, ⊤}
 use Rattle.cpi_release.specs.FrozenMonths.{release_cmp, release_key, frozen_months, is_year_frozen}
 use Rattle.cpi_store.specs.PublishedReleases.{IsPublished}
 use Rattle.cpi_store.specs.Sound.{IsWellMade, HasNodesInOrder}
-use Rattle.cpi_rows.specs.Keyed.{row_at, at}
+use Rattle.cpi_rows.specs.Keyed.{row_at, at, IsInOrder}
 use Rattle.cpi_rows.specs.Held.{held_by}
 use Rattle.cpi_store.specs.Bearer.{bearer_of}
 use Rattle.cpi_survey.specs.Quote.{quote_key, quote_cmp}
@@ -28,7 +28,7 @@ Fits (Assigns b a) o =
     × (a ≡ with_name o.outlets a.assignment)
     × IsWellMade (b.number, a.assignment)
 Fits (Quotes b q) o = (at (λ b. b.number) b.number o.collectors ≡ Some b) × IsSome (at (λ a. a.slot) q.slot (held_by b.number o.assignments))
-Fits (Freezes r) o = (row_at release_cmp release_key (release_key r) o.releases ≡ None) × IsPublished o.plans o.releases r × (r.frozen ≡ month_rows r.month o)
+Fits (Freezes r) o = (IsInOrder release_cmp release_key o.releases → row_at release_cmp release_key (release_key r) o.releases ≡ None) × IsPublished o.plans o.releases r × (r.frozen ≡ month_rows r.month o)
 
 -- a change whose row stands already
 abbrev pub Stood : Change → Office → Type 0

@@ -33,7 +33,7 @@ bare o = record o { quotes = [] }
 commanded_bare : (now : ℕ) (r : Request) (o : Office) → IsFalse (freezes r) → commanded now r (bare o) ≡ commanded now r o
 commanded_bare now request.Items o h = refl
 commanded_bare now request.Tables o h = refl
-commanded_bare now (request.Table month form) o h = refl
+commanded_bare now (request.Table month form edition) o h = refl
 commanded_bare now (request.Work month) o h = refl
 commanded_bare now (request.Quotes first last) o h = refl
 commanded_bare now (request.Submit entry) o h = refl
@@ -106,7 +106,7 @@ module _ (key : ℕ) where
     other_unseen : (now : ℕ) (r : Request) (v : View) → Unseen (of_collector other now r v)
     other_unseen now request.Items v = (λ t. refl, λ o. refl)
     other_unseen now request.Tables v = (λ t. refl, λ o. refl)
-    other_unseen now (request.Table month form) v = (λ t. refl, λ o. refl)
+    other_unseen now (request.Table month form edition) v = (λ t. refl, λ o. refl)
     other_unseen now (request.Freeze month carry) v = (λ t. refl, λ o. refl)
     other_unseen now (request.Work month) v = (λ t. refl, λ o. refl)
     other_unseen now (request.Quotes first last) v = (λ t. refl, λ o. refl)

@@ -1,10 +1,10 @@
 -- No reply that the definitions give says that the office is unavailable, and no verdict turns a caller away.
 use Rattle.std.proofs.Common.{◌≡◌, ℕ, Bool, true, false, List, Some, None, Option, Result, Ok, Err, refl}
-use Rattle.std.specs.Prelude.{if◌then◌else◌, is_none, nat_lt, not}
+use Rattle.std.specs.Prelude.{option_map, if◌then◌else◌, is_none, nat_lt, not}
 use Rattle.cpi_rows.specs.Keyed.{at}
 use Rattle.cpi_codes.specs.declared.codes.Code.{Code}
 use Rattle.cpi_index.specs.declared.fault.IndexFault.{IndexFault}
-use Rattle.cpi_release.specs.FrozenMonths.{frozen_months, is_frozen, is_next, plan_for, lacks_plan}
+use Rattle.cpi_release.specs.FrozenMonths.{frozen_months, stays_frozen, is_next, plan_for, lacks_plan}
 use Rattle.cpi_release.specs.PublishedTables.{PublishedTable}
 use Rattle.cpi_release.specs.declared.frozen_month.FrozenMonth.{FrozenMonth}
 use Rattle.cpi_release.specs.declared.form.Form.{Form}
@@ -119,7 +119,7 @@ module _ (now month : ℕ) (carry : List Code) (o : Office) where
 
   pub frozen_judges : Judges (frozen now month carry o)
   frozen_judges =
-      if_holds Fine (is_frozen month already) _ _ (λ e. (refl, refl)) (λ e.
+      if_holds Fine (stays_frozen month (option_map (λ r. r.publishes) (at (λ r. r.month) month o.calendar)) already) _ _ (λ e. (refl, refl)) (λ e.
       if_holds Fine (not (is_next month already)) _ _ (λ e. (refl, refl)) (λ e. row_judges (at (λ r. r.month) month o.calendar)))
 
 pub registered_judges : (b : Bearer) (w v : Option Bearer) → Judges (registered b w v)
@@ -150,7 +150,7 @@ known_told : (now : ℕ) (r : Request) (v : View) (own : Option OwnView) → is_
 known_told now r v None = refl
 known_told now request.Items v (Some own) = refl
 known_told now request.Tables v (Some own) = refl
-known_told now (request.Table month form) v (Some own) = (table_own form month _).0
+known_told now (request.Table month form edition) v (Some own) = (table_own form month _).0
 known_told now (request.Freeze month carry) v (Some own) = refl
 known_told now (request.Work month) v (Some own) = (work_own month v.public own.part).0
 known_told now (request.Quotes first last) v (Some own) = refl
@@ -165,7 +165,7 @@ known_told now (request.PutCalendar row) v (Some own) = refl
 desk_told : (now : ℕ) (r : Request) (o : Office) → is_failure (reply_to now caller.Desk r o) ≡ false
 desk_told now request.Items o = refl
 desk_told now request.Tables o = refl
-desk_told now (request.Table month form) o = (table_own form month _).0
+desk_told now (request.Table month form edition) o = (table_own form month _).0
 desk_told now (request.Freeze month carry) o = (frozen_judges now month carry o).0
 desk_told now (request.Work month) o = refl
 desk_told now (request.Quotes first last) o = refl
@@ -180,7 +180,7 @@ desk_told now (request.PutCalendar row) o = (replaced_judges _ MonthFrozen _ _ (
 public_told : (now : ℕ) (r : Request) (o : Office) → is_failure (reply_to now caller.Public r o) ≡ false
 public_told now request.Items o = refl
 public_told now request.Tables o = refl
-public_told now (request.Table month form) o = (table_own form month _).0
+public_told now (request.Table month form edition) o = (table_own form month _).0
 public_told now (request.Freeze month carry) o = refl
 public_told now (request.Work month) o = refl
 public_told now (request.Quotes first last) o = refl

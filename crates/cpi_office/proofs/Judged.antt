@@ -1,40 +1,65 @@
 -- What is known once a freeze is judged.
-use Rattle.std.proofs.Common.{◌≡◌, ◌≢◌, ℕ, ◌+◌, ◌-◌, suc, Bool, true, false, eqb, List, [], ◌∷◌, length, Some, None, Option, Result, Ok, Err, refl, sym, ap, ◌∙◌, arith, inl, inr}
-use Rattle.std.specs.Prelude.{◌⊎◌, slice_get, nat_eq, nat_lt, not, if◌then◌else◌}
+use Rattle.std.proofs.Common.{◌≡◌, ◌≢◌, ℕ, ◌+◌, ◌-◌, ◌≤◌, suc, Bool, true, false, eqb, List, [], ◌∷◌, length, Some, None, Option, Result, Ok, Err, refl, sym, ap, ◌∙◌, subst, arith, inl, inr}
+use Rattle.std.specs.Prelude.{◌⊎◌, ◌==◌, ◌&&◌, ◌||◌, slice_get, nat_lt, not, option_map, if◌then◌else◌}
 use Rattle.std.proofs.lemmas.Bool.Decides.{eqb_tells}
 use Rattle.cpi_codes.specs.declared.codes.Code.{Code}
-use Rattle.cpi_rows.specs.Keyed.{at, row_at}
+use Rattle.cpi_rows.specs.Keyed.{at}
 use Rattle.cpi_rows.proofs.Found.{at_key}
-use Rattle.cpi_rows.proofs.Puts.{different}
 use Rattle.cpi_plan.specs.Plan.{Plan}
 use Rattle.cpi_plan.specs.Calendar.{CalendarPart}
-use Rattle.cpi_release.specs.FrozenMonths.{release_cmp, release_key, frozen_months, is_frozen, is_next, plan_for, lacks_plan}
+use Rattle.cpi_release.specs.FrozenMonths.{frozen_months, last_frozen, is_frozen, is_reopened, stays_frozen, is_next, next_revision, plan_for, lacks_plan}
 use Rattle.cpi_release.specs.declared.frozen_month.FrozenMonth.{FrozenMonth}
 use Rattle.cpi_release.specs.declared.release.Release.{Release}
 use Rattle.cpi_office.specs.Freezing.{freeze_judged, row_judged, plan_judged, carry_judged, has_weightless}
-use Rattle.std.proofs.lemmas.Bool.{false≢true}
+use Rattle.std.proofs.lemmas.Bool.{false≢true, ltb-true}
 use Rattle.cpi_office.specs.declared.refusal.Refusal.{Refusal}
 use Rattle.cpi_office.specs.declared.refusal.Refusal.TheVariants.{FreezeOrder}
 
--- the month after the last one
-pub next_of_last : (month : ℕ) (frozen : List FrozenMonth) (last : FrozenMonth) → slice_get frozen (length frozen - 1) ≡ Some last → nat_eq month (last.month + 1) ≡ is_next month frozen
-next_of_last month [] last e = let no : None ≡ Some last = e in cc
-next_of_last month (x ∷ []) last e =
+-- the last of a list, by its place
+pub last_is : (frozen : List FrozenMonth) → slice_get frozen (length frozen - 1) ≡ last_frozen frozen
+last_is [] = refl
+last_is (x ∷ []) = refl
+last_is (x ∷ y ∷ frozen) =
+    let one : length (x ∷ y ∷ frozen) - 1 ≡ suc (length (y ∷ frozen) - 1) = omega arith in
+    ap (slice_get (x ∷ y ∷ frozen)) one ∙ last_is (y ∷ frozen)
+
+-- the last month is among the frozen ones
+last_among : (month : ℕ) (frozen : List FrozenMonth) (last : FrozenMonth) → last_frozen frozen ≡ Some last → (last.month == month) ≡ true → is_frozen month frozen ≡ true
+last_among month [] last e same = let no : None ≡ Some last = e in cc
+last_among month (x ∷ []) last e same =
     let here : Some x ≡ Some last = e in
     let is : x ≡ last = cc in
-    ap (λ (l : FrozenMonth). nat_eq month (l.month + 1)) (sym is)
-next_of_last month (x ∷ y ∷ frozen) last e =
-    let one : length (x ∷ y ∷ frozen) - 1 ≡ suc (length (y ∷ frozen) - 1) = omega arith in
-    next_of_last month (y ∷ frozen) last (ap (slice_get (x ∷ y ∷ frozen)) (sym one) ∙ e)
-
--- a month that isn't among the frozen ones has no release
-pub not_there : (month : ℕ) (rs : List Release) → is_frozen month (frozen_months rs) ≡ false → row_at release_cmp release_key month rs ≡ None
-not_there month [] e = refl
-not_there month (r ∷ rs) e = by (eqb_tells r.month month) (not_there month rs)
+    rw (ap (λ (l : FrozenMonth). l.month == month) is ∙ same) refl
+last_among month (x ∷ y ∷ frozen) last e same = by (x.month == month) (last_among month (y ∷ frozen) last e same)
   where
-    by : ((eqb r.month month ≡ true) × (r.month ≡ month)) ⊎ ((eqb r.month month ≡ false) × (r.month ≢ month)) → (is_frozen month (frozen_months rs) ≡ false → row_at release_cmp release_key month rs ≡ None) → row_at release_cmp release_key month (r ∷ rs) ≡ None
-    by (inl same) rest = let no : true ≡ false = rw same.0 at e in cc
-    by (inr apart) rest = rw (different r.month month apart.1) (rest (rw apart.0 at e))
+    by : (w : Bool) → is_frozen month (y ∷ frozen) ≡ true → (w || is_frozen month (y ∷ frozen)) ≡ true
+    by true rest = refl
+    by false rest = rest
+
+-- a month that doesn't stay frozen has fewer than nine revisions
+pub few_revisions : (month : ℕ) (publishes : Option ℕ) (frozen : List FrozenMonth) → stays_frozen month publishes frozen ≡ false → next_revision month frozen ≤ 9
+few_revisions month publishes frozen free = by (last_frozen frozen) refl
+  where
+    reopened : (w : Bool) → (true && not w) ≡ false → w ≡ true
+    reopened true e = refl
+    reopened false e = absurd (false≢true (sym e))
+
+    three : (a b c : Bool) → (a && b && c) ≡ true → b ≡ true
+    three true true c e = refl
+    three true false c e = absurd (false≢true e)
+    three false b c e = absurd (false≢true e)
+
+    few : (last : FrozenMonth) (p : Option ℕ) → is_reopened month p (Some last) ≡ true → last.revision + 1 ≤ 9
+    few last None e = absurd (false≢true e)
+    few last (Some p) e = let less = ltb-true last.revision 9 (three (last.month == month) (nat_lt last.revision 9) (nat_lt last.publishes p) e) in omega (arith, less)
+
+    by : (w : Option FrozenMonth) → last_frozen frozen ≡ w → next_revision month frozen ≤ 9
+    by None e = rw e (omega arith)
+    by (Some last) e = again (eqb_tells last.month month)
+      where
+        again : ((eqb last.month month ≡ true) × (last.month ≡ month)) ⊎ ((eqb last.month month ≡ false) × (last.month ≢ month)) → next_revision month frozen ≤ 9
+        again (inl same) = rw (e, same.0) (few last publishes (reopened (is_reopened month publishes (Some last)) (rw (last_among month frozen last e same.0, e) at free)))
+        again (inr apart) = rw (e, apart.0) (omega arith)
 
 -- a test that was passed
 pub passed : {A E : Type 0} (t : Bool) (f : E) (r : Result A E) (x : A) → (if t then Err f else r) ≡ Ok x → (t ≡ false) × (r ≡ Ok x)
@@ -58,8 +83,8 @@ module _ (now : ℕ) (carry : List Code) (frozen : List FrozenMonth) (plans : Li
 
 module _ (now month : ℕ) (carry : List Code) (rs : List Release) (calendar : List CalendarPart) (plans : List Plan) (row : CalendarPart)
     (judged : freeze_judged now month carry (frozen_months rs) (at (λ r. r.month) month calendar) plans ≡ Ok row) where
-  abbrev free : (is_frozen month (frozen_months rs) ≡ false) × ((if not (is_next month (frozen_months rs)) then Err FreezeOrder else row_judged now plans (frozen_months rs) carry (at (λ r. r.month) month calendar)) ≡ Ok row)
-  free = passed (is_frozen month (frozen_months rs)) _ (if not (is_next month (frozen_months rs)) then Err FreezeOrder else row_judged now plans (frozen_months rs) carry (at (λ r. r.month) month calendar)) row judged
+  abbrev free : (stays_frozen month (option_map (λ r. r.publishes) (at (λ r. r.month) month calendar)) (frozen_months rs) ≡ false) × ((if not (is_next month (frozen_months rs)) then Err FreezeOrder else row_judged now plans (frozen_months rs) carry (at (λ r. r.month) month calendar)) ≡ Ok row)
+  free = passed (stays_frozen month (option_map (λ r. r.publishes) (at (λ r. r.month) month calendar)) (frozen_months rs)) _ (if not (is_next month (frozen_months rs)) then Err FreezeOrder else row_judged now plans (frozen_months rs) carry (at (λ r. r.month) month calendar)) row judged
 
   abbrev follows : (not (is_next month (frozen_months rs)) ≡ false) × (row_judged now plans (frozen_months rs) carry (at (λ r. r.month) month calendar) ≡ Ok row)
   follows = passed (not (is_next month (frozen_months rs))) _ (row_judged now plans (frozen_months rs) carry (at (λ r. r.month) month calendar)) row free.1
@@ -76,6 +101,6 @@ module _ (now month : ℕ) (carry : List Code) (rs : List Release) (calendar : L
       by true e = refl
       by false e = absurd (false≢true (sym e))
 
-  -- a month that may be frozen has no release yet
-  pub judged_new : row_at release_cmp release_key row.month rs ≡ None
-  judged_new = ap (λ k. row_at release_cmp release_key k rs) judged_month ∙ not_there month rs free.0
+  -- it has fewer than nine revisions
+  pub judged_few : next_revision row.month (frozen_months rs) ≤ 9
+  judged_few = subst (λ k. next_revision k (frozen_months rs) ≤ 9) (sym judged_month) (few_revisions month (option_map (λ r. r.publishes) (at (λ r. r.month) month calendar)) (frozen_months rs) free.0)

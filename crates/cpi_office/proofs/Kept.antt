@@ -23,7 +23,7 @@ use Rattle.cpi_office.proofs.Bearers.{keys-put}
 use Rattle.cpi_office.proofs.Stood.{held_total, quote_total}
 use Rattle.cpi_release.specs.FrozenMonths.{release_cmp, release_key}
 use Rattle.cpi_release.specs.declared.release.Release.{Release}
-use Rattle.cpi_office.proofs.Sights.{release_total}
+use Rattle.cpi_store.proofs.Published.{release_total}
 use Rattle.cpi_store.proofs.Published.{newly_frozen, published_more, replanned}
 use Rattle.cpi_office.proofs.Accepted.{Fits}
 

@@ -17,7 +17,8 @@ use Rattle.cpi_office.specs.declared.caller.Caller.{Caller}
 use Rattle.cpi_office.specs.declared.caller.Caller.TheVariants.{Public, Collector, Desk}
 use Rattle.cpi_office.specs.declared.request.Request.{Request}
 use Rattle.cpi_office.proofs.Accepted.{Holds, Fits}
-use Rattle.cpi_office.proofs.Sights.{shows_item, shows_plan, shows_calendar, shows_registered, shows_outlet, shows_assignment, shows_quote, shows_release, release_total, Shows}
+use Rattle.cpi_office.proofs.Sights.{shows_item, shows_plan, shows_calendar, shows_registered, shows_outlet, shows_assignment, shows_quote, shows_release, Shows}
+use Rattle.cpi_store.proofs.Published.{release_total}
 use Rattle.cpi_office.proofs.Stood.{stood_shows}
 use Rattle.cpi_rows.specs.Keyed.{row_at}
 use Rattle.cpi_rows.proofs.Puts.{row_at-put_found}
@@ -35,7 +36,7 @@ fits_shows k t o s (Registers b) h = shows_registered k t o s b h.0 h.1
 fits_shows k t o s (PutsOutlet u) h = shows_outlet k t o s u h
 fits_shows k t o s (Assigns b a) h = shows_assignment k t o s b a h.1 h.4
 fits_shows k t o s (Quotes b q) h = shows_quote k t o s b q h.0
-fits_shows k t o s (Freezes r) h = shows_release k t o s r h.0
+fits_shows k t o s (Freezes r) h = shows_release k t o s r (h.0 s.releases)
 
 seen_one : (k : Caller) (t : ℕ) (c : Change) (v : View) → build v (sights k t c) ≡ build v (seen k t (c ∷ []))
 seen_one k t c v = ap (build v) (sym (append-nil (sights k t c)))
@@ -118,7 +119,7 @@ module _ (o : Office) (s : IsSound o) (key : ReleaseKey) (r : Release) (there : 
   stays_after (PutsOutlet u) h = there
   stays_after (Assigns b a) h = there
   stays_after (Quotes b q) h = there
-  stays_after (Freezes n) h = row_at-put_found release_total release_key n o.releases s.releases h.0 key r there
+  stays_after (Freezes n) h = row_at-put_found release_total release_key n o.releases s.releases (h.0 s.releases) key r there
 
   stays_next : (v : Option Verdict) → Holds v o → row_at release_cmp release_key key (after_verdict v o).releases ≡ Some r
   stays_next None h = there

@@ -1,11 +1,11 @@
 -- What each accepted change does to each caller's view at each moment.
 use Rattle.std.proofs.Common.{◌≡◌, ◌≢◌, ℕ, Bool, true, false, eqb, List, [], ◌∷◌, map, Some, None, Option, refl, sym, ap, ◌∙◌, inl, inr}
 use Rattle.std.specs.Prelude.{◌⊎◌, IsSome, option_map, nat_le, filter}
-use Rattle.std.specs.Cmp.{IsTotalOrder}
 use Rattle.std.proofs.lemmas.Cmp.{nat_cmp_total}
 use Rattle.std.specs.Ordering.{nat_cmp}
 use Rattle.std.specs.List.{AllByRecursion}
 use Rattle.std.proofs.lemmas.Bool.Decides.{eqb_tells}
+use Rattle.cpi_store.proofs.Published.{release_total}
 use Rattle.cpi_rows.specs.Held.{held_by}
 use Rattle.cpi_rows.specs.Keyed.{at, put_by, put, row_at}
 use Rattle.cpi_store.specs.Office.{put_assignment, put_quote, Office, Change, changed, PutsItem, PutsPlan, PutsCalendar, Registers, PutsOutlet, Assigns, Quotes, Freezes, public_part, put_release}
@@ -164,10 +164,6 @@ shows_registered (Collector key) t o s b new free = by (eqb_tells b.key key)
     by (inr apart) = rw (apart.0, bearer-put_other b o.collectors s.collectors new key apart.0) refl
 
 -- ---- a release
-
--- what releases are listed by is in total order
-pub release_total : IsTotalOrder release_cmp
-release_total = nat_cmp_total
 
 same_own : (k : Caller) (o : Office) (rs : List Release) → own k (record o { releases = rs }) ≡ own k o
 same_own Public o rs = refl

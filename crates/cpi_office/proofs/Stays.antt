@@ -32,7 +32,7 @@ pub collector_stays : (key now : ℕ) (r : Request) (o : Office) → IsTrue (is_
 collector_stays key now (request.Submit entry) o refused = entry_stays key now entry (view (caller.Collector key) now o) (view (caller.Collector key) now o).own o refused
 collector_stays key now request.Items o refused = refl
 collector_stays key now request.Tables o refused = refl
-collector_stays key now (request.Table month form) o refused = refl
+collector_stays key now (request.Table month form edition) o refused = refl
 collector_stays key now (request.Work month) o refused = refl
 collector_stays key now (request.Quotes first last) o refused = refl
 collector_stays key now (request.PutItem i) o refused = refl

@@ -23,7 +23,7 @@ no t e turned = absurd (false≢true (sym e ∙ turned))
 pub turned_is : (now : ℕ) (r : Request) (v : View) (own : OwnPart) → IsTrue (is_turned_away (collector_answer now r v own)) → collector_answer now r v own ≡ Refused NotForCaller
 turned_is now request.Items v own turned = no false refl turned
 turned_is now request.Tables v own turned = no false refl turned
-turned_is now (request.Table month form) v own turned = no _ (table_own form month _).1 turned
+turned_is now (request.Table month form edition) v own turned = no _ (table_own form month _).1 turned
 turned_is now (request.Freeze month carry) v own turned = refl
 turned_is now (request.Work month) v own turned = no _ (work_own month v.public own).1 turned
 turned_is now (request.Quotes first last) v own turned = no false refl turned
@@ -45,7 +45,7 @@ module _ (now : ℕ) (v w : View) (p q : OwnPart) where
   pub not_for : (r : Request) → IsTrue (is_turned_away (collector_answer now r v p)) → IsTrue (is_turned_away (collector_answer now r w q))
   not_for request.Items turned = no false refl turned
   not_for request.Tables turned = no false refl turned
-  not_for (request.Table month form) turned = no _ (table_own form month _).1 turned
+  not_for (request.Table month form edition) turned = no _ (table_own form month _).1 turned
   not_for (request.Freeze month carry) turned = refl
   not_for (request.Work month) turned = no _ (work_own month v.public p).1 turned
   not_for (request.Quotes first last) turned = no false refl turned

@@ -31,7 +31,7 @@ use Rattle.cpi_survey.specs.declared.refusal.Refusal.{Refusal as EntryRefusal}
 use Rattle.cpi_store.specs.Office.{Office, Change, PutsPlan, PutsCalendar, own_part, public_part}
 use Rattle.cpi_codes.specs.declared.codes.Code.{Code}
 use Rattle.cpi_index.specs.declared.fault.IndexFault.{IndexFault}
-use Rattle.cpi_release.specs.FrozenMonths.{release_cmp, release_key, frozen_months, is_frozen, is_year_frozen, is_next, plan_for, lacks_plan}
+use Rattle.cpi_release.specs.FrozenMonths.{frozen_months, stays_frozen, is_year_frozen, is_next, plan_for, lacks_plan}
 use Rattle.cpi_release.specs.Publishing.{fault_of}
 use Rattle.cpi_office.specs.Freezing.{has_weightless, row_judged, frozen_with, judged_release, release_verdict, freeze_verdict, frozen}
 use Rattle.cpi_store.specs.Sound.{IsWellMade, HasNodesInOrder, IsSound}
@@ -53,7 +53,7 @@ use Rattle.cpi_office.specs.declared.caller.Caller.{Caller}
 use Rattle.cpi_office.specs.declared.caller.Caller.TheVariants as caller
 use Rattle.cpi_office.proofs.Accepted.{Holds}
 use Rattle.cpi_office.proofs.Failures.{if_holds}
-use Rattle.cpi_office.proofs.Judged.{not_there}
+use Rattle.cpi_store.proofs.Published.{none_follows}
 use Rattle.cpi_office.proofs.Bearers.{bearer_listed}
 use Rattle.cpi_office.proofs.Same.{item_equal, calendar_equal, bearer_equal, assignment_equal, mark_equal}
 
@@ -88,7 +88,7 @@ module _ (o : Office) where
     where
       by : (t : Bool) → same_calendar old r ≡ t → Fair (calendar_put (frozen_months o.releases) r (Some old))
       by true f = rw f (e ∙ ap Some (calendar_equal old r f))
-      by false f = rw f (unless_fair (is_frozen r.month (frozen_months o.releases)) MonthFrozen (PutsCalendar r) (λ free. tt))
+      by false f = rw f (unless_fair (stays_frozen r.month (Some r.publishes) (frozen_months o.releases)) MonthFrozen (PutsCalendar r) (λ free. tt))
 
   plan_fair : (p : Plan) (w : Option Plan) → HasNodesInOrder p → at (λ y. y.year) p.year o.plans ≡ w → Fair (replaced (is_year_frozen p.year (frozen_months o.releases)) PlanFrozen (PutsPlan p) (standing same_plan p w))
   plan_fair p None nodes e = unless_fair _ _ _ (λ free. (free, nodes))
@@ -169,32 +169,32 @@ module _ (o : Office) where
   passes false e = absurd (false≢true (sym e))
 
   module _ (now : ℕ) (carry : List Code) where
-    release_fair : (row : CalendarPart) → row_at release_cmp release_key row.month o.releases ≡ None → is_next row.month (frozen_months o.releases) ≡ true → lacks_plan o.plans (frozen_months o.releases) row.month ≡ false →
+    release_fair : (row : CalendarPart) → is_next row.month (frozen_months o.releases) ≡ true → lacks_plan o.plans (frozen_months o.releases) row.month ≡ false →
         Fair (release_verdict (judged_release now carry o row))
-    release_fair row new follows planned = by (fault_of (plan_for o.plans (frozen_months o.releases) row.month) o.releases (frozen_with now row carry o)) refl
+    release_fair row follows planned = by (fault_of (plan_for o.plans (frozen_months o.releases) row.month) o.releases (frozen_with now row carry o)) refl
       where
         by : (w : Option IndexFault) → fault_of (plan_for o.plans (frozen_months o.releases) row.month) o.releases (frozen_with now row carry o) ≡ w → Fair (release_verdict (judged_release now carry o row))
         by (Some fault) e = rw e tt
-        by None e = rw e (new, record { follows = follows; planned = planned; faultless = e; computed = refl }, refl)
+        by None e = rw e (λ sorted. none_follows row.month o.releases sorted follows, record { follows = follows; revision = refl; planned = planned; faultless = e; computed = refl }, refl)
 
     abbrev Fairly : Result CalendarPart Refusal → Type 0
     Fairly judged = Fair (freeze_verdict (judged_release now carry o) judged)
 
-    row_fair : (month : ℕ) (w : Option CalendarPart) → at (λ r. r.month) month o.calendar ≡ w → row_at release_cmp release_key month o.releases ≡ None → is_next month (frozen_months o.releases) ≡ true →
+    row_fair : (month : ℕ) (w : Option CalendarPart) → at (λ r. r.month) month o.calendar ≡ w → is_next month (frozen_months o.releases) ≡ true →
         Fairly (row_judged now o.plans (frozen_months o.releases) carry w)
-    row_fair month None e new follows = tt
-    row_fair month (Some row) e new follows =
+    row_fair month None e follows = tt
+    row_fair month (Some row) e follows =
         let same : row.month ≡ month = at_key (λ r. r.month) month row o.calendar e in
         if_holds Fairly (nat_lt now row.closes) _ _ (λ f. tt) (λ f.
         if_holds Fairly (lacks_plan o.plans (frozen_months o.releases) row.month) _ _ (λ f. tt) (λ planned.
         if_holds Fairly (has_weightless (plan_for o.plans (frozen_months o.releases) row.month) carry) _ _ (λ f. tt) (λ f.
-        release_fair row (ap (λ k. row_at release_cmp release_key k o.releases) same ∙ new) (ap (λ k. is_next k (frozen_months o.releases)) same ∙ follows) planned)))
+        release_fair row (ap (λ k. is_next k (frozen_months o.releases)) same ∙ follows) planned)))
 
     frozen_fair : (month : ℕ) → Fair (frozen now month carry o)
     frozen_fair month =
-        if_holds Fairly (is_frozen month (frozen_months o.releases)) _ _ (λ e. tt) (λ e.
+        if_holds Fairly (stays_frozen month (option_map (λ r. r.publishes) (at (λ r. r.month) month o.calendar)) (frozen_months o.releases)) _ _ (λ e. tt) (λ e.
         if_holds Fairly (not (is_next month (frozen_months o.releases))) _ _ (λ f. tt) (λ f.
-        row_fair month (at (λ r. r.month) month o.calendar) refl (not_there month o.releases e) (passes (is_next month (frozen_months o.releases)) f)))
+        row_fair month (at (λ r. r.month) month o.calendar) refl (passes (is_next month (frozen_months o.releases)) f)))
 
   -- ---- an entry
 
@@ -269,7 +269,7 @@ module _ (now : ℕ) (o : Office) where
   command_holds (request.Assign n a) = placed_fair o n a
   command_holds (request.Freeze month carry) = frozen_fair o now carry month
   command_holds request.Tables = tt
-  command_holds (request.Table month form) = tt
+  command_holds (request.Table month form edition) = tt
   command_holds request.Items = tt
   command_holds (request.Work month) = tt
   command_holds (request.Quotes first last) = tt
@@ -285,7 +285,7 @@ module _ (now : ℕ) (o : Office) where
   collector_holds s key (request.Assign n a) = tt
   collector_holds s key request.Items = tt
   collector_holds s key request.Tables = tt
-  collector_holds s key (request.Table month form) = tt
+  collector_holds s key (request.Table month form edition) = tt
   collector_holds s key (request.Freeze month carry) = tt
   collector_holds s key (request.Work month) = tt
   collector_holds s key (request.Quotes first last) = tt

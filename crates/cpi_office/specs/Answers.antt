@@ -1,8 +1,6 @@
 -- What a request that changes nothing is answered, and what an entry is told: by the caller's view alone.
 use Rattle.std.specs.Prelude.{ℕ, List, map, Option, Some, None, Result, Ok, Err}
-use Rattle.cpi_rows.specs.Keyed.{row_at}
-use Rattle.cpi_release.specs.FrozenMonths.{release_cmp}
-use Rattle.cpi_release.specs.PublishedTables.{PublishedTable, published_key, frozen_month_of, printed_bytes}
+use Rattle.cpi_release.specs.PublishedTables.{PublishedTable, asked_table, frozen_month_of, printed_bytes}
 use Rattle.cpi_release.specs.declared.form.Form.{Form}
 use Rattle.cpi_survey.specs.Own.{OwnPart}
 use Rattle.cpi_survey.specs.Decision.{decided}
@@ -22,15 +20,18 @@ use Rattle.cpi_office.specs.declared.request.Request.TheVariants as request
 use Rattle.cpi_office.specs.declared.reply.Reply.{Reply}
 use Rattle.cpi_office.specs.declared.reply.Reply.TheVariants as reply
 
+abbrev pub bytes_of : Form → ℕ → PublishedTable → List ℕ
+bytes_of form month t = printed_bytes form month t.revision t.levels
+
 abbrev pub table_reply : Form → ℕ → Option PublishedTable → Reply
 table_reply form month None = reply.Refused refusal.NoTable
-table_reply form month (Some i) = reply.Table (printed_bytes form month i.levels)
+table_reply form month (Some t) = reply.Table (bytes_of form month t)
 
 -- what every caller may ask
 abbrev pub read : Request → View → Reply
 read request.Items v = reply.Items v.public.items
 read request.Tables v = reply.Tables (map frozen_month_of v.tables)
-read (request.Table month form) v = table_reply form month (row_at release_cmp published_key month v.tables)
+read (request.Table month form edition) v = table_reply form month (asked_table month edition v.tables)
 read _ v = reply.Refused refusal.NotForCaller
 
 abbrev pub decision_reply : Result Decision EntryRefusal → Reply

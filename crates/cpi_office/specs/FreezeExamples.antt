@@ -1,5 +1,5 @@
 -- Small runs with freezes, computed: a month from its quotes to its table, and what is refused, in order.
-use Rattle.std.specs.Prelude.{◌≡◌, ℕ, List, [], ◌∷◌, ◌++◌, codes}
+use Rattle.std.specs.Prelude.{◌≡◌, ℕ, List, [], ◌∷◌, ◌++◌, Some, None, codes}
 use Rattle.cpi_codes.specs.declared.codes.Code.{Code}
 use Rattle.cpi_plan.specs.declared.items.Item.{Item}
 use Rattle.cpi_plan.specs.declared.plan_faults.PlanFault.TheVariants as fault
@@ -29,8 +29,8 @@ at_desk now r = record { now = now; caller = Desk; request = r }
 abbrev pub freeze : ℕ → ℕ → List Code → Ask
 freeze now month carry = at_desk now (request.Freeze month carry)
 
-abbrev pub frozen_month : ℕ → ℕ → FrozenMonth
-frozen_month month publishes = record { month = month; publishes = publishes }
+abbrev pub frozen_month : ℕ → ℕ → ℕ → FrozenMonth
+frozen_month month revision publishes = record { month = month; revision = revision; publishes = publishes }
 
 -- two items, an outlet, a collector with four slots, two months and a plan
 abbrev pub opened : List Ask
@@ -73,12 +73,12 @@ january_text =
 abbrev pub OneMonth : Type 0
 OneMonth =
     replies (opened ++ december ++ freeze 1000 311 [] ∷ january ++ freeze 1999 312 [] ∷ freeze 2000 312 []
-    ∷ by_public 2999 (request.Table 312 Text) ∷ by_public 3000 (request.Table 312 Text)
+    ∷ by_public 2999 (request.Table 312 Text None) ∷ by_public 3000 (request.Table 312 Text None)
     ∷ by_public 2999 request.Tables ∷ by_key 3000 key_a request.Tables ∷ []) empty_office
     ≡ all_done ++ Receipt 1 ∷ Receipt 2 ∷ Receipt 3 ∷ Receipt 4 ∷ Done ∷ Receipt 5 ∷ Receipt 6 ∷ Receipt 7 ∷ Receipt 8
     ∷ Refused refusal.FreezeTooEarly ∷ Done
-    ∷ Refused refusal.NoTable ∷ Table january_text ∷ Tables (frozen_month 311 1000 ∷ [])
-    ∷ Tables (frozen_month 311 1000 ∷ frozen_month 312 3000 ∷ []) ∷ []
+    ∷ Refused refusal.NoTable ∷ Table january_text ∷ Tables (frozen_month 311 1 1000 ∷ [])
+    ∷ Tables (frozen_month 311 1 1000 ∷ frozen_month 312 1 3000 ∷ []) ∷ []
 
 -- the refusals of a freeze, in order
 abbrev pub FreezeRefusals : Type 0
@@ -106,18 +106,60 @@ WithoutRows =
     replies (freeze 5000 323 [] ∷ freeze 1000 311 [] ∷ freeze 2000 312 [] ∷ []) early
     ≡ Refused refusal.UnknownMonth ∷ Done ∷ Refused refusal.NoPlan ∷ []
 
--- A frozen month keeps its row and its year's plan: what stands already is done, and anything else is refused. A quote
--- is taken as before.
+-- A frozen month keeps its row and its year's plan: what stands already is done, and anything else is refused, but a row
+-- by which the last month is published later. A quote is taken as before.
 abbrev pub FrozenRows : Type 0
 FrozenRows =
     replies (opened ++ december ++ freeze 1000 311 [] ∷ january ++ freeze 2000 312 []
-    ∷ by_desk (put_month 312 1000 2000 3000) ∷ by_desk (put_month 312 1000 2000 3001) ∷ put_plan 2026 body
+    ∷ by_desk (put_month 312 1000 2000 3000) ∷ by_desk (put_month 312 1000 2000 2999) ∷ put_plan 2026 body
     ∷ put_plan 2026 retitled ∷ put_plan 2025 body ∷ put_plan 2027 body
-    ∷ by_key 1500 key_a (quote 1 312 211) ∷ by_public 3000 (request.Table 312 Text) ∷ []) empty_office
+    ∷ by_key 1500 key_a (quote 1 312 211) ∷ by_public 3000 (request.Table 312 Text None) ∷ []) empty_office
     ≡ all_done ++ Receipt 1 ∷ Receipt 2 ∷ Receipt 3 ∷ Receipt 4 ∷ Done ∷ Receipt 5 ∷ Receipt 6 ∷ Receipt 7 ∷ Receipt 8
     ∷ Done
     ∷ Done ∷ Refused refusal.MonthFrozen ∷ Done ∷ Refused refusal.PlanFrozen ∷ Refused refusal.PlanFrozen ∷ Done
     ∷ Receipt 9 ∷ Table january_text ∷ []
+
+-- ---- the last frozen month is reopened, and frozen again
+abbrev pub second_text : List ℕ
+second_text =
+    line (codes "CPI 2026-01 revision 2")
+    ++ line (codes "00          1000000      103.0        103.0     3.0       - . All items")
+    ++ line (codes "01          1000000      103.0        103.0     3.0       - . Food and drink")
+    ++ line (codes "01.1        1000000      103.0        103.0     3.0       - . Food")
+    ++ line (codes "01.1.1      1000000      103.0        103.0     3.0       - . Cereals")
+    ++ line (codes "01.1.1.1     600000      105.0        105.0     5.0       - . Rice")
+    ++ line (codes "01.1.1.1-01  600000      105.0        105.0     5.0       - . Rice, packed")
+    ++ line (codes "01.1.1.2     400000      100.0        100.0     0.0       - . Flour")
+    ++ line (codes "01.1.1.2-01  400000      100.0        100.0     0.0       - . Flour, wheat")
+
+abbrev pub two_months : List Ask
+two_months = opened ++ december ++ freeze 1000 311 [] ∷ january ++ freeze 2000 312 [] ∷ []
+
+abbrev pub two_frozen : List Reply
+two_frozen =
+    all_done ++ Receipt 1 ∷ Receipt 2 ∷ Receipt 3 ∷ Receipt 4 ∷ Done ∷ Receipt 5 ∷ Receipt 6 ∷ Receipt 7 ∷ Receipt 8 ∷ Done
+    ∷ []
+
+-- The first table stays as it was frozen, and is the month's until the second is published.
+abbrev pub Reopened : Type 0
+Reopened =
+    replies (two_months ++ by_desk (put_month 312 3100 3200 3300) ∷ by_key 3150 key_a (quote 4 312 500)
+    ∷ freeze 3199 312 [] ∷ freeze 3200 312 [] ∷ freeze 3200 312 []
+    ∷ by_public 3299 (request.Table 312 Text None) ∷ by_public 3299 (request.Table 312 Text (Some 2))
+    ∷ by_public 3300 (request.Table 312 Text None) ∷ by_public 3300 (request.Table 312 Text (Some 1))
+    ∷ by_public 3300 request.Tables ∷ []) empty_office
+    ≡ two_frozen ++ Done ∷ Receipt 9 ∷ Refused refusal.FreezeTooEarly ∷ Done ∷ Refused refusal.MonthFrozen
+    ∷ Table january_text ∷ Refused refusal.NoTable ∷ Table second_text ∷ Table january_text
+    ∷ Tables (frozen_month 311 1 1000 ∷ frozen_month 312 1 3000 ∷ frozen_month 312 2 3300 ∷ []) ∷ []
+
+-- a month stays frozen where its table would be published no later, or where it isn't the last one
+abbrev pub KeptFrozen : Type 0
+KeptFrozen =
+    replies (two_months ++ by_desk (put_month 312 3100 3200 3300) ∷ freeze 3200 312 []
+    ∷ by_desk (put_month 312 3100 3200 3300) ∷ by_desk (put_month 312 3100 3200 3250)
+    ∷ by_desk (put_month 311 0 4000 5000) ∷ freeze 9000 311 [] ∷ []) empty_office
+    ≡ two_frozen ++ Done ∷ Done ∷ Done ∷ Refused refusal.MonthFrozen ∷ Refused refusal.MonthFrozen
+    ∷ Refused refusal.MonthFrozen ∷ []
 
 -- an assignment that ends before it begins is no record
 abbrev pub backwards : NewAssignment

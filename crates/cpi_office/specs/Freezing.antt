@@ -1,6 +1,6 @@
 -- How a freeze is judged, from what was looked up: the months that were frozen, the calendar row, the plan of the year;
 -- and the release that is made of a month that may be frozen.
-use Rattle.std.specs.Prelude.{ℕ, Bool, false, not, is_some, nat_lt, List, Option, Some, None, Result, Ok, Err}
+use Rattle.std.specs.Prelude.{ℕ, Bool, false, not, is_some, nat_lt, List, Option, Some, None, option_map, Result, Ok, Err}
 use Rattle.std.specs.Prelude.{if◌then◌else◌}
 use Rattle.std.specs.List.{list_any}
 use Rattle.cpi_codes.specs.CodeOrder.{code_cmp}
@@ -10,7 +10,7 @@ use Rattle.cpi_plan.specs.Plan.{Plan}
 use Rattle.cpi_plan.specs.Calendar.{CalendarPart}
 use Rattle.cpi_plan.specs.declared.plan_faults.PlanFault.TheVariants.{UnknownAggregate}
 use Rattle.cpi_index.specs.declared.fault.IndexFault.{IndexFault}
-use Rattle.cpi_release.specs.FrozenMonths.{is_frozen, is_next, frozen_months, plan_for, lacks_plan}
+use Rattle.cpi_release.specs.FrozenMonths.{stays_frozen, is_next, next_revision, frozen_months, plan_for, lacks_plan}
 use Rattle.cpi_release.specs.Publishing.{Freeze, published, fault_of}
 use Rattle.cpi_release.specs.declared.frozen_month.FrozenMonth.{FrozenMonth}
 use Rattle.cpi_release.specs.declared.release.Release.{Release}
@@ -41,11 +41,11 @@ row_judged now plans frozen carry None = Err UnknownMonth
 row_judged now plans frozen carry (Some row) =
     if nat_lt now row.closes then Err FreezeTooEarly else plan_judged plans frozen carry row
 
--- the calendar row of a month that may be frozen
+-- the calendar row of a month that may be frozen, or frozen again
 abbrev pub freeze_judged :
     ℕ → ℕ → List Code → List FrozenMonth → Option CalendarPart → List Plan → Result CalendarPart Refusal
 freeze_judged now month carry frozen row plans =
-    if is_frozen month frozen then Err MonthFrozen
+    if stays_frozen month (option_map (λ r. r.publishes) row) frozen then Err MonthFrozen
     else if not (is_next month frozen) then Err FreezeOrder
     else row_judged now plans frozen carry row
 
@@ -62,10 +62,11 @@ unless_fault (Some fault) r = Err fault
 abbrev pub made_release : Option Plan → List Release → Freeze → Result Release IndexFault
 made_release plan releases what = unless_fault (fault_of plan releases what) (published plan releases what)
 
--- what is frozen of the row's month: its stored quotes as they are now
+-- what is frozen of the row's month, in the revision that follows: its stored quotes as they are now
 abbrev pub frozen_with : ℕ → CalendarPart → List Code → Office → Freeze
 frozen_with now row carry o = record {
   month = row.month;
+  revision = next_revision row.month (frozen_months o.releases);
   frozen_at = now;
   publishes = row.publishes;
   frozen = month_rows row.month o;

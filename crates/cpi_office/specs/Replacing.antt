@@ -1,6 +1,6 @@
 -- What becomes of a plan or a calendar row: each stands in place of the one before it, until its year or month is
--- frozen.
-use Rattle.std.specs.Prelude.{ℕ, Bool, List, Option, Result, Ok, Err, if◌then◌else◌}
+-- frozen; a row that reopens the last frozen month stands in place of the one by which it was frozen.
+use Rattle.std.specs.Prelude.{ℕ, Bool, List, Option, Some, Result, Ok, Err, if◌then◌else◌}
 use Rattle.cpi_rows.specs.Keyed.{at}
 use Rattle.cpi_plan.specs.declared.items.Item.{Item}
 use Rattle.cpi_plan.specs.Calendar.{CalendarPart, same_calendar}
@@ -9,7 +9,7 @@ use Rattle.cpi_plan.specs.Planned.{planned}
 use Rattle.cpi_plan.specs.SamePlan.{same_plan}
 use Rattle.cpi_plan.specs.declared.plan_bodies.PlanBody.{PlanBody}
 use Rattle.cpi_plan.specs.declared.plan_faults.PlanFault.{PlanFault as Fault}
-use Rattle.cpi_release.specs.FrozenMonths.{frozen_months, is_frozen, is_year_frozen}
+use Rattle.cpi_release.specs.FrozenMonths.{frozen_months, stays_frozen, is_year_frozen}
 use Rattle.cpi_release.specs.declared.frozen_month.FrozenMonth.{FrozenMonth}
 use Rattle.cpi_store.specs.Office.{Office, Change, PutsPlan, PutsCalendar}
 use Rattle.cpi_office.specs.Standing.{standing}
@@ -22,7 +22,7 @@ use Rattle.cpi_office.specs.declared.standing.Standing.TheVariants.{Free, Same, 
 abbrev pub unless_frozen : Bool → Refusal → Change → Verdict
 unless_frozen frozen f c = if frozen then Refuses f else Makes c
 
--- what stands already stands; else a row is put that wasn't frozen
+-- what stands already stands; else a row is put unless it stays frozen
 abbrev pub replaced : Bool → Refusal → Change → Standing → Verdict
 replaced frozen f c Free = unless_frozen frozen f c
 replaced frozen f c Same = Stands c
@@ -30,7 +30,7 @@ replaced frozen f c Other = unless_frozen frozen f c
 
 abbrev pub calendar_put : List FrozenMonth → CalendarPart → Option CalendarPart → Verdict
 calendar_put frozen row old =
-    replaced (is_frozen row.month frozen) MonthFrozen (PutsCalendar row) (standing same_calendar row old)
+    replaced (stays_frozen row.month (Some row.publishes) frozen) MonthFrozen (PutsCalendar row) (standing same_calendar row old)
 
 -- what is sent for a year, among the items that are known
 abbrev pub sent : List Item → PlanBody → Body

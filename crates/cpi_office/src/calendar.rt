@@ -4,13 +4,13 @@ ghost use Rattle.cpi_rows.specs.Keyed.{at};
 ghost use Rattle.cpi_release.specs.State.{Reads};
 ghost use Rattle.cpi_store.specs.Office.{public_part, PutsCalendar};
 ghost use Rattle.cpi_plan.specs.Calendar.{same_calendar};
-ghost use Rattle.cpi_release.specs.FrozenMonths.{frozen_months, is_frozen};
+ghost use Rattle.cpi_release.specs.FrozenMonths.{frozen_months, stays_frozen};
 ghost use Rattle.cpi_office.specs.Standing.{standing};
 ghost use Rattle.cpi_office.specs.Replacing.{scheduled_in, unless_frozen};
 ghost use Rattle.cpi_office.specs.Verdicts.{with_verdict, verdict_reply};
 ghost use Rattle.cpi_office.specs.Calls.{Serves};
 
-use crate::months::is_month_frozen;
+use crate::months::is_month_kept;
 use crate::refusal::Refusal;
 use crate::reply::Reply;
 use crate::standing::Standing;
@@ -29,13 +29,14 @@ pub fn put_calendar<B: Book>(book: &mut B, row: CalendarRow) -> Reply
     }
 }
 
-/// Stores a month's row, unless the month was frozen.
+/// Stores a month's row, unless the month was frozen and isn't reopened by it.
 fn store_calendar<B: Book>(book: &mut B, row: CalendarRow) -> Reply
     ensures { let o = (B.state book.old).held in
-        let v = unless_frozen (is_frozen row.month (frozen_months o.releases)) Refusal.MonthFrozen (PutsCalendar row) in
+        let kept = stays_frozen row.month (Some row.publishes) (frozen_months o.releases) in
+        let v = unless_frozen kept Refusal.MonthFrozen (PutsCalendar row) in
         Serves (B.state book.old) (B.state book.new) result (verdict_reply v) (with_verdict v o) }
 {
-    match is_month_frozen(book, row.month()) {
+    match is_month_kept(book, row.month(), row.publishes()) {
         Err(StoreFault) => Reply::Refused(Refusal::Unavailable),
         Ok(true) => Reply::Refused(Refusal::MonthFrozen),
         Ok(false) => match book.put_calendar(row) {

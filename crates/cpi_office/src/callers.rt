@@ -38,7 +38,7 @@ pub fn serve_public<B: Book>(alloc: Global, book: &mut B, now: Moment, request: 
     match request {
         Request::Items => items(alloc, book),
         Request::Tables => tables(book, now),
-        Request::Table(month, form) => table(alloc, book, now, month, form),
+        Request::Table(month, form, edition) => { table(alloc, book, now, month, form, edition) }
         _ => Reply::Refused(Refusal::NotForCaller),
     }
 }
@@ -83,7 +83,7 @@ fn serve_known<B: Book>(
     match request {
         Request::Items => items(alloc, book),
         Request::Tables => tables(book, now),
-        Request::Table(month, form) => table(alloc, book, now, month, form),
+        Request::Table(month, form, edition) => { table(alloc, book, now, month, form, edition) }
         Request::Submit(entry) => enter(book, now, bearer, entry),
         Request::Work(month) => work(alloc, book, bearer.number, month),
         Request::Quotes(first, last) => quotes(alloc, book, bearer.number, first, last),
@@ -102,7 +102,7 @@ pub fn serve_desk<B: Book>(alloc: Global, book: &mut B, now: Moment, request: Re
     match request {
         Request::Items => items(alloc, book),
         Request::Tables => tables(book, now),
-        Request::Table(month, form) => table(alloc, book, now, month, form),
+        Request::Table(month, form, edition) => { table(alloc, book, now, month, form, edition) }
         Request::PutItem(item) => put_item(book, item),
         Request::PutPlan(year, body) => put_plan(alloc, book, year, body),
         Request::PutCalendar(row) => put_calendar(book, row),

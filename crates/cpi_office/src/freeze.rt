@@ -1,9 +1,9 @@
-ghost use Rattle.std.specs.Prelude.{◌≡◌, ◌≢◌, ℕ, true, Option, None, Some, Err, IfOk, IfErr, OnOk, OnErr, IsOk};
-ghost use Rattle.std.specs.Prelude.{IsErr, MatchResult};
+ghost use Rattle.std.specs.Prelude.{◌≡◌, ◌≢◌, ◌≤◌, ℕ, true, Option, None, Some, Err, IfOk, IfErr, OnOk, OnErr, IsOk};
+ghost use Rattle.std.specs.Prelude.{IsErr, MatchResult, option_map};
 ghost use Rattle.std.specs.Option.{option_copied};
 ghost use Rattle.cpi_codes.specs.Month.{year_of};
-ghost use Rattle.cpi_rows.specs.Keyed.{at, row_at};
-ghost use Rattle.cpi_release.specs.FrozenMonths.{frozen_months, release_cmp, release_key};
+ghost use Rattle.cpi_rows.specs.Keyed.{at};
+ghost use Rattle.cpi_release.specs.FrozenMonths.{frozen_months, next_revision as revision_of};
 ghost use Rattle.cpi_release.specs.FrozenMonths.{is_next as next_after, is_after_first as after_first};
 ghost use Rattle.cpi_release.specs.FrozenMonths.{plan_for};
 ghost use Rattle.cpi_index.specs.declared.fault.IndexFault.{IndexFault};
@@ -19,13 +19,13 @@ ghost use Rattle.cpi_store.specs.Sound.{IsSound};
 ghost use Rattle.cpi_office.specs.Verdicts.{with_verdict, verdict_reply};
 ghost use Rattle.cpi_office.specs.Calls.{ServesWhere};
 
-use crate::months::is_frozen;
+use crate::months::{last, stays_frozen};
 use crate::refusal::Refusal;
 use crate::reply::Reply;
 use cpi_codes::{Code, Moment, Month, Year};
 use cpi_index::IndexFault;
 use cpi_plan::{CalendarRow, PlanFault, YearPlan};
-use cpi_release::{FreezeFault, FrozenMonth, Release};
+use cpi_release::{FreezeFault, FrozenMonth, Release, Revision};
 use cpi_rows::{Rows, find_row};
 use cpi_store::{Book, StoreFault};
 use cpi_survey::Public;
@@ -76,13 +76,14 @@ fn judge_month(
     ensures { let row = at (λ r. r.month) month public.now.calendar in
         result ≡ freeze_judged now month carry.now frozen.now row public.now.plans }
 {
-    if is_frozen(frozen, month) {
+    let row = public.calendar_row(month);
+    if stays_frozen(frozen, month, publishes_of(row)) {
         return Err(Refusal::MonthFrozen);
     }
     if !is_next(frozen, month) {
         return Err(Refusal::FreezeOrder);
     }
-    match public.calendar_row(month) {
+    match row {
         None => Err(Refusal::UnknownMonth),
         Some(row) => {
             if now < row.closes() {
@@ -91,6 +92,16 @@ fn judge_month(
                 judge_plan(carry, frozen, public, *row)
             }
         }
+    }
+}
+
+/// When a month's table is to be published, if the month has a row.
+fn publishes_of(row: Option<&CalendarRow>) -> Option<Moment>
+    ensures { result ≡ option_map (λ r. r.publishes) (option_copied row.entry) }
+{
+    match row {
+        Some(row) => Some(row.publishes()),
+        None => None,
     }
 }
 
@@ -162,13 +173,23 @@ fn is_after_first(frozen: &[FrozenMonth], month: Month) -> bool
     frozen.iter().any(|frozen_month| frozen_month.month < month)
 }
 
-/// Whether the month is the one after the last frozen one, or a December where there is none.
+/// Whether the month is the last frozen one or the one after it, or a December where there is none.
 fn is_next(frozen: &[FrozenMonth], month: Month) -> bool
     ensures { result ≡ next_after month frozen.now }
 {
-    match frozen.last() {
+    match last(frozen) {
         None => month.index() % 12 == 11,
-        Some(last) => month.index() == last.month.index() + 1,
+        Some(last) => last.month == month || month.index() == last.month.index() + 1,
+    }
+}
+
+/// The revision in which such a month is frozen, if it has fewer than nine.
+fn next_revision(frozen: &[FrozenMonth], month: Month) -> Revision
+    ensures { revision_of month frozen.now ≤ 9 → result ≡ revision_of month frozen.now }
+{
+    match last(frozen) {
+        Some(last) if last.month == month => last.revision.next().unwrap_or(Revision::first()),
+        _ => Revision::first(),
     }
 }
 
@@ -180,10 +201,10 @@ fn publish<B: Book>(
     row: CalendarRow,
     carry: Rows<Code>,
 ) -> Reply
-    requires new { (B.state book.old).is_clean →
-        row_at release_cmp release_key row.month (B.state book.old).held.releases ≡ None }
     requires next { (B.state book.old).is_clean →
         next_after row.month (frozen_months (B.state book.old).held.releases) ≡ true }
+    requires few { (B.state book.old).is_clean →
+        revision_of row.month (frozen_months (B.state book.old).held.releases) ≤ 9 }
     ensures { let o = (B.state book.old).held in let v = release_verdict (judged_release now carry o row) in
         ServesWhere (B.state book.old) (B.state book.new) (IsSound o) result
         (verdict_reply v) (with_verdict v o) }
@@ -209,14 +230,18 @@ fn make<B: Book>(
 ) -> Result<Result<Result<Release, IndexFault>, AllocError>, StoreFault>
     requires next { (B.state book.old).is_clean →
         next_after row.month (frozen_months (B.state book.old).held.releases) ≡ true }
+    requires few { (B.state book.old).is_clean →
+        revision_of row.month (frozen_months (B.state book.old).held.releases) ≤ 9 }
     ensures reads { let o = (B.state book.old).held in
         Reads (B.state book.old) (B.state book.new) result (λ found.
         IfOk found (λ made. IsSound o → made ≡ judged_release now carry o row)) }
     ensures month { IfOk result (λ found. IfOk found (λ made. IfOk made (λ release. release.month ≡ row.month))) }
+    ensures revision { (B.state book.new).is_clean → IfOk result (λ found. IfOk found (λ made. IfOk made (λ release.
+        release.revision ≡ revision_of row.month (frozen_months (B.state book.old).held.releases)))) }
 {
     let month = row.month();
     let publishes = row.publishes();
-    let Ok(plan) = publishing_plan(alloc, book, month)? else {
+    let Ok(Basis { plan, revision }) = find_basis(alloc, book, month)? else {
         return Ok(Err(AllocError));
     };
     let rows = book.month_rows(month)?;
@@ -226,6 +251,7 @@ fn make<B: Book>(
         book,
         plan.as_ref(),
         month,
+        revision,
         now,
         publishes,
         rows,
@@ -234,19 +260,43 @@ fn make<B: Book>(
     answer_made(made)
 }
 
-/// A copy of the plan by which a month is published: none for the first release.
-fn publishing_plan<B: Book>(
+/// What the release of a month is made by: a copy of the plan of its year, none for the first release, and the
+/// revision that follows.
+#[derive(Drop)]
+struct Basis {
+    plan: Option<YearPlan>,
+    revision: Revision,
+}
+
+fn find_basis<B: Book>(
     alloc: Global,
     book: &mut B,
     month: Month,
-) -> Result<Result<Option<YearPlan>, AllocError>, StoreFault>
-    ensures { let o = (B.state book.old).held in
+) -> Result<Result<Basis, AllocError>, StoreFault>
+    ensures { let o = (B.state book.old).held in let frozen = frozen_months o.releases in
         Reads (B.state book.old) (B.state book.new) result (λ found.
-        IfOk found (λ plan. plan ≡ plan_for o.plans (frozen_months o.releases) month)) }
+        IfOk found (λ basis. (basis.plan ≡ plan_for o.plans frozen month)
+        × (revision_of month frozen ≤ 9 → basis.revision ≡ revision_of month frozen))) }
 {
     let frozen = book.frozen_months()?;
     let public = book.public_part()?;
-    Ok(copy_plan(alloc, &frozen, public, month))
+    Ok(basis_in(alloc, &frozen, public, month))
+}
+
+fn basis_in(
+    alloc: Global,
+    frozen: &[FrozenMonth],
+    public: &Public,
+    month: Month,
+) -> Result<Basis, AllocError>
+    ensures { IfOk result (λ basis. (basis.plan ≡ plan_for public.now.plans frozen.now month)
+        × (revision_of month frozen.now ≤ 9 → basis.revision ≡ revision_of month frozen.now)) }
+{
+    let plan = copy_plan(alloc, frozen, public, month)?;
+    Ok(Basis {
+        plan,
+        revision: next_revision(frozen, month),
+    })
 }
 
 fn copy_plan(
@@ -277,6 +327,8 @@ fn answer_made(
     ensures read { OnOk result (made ≢ Err Group) }
     ensures month { (month : ℕ) → IfOk made (λ r. r.month ≡ month) →
         IfOk result (λ found. IfOk found (λ made. IfOk made (λ r. r.month ≡ month))) }
+    ensures revision { (revision : ℕ) → IfOk made (λ r. r.revision ≡ revision) →
+        IfOk result (λ found. IfOk found (λ made. IfOk made (λ r. r.revision ≡ revision))) }
 {
     match made {
         Ok(release) => Ok(Ok(Ok(release))),

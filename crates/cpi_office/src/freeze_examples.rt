@@ -1,10 +1,14 @@
-ghost use Rattle.cpi_office.specs.FreezeExamples.{OneMonth, FreezeRefusals, WithoutRows, FrozenRows, Backwards};
+ghost use Rattle.cpi_office.specs.FreezeExamples.{OneMonth, FreezeRefusals, WithoutRows, FrozenRows};
+ghost use Rattle.cpi_office.specs.FreezeExamples.{Reopened, KeptFrozen, Backwards};
 
-/// Small runs with freezes, computed by the definitions: a month from its quotes to its table, and what is refused.
+/// Small runs with freezes, computed by the definitions: a month from its quotes to its table, the same month
+/// reopened and frozen again, and what is refused.
 pub fn worked_freezes()
     ensures one_month { OneMonth }
     ensures freeze_refusals { FreezeRefusals }
     ensures without_rows { WithoutRows }
     ensures frozen_rows { FrozenRows }
+    ensures reopened { Reopened }
+    ensures kept_frozen { KeptFrozen }
     ensures backwards { Backwards }
 {}

@@ -6,6 +6,7 @@ mod calendar;
 mod caller;
 mod callers;
 mod collectors;
+mod edition;
 mod examples;
 mod freeze;
 mod freeze_examples;
@@ -27,6 +28,7 @@ mod tables;
 mod work;
 
 pub use caller::Caller;
+pub use edition::Edition;
 pub use examples::worked_runs;
 pub use freeze_examples::worked_freezes;
 pub use laws::{

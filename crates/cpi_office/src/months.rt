@@ -1,18 +1,28 @@
-ghost use Rattle.std.specs.Prelude.{◌≡◌};
+ghost use Rattle.std.specs.Prelude.{◌≡◌, Some};
+ghost use Rattle.std.specs.Option.{option_copied};
 ghost use Rattle.cpi_release.specs.State.{Reads};
-ghost use Rattle.cpi_release.specs.FrozenMonths.{frozen_months, is_frozen as frozen_in, is_year_frozen as year_frozen_in};
+ghost use Rattle.cpi_release.specs.FrozenMonths.{frozen_months, last_frozen, is_frozen as frozen_in};
+ghost use Rattle.cpi_release.specs.FrozenMonths.{is_reopened as reopened, stays_frozen as kept_in};
+ghost use Rattle.cpi_release.specs.FrozenMonths.{is_year_frozen as year_frozen_in};
 
-use cpi_codes::Month;
+use cpi_codes::{Moment, Month};
 use cpi_release::FrozenMonth;
 use cpi_store::{Book, StoreFault};
 
-/// Whether the month was frozen.
-pub fn is_month_frozen<B: Book>(book: &mut B, month: Month) -> Result<bool, StoreFault>
+// The revisions that a month may have.
+const MOST_REVISIONS: u8 = 9;
+
+/// Whether the month was frozen, and isn't reopened by this moment of publishing.
+pub fn is_month_kept<B: Book>(
+    book: &mut B,
+    month: Month,
+    publishes: Moment,
+) -> Result<bool, StoreFault>
     ensures { Reads (B.state book.old) (B.state book.new) result (λ found.
-        found ≡ frozen_in month (frozen_months (B.state book.old).held.releases)) }
+        found ≡ kept_in month (Some publishes) (frozen_months (B.state book.old).held.releases)) }
 {
     let frozen = book.frozen_months()?;
-    Ok(is_frozen(&frozen, month))
+    Ok(stays_frozen(&frozen, month, Some(publishes)))
 }
 
 /// Whether a month of the year was frozen.
@@ -24,13 +34,41 @@ pub fn is_year_frozen<B: Book>(book: &mut B, year: u16) -> Result<bool, StoreFau
     Ok(has_year(&frozen, year))
 }
 
+/// Whether the month was frozen, and isn't reopened by this moment of publishing.
+pub fn stays_frozen(frozen: &[FrozenMonth], month: Month, publishes: Option<Moment>) -> bool
+    ensures { result ≡ kept_in month publishes frozen.now }
+{
+    is_frozen(frozen, month) && !is_reopened(last(frozen), month, publishes)
+}
+
 /// Whether the month is among the frozen ones.
-pub fn is_frozen(frozen: &[FrozenMonth], month: Month) -> bool
+fn is_frozen(frozen: &[FrozenMonth], month: Month) -> bool
     ensures { result ≡ frozen_in month frozen.now }
 {
     frozen
         .iter()
         .any(|frozen_month| frozen_month.month == month)
+}
+
+/// The last frozen month, in its latest revision.
+pub fn last(frozen: &[FrozenMonth]) -> Option<&FrozenMonth>
+    ensures { option_copied result ≡ last_frozen frozen.now }
+{
+    frozen.last()
+}
+
+/// Whether the month is the last one and may have a further revision, published later than its latest.
+fn is_reopened(last: Option<&FrozenMonth>, month: Month, publishes: Option<Moment>) -> bool
+    ensures { result ≡ reopened month publishes (option_copied last.entry) }
+{
+    match (last, publishes) {
+        (Some(last), Some(publishes)) => {
+            last.month == month
+                && last.revision.number() < MOST_REVISIONS
+                && last.publishes < publishes
+        }
+        _ => false,
+    }
 }
 
 /// Whether a month of the year is among the frozen ones.

@@ -17,7 +17,7 @@ pub enum Reply {
     Quotes(Rows<Quote>),
     /// Items in the order of their codes.
     Items(Rows<Item>),
-    /// The months whose tables are published, by month.
+    /// The months and revisions whose tables are published, by month and revision.
     Tables(Rows<FrozenMonth>),
     /// A printed table.
     Table(PrintedTable),

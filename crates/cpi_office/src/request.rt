@@ -1,4 +1,5 @@
 use crate::caller::Caller;
+use crate::edition::Edition;
 use cpi_codes::{Code, CollectorId, ItemCode, Moment, Month, OutletId, Slot, Year};
 use cpi_plan::{CalendarRow, Item, PlanBody};
 use cpi_release::Form;
@@ -21,10 +22,10 @@ pub struct NewAssignment {
 pub enum Request {
     /// The items; of all callers.
     Items,
-    /// The months whose tables are published; of all callers.
+    /// The months and revisions whose tables are published; of all callers.
     Tables,
-    /// The table of a month, printed; of all callers.
-    Table(Month, Form),
+    /// The table of a month, printed, in the edition that is asked for; of all callers.
+    Table(Month, Form, Edition),
     /// The caller's own quotes from the first month to the last, none where the first is after the last; of collectors.
     Quotes(Month, Month),
     /// The caller's own work list of a month; of collectors.

@@ -1,25 +1,48 @@
-use Rattle.std.proofs.Common.{◌≡◌, Ok, sym, ap, ◌∙◌, subst}
+use Rattle.std.proofs.Common.{◌≡◌, Ok, Err, inl, sym, ap, ◌∙◌, subst}
 use Rattle.cpi_release.specs.FrozenMonths.{frozen_months, is_next}
 use Rattle.cpi_store.specs.Sound.{IsSound}
 use Rattle.cpi_office.specs.Freezing.{frozen, freeze_judged_in, freeze_verdict, judged_release, release_verdict}
-use Rattle.cpi_office.specs.Verdicts.{verdict_reply, with_verdict}
-use Rattle.cpi_office.proofs.Calls.{serves_where_after}
-use Rattle.cpi_office.proofs.Judged.{judged_new, judged_month, judged_follows}
+use Rattle.cpi_office.specs.Verdicts.{Refuses, verdict_reply, with_verdict}
+use Rattle.cpi_office.specs.declared.reply.Reply.TheVariants.{Refused}
+use Rattle.cpi_office.proofs.Calls.{read_endures, serves_where_after}
+use Rattle.cpi_office.proofs.Judged.{judged_few, judged_month, judged_follows}
 use Rattle.cpi_office.proofs.freeze.freeze.Goals as goal
 
 pub publish-requires : goal.publish-requires
 publish-requires g c = record {
-  new = λ clean.
-      let reads = c.in-Ok-Ok.ensures in
-      let o = (g.B.Book.state c.args.book.now).held in
-      rw (reads.keeps.kept clean) (judged_new c.args.now c.args.month c.as_slice.result.now o.releases o.calendar o.plans c.in-Ok-Ok.row (sym (reads.shown clean) ∙ c.in-Ok-Ok.field-0-is));
   next = λ clean.
       let reads = c.in-Ok-Ok.ensures in
       let o = (g.B.Book.state c.args.book.now).held in
       let judged = sym (reads.shown clean) ∙ c.in-Ok-Ok.field-0-is in
       let same = judged_month c.args.now c.args.month c.as_slice.result.now o.releases o.calendar o.plans c.in-Ok-Ok.row judged in
       rw (reads.keeps.kept clean) (ap (λ k. is_next k (frozen_months o.releases)) same ∙ judged_follows c.args.now c.args.month c.as_slice.result.now o.releases o.calendar o.plans c.in-Ok-Ok.row judged);
+  few = λ clean.
+      let reads = c.in-Ok-Ok.ensures in
+      let o = (g.B.Book.state c.args.book.now).held in
+      rw (reads.keeps.kept clean) (judged_few c.args.now c.args.month c.as_slice.result.now o.releases o.calendar o.plans c.in-Ok-Ok.row (sym (reads.shown clean) ∙ c.in-Ok-Ok.field-0-is));
 }
+
+pub returns-in-Ok-Err : goal.returns-in-Ok-Err
+returns-in-Ok-Err g c =
+    let old = g.B.Book.state c.args.book.now in
+    let new = g.B.Book.state c.judge.new.book in
+    let o = old.held in
+    let now = c.args.now in
+    let carry = c.args.carry in
+    let refusal = c.in-Ok-Err.refusal in
+    let reads = c.in-Ok-Err.ensures in
+    let listed : c.as_slice.result.now ≡ carry = c.as_slice.ensures in
+    let verdict : new.is_clean → frozen now c.args.month carry o ≡ Refuses refusal = λ clean.
+    let judged : freeze_judged_in now c.args.month carry o ≡ Err refusal = ap (λ codes. freeze_judged_in now c.args.month codes o) (sym listed) ∙ sym (reads.shown clean) ∙ c.in-Ok-Err.field-0-is in
+    ap (freeze_verdict (judged_release now carry o)) judged in
+    record {
+      was_clean = reads.keeps.was_clean;
+      served = λ clean sound. inl (ap verdict_reply (sym (verdict clean)), reads.keeps.kept clean ∙ ap (λ v. with_verdict v o) (sym (verdict clean)));
+      refused = λ clean refused. reads.keeps.kept clean;
+      count = reads.count;
+      endures = read_endures old new (Refused refusal) reads.keeps reads.stays;
+      crash = λ sound was kept office left. inl (reads.keeps.crash was kept office left);
+    }
 
 pub returns-in-Ok-Ok : goal.returns-in-Ok-Ok
 returns-in-Ok-Ok g c =

@@ -1,8 +1,9 @@
-use Rattle.std.proofs.Common.{◌≡◌, ◌<◌, Option, sym, ap, ◌∙◌, subst, arith}
+use Rattle.std.proofs.Common.{◌≡◌, ◌<◌, ◌≤◌, IfOk, Option, sym, ap, ◌∙◌, subst, arith}
 use Rattle.std.specs.Option.{option_copied}
 use Rattle.cpi_plan.specs.Plan.{Plan}
 use Rattle.cpi_release.specs.Cached.{IsFit}
-use Rattle.cpi_release.specs.FrozenMonths.{frozen_months, plan_for}
+use Rattle.cpi_release.specs.FrozenMonths.{frozen_months, next_revision, plan_for}
+use Rattle.cpi_release.specs.declared.release.Release.{Release}
 use Rattle.cpi_release.specs.State.{StaysClean}
 use Rattle.cpi_release.specs.GroupCalls.{Sources}
 use Rattle.cpi_release.specs.Publishing.{Freeze, fault_of, published}
@@ -18,11 +19,25 @@ use Rattle.cpi_office.proofs.freeze.make.Goals as goal
 pub returns-clause-month : goal.returns-clause-month
 returns-clause-month g c = c.answer_made.ensures.month c.args.row.month (rw c.month-month.ensures at c.compute_by_group-made.ensures.month)
 
+pub returns-clause-revision : goal.returns-clause-revision
+returns-clause-revision g c = λ clean.
+    let state = g.B.Book.state in
+    let o = (state c.args.book.now).held in
+    let row = c.args.row in
+    let planned = c.in_ok-plan.ensures in
+    let made = g.met.B.Book.groups_keep c.month_rows.new.self c.compute_by_group-made.new.groups c.compute_by_group-made.ensures.keeps in
+    let clean1 = c.in_ok-rows.ensures.reads.keeps.was_clean (made.was_clean clean) in
+    let month : c.month-month.result ≡ row.month = c.month-month.ensures in
+    let based = rw c.in-Ok.is at (planned.shown clean1) in
+    let few = c.requires.few (planned.keeps.was_clean clean1) in
+    let revision : c.in-Ok.field-0.revision ≡ next_revision row.month (frozen_months o.releases) = based.1 (subst (λ m. next_revision m (frozen_months o.releases) ≤ 9) (sym month) few) ∙ ap (λ m. next_revision m (frozen_months o.releases)) month in
+    c.answer_made.ensures.revision (next_revision row.month (frozen_months o.releases)) (subst (λ v. IfOk c.compute_by_group-made.result (λ (r : Release). r.revision ≡ v)) revision c.compute_by_group-made.ensures.revision)
+
 pub returns-clause-reads : goal.returns-clause-reads
 returns-clause-reads g c =
     let state = g.B.Book.state in
     let old = state c.args.book.now in
-    let first = state c.publishing_plan.new.book in
+    let first = state c.find_basis.new.book in
     let mid = state c.month_rows.new.self in
     let new = state c.compute_by_group-made.new.groups in
     let o = old.held in
@@ -46,10 +61,13 @@ returns-clause-reads g c =
           let same : mid.held ≡ o = stored.keeps.kept clean2 ∙ same1 in
           let wanted : Option Plan = plan_for o.plans (frozen_months o.releases) row.month in
           let frozen : Freeze = frozen_with c.args.now row c.args.carry o in
-          let plan : option_copied c.as_ref.result ≡ wanted = c.as_ref.ensures.value ∙ (rw c.in-Ok.is at (planned.shown clean1)) ∙ ap (plan_for o.plans (frozen_months o.releases)) month in
+          let based = rw c.in-Ok.is at (planned.shown clean1) in
+          let plan : option_copied c.as_ref.result ≡ wanted = c.as_ref.ensures.value ∙ based.0 ∙ ap (plan_for o.plans (frozen_months o.releases)) month in
+          let few = c.requires.few (planned.keeps.was_clean clean1) in
+          let revision : c.in-Ok.field-0.revision ≡ next_revision row.month (frozen_months o.releases) = based.1 (subst (λ m. next_revision m (frozen_months o.releases) ≤ 9) (sym month) few) ∙ ap (λ m. next_revision m (frozen_months o.releases)) month in
           let rows : c.in_ok-rows.rows.items ≡ month_rows row.month o = stored.shown clean2 ∙ ap (λ (u : Office). month_rows c.month-month.result u) same1 ∙ ap (λ m. month_rows m o) month in
-          let asks : Freeze = record { month = c.month-month.result; frozen_at = c.args.now; publishes = c.publishes-publishes.result; frozen = c.in_ok-rows.rows.items; carry = c.into_vec-carry.result.items } in
-          let is : asks ≡ frozen = λ n. record { month = month n; frozen_at = c.args.now; publishes = c.publishes-publishes.ensures n; frozen = rows n; carry = c.into_vec-carry.ensures n } in
+          let asks : Freeze = record { month = c.month-month.result; revision = c.in-Ok.field-0.revision; frozen_at = c.args.now; publishes = c.publishes-publishes.result; frozen = c.in_ok-rows.rows.items; carry = c.into_vec-carry.result.items } in
+          let is : asks ≡ frozen = λ n. record { month = month n; revision = revision n; frozen_at = c.args.now; publishes = c.publishes-publishes.ensures n; frozen = rows n; carry = c.into_vec-carry.ensures n } in
           let held = (g.B.Groups.holds c.month_rows.new.self).held in
           let s : Sources = g.B.Groups.sources held in
           let read : s ≡ office_sources o = g.met.B.Book.sources_are c.month_rows.new.self ∙ ap office_sources same in

@@ -16,5 +16,12 @@ pub returns-clause-frozen_rows : goal.returns-clause-frozen_rows
 unfolding digits
 returns-clause-frozen_rows c = refl
 
+pub returns-clause-reopened : goal.returns-clause-reopened
+unfolding digits
+returns-clause-reopened c = refl
+
+pub returns-clause-kept_frozen : goal.returns-clause-kept_frozen
+returns-clause-kept_frozen c = refl
+
 pub returns-clause-backwards : goal.returns-clause-backwards
 returns-clause-backwards c = refl

@@ -1,0 +1,46 @@
+use cpi_release::Revision;
+use std::marker::Model;
+
+/// Which table of a month is asked for: that of one revision, or else the latest that is published. It is seen as the
+/// revision, if it names one.
+#[derive(Clone, Copy, Debug, PartialEq, Eq)]
+pub struct Edition {
+    revision: Option<Revision>,
+}
+
+impl Model for Edition {
+    ghost use Rattle.std.specs.Prelude.{ℕ, Option};
+
+    ghost Value = { Option ℕ };
+
+    ghost view = { λ e. e.revision };
+
+    ghost inverse = { λ r. record { revision = r } };
+}
+
+impl Edition {
+    ghost use Rattle.std.specs.Prelude.{◌≡◌, Some, None};
+
+    /// The latest that is published.
+    pub fn latest() -> Edition
+        ensures { result ≡ None }
+    {
+        Edition { revision: None }
+    }
+
+    /// That of a revision.
+    pub fn of(revision: Revision) -> Edition
+        ensures { result ≡ Some revision }
+    {
+        Edition {
+            revision: Some(revision),
+        }
+    }
+
+    /// The revision, if one is named.
+    pub fn revision(self) -> Option<Revision>
+        ensures { result ≡ self }
+    {
+        self.revision
+    }
+}
