@@ -43,7 +43,7 @@ as_printed f printed = record { status = 200; content = content_of f; body = pri
 
 -- the form of the table that is asked for
 abbrev pub form_asked : Request → Option Form
-form_asked (request.Table month f) = Some f
+form_asked (request.Table month f edition) = Some f
 form_asked other = None
 
 -- a table that was found is sent as it was printed, and every other reply as its line

@@ -30,6 +30,7 @@ abbrev pub row_of : Page → Row
 row_of page.Items = row (codes "GET") (codes "/items") (codes "items")
 row_of page.Tables = row (codes "GET") (codes "/tables") (codes "tables")
 row_of page.Table = row (codes "GET") (codes "/table/{month}/{form}") (codes "table")
+row_of page.TableRevision = row (codes "GET") (codes "/table/{month}/{form}/{revision}") (codes "table")
 row_of page.Work = row (codes "GET") (codes "/work/{month}") (codes "work")
 row_of page.Quotes = row (codes "GET") (codes "/quotes/{first}/{last}") (codes "quotes")
 row_of page.Quote = row (codes "PUT") (codes "/quote/{slot}/{month}") (codes "quote")
@@ -49,8 +50,8 @@ with_page routes p = with_parsed (parse_route (row_of p).path) p routes
 -- the routes of all pages
 unfoldable pub page_routes : Routes
 page_routes =
-    with_page (with_page (with_page (with_page (with_page (with_page (with_page (with_page []
-    page.Items) page.Tables) page.Table) page.Work) page.Quotes) page.Quote) page.Plan) page.Import
+    with_page (with_page (with_page (with_page (with_page (with_page (with_page (with_page (with_page []
+    page.Items) page.Tables) page.Table) page.TableRevision) page.Work) page.Quotes) page.Quote) page.Plan) page.Import
 
 -- the page of the route, if it has that method
 abbrev pub with_method : List ℕ → Option (RouteOf Page) → Option Page

@@ -91,7 +91,7 @@ fn form_asked(request: &Request) -> Option<Form>
     ensures { result ≡ form_asked request.now }
 {
     match request {
-        Request::Table(_, form) => Some(*form),
+        Request::Table(_, form, _) => Some(*form),
         _ => None,
     }
 }

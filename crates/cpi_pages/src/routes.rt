@@ -13,6 +13,7 @@ pub enum Page {
     Items,
     Tables,
     Table,
+    TableRevision,
     Work,
     Quotes,
     Quote,
@@ -39,7 +40,7 @@ impl Page {
         match self {
             Page::Items => b"items".as_slice(),
             Page::Tables => b"tables".as_slice(),
-            Page::Table => b"table".as_slice(),
+            Page::Table | Page::TableRevision => b"table".as_slice(),
             Page::Work => b"work".as_slice(),
             Page::Quotes => b"quotes".as_slice(),
             Page::Quote => b"quote".as_slice(),
@@ -57,6 +58,7 @@ pub(crate) fn page_routes(alloc: Global) -> Result<Router<Page>, InsertError>
     router.insert("/items", Page::Items)?;
     router.insert("/tables", Page::Tables)?;
     router.insert("/table/{month}/{form}", Page::Table)?;
+    router.insert("/table/{month}/{form}/{revision}", Page::TableRevision)?;
     router.insert("/work/{month}", Page::Work)?;
     router.insert("/quotes/{first}/{last}", Page::Quotes)?;
     router.insert("/quote/{slot}/{month}", Page::Quote)?;
@@ -83,6 +85,7 @@ pub fn examples()
     ensures items { page_of (codes "GET") (codes "/items") ≡ Some Page.Items }
     ensures tables { page_of (codes "GET") (codes "/tables") ≡ Some Page.Tables }
     ensures table { page_of (codes "GET") (codes "/table/2026-01/text") ≡ Some Page.Table }
+    ensures table_revision { page_of (codes "GET") (codes "/table/2026-01/text/2") ≡ Some Page.TableRevision }
     ensures work { page_of (codes "GET") (codes "/work/2026-01") ≡ Some Page.Work }
     ensures quotes { page_of (codes "GET") (codes "/quotes/2026-01/2026-02") ≡ Some Page.Quotes }
     ensures quote { page_of (codes "PUT") (codes "/quote/1/2026-01") ≡ Some Page.Quote }

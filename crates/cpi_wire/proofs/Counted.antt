@@ -1,6 +1,6 @@
 -- How many arguments a list of fields has.
 use Rattle.std.proofs.Common.{◌≡◌, ◌≢◌, refl, true, false, List, [], ◌∷◌, length, get_or, map, None, Some, Bor, arith}
-use Rattle.cpi_wire.specs.Arguments.{Text, none, one, two, three, four, four_and_confirm, is_confirm, five, six}
+use Rattle.cpi_wire.specs.Arguments.{Text, none, one, two, two_or_three, three, four, four_and_confirm, is_confirm, five, six}
 
 abbrev pub texts : List (Bor Text) → List Text
 texts xs = map (λ a. a.now) xs
@@ -156,3 +156,27 @@ three-not (a ∷ []) h = refl
 three-not (a ∷ b ∷ []) h = refl
 three-not (a ∷ b ∷ c ∷ []) h = absurd (h refl)
 three-not (a ∷ b ∷ c ∷ z ∷ xs) h = refl
+
+pub third-none : (xs : List (Bor Text)) (o : Bor Text) → length xs ≡ 2 → Some ((get_or xs 0 o).now, (get_or xs 1 o).now, None) ≡ two_or_three (texts xs)
+unfolding two_or_three
+third-none [] o h = absurd (omega arith)
+third-none (a ∷ []) o h = absurd (omega arith)
+third-none (a ∷ b ∷ []) o h = refl
+third-none (a ∷ b ∷ c ∷ []) o h = absurd (omega arith)
+third-none (a ∷ b ∷ c ∷ z ∷ xs) o h = absurd (omega arith)
+
+pub third-is : (xs : List (Bor Text)) (o : Bor Text) → length xs ≡ 3 → Some ((get_or xs 0 o).now, (get_or xs 1 o).now, Some (get_or xs 2 o).now) ≡ two_or_three (texts xs)
+unfolding two_or_three
+third-is [] o h = absurd (omega arith)
+third-is (a ∷ []) o h = absurd (omega arith)
+third-is (a ∷ b ∷ []) o h = absurd (omega arith)
+third-is (a ∷ b ∷ c ∷ []) o h = refl
+third-is (a ∷ b ∷ c ∷ z ∷ xs) o h = absurd (omega arith)
+
+pub third-not : (xs : List (Bor Text)) → length xs ≢ 2 → length xs ≢ 3 → None ≡ two_or_three (texts xs)
+unfolding two_or_three
+third-not [] h i = refl
+third-not (a ∷ []) h i = refl
+third-not (a ∷ b ∷ []) h i = absurd (h refl)
+third-not (a ∷ b ∷ c ∷ []) h i = absurd (i refl)
+third-not (a ∷ b ∷ c ∷ z ∷ xs) h i = refl

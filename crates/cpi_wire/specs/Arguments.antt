@@ -35,6 +35,12 @@ four_and_confirm (a ∷ b ∷ c ∷ d ∷ []) = Some (a, b, c, d, false)
 four_and_confirm (a ∷ b ∷ c ∷ d ∷ e ∷ []) = if is_confirm e then Some (a, b, c, d, true) else None
 four_and_confirm _ = None
 
+-- two, and a third one where it is there
+unfoldable pub two_or_three : List Text → Option (Text × Text × Option Text)
+two_or_three (a ∷ b ∷ []) = Some (a, b, None)
+two_or_three (a ∷ b ∷ c ∷ []) = Some (a, b, Some c)
+two_or_three _ = None
+
 unfoldable pub five : List Text → Option (Text × Text × Text × Text × Text)
 five (a ∷ b ∷ c ∷ d ∷ e ∷ []) = Some (a, b, c, d, e)
 five _ = None

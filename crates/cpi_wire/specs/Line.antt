@@ -87,9 +87,9 @@ quotes_data rows = only (codes "quotes") (list (map quote_data rows))
 abbrev pub items_data : List Item → Data
 items_data rows = only (codes "items") (list (map item_data rows))
 
--- the month of a table, and the moment at which it is published
+-- the month of a table, its revision, and the moment at which it is published
 abbrev pub frozen_month_data : FrozenMonth → Data
-frozen_month_data f = list (text (month_text f.month) ∷ int f.publishes ∷ [])
+frozen_month_data f = list (text (month_text f.month) ∷ int f.revision ∷ int f.publishes ∷ [])
 
 abbrev pub tables_data : List FrozenMonth → Data
 tables_data months = only (codes "tables") (list (map frozen_month_data months))

@@ -72,6 +72,14 @@ form_of text =
     else if bytes_eq text (codes "csv") then Some form.Csv
     else None
 
+abbrev pub revision : Text → Option ℕ
+revision text = number_of 1 9 text
+
+-- the edition of a table: that of a revision, or the latest, which has none, where no field names one
+abbrev pub edition : Option Text → Option (Option ℕ)
+edition None = Some None
+edition (Some text) = revision text >>= λ r. Some (Some r)
+
 abbrev pub reason : Text → Option Reason
 reason text =
     if bytes_eq text (codes "stock") then Some Stock

@@ -12,10 +12,10 @@ use Rattle.cpi_office.specs.declared.request.Request.{Request}
 use Rattle.cpi_office.specs.declared.request.Request.TheVariants as request
 use Rattle.cpi_wire.specs.declared.words.Word.{Word}
 use Rattle.cpi_wire.specs.declared.words.Word.TheVariants as word
-use Rattle.cpi_wire.specs.Arguments.{Text, none, one, two, four, four_and_confirm, five, six}
+use Rattle.cpi_wire.specs.Arguments.{Text, none, one, two, two_or_three, four, four_and_confirm, five, six}
 use Rattle.cpi_wire.specs.PlanBody.{body_of}
 use Rattle.cpi_wire.specs.Values.{time, year, month, collector, slot, outlet, low_tolerance, high_tolerance}
-use Rattle.cpi_wire.specs.Values.{name, mark_of, form_of, elementary_code}
+use Rattle.cpi_wire.specs.Values.{name, mark_of, form_of, edition, elementary_code}
 
 -- a row of the calendar opens before it closes, and is published no earlier
 abbrev pub calendar_row : ℕ → ℕ → ℕ → ℕ → Option CalendarPart
@@ -125,12 +125,14 @@ plan_request arguments = do
 abbrev pub tables_request : List Text → Option Request
 tables_request arguments = none arguments >>= λ _. Some request.Tables
 
+-- a month, a form, and a revision where it isn't the latest that is asked for
 abbrev pub table_request : List Text → Option Request
 table_request arguments = do
-  a ← two arguments
+  a ← two_or_three arguments
   m ← month a.0
   f ← form_of a.1
-  Some (request.Table m f)
+  e ← edition a.2
+  Some (request.Table m f e)
 
 -- the elementary aggregates that the fields write, in the same order
 abbrev pub elementary_codes : List Text → Option (List Code)

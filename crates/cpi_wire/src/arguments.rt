@@ -1,6 +1,9 @@
 //! So many arguments, and no more.
 ghost use Rattle.std.specs.Prelude.{◌≡◌, map, option_map};
-ghost use Rattle.cpi_wire.specs.Arguments.{none, one as exactly_one, two as exactly_two, three as exactly_three, four as exactly_four, four_and_confirm as exactly_four_and_confirm, is_confirm, five as exactly_five, six as exactly_six};
+ghost use Rattle.cpi_wire.specs.Arguments.{none, one as exactly_one, two as exactly_two, three as exactly_three};
+ghost use Rattle.cpi_wire.specs.Arguments.{two_or_three as exactly_two_or_three, four as exactly_four};
+ghost use Rattle.cpi_wire.specs.Arguments.{four_and_confirm as exactly_four_and_confirm, is_confirm};
+ghost use Rattle.cpi_wire.specs.Arguments.{five as exactly_five, six as exactly_six};
 
 pub(crate) fn no_more(arguments: &[&[u8]]) -> Option<()>
     ensures { result ≡ none (map (λ a. a.now) arguments.now) }
@@ -38,6 +41,23 @@ pub(crate) fn three<'a>(arguments: &[&'a [u8]]) -> Option<(&'a [u8], &'a [u8], &
     }
 }
 
+/// Two arguments, and a third one where it is there.
+pub(crate) fn two_or_three<'a>(
+    arguments: &[&'a [u8]],
+) -> Option<(&'a [u8], &'a [u8], Option<&'a [u8]>)>
+    ensures { option_map (λ a. (a.0.now, a.1.now, option_map (λ t. t.now) a.2)) result
+        ≡ exactly_two_or_three (map (λ a. a.now) arguments.now) }
+{
+    if arguments.len() == 2 {
+        return Some((arguments[0], arguments[1], None));
+    }
+    if arguments.len() == 3 {
+        Some((arguments[0], arguments[1], Some(arguments[2])))
+    } else {
+        None
+    }
+}
+
 pub(crate) fn four<'a>(arguments: &[&'a [u8]]) -> Option<(&'a [u8], &'a [u8], &'a [u8], &'a [u8])>
     ensures { option_map (λ a. (a.0.now, a.1.now, a.2.now, a.3.now)) result ≡ exactly_four (map (λ a. a.now) arguments.now) }
 {
@@ -58,7 +78,8 @@ fn is_confirm(text: &[u8]) -> bool
 pub(crate) fn four_and_confirm<'a>(
     arguments: &[&'a [u8]],
 ) -> Option<(&'a [u8], &'a [u8], &'a [u8], &'a [u8], bool)>
-    ensures { option_map (λ a. (a.0.now, a.1.now, a.2.now, a.3.now, a.4)) result ≡ exactly_four_and_confirm (map (λ a. a.now) arguments.now) }
+    ensures { option_map (λ a. (a.0.now, a.1.now, a.2.now, a.3.now, a.4)) result
+        ≡ exactly_four_and_confirm (map (λ a. a.now) arguments.now) }
 {
     if arguments.len() == 4 {
         return Some((
@@ -97,7 +118,8 @@ pub(crate) fn five<'a>(
 pub(crate) fn six<'a>(
     arguments: &[&'a [u8]],
 ) -> Option<(&'a [u8], &'a [u8], &'a [u8], &'a [u8], &'a [u8], &'a [u8])>
-    ensures { option_map (λ a. (a.0.now, a.1.now, a.2.now, a.3.now, a.4.now, a.5.now)) result ≡ exactly_six (map (λ a. a.now) arguments.now) }
+    ensures { option_map (λ a. (a.0.now, a.1.now, a.2.now, a.3.now, a.4.now, a.5.now)) result
+        ≡ exactly_six (map (λ a. a.now) arguments.now) }
 {
     if arguments.len() == 6 {
         Some((

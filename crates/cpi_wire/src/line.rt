@@ -179,12 +179,13 @@ fn items_value(alloc: Global, items: &[Item]) -> Result<Value, AllocError>
     json!(in alloc; {"items": rows})
 }
 
-// The month of a table, and the moment at which it is published.
+// The month of a table, its revision, and the moment at which it is published.
 fn frozen_month_value(alloc: Global, frozen_month: &FrozenMonth) -> Result<Value, AllocError>
     ensures { IfOk result (λ v. view v ≡ frozen_month_data frozen_month.now) }
 {
     let month = frozen_month.month.text(alloc)?;
-    json!(in alloc; [month, frozen_month.publishes.seconds()])
+    let revision = frozen_month.revision.number();
+    json!(in alloc; [month, revision, frozen_month.publishes.seconds()])
 }
 
 fn tables_value(alloc: Global, frozen_months: &[FrozenMonth]) -> Result<Value, AllocError>

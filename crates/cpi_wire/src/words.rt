@@ -6,12 +6,13 @@ ghost use Rattle.cpi_wire.specs.Words.{assign_request, calendar_request, plan_re
 ghost use Rattle.cpi_wire.specs.Words.{table_request, elementary_codes, freeze_request};
 ghost use Rattle.cpi_wire.specs.Words.{request_of as spelled_request};
 
-use crate::arguments::{five, four, four_and_confirm, no_more, one, six, two};
+use crate::arguments::{five, four, four_and_confirm, no_more, one, six, two, two_or_three};
 use crate::plan_body::plan_body;
 use crate::values::{elementary_code_of, form_of, mark_of, month_of, name_of, time_of};
 use cpi_codes::{Code, CollectorId, ItemCode, Key, OutletId, Slot, Year, Zone};
-use cpi_office::{NewAssignment, Request};
+use cpi_office::{Edition, NewAssignment, Request};
 use cpi_plan::{CalendarRow, HighTolerance, Item, LowTolerance};
+use cpi_release::Revision;
 use cpi_rows::Rows;
 use cpi_store::{Bearer, Outlet};
 use cpi_survey::Entry;
@@ -223,10 +224,14 @@ fn tables_of(arguments: &[&[u8]]) -> Option<Request>
 fn table_of(arguments: &[&[u8]]) -> Option<Request>
     ensures { result ≡ table_request (map (λ a. a.now) arguments.now) }
 {
-    let (month, form) = two(arguments)?;
+    let (month, form, revision) = two_or_three(arguments)?;
     let month = month_of(month)?;
     let form = form_of(form)?;
-    Some(Request::Table(month, form))
+    let edition = match revision {
+        Some(revision) => Edition::of(Revision::parse(revision)?),
+        None => Edition::latest(),
+    };
+    Some(Request::Table(month, form, edition))
 }
 
 // The elementary aggregates that the fields write, in the same order.

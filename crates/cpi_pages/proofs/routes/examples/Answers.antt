@@ -15,6 +15,10 @@ pub returns-clause-table : goal.returns-clause-table
 unfolding matchit_on_literals page_routes
 returns-clause-table c = refl
 
+pub returns-clause-table_revision : goal.returns-clause-table_revision
+unfolding matchit_on_literals page_routes
+returns-clause-table_revision c = refl
+
 pub returns-clause-work : goal.returns-clause-work
 unfolding matchit_on_literals page_routes
 returns-clause-work c = refl

@@ -23,12 +23,14 @@ returns c =
     ∙ ap (λ r. with_page r page.Tables) e1 in
     let e3 = inserted (parse_route (codes "/table/{month}/{form}")) _ _ _ c.in_ok-insert-3.ensures
     ∙ ap (λ r. with_page r page.Table) e2 in
-    let e4 = inserted (parse_route (codes "/work/{month}")) _ _ _ c.in_ok-insert-4.ensures
-    ∙ ap (λ r. with_page r page.Work) e3 in
-    let e5 = inserted (parse_route (codes "/quotes/{first}/{last}")) _ _ _ c.in_ok-insert-5.ensures
-    ∙ ap (λ r. with_page r page.Quotes) e4 in
-    let e6 = inserted (parse_route (codes "/quote/{slot}/{month}")) _ _ _ c.in_ok-insert-6.ensures
-    ∙ ap (λ r. with_page r page.Quote) e5 in
-    let e7 = inserted (parse_route (codes "/plan/{year}")) _ _ _ c.in_ok-insert-7.ensures
-    ∙ ap (λ r. with_page r page.Plan) e6 in
-    inserted (parse_route (codes "/import")) _ _ _ c.in_ok-insert-8.ensures ∙ ap (λ r. with_page r page.Import) e7
+    let e4 = inserted (parse_route (codes "/table/{month}/{form}/{revision}")) _ _ _ c.in_ok-insert-4.ensures
+    ∙ ap (λ r. with_page r page.TableRevision) e3 in
+    let e5 = inserted (parse_route (codes "/work/{month}")) _ _ _ c.in_ok-insert-5.ensures
+    ∙ ap (λ r. with_page r page.Work) e4 in
+    let e6 = inserted (parse_route (codes "/quotes/{first}/{last}")) _ _ _ c.in_ok-insert-6.ensures
+    ∙ ap (λ r. with_page r page.Quotes) e5 in
+    let e7 = inserted (parse_route (codes "/quote/{slot}/{month}")) _ _ _ c.in_ok-insert-7.ensures
+    ∙ ap (λ r. with_page r page.Quote) e6 in
+    let e8 = inserted (parse_route (codes "/plan/{year}")) _ _ _ c.in_ok-insert-8.ensures
+    ∙ ap (λ r. with_page r page.Plan) e7 in
+    inserted (parse_route (codes "/import")) _ _ _ c.in_ok-insert-9.ensures ∙ ap (λ r. with_page r page.Import) e8
