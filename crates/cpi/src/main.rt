@@ -6,6 +6,7 @@ use clap::Error;
 use clap::error::ErrorKind;
 use cpi_app::{Job, RunFault, asked_table, job_of_words, run_replay};
 use cpi_files::{replay_in_file, run_serve, table_in_file};
+use cpi_release::Revision;
 use cpi_wire::WireFault;
 use sqlite::Unknown;
 use std::process::ExitCode;
@@ -77,10 +78,13 @@ fn run_job(rt: &HostRuntime, job: Job) -> Result<u8, RunFault> {
         Job::Table {
             db,
             month,
+            revision,
             form,
             at,
         } => {
-            let asked = asked_table(month, form, at)?;
+            let asked = asked_table(month, revision, form, at)?;
+            // (named here, since the prover has to be told of each type that `?` hands on)
+            let _revision: Option<Revision> = asked.revision;
             table_in_file(
                 rt,
                 db,

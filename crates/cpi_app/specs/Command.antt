@@ -28,9 +28,9 @@ serve = with_rule (with_rule (with_rule (with_rule (with_rule (new_app (codes "s
     (number (codes "limit") 1 1000000)) (option (codes "zone"))
 
 abbrev pub table : App
-table = with_rule (with_rule (with_rule (with_rule (new_app (codes "table"))
+table = with_rule (with_rule (with_rule (with_rule (with_rule (new_app (codes "table"))
     (required (codes "db"))) (required (codes "month"))) (required (codes "form")))
-    (number (codes "at") 0 9999999999)
+    (number (codes "at") 0 9999999999)) (option (codes "revision"))
 
 -- the program: the words begin with a subcommand
 abbrev pub bare : App
@@ -61,8 +61,9 @@ IsJob sub (Serve db port key limit zone) = (sub.0 ≡ codes "serve") × HasText 
     × HasText sub.1 (codes "desk-key") key.now
     × HasNumber 32 sub.1 (codes "limit") limit × (1 ≤ limit) × (limit ≤ 1000000)
     × HasZone sub.1 zone.now
-IsJob sub (Table db month form at) = (sub.0 ≡ codes "table") × HasText sub.1 (codes "db") db.now
+IsJob sub (Table db month revision form at) = (sub.0 ≡ codes "table") × HasText sub.1 (codes "db") db.now
     × HasText sub.1 (codes "month") month.now
+    × (option_map (λ t. t.now) revision ≡ first_of (codes "revision") sub.1)
     × HasText sub.1 (codes "form") form.now × ((form.now ≡ codes "text") ⊎ (form.now ≡ codes "csv"))
     × HasNumber 64 sub.1 (codes "at") at × (at ≤ 9999999999)
 

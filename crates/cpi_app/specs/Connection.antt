@@ -1,5 +1,6 @@
--- What one connection does.
-use Rattle.std.specs.Prelude.{◌≡◌, ℕ, Bool, true, false, List, [], ◌∷◌, Option, None, Result, Ok, Err, IfOk, IfErr}
+-- What connections do.
+use Rattle.std.specs.Prelude.{◌≡◌, ◌≤◌, ◌+◌, ◌⊎◌, ℕ, Bool, true, false, List, [], ◌∷◌, length}
+use Rattle.std.specs.Prelude.{Option, None, Result, Ok, Err, IfOk, IfErr, IsTrue}
 use Rattle.cpi_codes.specs.Zone.{ZoneRule}
 use Rattle.cpi_release.specs.State.{State}
 use Rattle.cpi_store.specs.Office.{Office}
@@ -22,19 +23,6 @@ GivesUpFront state f stream c fault = (behind : Option (List ℕ)) × GaveUp sta
 abbrev pub unknown_bytes : {B : Type 0} → B → B → Change B
 unknown_bytes before now = record { before = before; now = now; written = None; writing = None }
 
--- one connection was served at that moment, or given up
-abbrev pub IsConnection : {B : Type 0} → (B → State Office) → Framing → B → B → Type 0
-IsConnection state f before now = (outcome : Result Served WireFault)
-    × IfOk outcome (ServesFront state f None (unknown_bytes before now))
-    × IfErr outcome (GivesUpFront state f None (unknown_bytes before now))
-
--- connections one after another, each at its moment, the last one first: all that was done to the book was done by them
-abbrev pub AreServed : {B : Type 0} → (B → State Office) → ZoneRule → ℕ → B → List ℕ → B → Type 0
-AreServed state zone key first [] now = now ≡ first
-AreServed {B} state zone key first (moment ∷ earlier) now = (before : B)
-    × AreServed state zone key first earlier before
-    × IsConnection state (messages (setting moment zone key)) before now
-
 -- the book may not show what it keeps: a reply was that the office was unavailable, a response wasn't written whole, or
 -- memory was refused
 abbrev pub is_shaken : Result Served WireFault → Bool
@@ -43,3 +31,29 @@ is_shaken (Ok served.Cut) = false
 is_shaken (Err fault.Read) = false
 is_shaken (Err fault.Write) = true
 is_shaken (Err fault.NoMemory) = true
+
+-- one connection was served, or given up
+abbrev pub IsConnection : {B : Type 0} → (B → State Office) → Framing → Result Served WireFault → B → B → Type 0
+IsConnection state f outcome before now = IfOk outcome (ServesFront state f None (unknown_bytes before now))
+    × IfErr outcome (GivesUpFront state f None (unknown_bytes before now))
+
+-- when a connection was served, and what came of it
+pub record Visit : Type 0 where
+  pub moment : ℕ
+  pub outcome : Result Served WireFault
+
+-- connections one after another, the last one first: all that was done to the book was done by them
+abbrev pub AreServed : {B : Type 0} → (B → State Office) → ZoneRule → ℕ → B → List Visit → B → Type 0
+AreServed state zone key first [] now = now ≡ first
+AreServed {B} state zone key first (visit ∷ earlier) now = (before : B)
+    × AreServed state zone key first earlier before
+    × IsConnection state (messages (setting visit.moment zone key)) visit.outcome before now
+
+-- the last of them shook the book
+abbrev pub LastShook : List Visit → Type 0
+LastShook [] = ⊥
+LastShook (visit ∷ earlier) = IsTrue (is_shaken visit.outcome)
+
+-- so many of the connections are left, and any only where the last one shook the book
+abbrev pub AreLeft : ℕ → List Visit → ℕ → Type 0
+AreLeft limit visits left = (left + length visits ≤ limit) × ((left ≡ 0) ⊎ LastShook visits)

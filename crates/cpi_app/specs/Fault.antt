@@ -2,8 +2,8 @@
 use Rattle.std.specs.Prelude.{ℕ, List, ◌++◌, codes}
 use Rattle.cpi_wire.specs.Fault.{fault_text}
 use Rattle.cpi_app.specs.declared.fault.RunFault.{RunFault}
-use Rattle.cpi_app.specs.declared.fault.RunFault.TheVariants.{BadWord, BadZone, BadKey, BadMonth, Database, NoTable}
-use Rattle.cpi_app.specs.declared.fault.RunFault.TheVariants.{NoClock, NoPort, Wire}
+use Rattle.cpi_app.specs.declared.fault.RunFault.TheVariants.{BadWord, BadZone, BadKey, BadMonth, BadRevision, Database}
+use Rattle.cpi_app.specs.declared.fault.RunFault.TheVariants.{NoTable, NoClock, NoPort, Wire}
 use Rattle.cpi_sql.specs.declared.open.OpenFault.{OpenFault}
 use Rattle.cpi_sql.specs.declared.open.OpenFault.TheVariants.{UnknownSchema, Store}
 
@@ -18,6 +18,7 @@ line_of BadWord = codes "cpi: a word isn't UTF-8"
 line_of BadZone = codes "cpi: bad zone"
 line_of BadKey = codes "cpi: bad key"
 line_of BadMonth = codes "cpi: bad month"
+line_of BadRevision = codes "cpi: bad revision"
 line_of (Database fault) = open_line fault
 line_of NoTable = codes "cpi: no table"
 line_of NoClock = codes "cpi: no clock"
@@ -30,6 +31,7 @@ status_of BadWord = 2
 status_of BadZone = 1
 status_of BadKey = 1
 status_of BadMonth = 1
+status_of BadRevision = 1
 status_of (Database fault) = 1
 status_of NoTable = 1
 status_of NoClock = 1

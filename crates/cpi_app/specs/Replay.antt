@@ -8,8 +8,8 @@ use Rattle.cpi_store.specs.Holders.{Kept, kept_state}
 use Rattle.cpi_wire.specs.declared.fault.WireFault.{WireFault}
 use Rattle.cpi_wire.specs.Records.{AnsweredInput, GaveUp}
 use Rattle.cpi_app.specs.declared.fault.RunFault.{RunFault}
-use Rattle.cpi_app.specs.declared.fault.RunFault.TheVariants.{BadWord, BadZone, BadKey, BadMonth, Database, NoTable}
-use Rattle.cpi_app.specs.declared.fault.RunFault.TheVariants.{NoClock, NoPort, Wire}
+use Rattle.cpi_app.specs.declared.fault.RunFault.TheVariants.{BadWord, BadZone, BadKey, BadMonth, BadRevision, Database}
+use Rattle.cpi_app.specs.declared.fault.RunFault.TheVariants.{NoTable, NoClock, NoPort, Wire}
 
 -- a book in memory before its first record
 abbrev pub empty_book : Kept
@@ -35,6 +35,7 @@ EndedEarly zone input was is BadWord = ⊥
 EndedEarly zone input was is BadZone = IsNone (read_whole zone)
 EndedEarly zone input was is BadKey = ⊥
 EndedEarly zone input was is BadMonth = ⊥
+EndedEarly zone input was is BadRevision = ⊥
 EndedEarly zone input was is (Database fault) = ⊥
 EndedEarly zone input was is NoTable = ⊥
 EndedEarly zone input was is NoClock = ⊥

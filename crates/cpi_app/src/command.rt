@@ -77,6 +77,11 @@ fn table_command<'a>(alloc: Global) -> Result<Command<'a>, AllocError>
             "The moment, in seconds since 1970 UTC",
             0,
             9_999_999_999,
+        ))?
+        .arg(option(
+            alloc,
+            "revision",
+            "The revision, 1 to 9; else the latest that was published by then",
         ))
 }
 
@@ -123,6 +128,7 @@ fn table_of<'a>(matches: &ArgMatches<'a>) -> Option<Job<'a>>
     Some(Job::Table {
         db: text_of(matches, "db")?,
         month: text_of(matches, "month")?,
+        revision: text_of(matches, "revision"),
         form: form_of(matches)?,
         at: second_of(matches)?,
     })

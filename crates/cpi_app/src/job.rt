@@ -18,10 +18,12 @@ pub enum Job<'a> {
         limit: u32,
         zone: &'a str,
     },
-    /// The table of a month as it was published by that moment (seconds since 1970 UTC), as `text` or as `csv`.
+    /// The table of a month, in a revision or else in the latest, as it was published by that moment (seconds since 1970
+    /// UTC), as `text` or as `csv`.
     Table {
         db: &'a str,
         month: &'a str,
+        revision: Option<&'a str>,
         form: &'a str,
         at: u64,
     },

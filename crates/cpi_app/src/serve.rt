@@ -1,6 +1,7 @@
 //! Serving connections, one after another.
-ghost use Rattle.std.specs.Prelude.{◌≤◌, ℕ, List, length, IfOk};
-ghost use Rattle.cpi_app.specs.Connection.{AreServed};
+ghost use Rattle.std.specs.Prelude.{◌≡◌, ◌≤◌, List, length, IfOk, IfErr};
+ghost use Rattle.cpi_app.specs.Connection.{Visit, AreServed, AreLeft};
+ghost use Rattle.cpi_app.specs.declared.fault.RunFault.TheVariants.{NoClock};
 
 use crate::connection::{is_shaken, serve_connection};
 use crate::desk::Desk;
@@ -44,9 +45,10 @@ pub fn serve_book<C: Clock, B: Book>(
     desk: &Desk,
     book: B,
 ) -> (B, Result<u32, RunFault>)
-    ensures served { (moments : List ℕ) × (length moments ≤ limit)
-        × AreServed B.state desk.now.zone desk.now.key book moments result.0 }
-    ensures left { IfOk result.1 (λ left. left ≤ limit) }
+    ensures served { (visits : List Visit) × (length visits ≤ limit)
+        × AreServed B.state desk.now.zone desk.now.key book visits result.0
+        × IfOk result.1 (AreLeft limit visits) }
+    ensures fault { IfErr result.1 (λ fault. fault ≡ NoClock) }
 {
     let mut office = Office::new(alloc, book);
     for served in 0..limit {

@@ -1,90 +1,117 @@
 //! The job of a table.
-ghost use Rattle.std.specs.Prelude.{◌≡◌, ◌↔◌, ℕ, List, Option, Ok, IfOk, OnOk, IfErr, IsErr, IsErrOf, codes};
+ghost use Rattle.std.specs.Prelude.{◌≡◌, ◌↔◌, ℕ, List, Option, Some, Ok};
+ghost use Rattle.std.specs.Prelude.{IfOk, OnOk, IfErr, IsErr, IsErrOf, codes};
+ghost use Rattle.std.specs.Option.{option_copied};
 ghost use Rattle.cpi_codes.specs.Month.{month_of};
-ghost use Rattle.cpi_release.specs.declared.level.Level.{Level};
-ghost use Rattle.cpi_release.specs.PublishedTables.{printed_bytes};
-ghost use Rattle.cpi_release.specs.State.{Keeps};
+ghost use Rattle.cpi_release.specs.PublishedTables.{PublishedTable};
+ghost use Rattle.cpi_release.specs.State.{Keeps, StaysClean};
+ghost use Rattle.cpi_store.specs.Tables.{table_until};
+ghost use Rattle.cpi_office.specs.Answers.{bytes_of};
 ghost use Rattle.cpi_app.specs.Table.{IsTable, IsWritten, IsNotWritten, IsPrinted};
+ghost use Rattle.cpi_app.specs.Table.{revision_asked, HasNoRevision};
 
 use crate::fault::RunFault;
 use cpi_codes::{Moment, Month};
-use cpi_release::{Form, PrintedTable, printed};
+use cpi_release::{Form, PrintedTable, Revision, printed};
 use cpi_sql::OpenFault;
 use cpi_store::Book;
 use cpi_wire::{WireFault, write_whole};
 use std::alloc::Global;
 use std::io::Write;
 
-/// A table that is asked for: of which month, in which form, and by which moment it is to have been published.
+/// A table that is asked for: of which month, in which revision (`None` is the latest), in which form, and by which
+/// moment it is to have been published.
 #[derive(Clone, Copy, Debug, PartialEq, Eq)]
 pub struct AskedTable {
     pub month: Month,
+    pub revision: Option<Revision>,
     pub form: Form,
     pub until: Moment,
 }
 
-// The printed table of the month as it was published by the moment.
+// The revision of the table that is asked for: the one that is named, or the latest.
+fn revision_of<B: Book>(book: &mut B, asked: AskedTable) -> Result<Revision, RunFault>
+    ensures keeps { Keeps (B.state book.old) (B.state book.new) }
+    ensures stays { OnOk result (StaysClean (B.state book.old) (B.state book.new)) }
+    ensures same { (B.state book.new).is_clean → IfOk result (λ revision.
+        table_until asked.month (Some revision) asked.until (B.state book.old).held.releases
+        ≡ table_until asked.month asked.revision asked.until (B.state book.old).held.releases) }
+    ensures fault { (B.state book.new).is_clean → IfErr result (λ fault. (was : Option (List ℕ))
+        → IsNotWritten asked (B.state book.old).held was was fault) }
+{
+    if let Some(revision) = asked.revision {
+        return Ok(revision);
+    }
+    match book.revision_until(asked.month, asked.until) {
+        Ok(Some(revision)) => Ok(revision),
+        Ok(None) => Err(RunFault::NoTable),
+        Err(_) => Err(RunFault::Database(OpenFault::Store)),
+    }
+}
+
+// The printed table.
 fn read_table<B: Book>(
     alloc: Global,
     book: &mut B,
-    month: Month,
-    form: Form,
-    until: Moment,
+    asked: AskedTable,
 ) -> Result<PrintedTable, RunFault>
     ensures keeps { Keeps (B.state book.old) (B.state book.new) }
-    ensures printed { (B.state book.new).is_clean → IfOk result (λ table. (levels : List Level)
-        × IsTable month until (B.state book.old).held levels × (table ≡ printed_bytes form month levels)) }
+    ensures printed { (B.state book.new).is_clean → IfOk result (λ printed. (table : PublishedTable)
+        × IsTable asked (B.state book.old).held table × (printed ≡ bytes_of asked.form asked.month table)) }
     ensures fault { (B.state book.new).is_clean → IfErr result (λ fault. (was : Option (List ℕ))
-        → IsNotWritten form month until (B.state book.old).held was was fault) }
+        → IsNotWritten asked (B.state book.old).held was was fault) }
 {
-    let levels = match book.table(month, until) {
+    let AskedTable {
+        month,
+        form,
+        until,
+        ..
+    } = asked;
+    let revision = revision_of(book, asked)?;
+    let levels = match book.table(month, revision, until) {
         Ok(Some(levels)) => levels,
         Ok(None) => return Err(RunFault::NoTable),
         Err(_) => return Err(RunFault::Database(OpenFault::Store)),
     };
-    match printed(alloc, form, month, levels.as_slice()) {
+    match printed(alloc, form, month, revision, levels.as_slice()) {
         Ok(table) => Ok(table),
         Err(_) => Err(RunFault::Wire(WireFault::NoMemory)),
     }
 }
 
-/// Writes the table of the month as it was published by the moment, or answers why it wasn't written whole. The office
-/// stays as it is.
+/// Writes the table of the month, in the revision that is asked for, as it was published by the moment, or answers why
+/// it wasn't written whole. The office stays as it is.
 pub fn write_table<B: Book, W: Write>(
     alloc: Global,
     book: &mut B,
-    month: Month,
-    form: Form,
-    until: Moment,
+    asked: AskedTable,
     out: &mut W,
 ) -> Result<(), RunFault>
     ensures keeps { Keeps (B.state book.old) (B.state book.new) }
     ensures written { (B.state book.new).is_clean → OnOk result
-        (IsWritten form month until (B.state book.old).held (W.contents out.old) (W.contents out.new)) }
+        (IsWritten asked (B.state book.old).held (W.contents out.old) (W.contents out.new)) }
     ensures fault { (B.state book.new).is_clean → IfErr result
-        (IsNotWritten form month until (B.state book.old).held (W.contents out.old) (W.contents out.new)) }
+        (IsNotWritten asked (B.state book.old).held (W.contents out.old) (W.contents out.new)) }
 {
-    let table = read_table(alloc, book, month, form, until)?;
+    let table = read_table(alloc, book, asked)?;
     write_whole(out, table.as_bytes())?;
     Ok(())
 }
 
-/// Prints the table of the month as it was published by the moment, or the line of the fault to `err`, and answers the
-/// status to end with.
+/// Prints the table of the month, in the revision that is asked for, as it was published by the moment, or the line of
+/// the fault to `err`, and answers the status to end with.
 pub fn print_table<B: Book, W: Write, E: Write>(
     alloc: Global,
     book: &mut B,
-    month: Month,
-    form: Form,
-    until: Moment,
+    asked: AskedTable,
     out: &mut W,
     err: &mut E,
 ) -> u8
     ensures keeps { Keeps (B.state book.old) (B.state book.new) }
     ensures printed { (B.state book.new).is_clean →
-        IsPrinted form month until (B.state book.old).held (W.contents out.old) (W.contents out.new) result }
+        IsPrinted asked (B.state book.old).held (W.contents out.old) (W.contents out.new) result }
 {
-    match write_table(alloc, book, month, form, until, out) {
+    match write_table(alloc, book, asked, out) {
         Ok(()) => 0,
         Err(fault) => {
             let _ = writeln!(err, "{fault}");
@@ -93,18 +120,48 @@ pub fn print_table<B: Book, W: Write, E: Write>(
     }
 }
 
-/// The table that words ask for. The form is `csv`, or else text; no table is published after the last moment.
-pub fn asked_table(month: &str, form: &str, at: u64) -> Result<AskedTable, RunFault>
+// The revision that the word names, or the latest.
+fn revision_of_word(word: Option<&str>) -> Result<Option<Revision>, RunFault>
+    ensures named { IfOk result (λ revision. revision_asked (option_copied word.entry) ≡ Some revision) }
+    ensures fault { IfErr result (λ fault. (fault ≡ RunFault.BadRevision)
+        × (revision_asked (option_copied word.entry) ≡ None)) }
+{
+    let Some(word) = word else {
+        return Ok(None);
+    };
+    match Revision::parse(word.as_bytes()) {
+        Some(revision) => Ok(Some(revision)),
+        None => Err(RunFault::BadRevision),
+    }
+}
+
+/// The table that words ask for. The form is `csv`, or else text; no table is published after the last moment. The
+/// faults are `BadMonth`, `BadRevision` and then `NoTable`.
+pub fn asked_table(
+    month: &str,
+    revision: Option<&str>,
+    form: &str,
+    at: u64,
+) -> Result<AskedTable, RunFault>
     ensures asked { IfOk result (λ asked. (month_of month.now ≡ Ok asked.month) × (at ≡ asked.until)
+        × (revision_asked (option_copied revision.entry) ≡ Some asked.revision)
         × (asked.form ≡ Form.Csv ↔ form.now ≡ codes "csv")) }
     ensures bad_month { IsErrOf result RunFault.BadMonth ↔ IsErr (month_of month.now) }
+    ensures bad_revision { IsErrOf result RunFault.BadRevision
+        ↔ HasNoRevision month.now (option_copied revision.entry) }
 {
     let Ok(month) = Month::parse(month.as_bytes()) else {
         return Err(RunFault::BadMonth);
     };
+    let revision = revision_of_word(revision)?;
     let Some(until) = Moment::new(at) else {
         return Err(RunFault::NoTable);
     };
     let form = if form == "csv" { Form::Csv } else { Form::Text };
-    Ok(AskedTable { month, form, until })
+    Ok(AskedTable {
+        month,
+        revision,
+        form,
+        until,
+    })
 }

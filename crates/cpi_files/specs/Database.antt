@@ -10,6 +10,9 @@ use Rattle.cpi_release.specs.State.{State}
 use Rattle.cpi_store.specs.Office.{Office}
 use Rattle.cpi_sql.specs.Shelf.{Shelf, office_state}
 use Rattle.cpi_sql.specs.Finding as office
+use Rattle.cpi_sql.specs.declared.open.OpenFault.{OpenFault}
+use Rattle.cpi_app.specs.declared.fault.RunFault.{RunFault}
+use Rattle.cpi_app.specs.declared.fault.RunFault.TheVariants.{Database}
 
 -- the office of a file, as a book over it shows that
 abbrev pub file_book : {D : Type 0} {g : Ghosts D} → Shelf (FileStore D g) → State Office
@@ -23,3 +26,7 @@ pub record IsOfficeOf {D : Type 0} {g : Ghosts D} (start : Image) (book : Shelf 
   pub found : FindsIn start (file_state was)
   pub office : office.IsOpened (file_state was) (file_state book.held)
   pub count : book.failures ≡ 0
+
+-- the file couldn't be opened as an office
+abbrev pub IsUnopened : RunFault → Type 0
+IsUnopened fault = (why : OpenFault) × (fault ≡ Database why)

@@ -11,8 +11,8 @@ use Rattle.cpi_sql.specs.Shelf.{Shelf, IsCleanBook}
 use Rattle.cpi_wire.specs.declared.fault.WireFault.{WireFault}
 use Rattle.cpi_wire.specs.Records.{AnsweredInput, GaveUp}
 use Rattle.cpi_app.specs.declared.fault.RunFault.{RunFault}
-use Rattle.cpi_app.specs.declared.fault.RunFault.TheVariants.{BadWord, BadZone, BadKey, BadMonth, Database, NoTable}
-use Rattle.cpi_app.specs.declared.fault.RunFault.TheVariants.{NoClock, NoPort, Wire}
+use Rattle.cpi_app.specs.declared.fault.RunFault.TheVariants.{BadWord, BadZone, BadKey, BadMonth, BadRevision, Database}
+use Rattle.cpi_app.specs.declared.fault.RunFault.TheVariants.{NoTable, NoClock, NoPort, Wire}
 use Rattle.cpi_files.specs.Database.{IsOfficeOf, file_book}
 
 -- The records of the input were answered, or after a fault the first of them, from what the files held on, by the clock
@@ -38,6 +38,7 @@ BeginsNone zone BadWord = ⊥
 BeginsNone zone BadZone = IsNone (read_whole zone)
 BeginsNone zone BadKey = ⊥
 BeginsNone zone BadMonth = ⊥
+BeginsNone zone BadRevision = ⊥
 BeginsNone zone (Database fault) = Unit {0}
 BeginsNone zone NoTable = ⊥
 BeginsNone zone NoClock = ⊥
@@ -53,6 +54,7 @@ EndsIn g start zone input was is (Err BadWord) = ⊥
 EndsIn g start zone input was is (Err BadZone) = IsNone (read_whole zone) × (is ≡ was)
 EndsIn g start zone input was is (Err BadKey) = ⊥
 EndsIn g start zone input was is (Err BadMonth) = ⊥
+EndsIn g start zone input was is (Err BadRevision) = ⊥
 EndsIn g start zone input was is (Err (Database fault)) = (is ≡ was) ⊎ Ran g start zone input was is IsOk
 EndsIn g start zone input was is (Err NoTable) = ⊥
 EndsIn g start zone input was is (Err NoClock) = ⊥

@@ -16,5 +16,4 @@ pub record IsPrintedFrom {D : Type 0} {g : Ghosts D} (start : Image) (asked : As
   pub book : Shelf (FileStore D g)
   pub found : IsCleanBook (file_state book.held) → IsOfficeOf start book
   pub keeps : Keeps (file_book book) (file_book now)
-  pub printed : IsCleanBook (file_state now.held)
-      → IsPrinted asked.form asked.month asked.until (file_book book).held was is status
+  pub printed : IsCleanBook (file_state now.held) → IsPrinted asked (file_book book).held was is status

@@ -3,6 +3,7 @@ ghost use Rattle.std.specs.Prelude.{◌≡◌, IfOk, IfErr};
 ghost use Rattle.sqlite.specs.WalFiles.{image_at};
 ghost use Rattle.sqlite.specs.declared.FileStore.{FileStore};
 ghost use Rattle.cpi_sql.specs.Shelf.{Shelf};
+ghost use Rattle.cpi_files.specs.Database.{IsUnopened};
 ghost use Rattle.cpi_files.specs.Table.{IsPrintedFrom};
 
 use crate::database::{FileBook, close_book, open_book};
@@ -23,11 +24,11 @@ pub fn run_table<S: Start, W: Write, E: Write>(
 ) -> Result<(FileBook<S>, u8), RunFault>
     ensures printed { IfOk result (λ it. IsPrintedFrom (image_at S.Start) asked
         (W.contents out.old) (W.contents out.new) it.0 it.1) }
+    ensures fault { IfErr result IsUnopened }
     ensures untouched { IfErr result (λ _. (out.new ≡ out.old) × (err.new ≡ err.old)) }
 {
-    let AskedTable { month, form, until } = asked;
     let mut book = open_book(rt, path, start)?;
-    let status = print_table(rt.alloc(), &mut book, month, form, until, out, err);
+    let status = print_table(rt.alloc(), &mut book, asked, out, err);
     Ok((book, status))
 }
 
@@ -42,6 +43,7 @@ pub fn table_in_file<S: Start, W: Write, E: Write>(
 ) -> Result<u8, RunFault>
     ensures printed { IfOk result (λ status. (now : Shelf (FileStore _ ⟦<FileFrom<S> as Disk>⟧))
         × IsPrintedFrom (image_at S.Start) asked (W.contents out.old) (W.contents out.new) now status) }
+    ensures fault { IfErr result IsUnopened }
     ensures untouched { IfErr result (λ _. (out.new ≡ out.old) × (err.new ≡ err.old)) }
 {
     let (book, status) = run_table(rt, path, start, asked, out, err)?;

@@ -10,7 +10,8 @@ returns-clause-app c =
     let one = c.in_ok-arg.ensures.shape (search rules) ∙ ap₂ with_rule bare c.required.ensures.rule in
     let two = c.in_ok-arg-2.ensures.shape (search rules) ∙ ap₂ with_rule one c.required-2.ensures.rule in
     let three = c.in_ok-arg-3.ensures.shape (search rules) ∙ ap₂ with_rule two c.required-3.ensures.rule in
-    IfOk-weaker c.arg-4.result _ _ (λ r h. h.shape c.number.ensures.local ∙ ap₂ with_rule three c.number.ensures.rule) c.arg-4.ensures
+    let four = c.in_ok-arg-4.ensures.shape (search rules) ∙ ap₂ with_rule three c.number.ensures.rule in
+    IfOk-weaker c.arg-5.result _ _ (λ r h. h.shape c.option.ensures.local ∙ ap₂ with_rule four c.option.ensures.rule) c.arg-5.ensures
 
 pub returns-clause-local : goal.returns-clause-local
 returns-clause-local c =
@@ -18,4 +19,10 @@ returns-clause-local c =
     let one = c.in_ok-arg.ensures.globals in
     let two = c.in_ok-arg-2.ensures.globals in
     let three = c.in_ok-arg-3.ensures.globals in
-    IfOk-weaker c.arg-4.result _ _ (λ r h. h.globals ∙ rw (three, two, one, plain, c.required.ensures.local, c.required-2.ensures.local, c.required-3.ensures.local, c.number.ensures.local) refl) c.arg-4.ensures
+    let four = c.in_ok-arg-4.ensures.globals in
+    let first = c.required.ensures.local in
+    let second = c.required-2.ensures.local in
+    let third = c.required-3.ensures.local in
+    IfOk-weaker c.arg-5.result _ _
+    (λ r h. h.globals ∙ rw (four, three, two, one, plain, first, second, third, c.number.ensures.local, c.option.ensures.local) refl)
+    c.arg-5.ensures

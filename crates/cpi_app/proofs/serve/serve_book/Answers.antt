@@ -1,4 +1,6 @@
-use Rattle.std.proofs.Common.{[], ◌∷◌, arith, rules}
+use Rattle.std.proofs.Common.{[], ◌∷◌, arith, rules, refl, inl, inr}
+use Rattle.std.specs.Prelude.{IsTrue}
+use Rattle.cpi_app.specs.Connection.{is_shaken}
 use Rattle.cpi_app.proofs.serve.serve_book.Goals as goal
 
 pub loop-served-init : goal.loop-served-init
@@ -14,29 +16,35 @@ loop-served-preserved-in_default g c =
 pub returns-in_default-moment_of-clause-served : goal.returns-in_default-moment_of-clause-served
 returns-in_default-moment_of-clause-served g c =
     let inv = c.loop-served.invariant in
-    (inv.0, omega (arith, inv.1, c.loop-served-test.true), rw c.into_book.ensures inv.2)
+    (inv.0, omega (arith, inv.1, c.loop-served-test.true), rw c.into_book.ensures inv.2, tt)
 
 -- a connection that shook the book
 pub returns-then-is_shaken-clause-served : goal.returns-then-is_shaken-clause-served
 returns-then-is_shaken-clause-served g c =
     let inv = c.loop-served.invariant in
-    let call = c.serve_connection in (
-      c.in-Some.now ∷ inv.0,
+    let call = c.serve_connection in
+    let shook : IsTrue (is_shaken call.result) = search rules in (
+      record { moment = c.in-Some.now; outcome = call.result } ∷ inv.0,
       omega (arith, inv.1, c.loop-served-test.true),
       rw c.into_book-then-is_shaken.ensures
-          (c.loop-served.office.book, inv.2, (call.result, call.ensures.ok, call.ensures.err)),
+          (c.loop-served.office.book, inv.2, (call.ensures.ok, call.ensures.err)),
+      (omega (arith, inv.1, c.loop-served-test.true), inr shook),
     )
 
 pub loop-served-preserved : goal.loop-served-preserved
 loop-served-preserved g c =
     let inv = c.loop-served.invariant in
     let call = c.serve_connection in (
-      c.in-Some.now ∷ inv.0,
+      record { moment = c.in-Some.now; outcome = call.result } ∷ inv.0,
       omega (arith, inv.1),
-      (c.loop-served.office.book, inv.2, (call.result, call.ensures.ok, call.ensures.err)),
+      (c.loop-served.office.book, inv.2, (call.ensures.ok, call.ensures.err)),
     )
 
 pub returns-clause-served : goal.returns-clause-served
 returns-clause-served g c =
-    let inv = c.loop-served.invariant in
-    (inv.0, omega (arith, inv.1, c.loop-served.auto.served-end), rw c.into_book-2.ensures inv.2)
+    let inv = c.loop-served.invariant in (
+      inv.0,
+      omega (arith, inv.1, c.loop-served.auto.served-end),
+      rw c.into_book-2.ensures inv.2,
+      (omega (arith, inv.1, c.loop-served.auto.served-end), inl refl),
+    )
