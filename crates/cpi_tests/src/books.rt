@@ -1,7 +1,7 @@
 //! Books: each read of one that fails in turn, and a book in memory. Writes are counted where the office makes them.
 use crate::records::{at, frozen, january, rice};
 use cpi_codes::{CollectorId, Key, Month, OutletId};
-use cpi_release::Groups;
+use cpi_release::{Groups, Revision};
 use cpi_store::{Book, FailBook};
 use std::test::Fail;
 
@@ -23,7 +23,8 @@ fn first_failing<B: Book>(book: &mut B) -> Result<Option<usize>, Fail> {
         book.frozen_months().is_err(),
         book.month_rows(month).is_err(),
         book.tables_until(until).is_err(),
-        book.table(month, until).is_err(),
+        book.revision_until(month, until).is_err(),
+        book.table(month, Revision::first(), until).is_err(),
         book.rows(2026, month, rice).is_err(),
         book.chained(month, rice).is_err(),
     ];
@@ -32,7 +33,7 @@ fn first_failing<B: Book>(book: &mut B) -> Result<Option<usize>, Fail> {
 
 #[test]
 fn each_read_of_a_book_fails_in_turn(rt: HostRuntime) -> Result<(), Fail> {
-    for place in 0..14 {
+    for place in 0..15 {
         let mut book = FailBook::new(frozen(rt.alloc())?, place as u64 + 1);
         assert_eq!(rt; first_failing(&mut book)?, Some(place));
     }

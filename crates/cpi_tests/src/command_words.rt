@@ -65,6 +65,8 @@ fn the_words_of_a_table(rt: HostRuntime) {
         "F",
         "--month",
         "2026-01",
+        "--revision",
+        "2",
         "--form",
         "csv",
         "--at",
@@ -76,6 +78,7 @@ fn the_words_of_a_table(rt: HostRuntime) {
             Ok(Job::Table {
                 db: "F",
                 month: "2026-01",
+                revision: Some("2"),
                 form: "csv",
                 at: 9_999_999_999
             })

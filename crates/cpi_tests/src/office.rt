@@ -106,9 +106,9 @@ fn each_call_of_the_book_fails_in_turn(rt: HostRuntime) -> Result<(), Fail> {
 #[test]
 fn each_call_of_a_freeze_fails_in_turn(rt: HostRuntime) -> Result<(), Fail> {
     let alloc = rt.alloc();
-    for nth in 1..=26 {
+    for nth in 1..=27 {
         let told = is_unavailable_at(alloc, priced(alloc)?, nth, &FREEZE, &FREEZE)?;
-        assert_eq!(rt; told, Some(nth < 26), "call {nth}");
+        assert_eq!(rt; told, Some(nth < 27), "call {nth}");
     }
     Ok(())
 }

@@ -4,7 +4,7 @@ use crate::streams::Narrow;
 use cpi_codes::Month;
 use cpi_index::FrozenQuote;
 use cpi_release::{
-    Form, Groups, History, HistoryGroups, Level, PrintFault, Release, printed, table_csv,
+    Form, Groups, History, HistoryGroups, Level, PrintFault, Release, Revision, printed, table_csv,
     table_text,
 };
 use cpi_rows::Rows;
@@ -25,6 +25,7 @@ fn release_of(
         alloc,
         history,
         month,
+        Revision::first(),
         moment,
         moment,
         frozen,
@@ -60,8 +61,8 @@ fn sample(alloc: Global, history: &History, frozen: &[FrozenQuote]) -> Result<[u
 
 // How many bytes the table of January has in both forms.
 fn lengths(alloc: Global, levels: &[Level]) -> Result<[usize; 2], Fail> {
-    let text = printed(alloc, Form::Text, january()?, levels)?;
-    let csv = printed(alloc, Form::Csv, january()?, levels)?;
+    let text = printed(alloc, Form::Text, january()?, Revision::first(), levels)?;
+    let csv = printed(alloc, Form::Csv, january()?, Revision::first(), levels)?;
     Ok([text.as_bytes().len(), csv.as_bytes().len()])
 }
 
@@ -72,7 +73,8 @@ fn cut_off(
     room: usize,
 ) -> Result<[Result<(), PrintFault>; 2], Fail> {
     let month = january()?;
-    let text = table_text(alloc, month, levels, &mut Narrow::new(alloc, room));
+    let first = Revision::first();
+    let text = table_text(alloc, month, first, levels, &mut Narrow::new(alloc, room));
     let csv = table_csv(alloc, levels, &mut Narrow::new(alloc, room));
     Ok([text, csv])
 }
