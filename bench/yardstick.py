@@ -140,7 +140,7 @@ class Releases:
         moment, _, word, *rest = fields
         if word == "tables":
             rows = self.rows("SELECT month, publishes FROM release WHERE publishes <= ? ORDER BY month", int(moment))
-            return {"tables": [[text_of(at), publishes] for at, publishes in rows]}
+            return {"tables": [[text_of(at), 1, publishes] for at, publishes in rows]}
         at, carry = month(rest[0]), rest[1:]
         months = [it for (it,) in self.rows("SELECT month FROM release ORDER BY month")]
         if at in months:

@@ -34,7 +34,7 @@ def change(before, now):
 
 
 def kept(rule):
-    """The rule, computed once for each of its arguments: what is frozen doesn't change."""
+    """The rule, computed once for each of its arguments: what is frozen changes by `with_month` alone."""
 
     def looked_up(self, *of):
         place = (rule.__name__, *of)
@@ -52,14 +52,16 @@ class FrozenQuote:
 
 class Index:
     """The index over the plans of the years (of each the titles of its nodes, its weights, its places) and the frozen
-    months (of each its quotes and its carry list)."""
+    months (of each the quotes and the carry list of its latest revision)."""
 
     def __init__(self, plans, frozen, known):
         self.plans, self.frozen, self.known = plans, frozen, known
 
     def with_month(self, month, quotes, carry):
-        """The same with one month more. What is looked up there stays out of this one."""
-        return Index(self.plans, {**self.frozen, month: (quotes, carry)}, dict(self.known))
+        """The same with one month more, or with a month that was frozen as it is now. What is looked up there stays out
+        of this one, and what was looked up here counts there where no month was replaced."""
+        known = {} if month in self.frozen else dict(self.known)
+        return Index(self.plans, {**self.frozen, month: (quotes, carry)}, known)
 
     # ---- the plan of a year
 

@@ -7,6 +7,7 @@ from .index import FrozenQuote, Index, before
 from .requests import MOST_ROWS, caller_of, request_of, rows_of
 
 DONE = {"done": True}
+MOST_REVISIONS = 9
 
 
 def refused(number, **found):
@@ -18,7 +19,11 @@ def month_text(month):
 
 
 class Office:
-    def __init__(self):
+    """An office in memory, or in a database: there, for now, only the first revision of each month can be stored, and
+    the freeze of a further one is refused by 90."""
+
+    def __init__(self, is_in_a_database=False):
+        self.is_in_a_database = is_in_a_database
         self.items = {}  # by code: text, unit, low, high
         self.plans = {}
         self.calendar = {}  # by month: opens, closes, publishes
@@ -27,7 +32,7 @@ class Office:
         self.assignments = {}  # by collector and slot: outlet, item, first and last month
         self.quotes = {}  # by collector, slot and month: mark, receipt
         self.index = Index(self.plans, {}, {})  # over the frozen months
-        self.tables = {}  # by frozen month: the moment of publishing, the rows
+        self.tables = {}  # by frozen month: of each revision the moment of publishing and the rows
 
     def written(self, reply):
         return json.dumps(reply, separators=(",", ":"), sort_keys=True, ensure_ascii=False)
@@ -69,17 +74,22 @@ class Office:
         return {"items": [[code, *self.items[code]] for code in sorted(self.items)]}
 
     def published(self, now):
-        return {month: table for month, table in self.tables.items() if table[0] <= now}
+        """The moment of publishing and the rows, by month and revision."""
+        every = {(month, at): table for month, of in self.tables.items() for at, table in enumerate(of, 1)}
+        return {release: table for release, table in every.items() if table[0] <= now}
 
     def listed_tables(self, now):
         published = sorted(self.published(now).items())
-        return {"tables": [[month_text(month), publishes] for month, (publishes, _) in published]}
+        return {"tables": [[month_text(month), revision, publishes] for (month, revision), (publishes, _) in published]}
 
-    def printed_table(self, now, month, form):
-        if month not in self.published(now):
+    def printed_table(self, now, month, form, asked=None):
+        """The table of the revision that is asked for, or of the latest one that is published."""
+        published = self.published(now)
+        revisions = [revision for at, revision in published if at == month and asked in (None, revision)]
+        if not revisions:
             return refused(30)
-        rows = self.tables[month][1]
-        return {"table": tables.text_of(month, rows) if form == "text" else tables.csv_of(rows)}
+        rows = published[month, max(revisions)][1]
+        return {"table": tables.text_of(month, max(revisions), rows) if form == "text" else tables.csv_of(rows)}
 
     # ---- the desk
 
@@ -111,10 +121,17 @@ class Office:
                 return refused(43)
         return self.put_once(self.assignments, (collector, slot), (outlet, item, first, last))
 
+    def stays_frozen(self, month, publishes):
+        """Whether the month was frozen and can't be reopened by a calendar row with that moment of publishing."""
+        revisions = self.tables.get(month)
+        if not revisions:
+            return False
+        return month != max(self.tables) or len(revisions) == MOST_REVISIONS or publishes <= revisions[-1][0]
+
     def put_calendar(self, month, *window):
         if self.calendar.get(month) == window:
             return DONE
-        if month in self.tables:
+        if self.stays_frozen(month, window[2]):
             return refused(50)
         self.calendar[month] = window
         return DONE
@@ -158,11 +175,20 @@ class Office:
         assigned = [(place[:2], self.assignments[place[:2]], mark) for place, mark in rows]
         return [FrozenQuote(series, item, last, mark) for series, (_, item, _, last), mark in assigned]
 
+    def is_first(self, month):
+        """Whether it is the first month of all, frozen already or not."""
+        return month == min(self.tables, default=month)
+
+    def is_in_turn(self, month):
+        if not self.tables:
+            return month[1] == 12
+        return max(self.tables) in (month, before(month))
+
     def freeze_refusal(self, now, month, carry):
-        is_first = not self.tables
-        if month in self.tables:
+        is_first = self.is_first(month)
+        if month in self.tables and self.stays_frozen(month, self.calendar[month][2]):
             return refused(50)
-        if month[1] != 12 if is_first else before(month) != max(self.tables):
+        if not self.is_in_turn(month):
             return refused(46)
         if month not in self.calendar:
             return refused(21)
@@ -178,11 +204,13 @@ class Office:
         if refusal is not None:
             return refusal
         index = self.index.with_month(month, self.stored_quotes(month), carry)
-        fault = index.fault(month) if self.tables else None
+        fault = None if self.is_first(month) else index.fault(month)
         if fault is not None:
             return refused(49, fault=fault[0], code=fault[1])
+        if self.is_in_a_database and month in self.tables:
+            return refused(90)
         self.index = index
-        self.tables[month] = (self.calendar[month][2], index.table(month))
+        self.tables.setdefault(month, []).append((self.calendar[month][2], index.table(month)))
         return DONE
 
     # ---- a collector

@@ -97,16 +97,16 @@ def route(method, target):
         raise Bad(404)
     first, *parts = target[1:].split("/")
     known = {
-        (b"GET", "items"): 0,
-        (b"GET", "tables"): 0,
-        (b"GET", "table"): 2,
-        (b"GET", "work"): 1,
-        (b"GET", "quotes"): 2,
-        (b"PUT", "quote"): 2,
-        (b"PUT", "plan"): 1,
-        (b"POST", "import"): 0,
+        (b"GET", "items"): [0],
+        (b"GET", "tables"): [0],
+        (b"GET", "table"): [2, 3],
+        (b"GET", "work"): [1],
+        (b"GET", "quotes"): [2],
+        (b"PUT", "quote"): [2],
+        (b"PUT", "plan"): [1],
+        (b"POST", "import"): [0],
     }
-    if known.get((method, first)) != len(parts) or "" in parts:
+    if len(parts) not in known.get((method, first), []) or "" in parts:
         raise Bad(404)
     return first, parts
 

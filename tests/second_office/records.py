@@ -124,6 +124,11 @@ class Records:
         moments = [opens, opens + self.one([0, 1, 500, 1000]), opens + self.one([500, 1000, 2000])]
         return [self.month(), *(self.mostly([str(moment)], CIVIL) for moment in moments)]
 
+    def table(self):
+        """A table, in one case of two of a revision."""
+        revision = self.one([[], [self.mostly(["1", "2", "9"], NUMBERS)]])
+        return [self.month(), self.mostly(["text", "csv"], ["", "Text", "html"]), *revision]
+
     def freeze(self):
         """A freeze of a month that is no December, and so not the first one."""
         return [self.mostly(MONTHS[1:], OTHER_MONTHS), *(self.code() for _ in range(self.one([0, 0, 1, 2])))]
@@ -138,7 +143,7 @@ class Records:
             "quote": self.quote,
             "quotes": lambda: [self.month(), self.month()],
             "work": lambda: [self.month()],
-            "table": lambda: [self.month(), self.mostly(["text", "csv"], ["", "Text", "html"])],
+            "table": self.table,
             "freeze": self.freeze,
             "item": lambda: [self.item(), self.one(TEXTS), self.one(TEXTS), *tolerances],
             "outlet": lambda: [self.mostly(["10", "12"], NUMBERS), self.one(TEXTS)],

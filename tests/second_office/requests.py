@@ -37,12 +37,12 @@ def number_within(least, most):
 COLLECTOR = number_within(1, 9999)
 SLOT = number_within(1, 400)
 OUTLET = number_within(1, 999_999)
+REVISION = number_within(1, 9)
 
 # the readers of each word's arguments
 ARGUMENTS = {
     "items": [],
     "tables": [],
-    "table": [values.month, lambda text: text if text in ("text", "csv") else None],
     "work": [values.month],
     "quotes": [values.month, values.month],
     "item": [values.item_code, values.name, values.name, number_within(1, 1000), number_within(1000, 10_000)],
@@ -62,12 +62,24 @@ def quote_of(arguments):
     return None if None in (slot, month, mark) else ("quote", slot, month, mark, confirm)
 
 
+def table_of(arguments):
+    """The month, the form, and the revision where one is named."""
+    month = values.month(arguments[0]) if arguments else None
+    revisions = [REVISION(text) for text in arguments[2:]]
+    if arguments[1:2] not in (["text"], ["csv"]) or len(revisions) > 1 or None in (month, *revisions):
+        return None
+    return ("table", month, arguments[1], *revisions)
+
+
 def freeze_of(arguments):
     month = values.month(arguments[0]) if arguments else None
     carry = [values.code(text) for text in arguments[1:]]
     if month is None or not all(code and values.is_elementary(code) for code in carry):
         return None
     return ("freeze", month, carry)
+
+
+OF_SEVERAL_LENGTHS = {"quote": quote_of, "table": table_of, "freeze": freeze_of}
 
 
 def is_in_form(request):
@@ -81,8 +93,8 @@ def is_in_form(request):
 
 def request_of(word, arguments):
     """The request, or None where the fields are of no form."""
-    if word in ("quote", "freeze"):
-        return quote_of(arguments) if word == "quote" else freeze_of(arguments)
+    if word in OF_SEVERAL_LENGTHS:
+        return OF_SEVERAL_LENGTHS[word](arguments)
     readers = ARGUMENTS.get(word)
     if readers is None or len(readers) != len(arguments):
         return None

@@ -1,4 +1,4 @@
-"""How the table of a month is printed, as text and as CSV."""
+"""How the table of a month is printed in one of its revisions, as text and as CSV."""
 
 from .index import rounded
 
@@ -12,8 +12,12 @@ def points(millionths):
     return one_decimal(rounded(millionths, 100_000))
 
 
-def text_of(month, rows):
-    lines = [f"CPI {month[0]:04}-{month[1]:02}\n"]
+def heading(month, revision):
+    return f"CPI {month[0]:04}-{month[1]:02}" + (f" revision {revision}" if revision > 1 else "")
+
+
+def text_of(month, revision, rows):
+    lines = [heading(month, revision) + "\n"]
     for code, title, weight, within, level, month_change, year_change, is_imputed in rows:
         annual = "-" if year_change is None else one_decimal(year_change)
         figures = f"{weight:>7} {points(within):>10} {points(level):>12} {one_decimal(month_change):>7} {annual:>7}"

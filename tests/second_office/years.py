@@ -2,6 +2,7 @@
 
 A life is a generator of records, and is sent the reply to each. The desk goes by the replies, as a desk does: where a
 freeze is refused for want of a match, it carries the aggregate; where a sample is empty, it sends a plan without it.
+Now and then the last frozen month is reopened, quoted and frozen again, in one life of a few up to its last revision.
 """
 
 from . import values
@@ -23,6 +24,8 @@ MARKS = ["price"] * 14 + ["missing"] * 2 + ["comparable", "other", None]
 REASONS = ["stock", "closed", "gone", "refused"]
 STRANGER = KEYS[3]
 FORMS = ["text", "csv"]
+REVISIONS = ["1", "1", "2", "2", "3", "9", "0", "10", "01"]
+LATER = [1, 50, 50, 900, 900, 900, 0, -1]  # than the last publishing moment, in seconds
 
 
 def month(at):
@@ -38,6 +41,7 @@ class Years:
         self.assigned = {}  # by collector and slot: item, first and last month
         self.prices = {}  # by collector and slot: the last price that was taken
         self.publishes = [self.closes(at) + drawn.choice([0, 0, 100, 900, 3000]) for at in range(self.count + 2)]
+        self.moments = [[first] for first in self.publishes]  # of publishing, that were ever sent
         self.codes, self.places, self.body = [], {}, []
 
     def is_so(self, share):
@@ -60,7 +64,7 @@ class Years:
             yield from self.looks(at)
             if not (yield from self.frozen(at)):
                 break
-            turns = [self.again, self.late, self.calendar_again, self.plan_again, self.looks]
+            turns = [self.again, self.late, self.calendar_again, self.plan_again, self.looks, self.reopened]
             for turn in self.drawn.sample(turns, k=3):
                 yield from turn(at)
         yield from self.calendar(at + 1)
@@ -130,8 +134,10 @@ class Years:
 
     # ---- a month
 
-    def calendar(self, at, shift=0):
-        moments = [self.opens(at), self.closes(at), self.publishes[at] + shift]
+    def calendar(self, at, shift=0, longer=0):
+        publishes = self.publishes[at] + shift
+        self.moments[at].append(publishes)
+        moments = [self.opens(at), self.closes(at) + longer, publishes]
         return (yield from self.send(self.opens(at), "desk", "calendar", month(at), *moments))
 
     def opened(self, at):
@@ -212,12 +218,12 @@ class Years:
         rows = [["tables"], ["freeze", month(at), *carry], ["table", month(at), self.one(FORMS)]]
         return (yield from self.send(now, "desk", "import", text_of(rows)))["rows"][1]
 
-    def frozen(self, at):
+    def frozen(self, at, longer=0):
         """Freezes the month, after attempts that are refused; tells whether it could be frozen."""
         yield from self.refused_freezes(at)
         carry = self.carry()
         for turn in range(10):
-            reply = yield from self.freeze(self.closes(at) + turn, at, carry)
+            reply = yield from self.freeze(self.closes(at) + longer + turn, at, carry)
             if "done" in reply:
                 return True
             if reply["refused"] == 44:
@@ -268,6 +274,24 @@ class Years:
     def calendar_again(self, at):
         yield from self.calendar(self.drawn.randrange(at + 1), self.one([0, 0, 1, 700]))
 
+    def reopened(self, at):
+        """Calendar rows of a frozen month, mostly the last one, with later, equal and earlier moments of publishing; where
+        it is open again some quotes are changed, and it is frozen again."""
+        for _ in range(self.one([0, 0, 1, 1, 1, 2, 3, 12])):
+            of, later = at if self.is_so(0.9) else self.drawn.randrange(at + 1), self.one(LATER)
+            longer = self.one([0, 0, later]) if later > 0 else 0
+            reply = yield from self.calendar(of, later, longer)
+            if "refused" in reply:
+                yield from self.again(of)
+                continue
+            self.publishes[of] += later
+            if self.is_so(0.5):
+                yield from self.collected(of, is_late=True)
+            if self.is_so(0.3):
+                yield from self.plan_again(of)
+            if self.is_so(0.9):
+                yield from self.frozen(of, longer)
+
     def plan_again(self, at):
         """The year's plan as it stands, with a title that doesn't count, with one that does, or with a fault."""
         if not self.body:
@@ -288,8 +312,10 @@ class Years:
         """Looks at tables, round the moments of their publishing; some months have none."""
         for _ in range(self.drawn.randrange(4)):
             of = self.drawn.randrange(at + 2)
-            moments = [self.publishes[of] - 1, self.publishes[of], self.closes(at) + 100, 10 * self.closes(at)]
+            of_publishing = self.one(self.moments[of])
+            moments = [of_publishing - 1, of_publishing, self.closes(at) + 100, 10 * self.closes(at)]
             now, caller = self.one(moments), self.one(["public", "public", "desk", STRANGER, *KEYS[:3]])
             seen = self.one([month(of), month(of), month(at), "2150-01", "2025-11"])
-            looked = self.one([["tables"], ["table", seen, self.one(FORMS)], ["table", seen, self.one(FORMS)]])
+            table = ["table", seen, self.one(FORMS)]
+            looked = self.one([["tables"], table, table, [*table, self.one(REVISIONS)]])
             yield from self.send(now, caller, *looked)
