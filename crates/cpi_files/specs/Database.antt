@@ -18,8 +18,8 @@ use Rattle.cpi_app.specs.declared.fault.RunFault.TheVariants.{Database}
 abbrev pub file_book : {D : Type 0} {g : Ghosts D} → Shelf (FileStore D g) → State Office
 file_book book = office_state (file_state book.held) book.failures
 
--- the book holds the rows that the files held, which are those of an office, or the tables of an office that holds
--- nothing where the files held no table; none of its calls has failed
+-- the book holds the rows that the files held, which are those of an office, or those of schema 1 migrated, or the
+-- tables of an office that holds nothing where the files held no table; none of its calls has failed
 pub record IsOfficeOf {D : Type 0} {g : Ghosts D} (start : Image) (book : Shelf (FileStore D g)) : Type 0 where
   pub was : Held (FileStore D g)
   pub opened : IsOpened was

@@ -12,7 +12,8 @@ use sqlite::{Connection, FileFrom, FileStore, Start};
 pub type FileBook<S> = SqlBook<FileStore<FileFrom<S>>>;
 
 /// Opens the office of the file at the path, of which `start` says how a crash is read. A file that is empty or isn't
-/// there gets the tables of an office that holds nothing; else it is to hold those of an office, and stays as it is.
+/// there gets the tables of an office that holds nothing; else it is to hold those of an office, and stays as it is, or
+/// those of schema 1, and is migrated.
 pub fn open_book<S: Start>(rt: &HostRuntime, path: &str, start: S) -> Result<FileBook<S>, OpenFault>
     ensures { IfOk result (λ book.
         IsCleanBook (file_state book.held) → IsOfficeOf (image_at S.Start) book) }

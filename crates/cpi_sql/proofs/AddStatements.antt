@@ -29,6 +29,7 @@ use Rattle.cpi_sql.proofs.Change.{change_done, change_commits}
 use Rattle.cpi_sql.proofs.Inserting.{none_apart}
 use Rattle.cpi_sql.proofs.AddPremises.{slot_apart}
 use Rattle.cpi_sql.proofs.Adds.{AddsRow, collector_added, outlet_added, item_added, assignment_added}
+use Rattle.cpi_sql.proofs.Adds.{assignment_columns, assignment_row}
 use Rattle.cpi_sql.proofs.Adds.{collector_done, collector_office, outlet_done, outlet_office, item_done}
 use Rattle.cpi_sql.proofs.Adds.{item_office, assignment_done, assignment_office}
 
@@ -124,44 +125,41 @@ module _ (old new : State) (i : Item) (c t u : List ℕ) (l h : ℕ)
       ∷ Int (pos h) ∷ []) (is) old it.0 has
       (λ y h. none_apart nat_cmp (λ (i : Item). i.code) i.code _ y free h) it.1) ran
 
-module _ (old new : State) (b : Bearer) (a : Assigned) (c s o : ℕ) (i : List ℕ) (f l : ℕ) (P : Type 0)
-    (is : P → assignment_from (Int (pos c)) (Int (pos s)) (Int (pos o)) (Text i) (Int (pos f)) (Int (pos l)) ≡
-    Some a.assignment)
+module _ (old new : State) (b : Bearer) (a : Assigned) (c s o : ℕ) (i : List ℕ) (f l n t : ℕ) (P : Type 0)
+    (is : P → assignment_from (Int (pos c)) (Int (pos s)) (Int (pos o)) (Text i) (Int (pos f)) (Int (pos l))
+    (Int (pos n)) (Int (pos t)) Null ≡ Some a.assignment)
     (series : P → a.assignment.series.collector ≡ b.number) where
   pub assignment_ran : (count : ℕ) → HasTables old → P
       → at (λ (a : Assignment). a.slot) a.assignment.slot (held_by b.number (office_in old.now.trees).assignments) ≡
-      None → Executes put_assignment_text (Int (pos c) ∷ Int (pos s) ∷ Int (pos o) ∷ Text i ∷ Int (pos f)
-      ∷ Int (pos l) ∷ []) old new (Ok count) → IsDone (Assigns b a) old new
+      None → Executes put_assignment_text (assignment_columns c s o i f l n t) old new (Ok count)
+      → IsDone (Assigns b a) old new
   assignment_ran count has named free ran =
-      let it = change_done put_assignment_text put_assignment_command put_assignment_is (Int (pos c) ∷ Int (pos s)
-      ∷ Int (pos o) ∷ Text i ∷ Int (pos f) ∷ Int (pos l) ∷ []) (λ o m t c w. w)
+      let it = change_done put_assignment_text put_assignment_command put_assignment_is
+      (assignment_columns c s o i f l n t) (λ o m t c w. w)
       (λ e. elim e [ inl commit ↦ absurd cc | inr release ↦ absurd (let f = release.1 in cc) ])
-      (λ db. AddsRow 11 (Int (next_rowid (db 11)) ∷ Int (pos c) ∷ Int (pos s) ∷ Int (pos o) ∷ Text i ∷ Int (pos f)
-      ∷ Int (pos l) ∷ []) db)
+      (λ db. AddsRow 22 (assignment_row (Int (next_rowid (db 22))) c s o i f l n t) db)
       (λ limit s₀ db tally after d.
-      assignment_added c s o i f l limit s₀ db
+      assignment_added c s o i f l n t limit s₀ db
       (statement_of put_assignment_text (understood office_schema put_assignment_text)) tally after d) old new
       count has.schema ran in
-      assignment_done b a (Int (next_rowid (old.now.trees 11)) ∷ Int (pos c) ∷ Int (pos s) ∷ Int (pos o) ∷ Text i
-      ∷ Int (pos f) ∷ Int (pos l) ∷ []) (rw (is named, series named) refl) old new.now has
+      assignment_done b a (assignment_row (Int (next_rowid (old.now.trees 22))) c s o i f l n t)
+      (rw (is named, series named) refl) old new.now has
       (slot_apart b.number a.assignment.slot (office_in old.now.trees).assignments free) it.0 new refl (it.1
       ∙ has.alone)
 
-  pub assignment_survives : Survives old new (CommitsBy put_assignment_text (Int (pos c) ∷ Int (pos s) ∷ Int (pos o)
-      ∷ Text i ∷ Int (pos f) ∷ Int (pos l) ∷ []) old)
+  pub assignment_survives : Survives old new (CommitsBy put_assignment_text (assignment_columns c s o i f l n t) old)
       → Survives old new (λ db. HasTables old → P
       → at (λ (a : Assignment). a.slot) a.assignment.slot (held_by b.number (office_in old.now.trees).assignments)
       ≡ None → office_in db ≡ changed (Assigns b a) (office_in old.now.trees))
   assignment_survives ran = survives_weaker old new _ _ (λ _ db may has named free.
-      let it = change_commits put_assignment_text put_assignment_command put_assignment_is (Int (pos c) ∷ Int (pos s)
-      ∷ Int (pos o) ∷ Text i ∷ Int (pos f) ∷ Int (pos l) ∷ []) (λ o m t c w. w)
+      let it = change_commits put_assignment_text put_assignment_command put_assignment_is
+      (assignment_columns c s o i f l n t) (λ o m t c w. w)
       (λ e. elim e [ inl commit ↦ absurd cc | inr release ↦ absurd (let f = release.1 in cc) ])
-      (λ db. AddsRow 11 (Int (next_rowid (db 11)) ∷ Int (pos c) ∷ Int (pos s) ∷ Int (pos o) ∷ Text i ∷ Int (pos f)
-      ∷ Int (pos l) ∷ []) db)
+      (λ db. AddsRow 22 (assignment_row (Int (next_rowid (db 22))) c s o i f l n t) db)
       (λ limit s₀ db tally after d.
-      assignment_added c s o i f l limit s₀ db
+      assignment_added c s o i f l n t limit s₀ db
       (statement_of put_assignment_text (understood office_schema put_assignment_text)) tally after d) old db
       has.schema may in
-      ap office_in it.2 ∙ assignment_office b a (Int (next_rowid (old.now.trees 11)) ∷ Int (pos c) ∷ Int (pos s)
-      ∷ Int (pos o) ∷ Text i ∷ Int (pos f) ∷ Int (pos l) ∷ []) (rw (is named, series named) refl) old it.0 has
+      ap office_in it.2 ∙ assignment_office b a (assignment_row (Int (next_rowid (old.now.trees 22))) c s o i f l n t)
+      (rw (is named, series named) refl) old it.0 has
       (slot_apart b.number a.assignment.slot (office_in old.now.trees).assignments free) it.1) ran

@@ -3,6 +3,7 @@ use Rattle.std.proofs.Common.{◌≡◌, ◌≢◌, ◌⊎◌, inl, inr, ℕ, po
 use Rattle.std.proofs.Common.{Ok, refl, sym, ap, subst, ◌∙◌, arith}
 use Rattle.std.specs.Ordering.{nat_cmp}
 use Rattle.std.proofs.lemmas.Cmp.{nat_cmp_total}
+use Rattle.sqlite.specs.declared.types.Value.{Value}
 use Rattle.sqlite.specs.declared.types.Value.TheVariants.{Null, Int, Text}
 use Rattle.sqlite.specs.Order.{Row, column}
 use Rattle.sqlite.specs.Tree.{Trees, put_row}
@@ -24,7 +25,7 @@ use Rattle.cpi_plan.specs.declared.items.Item.{Item}
 use Rattle.cpi_survey.specs.declared.assignment.Assignment.{Assignment}
 use Rattle.cpi_survey.specs.declared.assignment.Assigned.{Assigned}
 use Rattle.cpi_store.specs.Office.{changed, Registers, PutsOutlet, PutsItem, Assigns}
-use Rattle.cpi_sql.specs.Tables.{office_schema, collector, outlet, item, assignment}
+use Rattle.cpi_sql.specs.Tables.{office_schema, collector, outlet, item, assignment_2}
 use Rattle.cpi_sql.specs.Texts.{put_collector_command, put_outlet_command, put_item_command}
 use Rattle.cpi_sql.specs.Texts.{put_assignment_command, given_pair}
 use Rattle.cpi_sql.specs.Lists.{listed, office_in, collectors_in, collector_in, bearer_from, outlets_in}
@@ -262,39 +263,51 @@ module _ (i : Item) (row : Row) (is : item_in row ≡ Some i) (old : State) (aft
     office = rw now item_office;
   }
 
-pub assignment_added : (c s o : ℕ) (i : List ℕ) (f l : ℕ) (limit : Option ℕ) (s₀ : State) (db : Trees) (text : List ℕ)
-    (tally : Tally) (after : Database)
-    → Does limit (mode_of s₀) (Int (pos c) ∷ Int (pos s) ∷ Int (pos o) ∷ Text i ∷ Int (pos f) ∷ Int (pos l) ∷ [])
+-- the parameters of an assignment: its six columns, and the two numbers of its series
+abbrev pub assignment_columns : ℕ → ℕ → ℕ → List ℕ → ℕ → ℕ → ℕ → ℕ → Row
+assignment_columns c s o i f l n t =
+    Int (pos c) ∷ Int (pos s) ∷ Int (pos o) ∷ Text i ∷ Int (pos f) ∷ Int (pos l) ∷ Int (pos n) ∷ Int (pos t) ∷ []
+
+-- the row, where no price is copied
+abbrev pub assignment_row : Value → ℕ → ℕ → ℕ → List ℕ → ℕ → ℕ → ℕ → ℕ → Row
+assignment_row id c s o i f l n t =
+    id ∷ Int (pos c) ∷ Int (pos s) ∷ Int (pos o) ∷ Text i ∷ Int (pos f) ∷ Int (pos l) ∷ Int (pos n) ∷ Int (pos t)
+    ∷ Null ∷ []
+
+pub assignment_added : (c s o : ℕ) (i : List ℕ) (f l n t : ℕ) (limit : Option ℕ) (s₀ : State) (db : Trees)
+    (text : List ℕ) (tally : Tally) (after : Database)
+    → Does limit (mode_of s₀) (assignment_columns c s o i f l n t)
     (record { schema = office_schema; trees = db }) text None put_assignment_command (Ok (tally, after))
-    → AddsRow 11 (Int (next_rowid (db 11)) ∷ Int (pos c) ∷ Int (pos s) ∷ Int (pos o) ∷ Text i ∷ Int (pos f)
-    ∷ Int (pos l) ∷ []) db after
-assignment_added c s o i f l limit s₀ db text tally after does =
-    let params = Int (pos c) ∷ Int (pos s) ∷ Int (pos o) ∷ Text i ∷ Int (pos f) ∷ Int (pos l) ∷ [] in
+    → AddsRow 22 (assignment_row (Int (next_rowid (db 22))) c s o i f l n t) db after
+assignment_added c s o i f l n t limit s₀ db text tally after does =
+    let params = assignment_columns c s o i f l n t in
     let done = went does in
     let now = ap (λ (p : Tally × Database). p.1) (same_value (went (went done.2).2).2) in
-    let source = Null ∷ Int (pos c) ∷ Int (pos s) ∷ Int (pos o) ∷ Text i ∷ Int (pos f) ∷ Int (pos l) ∷ [] in
-    let it = assignment in
+    let source = assignment_row Null c s o i f l n t in
+    let it = assignment_2 in
     let edit = edit_of db it [] Chosen 0 (source ∷ []) in
     let applied = writing.insert_one limit (mode_of s₀).keys office_schema it.name it.tree it.columns it.key
     it.primary it.uniques it.orders it.references params
-    (Values (lit Null ∷ col 0 0 ∷ col 0 1 ∷ col 0 2 ∷ col 0 3 ∷ col 0 4 ∷ col 0 5 ∷ []) 7) source db done.0
+    (Values (lit Null ∷ col 0 0 ∷ col 0 1 ∷ col 0 2 ∷ col 0 3 ∷ col 0 4 ∷ col 0 5 ∷ col 0 6 ∷ col 0 7 ∷ lit Null ∷ [])
+    10) source db done.0
     (λ rows h. h.1) done.1 in
     let at : (tree : ℕ) → after.trees tree ≡ done.0.trees tree = λ tree. ap (λ (d : Database). d.trees tree) now in
-    let is : edited db edit ≡ put_row (Int (next_rowid (db 11)) ∷ Int (pos c) ∷ Int (pos s) ∷ Int (pos o) ∷ Text i
-    ∷ Int (pos f) ∷ Int (pos l) ∷ []) (db 11) = rw (
+    let is : edited db edit ≡ put_row (assignment_row (Int (next_rowid (db 22))) c s o i f l n t) (db 22) = rw (
       cast_null,
       cast_int (pos c),
       cast_int (pos s),
       cast_int (pos o),
       cast_int (pos f),
       cast_int (pos l),
+      cast_int (pos n),
+      cast_int (pos t),
     ) refl in
     record {
       schema = ap (λ (d : Database). d.schema) now;
-      rows = at 11 ∙ applied.rows ∙ is;
-      kept = λ r h. subst (λ l. Has l r) (sym (at 11
-          ∙ applied.rows)) (put_all_keeps edit.news (db 11) r applied.fresh h);
-      others = others_same 11 db done.0.trees after.trees at applied.tables;
+      rows = at 22 ∙ applied.rows ∙ is;
+      kept = λ r h. subst (λ l. Has l r) (sym (at 22
+          ∙ applied.rows)) (put_all_keeps edit.news (db 22) r applied.fresh h);
+      others = others_same 22 db done.0.trees after.trees at applied.tables;
     }
 
 module _ (b : Bearer) (a : Assigned) (row : Row) (is : assignment_in row ≡ Some (b.number, a.assignment))
@@ -302,11 +315,11 @@ module _ (b : Bearer) (a : Assigned) (row : Row) (is : assignment_in row ≡ Som
     (apart : (y : _) → Has (office_in old.now.trees).assignments y
     → (held_cmp nat_cmp) ((held_key (λ (a : Assignment). a.slot)) y)
     ((held_key (λ (a : Assignment). a.slot)) (b.number, a.assignment)) ≢ Equal)
-    (adds : AddsRow 11 row old.now.trees after) where
+    (adds : AddsRow 22 row old.now.trees after) where
   assignment_puts : PutsRow (held_total nat_cmp_total) (held_key (λ (a : Assignment). a.slot)) assignment_in
-      (b.number, a.assignment) (old.now.trees 11) (after.trees 11)
+      (b.number, a.assignment) (old.now.trees 22) (after.trees 22)
   assignment_puts = inserted (held_total nat_cmp_total) (held_key (λ (a : Assignment). a.slot)) assignment_in
-      (b.number, a.assignment) (old.now.trees 11) (after.trees 11) row is adds.rows adds.kept has.assignments apart
+      (b.number, a.assignment) (old.now.trees 22) (after.trees 22) row is adds.rows adds.kept has.assignments apart
 
   pub assignment_office : office_in after.trees ≡ changed (Assigns b a) (office_in old.now.trees)
   assignment_office = rw (
@@ -317,11 +330,11 @@ module _ (b : Bearer) (a : Assigned) (row : Row) (is : assignment_in row ≡ Som
     adds.others.quotes (λ e. absurd (omega (arith, e))),
     adds.others.nodes (λ e. absurd (omega (arith, e))),
     adds.others.places (λ e. absurd (omega (arith, e))),
-    same_releases old.now.trees after.trees (releases_after 11 old.now.trees after.trees refl adds.others),
+    same_releases old.now.trees after.trees (releases_after 22 old.now.trees after.trees refl adds.others),
     listed_put (held_total nat_cmp_total) (held_key (λ (a : Assignment). a.slot)) assignment_in (
       b.number,
       a.assignment,
-    ) (old.now.trees 11) (after.trees 11) has.assignments assignment_puts,
+    ) (old.now.trees 22) (after.trees 22) has.assignments assignment_puts,
   ) refl
 
   pub assignment_done : (s : State) → s.now ≡ after → s.in_transaction ≡ false → IsDone (Assigns b a) old s
@@ -332,7 +345,7 @@ module _ (b : Bearer) (a : Assigned) (row : Row) (is : assignment_in row ≡ Som
       plans = same_plans old.now.trees after.trees (adds.others.nodes (λ e. absurd (omega (arith, e))))
           (adds.others.places (λ e. absurd (omega (arith, e)))) has.plans;
       releases = releases_kept old.now.trees after.trees
-          (releases_after 11 old.now.trees after.trees refl adds.others) has.releases;
+          (releases_after 22 old.now.trees after.trees refl adds.others) has.releases;
       rowids = subst HasRowids (sym (adds.others.quotes (λ e. absurd (omega (arith, e))))) has.rowids;
       days = subst HasRowids (sym (adds.others.calendar (λ e. absurd (omega (arith, e))))) has.days;
       collectors = rw (adds.others.collectors (λ e. absurd (omega (arith, e)))) has.collectors;
@@ -340,7 +353,7 @@ module _ (b : Bearer) (a : Assigned) (row : Row) (is : assignment_in row ≡ Som
       items = rw (adds.others.items (λ e. absurd (omega (arith, e)))) has.items;
       calendar = rw (adds.others.calendar (λ e. absurd (omega (arith, e)))) has.calendar;
       assignments = still_keyed (held_total nat_cmp_total) (held_key (λ (a : Assignment). a.slot)) assignment_in
-          (b.number, a.assignment) (old.now.trees 11) (after.trees 11) has.assignments assignment_puts;
+          (b.number, a.assignment) (old.now.trees 22) (after.trees 22) has.assignments assignment_puts;
       quotes = rw (adds.others.quotes (λ e. absurd (omega (arith, e)))) has.quotes;
     });
     office = rw now assignment_office;

@@ -1,9 +1,9 @@
 -- The rowids that a query shows of a table, where they rise: each row has its own.
-use Rattle.std.proofs.Common.{◌≡◌, ◌≢◌, ◌⊎◌, inl, inr, ℕ, ℤ, pos, negsuc, Bool, true, false, List, [], ◌∷◌}
-use Rattle.std.proofs.Common.{◌++◌, map, Some, None, Option, IsTrue, refl, sym, ap, subst, ◌∙◌}
-use Rattle.std.specs.List.{AllByRecursion, flat_map}
-use Rattle.std.specs.List.Sorted.{IsPermutation, IsStrictlySortedBy}
-use Rattle.std.specs.declared.cmp.Ordering.TheVariants.{Less, Equal, Greater}
+use Rattle.std.proofs.Common.{◌≡◌, ◌≢◌, inl, inr, ℕ, List, [], ◌∷◌}
+use Rattle.std.proofs.Common.{map, Some, Option, refl, sym, ap, subst, ◌∙◌}
+use Rattle.std.specs.List.{flat_map}
+use Rattle.std.specs.List.Sorted.{IsPermutation}
+use Rattle.std.specs.declared.cmp.Ordering.TheVariants.{Less, Equal}
 use Rattle.std.specs.Ordering.{int_cmp}
 use Rattle.std.specs.Cmp.{tied_itself}
 use Rattle.std.proofs.lemmas.Cmp.{int_ranked, int_cmp_total}
@@ -19,19 +19,17 @@ use Rattle.sqlite_trees.specs.View.{is_int}
 use Rattle.sqlite_trees.proofs.ListLemmas.{along_permutation, all-permutation, map-map}
 use Rattle.sqlite_value.proofs.OrderLemmas.{value_cmp-Int}
 use Rattle.sqlite.specs.Program.{overlay}
-use Rattle.sqlite.specs.Term.{Term, col, eval_all}
-use Rattle.sqlite.specs.Query.{Query, inner, end, IsAnswer, Output, output, matches}
+use Rattle.sqlite.specs.Term.{Term, eval_all}
+use Rattle.sqlite.specs.Query.{IsAnswer, Output, output}
 use Rattle.sqlite_value.specs.declared.keys.Key.{Key}
-use Rattle.sqlite.specs.Listing.{understood}
 use Rattle.sqlite.specs.State.{State, Shown, Survives, CommitsShowing}
 use Rattle.sqlite.proofs.StateLemmas.{survives_weaker}
-use Rattle.sqlite.proofs.Callers.{IsPlain, reads_as, never_commits}
+use Rattle.sqlite.proofs.Callers.{reads_as, never_commits}
 use Rattle.sqlite_rules.specs.Lists.{Has}
 use Rattle.sqlite_rules.proofs.ListLemmas.{all_has, all_from}
 use Rattle.sqlite_rules.proofs.ProbeLemmas.{has_mapped, mapped_has}
 use Rattle.cpi_rows.specs.Keyed.{IsInOrder}
 use Rattle.cpi_sql.specs.declared.rowids.Rowid.{Rowid}
-use Rattle.cpi_sql.specs.Tables.{office_schema}
 use Rattle.cpi_sql.specs.Texts.{select, whole_query, columns, by_columns}
 use Rattle.cpi_sql.specs.Read.{AreRead}
 use Rattle.cpi_sql.specs.Finding.{AsksRowids, rowid_from}
@@ -151,21 +149,17 @@ rowids_read table rows ids same read order =
           ∙ sym two)),
     )
 
-pub rowids_rise : (text : List ℕ) (tree : ℕ) (asks : AsksRowids text tree) (old new : State) (rows : List Row)
-    (ids : List Rowid) → old.now.schema ≡ office_schema → Shown text [] old new rows
+pub rowids_rise : (text : List ℕ) (tree : ℕ) (old new : State) (rows : List Row) (ids : List Rowid)
+    → AsksRowids old.now.schema text tree → Shown text [] old new rows
     → AreRead (λ x. rowid_from (column x 0)) rows ids → IsInOrder int_cmp (λ i. i.number) ids
     → HasRowids (overlay old.now.trees [] tree)
-rowids_rise text tree asks old new rows ids has shown read order =
-    let r = reads_as text [] old new office_schema has (select tree [] (0 ∷ []) (0 ∷ []) asks.names) asks.command
+rowids_rise text tree old new rows ids asks shown read order =
+    let r = reads_as text [] old new old.now.schema refl (select tree [] (0 ∷ []) (0 ∷ []) asks.names) asks.command
     asks.plain asks.listing rows shown in
     rowids_read (overlay old.now.trees [] tree) rows ids (shown_all tree (columns (0 ∷ [])) (by_columns (0 ∷ []))
     (overlay old.now.trees []) [] rows (r.answer Null)) read order
 
-pub scan_plain : (text : List ℕ) (tree : ℕ) (asks : AsksRowids text tree) (s : State) → s.now.schema ≡ office_schema
-    → IsPlain (understood s.now.schema text)
-scan_plain text tree asks s has = subst (λ x. IsPlain (understood x text)) (sym has) asks.plain
-
 pub scan_crash : (text : List ℕ) (old new : State) (params : Row) → Survives old new (CommitsShowing text params old)
-    → Survives old new (λ _. old.now.schema ≡ office_schema → (tree : ℕ) → AsksRowids text tree → ⊥)
+    → Survives old new (λ _. (tree : ℕ) → AsksRowids old.now.schema text tree → ⊥)
 scan_crash text old new params h = survives_weaker old new _ _
-    (λ _ db may has tree asks. never_commits text params old db (scan_plain text tree asks old has) may) h
+    (λ _ db may tree asks. never_commits text params old db asks.plain may) h

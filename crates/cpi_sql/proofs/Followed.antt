@@ -23,7 +23,7 @@ use Rattle.cpi_store.specs.Office.{Quotes, Registers, public_part, own_part}
 use Rattle.cpi_sql.specs.Lists.{collectors_in, outlets_in, office_in}
 use Rattle.cpi_sql.specs.Shelf.{Caches, HasTables, IsCleanBook, IsDone, IsKept, IsLook, IsSound, KeptReleases}
 use Rattle.cpi_sql.specs.Shelf.{ReleasesStand, Stands}
-use Rattle.cpi_sql.specs.LevelTables.{MonthLevels, AreTablesOf}
+use Rattle.cpi_sql.specs.LevelTables.{ReleaseLevels, AreTablesOf}
 use Rattle.cpi_sql.proofs.HeaderLists.{header_of, headers_told}
 use Rattle.cpi_sql.proofs.Kept.{kept_tables}
 
@@ -197,7 +197,7 @@ plan_stands p old new c has public done st follows = record {
   releases = releases_stand old new c.releases (ap (λ (o : Office). o.releases) done.office) st.releases;
 }
 
-pub release_stands : (r : Release) (old new : State) (c : Caches) (headers : List Header) (tables : List MonthLevels)
+pub release_stands : (r : Release) (old new : State) (c : Caches) (headers : List Header) (tables : List ReleaseLevels)
     → tables ≡ [] → IsDone (Freezes r) old new → Stands old c
     → Stands new (record c {
       releases = record {

@@ -1,19 +1,19 @@
 -- What is known of the tables that were found.
-use Rattle.std.proofs.Common.{◌≡◌, ◌≢◌, ◌⊎◌, inl, inr, ℕ, ℤ, pos, Bool, true, false, ◌&&◌, not, List, [], ◌∷◌}
-use Rattle.std.proofs.Common.{map, Some, None, Option, refl, sym, ap, subst, ◌∙◌}
+use Rattle.std.proofs.Common.{◌≡◌, inl, inr, ℕ, pos, Bool, true, false, ◌&&◌, not, List, [], ◌∷◌}
+use Rattle.std.proofs.Common.{if◌then◌else◌, Some, None, Option, refl, sym, ap, subst, ◌∙◌}
 use Rattle.std.specs.declared.cmp.Ordering.{Ordering}
 use Rattle.std.specs.declared.cmp.Ordering.TheVariants.{Less, Equal, Greater}
 use Rattle.std.specs.Ordering.{nat_cmp, is_eq}
-use Rattle.std.specs.Cmp.{IsTotalOrder, tied_itself, tied_back}
+use Rattle.std.specs.Cmp.{IsTotalOrder, tied_back}
 use Rattle.std.proofs.lemmas.Bool.{and_from, cases_Bool}
-use Rattle.std.proofs.lemmas.Cmp.{nat_cmp_total, ranked}
+use Rattle.std.proofs.lemmas.Cmp.{ranked}
 use Rattle.std.proofs.lemmas.Map.Keys.{sorted_tail}
 use Rattle.sqlite.specs.Collation.TheVariants.{Binary}
 use Rattle.sqlite_sql.specs.declared.ops.BinaryOp.TheVariants.{Compare}
 use Rattle.sqlite_sql.specs.declared.ops.CompareOp.TheVariants.{Eq}
 use Rattle.sqlite.specs.Ops.{binary, is_true}
 use Rattle.sqlite.specs.declared.types.Value.{Value}
-use Rattle.sqlite.specs.declared.types.Value.TheVariants.{Null, Int}
+use Rattle.sqlite.specs.declared.types.Value.TheVariants.{Int}
 use Rattle.sqlite.specs.Order.{Row, column, value_cmp}
 use Rattle.sqlite.specs.Tree.{Trees, rowid}
 use Rattle.sqlite.specs.Edit.{id_in}
@@ -25,17 +25,20 @@ use Rattle.sqlite_rules.specs.Lists.{Has}
 use Rattle.sqlite_rules.proofs.ListLemmas.{some_from}
 use Rattle.sqlite_rules.proofs.RuleLemmas.{keeps_at}
 use Rattle.sqlite_rules.proofs.TableLemmas.{int_is}
+use Rattle.cpi_codes.specs.declared.series.SeriesId.{SeriesId}
 use Rattle.cpi_rows.specs.Keyed.{IsInOrder}
 use Rattle.cpi_rows.specs.Held.{held_cmp, held_key}
 use Rattle.cpi_survey.specs.declared.assignment.Assignment.{Assignment}
-use Rattle.cpi_survey.specs.Quote.{QuoteRow, quote_cmp, quote_key}
-use Rattle.cpi_sql.specs.Tables.{office_schema, assignment, quote}
+use Rattle.cpi_survey.specs.Quote.{quote_cmp, quote_key}
+use Rattle.sqlite.specs.Table.{Table}
+use Rattle.cpi_sql.specs.Making.{second_tables}
+use Rattle.cpi_sql.specs.Tables.{office_schema, assignment_2, quote_2}
 use Rattle.cpi_sql.specs.Read.{AreRead}
-use Rattle.cpi_sql.specs.Lists.{ranged, item_from, month_from, assignment_from, assignment_in, quote_in}
+use Rattle.cpi_sql.specs.Lists.{ranged, item_from, month_from, whole_or_none, own_series, assignment_from}
+use Rattle.cpi_sql.specs.Lists.{assignment_in, quote_in}
 use Rattle.cpi_sql.specs.Shelf.{IsKeyed, HasRowids, equals}
 use Rattle.cpi_sql.proofs.Listed.{head_in}
 use Rattle.cpi_sql.proofs.Lists.{Shows, has_read, bound_is, ranged_is, equal_number}
-use Rattle.cpi_sql.proofs.Owning.{series_of}
 use Rattle.cpi_sql.proofs.QuoteRows.{one_equal, differ_is, not_true}
 use Rattle.cpi_sql.proofs.QuoteOffice.{numbers_of, same_month, first_tied, second_tied}
 
@@ -76,6 +79,11 @@ pub agree_same : (v w : Value) (n : ℕ) → v ≡ Int (pos n) → w ≡ Int (po
 agree_same v w n e f = subst (λ z. is_true (binary (Compare Eq Binary) v z) ≡ true) (sym f) (one_equal v (pos n)
     ∙ equal_number v n e)
 
+-- a table that schema 2 adds is one of the office's
+pub added : (t : Table) → Has second_tables t → Has office_schema.tables t
+added t h =
+    inr (inr (inr (inr (inr (inr (inr (inr (inr (inr (inr (inr (inr h))))))))))))
+
 -- rows with one key and one rowid are one, and UNIQUE leaves no others
 pub apart_or : (rows : List Row) (r s : Row) → HasRowids rows → Has rows r → Has rows s
     → (differ (rowid r) (rowid s) ≡ true → ⊥) → r ≡ s
@@ -114,27 +122,47 @@ pub triple_agrees : (r s : Row) → is_true (binary (Compare Eq Binary) (column 
 unfolding first_key
 triple_agrees r s a b d = and_from _ _ a (and_from _ _ b (and_from _ _ d refl))
 
+pub four_agree : (r s : Row) → is_true (binary (Compare Eq Binary) (column r 1) (column s 1)) ≡ true
+    → is_true (binary (Compare Eq Binary) (column r 2) (column s 2)) ≡ true
+    → is_true (binary (Compare Eq Binary) (column r 3) (column s 3)) ≡ true
+    → is_true (binary (Compare Eq Binary) (column r 4) (column s 4)) ≡ true
+    → agree plain (1 ∷ 2 ∷ 3 ∷ 4 ∷ []) r (1 ∷ 2 ∷ 3 ∷ 4 ∷ []) s ≡ true
+unfolding first_key
+four_agree r s a b d e = and_from _ _ a (and_from _ _ b (and_from _ _ d (and_from _ _ e refl)))
+
+taken : (b : Bool) (x y : SeriesId) → (if b then Some x else None) ≡ Some y → x ≡ y
+taken true x y e = some_is e
+taken false x y e = cc
+
+-- the series of a slot has its collector
+own_number : (n s : ℕ) (v w z : Value) (own : SeriesId) → own_series n s v w z ≡ Some own → n ≡ own.collector
+own_number n s v w z own e =
+    let one = bound_is (ranged 1 9999 v) _ _ e in
+    let two = bound_is (ranged 1 400 w) _ _ one.2 in
+    let three = bound_is (whole_or_none z) _ _ two.2 in
+    ap (λ (x : SeriesId). x.collector) (taken _ (record { collector = n; slot = s }) own three.2)
+
 module _ (db : Trees) (sound : IsSound office_schema db) where
-  no_pair : (r s : Row) → Has (db 11) r → Has (db 11) s → agree plain (1 ∷ 2 ∷ []) r (1 ∷ 2 ∷ []) s ≡ true
+  no_pair : (r s : Row) → Has (db 22) r → Has (db 22) s → agree plain (1 ∷ 2 ∷ []) r (1 ∷ 2 ∷ []) s ≡ true
       → differ (rowid r) (rowid s) ≡ true → ⊥
   no_pair r s hr hs level apart =
-      let unique : (not (clashes plain (1 ∷ 2 ∷ []) (db 11) s)
-      && true) ≡ true = keeps_at Unique office_schema db assignment s (sound.obeys.rules Unique)
-      (inr (inr (inr (inr (inr (inr (inr (inl refl)))))))) hs in
-      let none : clashes plain (1 ∷ 2 ∷ []) (db 11) s ≡ false = not_true _ (sym (and_true _) ∙ unique) in
+      let unique : (not (clashes plain (1 ∷ 2 ∷ []) (db 22) s)
+      && true) ≡ true = keeps_at Unique office_schema db assignment_2 s (sound.obeys.rules Unique)
+      (added _ (inl refl)) hs in
+      let none : clashes plain (1 ∷ 2 ∷ []) (db 22) s ≡ false = not_true _ (sym (and_true _) ∙ unique) in
       let clash = some_from (λ other. agree plain (1 ∷ 2 ∷ []) other (1 ∷ 2 ∷ []) s
-      && differ (rowid other) (rowid s)) (db 11) r hr (and_from _ _ level apart) in
+      && differ (rowid other) (rowid s)) (db 22) r hr (and_from _ _ level apart) in
       let no : true ≡ false = sym clash ∙ none in cc
 
-  no_triple : (r s : Row) → Has (db 13) r → Has (db 13) s → agree plain (1 ∷ 2 ∷ 3 ∷ []) r (1 ∷ 2 ∷ 3 ∷ []) s ≡ true
+  no_triple : (r s : Row) → Has (db 24) r → Has (db 24) s → agree plain (1 ∷ 2 ∷ 3 ∷ []) r (1 ∷ 2 ∷ 3 ∷ []) s ≡ true
       → differ (rowid r) (rowid s) ≡ true → ⊥
   no_triple r s hr hs level apart =
-      let unique : (not (clashes plain (1 ∷ 2 ∷ 3 ∷ []) (db 13) s)
-      && true) ≡ true = keeps_at Unique office_schema db quote s (sound.obeys.rules Unique)
-      (inr (inr (inr (inr (inr (inr (inr (inr (inl refl))))))))) hs in
-      let none : clashes plain (1 ∷ 2 ∷ 3 ∷ []) (db 13) s ≡ false = not_true _ (sym (and_true _) ∙ unique) in
+      let unique : (not (clashes plain (1 ∷ 2 ∷ 3 ∷ []) (db 24) s)
+      && true) ≡ true = keeps_at Unique office_schema db quote_2 s (sound.obeys.rules Unique)
+      (added _ (inr (inl refl))) hs in
+      let none : clashes plain (1 ∷ 2 ∷ 3 ∷ []) (db 24) s ≡ false = not_true _ (sym (and_true _) ∙ unique) in
       let clash = some_from (λ other. agree plain (1 ∷ 2 ∷ 3 ∷ []) other (1 ∷ 2 ∷ 3 ∷ []) s
-      && differ (rowid other) (rowid s)) (db 13) r hr (and_from _ _ level apart) in
+      && differ (rowid other) (rowid s)) (db 24) r hr (and_from _ _ level apart) in
       let no : true ≡ false = sym clash ∙ none in cc
 
   record HasPlace (r : Row) (x : ℕ × Assignment) : Type 0 where
@@ -144,7 +172,7 @@ module _ (db : Trees) (sound : IsSound office_schema db) where
   place_of : (r : Row) (x : ℕ × Assignment) → assignment_in r ≡ Some x → HasPlace r x
   place_of r x e =
       let it = bound_is (assignment_from (column r 1) (column r 2) (column r 3) (column r 4) (column r 5)
-      (column r 6)) _ _ e in
+      (column r 6) (column r 7) (column r 8) (column r 9)) _ _ e in
       let pair : ◌≡◌ {A = ℕ × Assignment} (it.0.series.collector, it.0) x = some_is it.2 in
       let one = bound_is (ranged 1 9999 (column r 1)) _ _ it.1 in
       let two = bound_is (ranged 1 400 (column r 2)) _ _ one.2 in
@@ -152,13 +180,18 @@ module _ (db : Trees) (sound : IsSound office_schema db) where
       let four = bound_is (item_from (column r 4)) _ _ three.2 in
       let five = bound_is (month_from (column r 5)) _ _ four.2 in
       let six = bound_is (month_from (column r 6)) _ _ five.2 in
+      let seven = bound_is (own_series one.0 two.0 (column r 7) (column r 8) (column r 9)) _ _ six.2 in
+      let mine : one.0 ≡ it.0.series.collector =
+      own_number one.0 two.0 (column r 7) (column r 8) (column r 9) seven.0 seven.1
+      ∙ ap (λ (b : Assignment). b.series.collector) (some_is seven.2) in
       record {
-        collector = series_of r it.0 it.1 ∙ ap (λ (p : ℕ × Assignment). Int (pos p.0)) pair;
-        slot = ranged_is 1 400 (column r 2) x.1.slot (two.1 ∙ ap (λ (b : Assignment). Some b.slot) (some_is six.2)
+        collector = ranged_is 1 9999 (column r 1) x.0 (one.1
+            ∙ ap (λ (n : ℕ). Some n) (mine ∙ ap (λ (p : ℕ × Assignment). p.0) pair));
+        slot = ranged_is 1 400 (column r 2) x.1.slot (two.1 ∙ ap (λ (b : Assignment). Some b.slot) (some_is seven.2)
             ∙ ap (λ (p : ℕ × Assignment). Some p.1.slot) pair);
       }
 
-  pub assignments_keyed : HasRowids (db 11) → IsKeyed (held_cmp nat_cmp) (held_key (λ a. a.slot)) assignment_in (db 11)
+  pub assignments_keyed : HasRowids (db 22) → IsKeyed (held_cmp nat_cmp) (held_key (λ a. a.slot)) assignment_in (db 22)
   unfolding IsKeyed
   assignments_keyed h r s x y hr hs er es tie =
       let a = place_of r x er in
@@ -168,10 +201,10 @@ module _ (db : Trees) (sound : IsSound office_schema db) where
       let level = pair_agrees r s
       (agree_same (column r 1) (column s 1) y.0 (a.collector ∙ ap (λ n. Int (pos n)) mine) b.collector)
       (agree_same (column r 2) (column s 2) y.1.slot (a.slot ∙ ap (λ n. Int (pos n)) slot) b.slot) in
-      let same : r ≡ s = apart_or (db 11) r s h hr hs (no_pair r s hr hs level) in
+      let same : r ≡ s = apart_or (db 22) r s h hr hs (no_pair r s hr hs level) in
       some_is (sym er ∙ ap assignment_in same ∙ es)
 
-  pub quotes_keyed : HasRowids (db 13) → IsKeyed (held_cmp quote_cmp) (held_key quote_key) quote_in (db 13)
+  pub quotes_keyed : HasRowids (db 24) → IsKeyed (held_cmp quote_cmp) (held_key quote_key) quote_in (db 24)
   unfolding IsKeyed
   quotes_keyed h r s x y hr hs er es tie =
       let a = numbers_of r x.0 x.1 er in
@@ -185,5 +218,5 @@ module _ (db : Trees) (sound : IsSound office_schema db) where
       (agree_same (column r 1) (column s 1) y.0 (a.collector ∙ ap (λ n. Int (pos n)) mine) b.collector)
       (agree_same (column r 2) (column s 2) y.1.slot (a.slot ∙ ap (λ n. Int (pos n)) slot) b.slot)
       (agree_same (column r 3) (column s 3) b.number (a.month ∙ ap (λ n. Int (pos n)) number) b.month) in
-      let same : r ≡ s = apart_or (db 13) r s h hr hs (no_triple r s hr hs level) in
+      let same : r ≡ s = apart_or (db 24) r s h hr hs (no_triple r s hr hs level) in
       some_is (sym er ∙ ap quote_in same ∙ es)

@@ -1,9 +1,8 @@
 -- The tables of the plans that were found: no two rows have one year and one code or item.
-use Rattle.std.proofs.Common.{◌≡◌, ◌⊎◌, inl, inr, ℕ, pos, Bool, true, false, ◌&&◌, not, List, [], ◌∷◌, Some}
+use Rattle.std.proofs.Common.{◌≡◌, inl, inr, ℕ, pos, Bool, true, false, ◌&&◌, not, List, [], ◌∷◌, Some}
 use Rattle.std.proofs.Common.{None, Option, IfSome, Decides, bytes_eq, refl, sym, ap, subst, ◌∙◌}
 use Rattle.std.specs.Prelude.{if◌then◌else◌}
-use Rattle.std.specs.declared.cmp.Ordering.{Ordering}
-use Rattle.std.specs.declared.cmp.Ordering.TheVariants.{Less, Equal, Greater}
+use Rattle.std.specs.declared.cmp.Ordering.TheVariants.{Equal}
 use Rattle.std.specs.Ordering.{nat_cmp, is_eq}
 use Rattle.std.specs.Option.{option_cmp}
 use Rattle.std.specs.Cmp.{tied_itself}
@@ -38,7 +37,7 @@ use Rattle.cpi_rows.specs.Held.{held_cmp, held_key}
 use Rattle.cpi_plan.specs.declared.plan_rows.Node.{Node}
 use Rattle.cpi_plan.specs.declared.plan_rows.Place.{Place}
 use Rattle.cpi_sql.specs.Tables.{office_schema, node, plan_item}
-use Rattle.cpi_sql.specs.Lists.{and_then, ranged, text_in, number_in, name_from, code_from, item_from}
+use Rattle.cpi_sql.specs.Lists.{ranged, text_in, number_in, name_from, code_from, item_from}
 use Rattle.cpi_sql.specs.Lists.{node_from, place_from, node_in, place_in}
 use Rattle.cpi_sql.specs.Shelf.{IsKeyed, HasRowids}
 use Rattle.cpi_sql.proofs.Lists.{bound_is, ranged_is}

@@ -6,16 +6,17 @@ use Rattle.sqlite.specs.declared.types.Value.TheVariants.{Null, Int, Text}
 use Rattle.cpi_codes.specs.CodeText.{text}
 use Rattle.cpi_codes.specs.declared.codes.Code.{Code}
 use Rattle.cpi_sql.specs.declared.release_rows.Header.{Header}
-use Rattle.cpi_sql.specs.Lists.{ranged, month_at, codes_of, header_in}
+use Rattle.cpi_sql.specs.Lists.{ranged, month_at, codes_of, header_in, revision_from}
 use Rattle.cpi_sql.specs.ReleaseRows.{carry_text}
 
-pub header_row : (number f p : ℕ) (c : List ℕ) (h : Header) → month_at number ≡ Some h.month → h.frozen_at ≡ f
-    → h.publishes ≡ p
+pub header_row : (number v f p : ℕ) (c : List ℕ) (h : Header) → month_at number ≡ Some h.month
+    → revision_from (Int (pos v)) ≡ Some h.revision → h.frozen_at ≡ f → h.publishes ≡ p
     → ranged 0 9999999999 (Int (pos f)) ≡ Some f → ranged 0 9999999999 (Int (pos p)) ≡ Some p
     → codes_of c ≡ Some h.carry
-    → header_in (Int (pos number) ∷ Null ∷ Int (pos f) ∷ Int (pos p) ∷ Text c ∷ []) ≡ Some h
-header_row number f p c h month at_f at_p frozen published carry = rw (
+    → header_in (Null ∷ Int (pos number) ∷ Int (pos v) ∷ Int (pos f) ∷ Int (pos p) ∷ Text c ∷ []) ≡ Some h
+header_row number v f p c h month revision at_f at_p frozen published carry = rw (
   month,
+  revision,
   frozen,
   published,
   carry,

@@ -12,7 +12,7 @@ pub kept_tables : (old new : State) → IsKept old new → HasTables old → Has
 kept_tables old new k h = record {
   schema = ap (λ (d : Database). d.schema) k.now ∙ h.schema;
   alone = k.alone;
-  rowids = subst (λ (d : Database). HasRowids (d.trees 13)) (sym k.now) h.rowids;
+  rowids = subst (λ (d : Database). HasRowids (d.trees 24)) (sym k.now) h.rowids;
   days = subst (λ (d : Database). HasRowids (d.trees 10)) (sym k.now) h.days;
   collectors = subst (λ (d : Database). IsKeyed nat_cmp (λ b. b.number) collector_in (d.trees 1))
       (sym k.now) h.collectors;
@@ -20,8 +20,8 @@ kept_tables old new k h = record {
   items = subst (λ (d : Database). IsKeyed nat_cmp (λ i. i.code) item_in (d.trees 4)) (sym k.now) h.items;
   calendar = subst (λ (d : Database). IsKeyed nat_cmp (λ r. r.month) calendar_in (d.trees 10)) (sym k.now) h.calendar;
   assignments = subst (λ (d : Database). IsKeyed (held_cmp nat_cmp) (held_key (λ a. a.slot)) assignment_in
-      (d.trees 11)) (sym k.now) h.assignments;
-  quotes = subst (λ (d : Database). IsKeyed (held_cmp quote_cmp) (held_key quote_key) quote_in (d.trees 13))
+      (d.trees 22)) (sym k.now) h.assignments;
+  quotes = subst (λ (d : Database). IsKeyed (held_cmp quote_cmp) (held_key quote_key) quote_in (d.trees 24))
       (sym k.now) h.quotes;
   plans = subst (λ (d : Database). HasPlans d.trees) (sym k.now) h.plans;
   releases = subst (λ (d : Database). HasReleases d.trees) (sym k.now) h.releases;

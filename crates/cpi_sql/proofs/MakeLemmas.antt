@@ -1,7 +1,6 @@
 -- The making of the tables.
-use Rattle.std.proofs.Common.{◌≡◌, ℕ, List, [], ◌∷◌, ◌++◌, codes, true, false, None, Ok, Err, Result, OnOk}
-use Rattle.std.proofs.Common.{IsTrue, arith, refl, sym, ap, subst, ◌∙◌}
-use Rattle.sqlite.specs.Command.{Command}
+use Rattle.std.proofs.Common.{◌≡◌, ℕ, List, [], ◌∷◌, ◌++◌, codes, false, None, Ok, Err, Result, OnOk}
+use Rattle.std.proofs.Common.{arith, refl, sym, ap, subst, ◌∙◌}
 use Rattle.sqlite.specs.Command.TheVariants.{CreateTable}
 use Rattle.sqlite.specs.Table.{Table}
 use Rattle.sqlite.specs.Schema.{Schema}
@@ -15,12 +14,13 @@ use Rattle.sqlite.proofs.Callers.{IsPlain, command_of, statement_of, runs_as}
 use Rattle.sqlite_tied.specs.Compute.{everything}
 use Rattle.sqlite.specs.Tree.{Trees}
 use Rattle.cpi_sql.specs.Tables.{version, collector, outlet, item, node, plan_item, calendar, assignment, quote}
-use Rattle.cpi_sql.specs.Tables.{release, frozen, carried, level, office_schema}
-use Rattle.cpi_sql.specs.Making.{HoldsNothing, Makes, IsMade, IsBlank, AreEmpty, HasEmpty, no_schema, stage_1}
+use Rattle.cpi_sql.specs.Tables.{release, frozen, carried, level, assignment_2, quote_2, release_2, frozen_2}
+use Rattle.cpi_sql.specs.Tables.{carried_2, level_2, plan_ref, first_schema}
+use Rattle.cpi_sql.specs.Making.{HoldsNothing, Makes, MakesTables, IsBlank, AreEmpty, no_schema, stage_1}
 use Rattle.cpi_sql.specs.Making.{stage_2, stage_3, stage_4, stage_5, stage_6, stage_7, stage_8, stage_9}
-use Rattle.cpi_sql.specs.Making.{stage_10, stage_11, stage_12}
-use Rattle.cpi_store.specs.Office.{empty_office}
-use Rattle.cpi_sql.specs.Lists.{office_in, plans_of, years, releases_in}
+use Rattle.cpi_sql.specs.Making.{stage_10, stage_11, stage_12, stage_14, stage_15, stage_16, stage_17, stage_18}
+use Rattle.cpi_sql.specs.Making.{stage_19}
+use Rattle.cpi_sql.specs.Lists.{plans_of, years, releases_in}
 use Rattle.cpi_sql.specs.Shelf.{HasRowids, HasTables, IsKeyed}
 use Rattle.cpi_sql.proofs.Writing.{went, same_value}
 
@@ -257,28 +257,151 @@ makes_level = record {
   counted = refl;
 }
 
-pub last_stage : created stage_12 level ≡ office_schema
-last_stage = refl
+abbrev pub make_assignment_2_text : List ℕ
+make_assignment_2_text =
+    codes "CREATE TABLE assignment_2 (collector INTEGER NOT NULL REFERENCES collector (number), slot INTEGER NOT NULL, outlet INTEGER NOT NULL REFERENCES outlet (number), item TEXT NOT NULL REFERENCES item (code), first_month INTEGER NOT NULL, last_month INTEGER NOT NULL, series_collector INTEGER NOT NULL, series_slot INTEGER NOT NULL, copied INTEGER, PRIMARY KEY (collector, slot)) STRICT"
+
+pub makes_assignment_2 : Makes first_schema make_assignment_2_text (record assignment_2 { tree = 0 })
+unfolding understood everything
+makes_assignment_2 = record {
+  compiled = _;
+  is = refl;
+  command = refl;
+  whole = refl;
+  plain = (refl, refl);
+  defined = refl;
+  counted = refl;
+}
+
+abbrev pub make_quote_2_text : List ℕ
+make_quote_2_text =
+    codes "CREATE TABLE quote_2 (collector INTEGER NOT NULL, slot INTEGER NOT NULL, month INTEGER NOT NULL, mark TEXT NOT NULL, value INTEGER NOT NULL, receipt INTEGER NOT NULL, PRIMARY KEY (collector, slot, month), FOREIGN KEY (collector, slot) REFERENCES assignment_2 (collector, slot)) STRICT"
+
+pub makes_quote_2 : Makes stage_14 make_quote_2_text (record quote_2 { tree = 0 })
+unfolding understood everything
+makes_quote_2 = record {
+  compiled = _;
+  is = refl;
+  command = refl;
+  whole = refl;
+  plain = (refl, refl);
+  defined = refl;
+  counted = refl;
+}
+
+abbrev pub make_release_2_text : List ℕ
+make_release_2_text =
+    codes "CREATE TABLE release_2 (month INTEGER NOT NULL, revision INTEGER NOT NULL, frozen_at INTEGER NOT NULL, publishes INTEGER NOT NULL, carry TEXT NOT NULL, PRIMARY KEY (month, revision)) STRICT"
+
+pub makes_release_2 : Makes stage_15 make_release_2_text (record release_2 { tree = 0 })
+unfolding understood everything
+makes_release_2 = record {
+  compiled = _;
+  is = refl;
+  command = refl;
+  whole = refl;
+  plain = (refl, refl);
+  defined = refl;
+  counted = refl;
+}
+
+abbrev pub make_frozen_2_text : List ℕ
+make_frozen_2_text =
+    codes "CREATE TABLE frozen_2 (month INTEGER NOT NULL, revision INTEGER NOT NULL, collector INTEGER NOT NULL, slot INTEGER NOT NULL, item TEXT NOT NULL, last_month INTEGER NOT NULL, mark TEXT NOT NULL, value INTEGER NOT NULL, PRIMARY KEY (month, revision, collector, slot), FOREIGN KEY (month, revision) REFERENCES release_2 (month, revision)) STRICT"
+
+pub makes_frozen_2 : Makes stage_16 make_frozen_2_text (record frozen_2 { tree = 0 })
+unfolding understood everything
+makes_frozen_2 = record {
+  compiled = _;
+  is = refl;
+  command = refl;
+  whole = refl;
+  plain = (refl, refl);
+  defined = refl;
+  counted = refl;
+}
+
+abbrev pub make_carried_2_text : List ℕ
+make_carried_2_text =
+    codes "CREATE TABLE carried_2 (month INTEGER NOT NULL, revision INTEGER NOT NULL, collector INTEGER NOT NULL, slot INTEGER NOT NULL, item TEXT NOT NULL, last_month INTEGER NOT NULL, ticks INTEGER NOT NULL, knum INTEGER NOT NULL, kden INTEGER NOT NULL, observed INTEGER NOT NULL, imputed INTEGER NOT NULL, PRIMARY KEY (month, revision, collector, slot), FOREIGN KEY (month, revision) REFERENCES release_2 (month, revision)) STRICT"
+
+pub makes_carried_2 : Makes stage_17 make_carried_2_text (record carried_2 { tree = 0 })
+unfolding understood everything
+makes_carried_2 = record {
+  compiled = _;
+  is = refl;
+  command = refl;
+  whole = refl;
+  plain = (refl, refl);
+  defined = refl;
+  counted = refl;
+}
+
+abbrev pub make_level_2_text : List ℕ
+make_level_2_text =
+    codes "CREATE TABLE level_2 (month INTEGER NOT NULL, revision INTEGER NOT NULL, code TEXT NOT NULL, title TEXT NOT NULL, weight INTEGER NOT NULL, within INTEGER NOT NULL, chained INTEGER NOT NULL, month_change INTEGER NOT NULL, year_change INTEGER, imputed INTEGER NOT NULL, PRIMARY KEY (month, revision, code), FOREIGN KEY (month, revision) REFERENCES release_2 (month, revision)) STRICT"
+
+pub makes_level_2 : Makes stage_18 make_level_2_text (record level_2 { tree = 0 })
+unfolding understood everything
+makes_level_2 = record {
+  compiled = _;
+  is = refl;
+  command = refl;
+  whole = refl;
+  plain = (refl, refl);
+  defined = refl;
+  counted = refl;
+}
+
+abbrev pub make_plan_ref_text : List ℕ
+make_plan_ref_text =
+    codes "CREATE TABLE plan_ref (year INTEGER PRIMARY KEY, month INTEGER NOT NULL) STRICT"
+
+pub makes_plan_ref : Makes stage_19 make_plan_ref_text (record plan_ref { tree = 0 })
+unfolding understood everything
+makes_plan_ref = record {
+  compiled = _;
+  is = refl;
+  command = refl;
+  whole = refl;
+  plain = (refl, refl);
+  defined = refl;
+  counted = refl;
+}
+
+-- ---- tables that are made in turn
+
+kept_parts : (ts us : List Table) (old new : Trees) → KeepsRows (ts ++ us) old new
+    → KeepsRows ts old new × KeepsRows us old new
+kept_parts [] us old new k = (tt, k)
+kept_parts (t ∷ ts) us old new k = let rest = kept_parts ts us old new k.1 in ((k.0, rest.0), rest.1)
+
+kept_rows : (ts : List Table) (a b c : Trees) → KeepsRows ts a b → KeepsRows ts b c → KeepsRows ts a c
+kept_rows [] a b c h k = tt
+kept_rows (t ∷ ts) a b c h k = (k.0 ∙ h.0, kept_rows ts a b c h.1 k.1)
 
 still_empty : (tables : List Table) (old new : Trees) → AreEmpty tables old → KeepsRows tables old new
     → AreEmpty tables new
 still_empty [] old new e k = tt
 still_empty (t ∷ tables) old new e k = (k.0 ∙ e.0, still_empty tables old new e.1 k.1)
 
-one_more : (tables : List Table) (t : Table) (trees : Trees) → AreEmpty tables trees → trees t.tree ≡ []
-    → AreEmpty (tables ++ t ∷ []) trees
-one_more [] t trees e h = (h, tt)
-one_more (u ∷ tables) t trees e h = (e.0, one_more tables t trees e.1 h)
+both_empty : (ts us : List Table) (trees : Trees) → AreEmpty ts trees → AreEmpty us trees → AreEmpty (ts ++ us) trees
+both_empty [] us trees e h = h
+both_empty (t ∷ ts) us trees e h = (e.0, both_empty ts us trees e.1 h)
 
--- a table is made among empty ones
-pub made_then : (schema : Schema) (table : Table) (old new : State) → HasEmpty schema old
-    → IsMade schema table old new → HasEmpty (created schema table) new
-made_then schema table old new e m = record {
-  inside = m.inside;
-  tables = m.tables;
-  empty = one_more schema.tables (record table { tree = next_tree schema }) new.now.trees
-      (still_empty schema.tables old.now.trees new.now.trees e.empty m.others) m.empty;
-}
+pub made_both : (from mid to : Schema) (ts us : List Table) (a b c : State) → mid.tables ≡ from.tables ++ ts
+    → MakesTables from mid ts a b → MakesTables mid to us b c → MakesTables from to (ts ++ us) a c
+made_both from mid to ts us a b c is one two inside has =
+    let first = one inside has in
+    let second = two first.inside first.schema in
+    let kept = kept_parts from.tables ts b.now.trees c.now.trees
+    (subst (λ l. KeepsRows l b.now.trees c.now.trees) is second.others) in
+    record {
+      inside = second.inside;
+      schema = second.schema;
+      empty = both_empty ts us c.now.trees (still_empty ts b.now.trees c.now.trees first.empty kept.1) second.empty;
+      others = kept_rows from.tables a.now.trees b.now.trees c.now.trees first.others kept.0;
+    }
 
 no_rowids : HasRowids []
 unfolding HasRowids
@@ -318,7 +441,7 @@ no_plans : (ys : List ℕ) → plans_of ys [] [] ≡ []
 no_plans [] = refl
 no_plans (y ∷ ys) = no_plans ys
 
-no_releases : (trees : Trees) → trees 15 ≡ [] → releases_in trees ≡ []
+no_releases : (trees : Trees) → trees 26 ≡ [] → releases_in trees ≡ []
 unfolding releases_in
 no_releases trees none = rw none refl
 

@@ -37,7 +37,7 @@ use Rattle.cpi_sql.specs.Read.{AreRead}
 use Rattle.cpi_sql.specs.MonthRows.{month_rows_text, month_rows_command, of_month, both_shown, quote_behind}
 use Rattle.cpi_sql.specs.MonthRows.{shown_month_quote, series_key}
 use Rattle.cpi_sql.specs.Texts.{by_columns}
-use Rattle.cpi_sql.specs.Lists.{and_then, ranged, month_at, month_from, item_from, assignment_in}
+use Rattle.cpi_sql.specs.Lists.{and_then, ranged, month_at, assignment_in}
 use Rattle.cpi_sql.specs.Lists.{assignments_in, shown_assignment, quote_from, quote_in, quotes_in, office_in}
 use Rattle.cpi_sql.specs.Shelf.{HasTables, equals}
 use Rattle.cpi_sql.proofs.Texts.{Asks}
@@ -45,7 +45,8 @@ use Rattle.cpi_sql.proofs.Reading.{equality}
 use Rattle.cpi_sql.proofs.Joined.{Pairs, joined}
 use Rattle.cpi_sql.proofs.Listed.{head_in, same_in_order, listed_in_order, listed_stands, stands_listed}
 use Rattle.cpi_sql.proofs.Lists.{held_total, quote_total, read_has, has_read, has_held, held_has, held_in_order}
-use Rattle.cpi_sql.proofs.Lists.{bound_is, ranged_is, same_number, equal_number}
+use Rattle.cpi_sql.proofs.Lists.{bound_is, same_number, equal_number}
+use Rattle.cpi_sql.proofs.OwnSeries.{IsNamed, assignment_shape, slot_of, slot_in}
 use Rattle.cpi_sql.proofs.QuoteOffice.{numbers_of, same_month, first_tied, second_tied}
 
 some_is : {X : Type 0} {x y : X} → ◌≡◌ {A = Option X} (Some x) (Some y) → x ≡ y
@@ -104,9 +105,6 @@ has_row R key k (y ∷ ys) x e = at (is_eq (R (key y) k)) e (has_row R key k ys 
 
 -- ---- the order of what is frozen
 
-abbrev IsNamed : ℕ × Assignment → Type 0
-IsNamed y = y.1.series ≡ record { collector = y.0; slot = y.1.slot }
-
 module _ (month : ℕ) (quotes : List (ℕ × QuoteRow)) where
   abbrev row : ℕ × Assignment → Option Frozen
   row = frozen_row month quotes
@@ -139,43 +137,13 @@ module _ (month : ℕ) (quotes : List (ℕ × QuoteRow)) where
         rest,
       )
 
--- ---- the columns of an assignment
-
-abbrev own_shape : Row → Row
-own_shape r = column r 1 ∷ column r 2 ∷ column r 3 ∷ column r 4 ∷ column r 5 ∷ column r 6 ∷ []
+-- ---- the columns of a pair
 
 abbrev shape : Row → Row → Row
 shape r q =
     column r 1 ∷ column r 2 ∷ column r 3 ∷ column r 4 ∷ column r 5 ∷ column r 6
+    ∷ column r 7 ∷ column r 8 ∷ column r 9
     ∷ column q 1 ∷ column q 2 ∷ column q 3 ∷ column q 4 ∷ column q 5 ∷ column q 6 ∷ []
-
-record HasSlot (r : Row) (c : ℕ) (a : Assignment) : Type 0 where
-  pub collector : column r 1 ≡ Int (pos c)
-  pub slot : column r 2 ≡ Int (pos a.slot)
-  pub named : IsNamed (c, a)
-  pub shown : shown_assignment (own_shape r) ≡ Some a
-
-slot_of : (r : Row) (a : Assignment) → shown_assignment (own_shape r) ≡ Some a → HasSlot r a.series.collector a
-slot_of r a e =
-    let one = bound_is (ranged 1 9999 (column r 1)) _ _ e in
-    let two = bound_is (ranged 1 400 (column r 2)) _ _ one.2 in
-    let three = bound_is (ranged 1 999999 (column r 3)) _ _ two.2 in
-    let four = bound_is (item_from (column r 4)) _ _ three.2 in
-    let five = bound_is (month_from (column r 5)) _ _ four.2 in
-    let six = bound_is (month_from (column r 6)) _ _ five.2 in
-    record {
-      collector = ranged_is 1 9999 (column r 1) a.series.collector (one.1
-          ∙ ap (λ (b : Assignment). Some b.series.collector) (some_is six.2));
-      slot = ranged_is 1 400 (column r 2) a.slot (two.1 ∙ ap (λ (b : Assignment). Some b.slot) (some_is six.2));
-      named = subst (λ (b : Assignment). IsNamed (b.series.collector, b)) (some_is six.2) refl;
-      shown = e;
-    }
-
-slot_in : (r : Row) (c : ℕ) (a : Assignment) → assignment_in r ≡ Some (c, a) → HasSlot r c a
-slot_in r c a e =
-    let it = bound_is (shown_assignment (own_shape r)) _ _ e in
-    let pair : ◌≡◌ {A = ℕ × Assignment} (it.0.series.collector, it.0) (c, a) = some_is it.2 in
-    subst (λ (p : ℕ × Assignment). HasSlot r p.0 p.1) pair (slot_of r it.0 it.1)
 
 -- ---- the tests of the join
 
@@ -244,19 +212,19 @@ quote_shown_in q c w e =
     ∙ two.1 ∙ ap (λ (p : ℕ × QuoteRow). Some p.1) pair
 
 module _ (old : State) (has : HasTables old) (month n : ℕ) (number : month_at n ≡ Some month) where
-  assignments_named : (y : ℕ × Assignment) → Has (assignments_in (old.now.trees 11)) y → IsNamed y
+  assignments_named : (y : ℕ × Assignment) → Has (assignments_in (old.now.trees 22)) y → IsNamed y
   assignments_named y h =
       let it = listed_stands (held_total nat_cmp_total) (held_key (λ (a : Assignment). a.slot)) assignment_in
-      (old.now.trees 11) y h in
+      (old.now.trees 22) y h in
       (slot_in it.0 y.0 y.1 it.2).named
 
-  own_in_order : (c : ℕ) → IsInOrder quote_cmp quote_key (held_by c (quotes_in (old.now.trees 13)))
-  own_in_order c = held_in_order quote_total quote_key c (quotes_in (old.now.trees 13))
-      (listed_in_order (held_total quote_total) (held_key quote_key) quote_in (old.now.trees 13))
+  own_in_order : (c : ℕ) → IsInOrder quote_cmp quote_key (held_by c (quotes_in (old.now.trees 24)))
+  own_in_order c = held_in_order quote_total quote_key c (quotes_in (old.now.trees 24))
+      (listed_in_order (held_total quote_total) (held_key quote_key) quote_in (old.now.trees 24))
 
   -- a pair of rows that pass stands for a quote of the month
-  pair_frozen : (r q : Row) (a : Assignment) (w : QuoteRow) → Has (old.now.trees 11) r → Has (old.now.trees 13) q
-      → shown_assignment (own_shape r) ≡ Some a
+  pair_frozen : (r q : Row) (a : Assignment) (w : QuoteRow) → Has (old.now.trees 22) r → Has (old.now.trees 24) q
+      → shown_assignment (assignment_shape r) ≡ Some a
       → (c : ℕ) → quote_in q ≡ Some (c, w) → IsOfSlot q a.series.collector a.slot n
       → Has (month_rows month (office_in old.now.trees)) (frozen_quote a w)
   pair_frozen r q a w hr hq ea c eq passes =
@@ -269,30 +237,30 @@ module _ (old : State) (has : HasTables old) (month n : ℕ) (number : month_at 
       let entered : assignment_in r ≡ Some (a.series.collector, a) = ap
       (λ o. and_then o (λ (b : Assignment). Some (b.series.collector, b))) ea in
       let assigned = stands_listed (held_total nat_cmp_total) (held_key (λ (b : Assignment). b.slot)) assignment_in
-      (old.now.trees 11) (a.series.collector, a) r has.assignments hr entered in
-      let quoted = stands_listed (held_total quote_total) (held_key quote_key) quote_in (old.now.trees 13)
+      (old.now.trees 22) (a.series.collector, a) r has.assignments hr entered in
+      let quoted = stands_listed (held_total quote_total) (held_key quote_key) quote_in (old.now.trees 24)
       (a.series.collector, w) q has.quotes hq (eq ∙ ap (λ m. Some (m, w)) holder) in
-      let held = has_held quote_total quote_key a.series.collector w (quotes_in (old.now.trees 13)) quoted in
+      let held = has_held quote_total quote_key a.series.collector w (quotes_in (old.now.trees 24)) quoted in
       let found : row_at quote_cmp quote_key (
         w.slot,
         w.month,
-      ) (held_by a.series.collector (quotes_in (old.now.trees 13))) ≡ Some w =
+      ) (held_by a.series.collector (quotes_in (old.now.trees 24))) ≡ Some w =
       row_of quote_total quote_key _ w (own_in_order a.series.collector) held in
       let asked : row_at quote_cmp quote_key (
         a.slot,
         month,
-      ) (held_by a.series.collector (quotes_in (old.now.trees 13))) ≡ Some w =
-      ap (λ s. row_at quote_cmp quote_key (s, month) (held_by a.series.collector (quotes_in (old.now.trees 13))))
+      ) (held_by a.series.collector (quotes_in (old.now.trees 24))) ≡ Some w =
+      ap (λ s. row_at quote_cmp quote_key (s, month) (held_by a.series.collector (quotes_in (old.now.trees 24))))
       (sym slot)
-      ∙ ap (λ m. row_at quote_cmp quote_key (w.slot, m) (held_by a.series.collector (quotes_in (old.now.trees 13))))
+      ∙ ap (λ m. row_at quote_cmp quote_key (w.slot, m) (held_by a.series.collector (quotes_in (old.now.trees 24))))
       (sym of_month) ∙ found in
-      given_has (frozen_row month (quotes_in (old.now.trees 13))) (assignments_in (old.now.trees 11))
+      given_has (frozen_row month (quotes_in (old.now.trees 24))) (assignments_in (old.now.trees 22))
       (a.series.collector, a) (frozen_quote a w) assigned (ap (option_map (frozen_quote a)) asked)
 
   module _ (new : State) (rows : List Row) (xs : List Frozen)
       (shown : Shown month_rows_text (Int (pos n) ∷ []) old new rows) (read : AreRead shown_month_quote rows xs) where
-    both : Pairs of_month both_shown (old.now.trees 11) (old.now.trees 13) (Int (pos n) ∷ []) rows
-    both = joined month_rows_text 11 13 of_month both_shown (by_columns (1 ∷ 2 ∷ [])) _ month_rows_is old new
+    both : Pairs of_month both_shown (old.now.trees 22) (old.now.trees 24) (Int (pos n) ∷ []) rows
+    both = joined month_rows_text 22 24 of_month both_shown (by_columns (1 ∷ 2 ∷ [])) _ month_rows_is old new
         (Int (pos n) ∷ []) has.schema rows shown
 
     read_frozen : (f : Frozen) → Has xs f → Has (month_rows month (office_in old.now.trees)) f
@@ -302,7 +270,7 @@ module _ (old : State) (has : HasTables old) (month n : ℕ) (number : month_at 
         let r = p.0 in
         let q = p.2 in
         let shape_is : shown_month_quote (shape r q) ≡ Some f = ap shown_month_quote (sym p.5) ∙ s.2 in
-        let one = bound_is (shown_assignment (own_shape r)) _ _ shape_is in
+        let one = bound_is (shown_assignment (assignment_shape r)) _ _ shape_is in
         let two = bound_is (quote_behind (shape r q)) _ _ one.2 in
         let is : frozen_quote one.0 two.0 ≡ f = some_is two.2 in
         let slot = slot_of r one.0 one.1 in
@@ -314,28 +282,28 @@ module _ (old : State) (has : HasTables old) (month n : ℕ) (number : month_at 
 
     frozen_read : (f : Frozen) → Has (month_rows month (office_in old.now.trees)) f → Has xs f
     frozen_read f h =
-        let it = has_given (frozen_row month (quotes_in (old.now.trees 13))) (assignments_in (old.now.trees 11)) f h in
+        let it = has_given (frozen_row month (quotes_in (old.now.trees 24))) (assignments_in (old.now.trees 22)) f h in
         at it.0.0 it.0.1 it.1 (row_at quote_cmp quote_key (
           it.0.1.slot,
           month,
-        ) (held_by it.0.0 (quotes_in (old.now.trees 13)))) refl it.2
+        ) (held_by it.0.0 (quotes_in (old.now.trees 24)))) refl it.2
       where
-        at : (c : ℕ) (a : Assignment) → Has (assignments_in (old.now.trees 11)) (c, a) → (o : Option QuoteRow)
-            → row_at quote_cmp quote_key (a.slot, month) (held_by c (quotes_in (old.now.trees 13))) ≡ o
+        at : (c : ℕ) (a : Assignment) → Has (assignments_in (old.now.trees 22)) (c, a) → (o : Option QuoteRow)
+            → row_at quote_cmp quote_key (a.slot, month) (held_by c (quotes_in (old.now.trees 24))) ≡ o
             → option_map (frozen_quote a) o ≡ Some f → Has xs f
         at c a k None e g = cc
         at c a k (Some w) e g =
             let assigned = listed_stands (held_total nat_cmp_total) (held_key
-            (λ (b : Assignment). b.slot)) assignment_in (old.now.trees 11) (c, a) k in
+            (λ (b : Assignment). b.slot)) assignment_in (old.now.trees 22) (c, a) k in
             let slot = slot_in assigned.0 c a assigned.2 in
-            let held = held_has quote_total quote_key c w (quotes_in (old.now.trees 13))
+            let held = held_has quote_total quote_key c w (quotes_in (old.now.trees 24))
             (has_row quote_cmp quote_key (a.slot, month) _ w e) in
-            let quoted = listed_stands (held_total quote_total) (held_key quote_key) quote_in (old.now.trees 13) (
+            let quoted = listed_stands (held_total quote_total) (held_key quote_key) quote_in (old.now.trees 24) (
               c,
               w,
             ) held in
             let nums = numbers_of quoted.0 c w quoted.2 in
-            let tie = row_key quote_cmp quote_key (a.slot, month) w (held_by c (quotes_in (old.now.trees 13))) e in
+            let tie = row_key quote_cmp quote_key (a.slot, month) w (held_by c (quotes_in (old.now.trees 24))) e in
             let same_slot : w.slot ≡ a.slot = ranked w.slot a.slot Equal (sym (first_tied _ _ tie)) in
             let of_the_month : w.month ≡ month = ranked w.month month Equal (sym (second_tied _ _ tie)) in
             let numbered : nums.number ≡ n = same_month nums.number n month (nums.is ∙ ap Some of_the_month) number in
@@ -354,9 +322,9 @@ module _ (old : State) (has : HasTables old) (month n : ℕ) (number : month_at 
     pub month_read : IsInOrder quote_cmp series_key xs → xs ≡ month_rows month (office_in old.now.trees)
     month_read order =
         same_in_order quote_total series_key xs (month_rows month (office_in old.now.trees)) order
-        (frozen_in_order month (quotes_in (old.now.trees 13)) (assignments_in (old.now.trees 11)) assignments_named
+        (frozen_in_order month (quotes_in (old.now.trees 24)) (assignments_in (old.now.trees 22)) assignments_named
         (listed_in_order (held_total nat_cmp_total) (held_key (λ (a : Assignment). a.slot)) assignment_in
-        (old.now.trees 11)))
+        (old.now.trees 22)))
         read_frozen frozen_read
 
 pub month_plain : (s : State) → HasTables s → IsPlain (understood s.now.schema month_rows_text)

@@ -14,12 +14,13 @@ use Rattle.cpi_survey.specs.declared.assignment.Assignment.{Assignment}
 use Rattle.cpi_survey.specs.Quote.{QuoteRow, quote_cmp, quote_key}
 use Rattle.cpi_sql.specs.Texts.{is_first, assignments_text, quotes_text}
 use Rattle.cpi_sql.specs.Read.{AreRead}
-use Rattle.cpi_sql.specs.Lists.{and_then, ranged, month_from, item_from, assignment_from, assignment_in}
-use Rattle.cpi_sql.specs.Lists.{assignments_in, shown_assignment, quote_from, quote_in, quotes_in, shown_quote}
+use Rattle.cpi_sql.specs.Lists.{and_then, ranged, assignment_in, assignments_in, shown_assignment, quote_from}
+use Rattle.cpi_sql.specs.Lists.{quote_in, quotes_in, shown_quote}
 use Rattle.cpi_sql.specs.Shelf.{HasTables, equals}
 use Rattle.cpi_sql.proofs.Texts.{assignments_is, quotes_is}
 use Rattle.cpi_sql.proofs.Reading.{equality}
 use Rattle.cpi_sql.proofs.Lists.{Shows, held_read, quote_total, bound_is, ranged_is, same_number, equal_number}
+use Rattle.cpi_sql.proofs.OwnSeries.{assignment_shape, slot_of}
 use Rattle.cpi_sql.proofs.Whole.{asked}
 
 some_is : {X : Type 0} {x y : X} → ◌≡◌ {A = Option X} (Some x) (Some y) → x ≡ y
@@ -32,43 +33,35 @@ abbrev mine : ℕ → Row → Bool
 mine c r = equals (column r 1) (Int (pos c))
 
 -- the number in an assignment's series is that in the row's first column
-pub series_of : (r : Row) (a : Assignment) → shown_assignment (shape r) ≡ Some a
+pub series_of : (r : Row) (a : Assignment) → shown_assignment (assignment_shape r) ≡ Some a
     → column r 1 ≡ Int (pos a.series.collector)
-series_of r a e =
-    let one = bound_is (ranged 1 9999 (column r 1)) _ _ e in
-    let two = bound_is (ranged 1 400 (column r 2)) _ _ one.2 in
-    let three = bound_is (ranged 1 999999 (column r 3)) _ _ two.2 in
-    let four = bound_is (item_from (column r 4)) _ _ three.2 in
-    let five = bound_is (month_from (column r 5)) _ _ four.2 in
-    let six = bound_is (month_from (column r 6)) _ _ five.2 in
-    ranged_is 1 9999 (column r 1) a.series.collector (one.1
-    ∙ ap (λ (b : Assignment). Some b.series.collector) (some_is six.2))
+series_of r a e = (slot_of r a e).collector
 
-assignment_same : (c : ℕ) (r : Row) (a : Assignment) → mine c r ≡ true → shown_assignment (shape r) ≡ Some a
+assignment_same : (c : ℕ) (r : Row) (a : Assignment) → mine c r ≡ true → shown_assignment (assignment_shape r) ≡ Some a
     → assignment_in r ≡ Some (c, a)
 assignment_same c r a test e =
     rw e (ap (λ n. Some (n, a)) (same_number (column r 1) a.series.collector c (series_of r a e) test))
 
 assignment_back : (c : ℕ) (r : Row) (a : Assignment) → assignment_in r ≡ Some (c, a) → (mine c r ≡ true)
-    × (shown_assignment (shape r) ≡ Some a)
+    × (shown_assignment (assignment_shape r) ≡ Some a)
 assignment_back c r a e =
-    let it = bound_is (shown_assignment (shape r)) _ _ e in
+    let it = bound_is (shown_assignment (assignment_shape r)) _ _ e in
     let pair : ◌≡◌ {A = ℕ × Assignment} (it.0.series.collector, it.0) (c, a) = some_is it.2 in
-    let shown : shown_assignment (shape r) ≡ Some a = it.1 ∙ ap (λ (p : ℕ × Assignment). Some p.1) pair in
+    let shown : shown_assignment (assignment_shape r) ≡ Some a = it.1 ∙ ap (λ (p : ℕ × Assignment). Some p.1) pair in
     (equal_number (column r 1) c (series_of r it.0 it.1 ∙ ap (λ (p : ℕ × Assignment). Int (pos p.0)) pair), shown)
 
 pub assignments_read : (old new : State) (c : ℕ) (rows : List Row) (xs : List Assignment) → HasTables old
     → Shown assignments_text (Int (pos c) ∷ []) old new rows → AreRead shown_assignment rows xs
-    → IsInOrder nat_cmp (λ a. a.slot) xs → xs ≡ held_by c (assignments_in (old.now.trees 11))
+    → IsInOrder nat_cmp (λ a. a.slot) xs → xs ≡ held_by c (assignments_in (old.now.trees 22))
 assignments_read old new c rows xs has h read order =
-    let m = asked assignments_text 11 (is_first 1) (1 ∷ 2 ∷ 3 ∷ 4 ∷ 5 ∷ 6 ∷ []) (1 ∷ 2 ∷ []) _ assignments_is old new
-    (Int (pos c) ∷ []) has.schema rows h in
-    let shows : Shows (mine c) shape (old.now.trees 11) rows = record {
+    let m = asked assignments_text 22 (is_first 1) (1 ∷ 2 ∷ 3 ∷ 4 ∷ 5 ∷ 6 ∷ 7 ∷ 8 ∷ 9 ∷ []) (1 ∷ 2 ∷ []) _
+    assignments_is old new (Int (pos c) ∷ []) has.schema rows h in
+    let shows : Shows (mine c) assignment_shape (old.now.trees 22) rows = record {
       sound = λ x k. let it = m.sound x k in (it.0, it.1, sym (equality (column it.0 1) (pos c)) ∙ it.2, it.3);
       complete = λ r k is. m.complete r k (equality (column r 1) (pos c) ∙ is);
     } in
-    held_read nat_cmp_total (λ (a : Assignment). a.slot) assignment_in shown_assignment shape (mine c) c
-    (assignment_same c) (assignment_back c) (old.now.trees 11) rows xs has.assignments shows read order
+    held_read nat_cmp_total (λ (a : Assignment). a.slot) assignment_in shown_assignment assignment_shape (mine c) c
+    (assignment_same c) (assignment_back c) (old.now.trees 22) rows xs has.assignments shows read order
 
 pub assignments_plain : (s : State) → HasTables s → IsPlain (understood s.now.schema assignments_text)
 assignments_plain s has = subst (λ x. IsPlain (understood x assignments_text)) (sym has.schema) assignments_is.2
@@ -96,16 +89,16 @@ quote_back c r q e =
 
 pub quotes_read : (old new : State) (c : ℕ) (rows : List Row) (xs : List QuoteRow) → HasTables old
     → Shown quotes_text (Int (pos c) ∷ []) old new rows → AreRead shown_quote rows xs
-    → IsInOrder quote_cmp quote_key xs → xs ≡ held_by c (quotes_in (old.now.trees 13))
+    → IsInOrder quote_cmp quote_key xs → xs ≡ held_by c (quotes_in (old.now.trees 24))
 quotes_read old new c rows xs has h read order =
-    let m = asked quotes_text 13 (is_first 1) (1 ∷ 2 ∷ 3 ∷ 4 ∷ 5 ∷ 6 ∷ []) (1 ∷ 2 ∷ 3 ∷ []) _ quotes_is old new
+    let m = asked quotes_text 24 (is_first 1) (1 ∷ 2 ∷ 3 ∷ 4 ∷ 5 ∷ 6 ∷ []) (1 ∷ 2 ∷ 3 ∷ []) _ quotes_is old new
     (Int (pos c) ∷ []) has.schema rows h in
-    let shows : Shows (mine c) shape (old.now.trees 13) rows = record {
+    let shows : Shows (mine c) shape (old.now.trees 24) rows = record {
       sound = λ x k. let it = m.sound x k in (it.0, it.1, sym (equality (column it.0 1) (pos c)) ∙ it.2, it.3);
       complete = λ r k is. m.complete r k (equality (column r 1) (pos c) ∙ is);
     } in
     held_read quote_total quote_key quote_in shown_quote shape (mine c) c (quote_same c) (quote_back c)
-    (old.now.trees 13) rows xs has.quotes shows read order
+    (old.now.trees 24) rows xs has.quotes shows read order
 
 pub quotes_plain : (s : State) → HasTables s → IsPlain (understood s.now.schema quotes_text)
 quotes_plain s has = subst (λ x. IsPlain (understood x quotes_text)) (sym has.schema) quotes_is.2

@@ -72,10 +72,10 @@ module _ (p : Plan) (v : IsPlan p) (old mid new : State) (has : HasTables (outsi
   calendar : new.now.trees 10 ≡ old.now.trees 10
   calendar = second.calendar (λ e. absurd (omega (arith, e))) ∙ first.calendar (λ e. absurd (omega (arith, e)))
 
-  assignments : new.now.trees 11 ≡ old.now.trees 11
+  assignments : new.now.trees 22 ≡ old.now.trees 22
   assignments = second.assignments (λ e. absurd (omega (arith, e))) ∙ first.assignments (λ e. absurd (omega (arith, e)))
 
-  quotes : new.now.trees 13 ≡ old.now.trees 13
+  quotes : new.now.trees 24 ≡ old.now.trees 24
   quotes = second.quotes (λ e. absurd (omega (arith, e))) ∙ first.quotes (λ e. absurd (omega (arith, e)))
 
   rows_put : IsDone (PutsPlan p) (outside old) (outside new)

@@ -163,8 +163,8 @@ module _ (b : Bearer) (q : QuoteRow) (m : ℕ) (mark : List ℕ) (v : ℕ) (mont
 
   module _ (old : State) (after : Database) (has : HasTables old) (done : (after.schema ≡ office_schema)
       × QuoteDone b.number q.slot m columns old.now.trees after.trees) where
-    puts : PutsRow (held_total quote_total) key quote_in (b.number, q) (old.now.trees 13) (after.trees 13)
-    puts = quote_puts (old.now.trees 13) (after.trees 13) done.1.0.quotes
+    puts : PutsRow (held_total quote_total) key quote_in (b.number, q) (old.now.trees 24) (after.trees 24)
+    puts = quote_puts (old.now.trees 24) (after.trees 24) done.1.0.quotes
 
     pub quote_office : office_in after.trees ≡ changed (Quotes b q) (office_in old.now.trees)
     quote_office =
@@ -177,11 +177,11 @@ module _ (b : Bearer) (q : QuoteRow) (m : ℕ) (mark : List ℕ) (v : ℕ) (mont
           others.assignments (λ e. absurd (omega (arith, e))),
           others.nodes (λ e. absurd (omega (arith, e))),
           others.places (λ e. absurd (omega (arith, e))),
-          same_releases old.now.trees after.trees (releases_after 13 old.now.trees after.trees refl others),
+          same_releases old.now.trees after.trees (releases_after 24 old.now.trees after.trees refl others),
           listed_put (held_total quote_total) key quote_in (
             b.number,
             q,
-          ) (old.now.trees 13) (after.trees 13) has.quotes puts,
+          ) (old.now.trees 24) (after.trees 24) has.quotes puts,
         ) refl
 
     pub quote_is_done : (s : State) → s.now ≡ after → s.in_transaction ≡ false → IsDone (Quotes b q) old s
@@ -194,7 +194,7 @@ module _ (b : Bearer) (q : QuoteRow) (m : ℕ) (mark : List ℕ) (v : ℕ) (mont
             plans = same_plans old.now.trees after.trees (others.nodes (λ e. absurd (omega (arith, e))))
                 (others.places (λ e. absurd (omega (arith, e)))) has.plans;
             releases = releases_kept old.now.trees after.trees
-                (releases_after 13 old.now.trees after.trees refl others) has.releases;
+                (releases_after 24 old.now.trees after.trees refl others) has.releases;
             rowids = done.1.1;
             days = subst HasRowids (sym (others.calendar (λ e. absurd (omega (arith, e))))) has.days;
             collectors = rw (others.collectors (λ e. absurd (omega (arith, e)))) has.collectors;
@@ -205,13 +205,13 @@ module _ (b : Bearer) (q : QuoteRow) (m : ℕ) (mark : List ℕ) (v : ℕ) (mont
             quotes = still_keyed (held_total quote_total) key quote_in (
               b.number,
               q,
-            ) (old.now.trees 13) (after.trees 13) has.quotes puts;
+            ) (old.now.trees 24) (after.trees 24) has.quotes puts;
           });
           office = rw now quote_office;
         }
 
   abbrev Done : Trees → Database → Type 0
-  Done db after = HasRowids (db 13) → (after.schema ≡ office_schema)
+  Done db after = HasRowids (db 24) → (after.schema ≡ office_schema)
       × QuoteDone b.number q.slot m columns db after.trees
 
   pub quote_ran : (old new : State) (count : ℕ) → HasTables old → Executes put_quote_text columns old new (Ok count)

@@ -50,7 +50,7 @@ use Rattle.std.specs.declared.cmp.Ordering.TheVariants.{Less, Equal, Greater}
 use Rattle.std.proofs.lemmas.Bool.{cases_Bool}
 use Rattle.sqlite_value.specs.Keys.{first_key}
 use Rattle.sqlite_schema.specs.declared.schema.Keys.{Keys}
-use Rattle.cpi_sql.specs.Tables.{quote, office_schema}
+use Rattle.cpi_sql.specs.Tables.{quote_2, office_schema}
 use Rattle.cpi_sql.specs.Texts.{update_quote, given_quote, put_quote_text, put_quote_command}
 use Rattle.cpi_sql.specs.Shelf.{equals, HasRowids}
 use Rattle.cpi_sql.proofs.Adds.{SameBut}
@@ -72,8 +72,8 @@ pub record PutsQuote (c s m : ℕ) (columns : Row) (old new : List Row) : Type 0
 
 -- the quote stands, and all other rows of the office are as they were
 pub record IsQuotePut (c s m : ℕ) (columns : Row) (old new : Trees) : Type 0 where
-  pub quotes : PutsQuote c s m columns (old 13) (new 13)
-  pub others : SameBut 13 old new
+  pub quotes : PutsQuote c s m columns (old 24) (new 24)
+  pub others : SameBut 24 old new
 
 abbrev pub quote_columns : ℕ → ℕ → ℕ → List ℕ → ℕ → ℕ → Row
 quote_columns c s m mark v n = Int (pos c) ∷ Int (pos s) ∷ Int (pos m) ∷ Text mark ∷ Int (pos v) ∷ Int (pos n) ∷ []
@@ -111,13 +111,13 @@ abbrev pub quote_row : Value → ℕ → ℕ → ℕ → List ℕ → ℕ → �
 quote_row id c s m mark v n = id ∷ Int (pos c) ∷ Int (pos s) ∷ Int (pos m) ∷ Text mark ∷ Int (pos v) ∷ Int (pos n) ∷ []
 
 pub conflict_is : (id : Value) (c s m : ℕ) (mark : List ℕ) (v n : ℕ) (r : Row)
-    → conflicts (Some (1 ∷ 2 ∷ 3 ∷ [])) office_schema.indexes quote (quote_row id c s m mark v n) r ≡ has_key c s m r
+    → conflicts (Some (1 ∷ 2 ∷ 3 ∷ [])) office_schema.indexes quote_2 (quote_row id c s m mark v n) r ≡ has_key c s m r
 unfolding first_key
 conflict_is id c s m mark v n r =
     let a = is_true (binary (Compare Eq Binary) (column r 1) (Int (pos c))) in
     let b = is_true (binary (Compare Eq Binary) (column r 2) (Int (pos s))) in
     let d = is_true (binary (Compare Eq Binary) (column r 3) (Int (pos m))) in
-    let step : conflicts (Some (1 ∷ 2 ∷ 3 ∷ [])) office_schema.indexes quote (quote_row id c s m mark v n) r ≡
+    let step : conflicts (Some (1 ∷ 2 ∷ 3 ∷ [])) office_schema.indexes quote_2 (quote_row id c s m mark v n) r ≡
     ((a && (b && (d && true))) || false) = refl in
     step ∙ tidy a b d ∙ ap (λ x. x && (b && d)) (one_equal (column r 1) (pos c))
     ∙ ap (λ x. equals (column r 1) (Int (pos c)) && (x && d)) (one_equal (column r 2) (pos s))
@@ -126,8 +126,8 @@ conflict_is id c s m mark v n r =
 
 -- the row that the statement would add
 pub new_is : (db : Trees) (c s m : ℕ) (mark : List ℕ) (v n : ℕ)
-    → with_rowid Chosen (db 13) (cast_row quote (Null ∷ Int (pos c) ∷ Int (pos s) ∷ Int (pos m) ∷ Text mark
-    ∷ Int (pos v) ∷ Int (pos n) ∷ [])) ≡ quote_row (Int (next_rowid (db 13))) c s m mark v n
+    → with_rowid Chosen (db 24) (cast_row quote_2 (Null ∷ Int (pos c) ∷ Int (pos s) ∷ Int (pos m) ∷ Text mark
+    ∷ Int (pos v) ∷ Int (pos n) ∷ [])) ≡ quote_row (Int (next_rowid (db 24))) c s m mark v n
 new_is db c s m mark v n = rw (
   cast_null,
   cast_int (pos c),
@@ -138,7 +138,7 @@ new_is db c s m mark v n = rw (
 ) refl
 
 cast_again : (z : ℤ) (c s m : ℕ) (mark : List ℕ) (v n : ℕ)
-    → cast_row quote (quote_row (Int z) c s m mark v n) ≡ quote_row (Int z) c s m mark v n
+    → cast_row quote_2 (quote_row (Int z) c s m mark v n) ≡ quote_row (Int z) c s m mark v n
 cast_again z c s m mark v n = rw (
   cast_int z,
   cast_int (pos c),
@@ -154,29 +154,29 @@ false_from false f = refl
 
 -- no row has the key, and this one goes in
 pub added : (keys : Keys) (db next : Trees) (z : ℤ) (c s m : ℕ) (mark : List ℕ) (v n : ℕ)
-    → AreConflicts (Some (1 ∷ 2 ∷ 3 ∷ [])) office_schema.indexes quote (db 13) (quote_row (Int z) c s m mark v n) []
-    → Applies office_schema keys db (edit_of db quote [] Given 0 (quote_row (Int z) c s m mark v n ∷ [])) next
-    → PutsQuote c s m (Int (pos c) ∷ Int (pos s) ∷ Int (pos m) ∷ Text mark ∷ Int (pos v) ∷ Int (pos n) ∷ []) (db 13)
-    (next 13)
+    → AreConflicts (Some (1 ∷ 2 ∷ 3 ∷ [])) office_schema.indexes quote_2 (db 24) (quote_row (Int z) c s m mark v n) []
+    → Applies office_schema keys db (edit_of db quote_2 [] Given 0 (quote_row (Int z) c s m mark v n ∷ [])) next
+    → PutsQuote c s m (Int (pos c) ∷ Int (pos s) ∷ Int (pos m) ∷ Text mark ∷ Int (pos v) ∷ Int (pos n) ∷ []) (db 24)
+    (next 24)
 added keys db next z c s m mark v n none applied =
     let new = quote_row (Int z) c s m mark v n in
-    let rows : next 13 ≡ put_row new (db 13) = applied.rows
-    ∙ ap (λ r. put_row r (db 13)) (cast_again z c s m mark v n) in
-    let free : (x : Row) → Has (db 13) x
+    let rows : next 24 ≡ put_row new (db 24) = applied.rows
+    ∙ ap (λ r. put_row r (db 24)) (cast_again z c s m mark v n) in
+    let free : (x : Row) → Has (db 24) x
     → has_key c s m x ≡ false = λ x h. false_from (has_key c s m x)
     (λ hit. none.complete x h (conflict_is (Int z) c s m mark v n x ∙ hit)) in
     record {
       row = new;
-      there = subst (λ l. Has l new) (sym rows) (has_put new (db 13));
+      there = subst (λ l. Has l new) (sym rows) (has_put new (db 24));
       holds = refl;
-      others = λ x h. elim (put_has new (db 13) x (subst (λ l. Has l x) rows h)) [
+      others = λ x h. elim (put_has new (db 24) x (subst (λ l. Has l x) rows h)) [
         | inl same ↦ inl same
         | inr was ↦ inr
             (was, free x was)
       ];
       kept = λ x h _. subst
-          (λ l. Has l x) (sym applied.rows) (put_all_keeps (edit_of db quote [] Given 0 (new ∷ [])).news
-          (db 13) x applied.fresh h);
+          (λ l. Has l x) (sym applied.rows) (put_all_keeps (edit_of db quote_2 [] Given 0 (new ∷ [])).news
+          (db 24) x applied.fresh h);
     }
 
 pub agree_is : (id : Value) (c s m : ℕ) (mark : List ℕ) (v n : ℕ) (r : Row)
@@ -218,7 +218,7 @@ pub not_true : (b : Bool) → not b ≡ true → b ≡ false
 not_true true e = cc
 not_true false e = refl
 
-pub no_work : (olds news : List Row) → works office_schema Enforced 0 13 olds news ≡ []
+pub no_work : (olds news : List Row) → works office_schema Enforced 0 24 olds news ≡ []
 no_work olds news = elim (cases_Bool (length news == 0)) [ inl none ↦ rw none refl | inr some ↦ rw some refl ]
 
 abbrev key_test : List Term
@@ -230,18 +230,18 @@ full id z c s m mark v n = (Int (pos c) ∷ Int (pos s) ∷ Int (pos m) ∷ Text
 
 -- the row that has the key is replaced
 pub replaced : (db next : Trees) (id z : ℤ) (c s m : ℕ) (mark : List ℕ) (v n : ℕ) (r : Row) (found : List Row)
-    → HasRowids (db 13)
-    → Has (db 13) r → rowid r ≡ Int id → has_key c s m r ≡ true
-    → Members key_test update_quote.project (db 13) (full id z c s m mark v n) found
-    → Edited office_schema Enforced db (edit_of db quote (ids_of found) Given 1 found) (Ok next)
-    → PutsQuote c s m (Int (pos c) ∷ Int (pos s) ∷ Int (pos m) ∷ Text mark ∷ Int (pos v) ∷ Int (pos n) ∷ []) (db 13)
-    (next 13)
+    → HasRowids (db 24)
+    → Has (db 24) r → rowid r ≡ Int id → has_key c s m r ≡ true
+    → Members key_test update_quote.project (db 24) (full id z c s m mark v n) found
+    → Edited office_schema Enforced db (edit_of db quote_2 (ids_of found) Given 1 found) (Ok next)
+    → PutsQuote c s m (Int (pos c) ∷ Int (pos s) ∷ Int (pos m) ∷ Text mark ∷ Int (pos v) ∷ Int (pos n) ∷ []) (db 24)
+    (next 24)
 unfolding HasRowids
 replaced db next id z c s m mark v n r found shaped listed has_id has_it members edited =
     let new = quote_row (Int id) c s m mark v n in
     let target : Row = Int id ∷ new in
-    let edit = edit_of db quote (ids_of found) Given 1 found in
-    let left = without_all (db 13) (ids_of found) in
+    let edit = edit_of db quote_2 (ids_of found) Given 1 found in
+    let left = without_all (db 24) (ids_of found) in
     let is_target : (x : Row) → Has found x → x ≡ target = λ x h.
     let y = members.sound x h in
     let same : rowid y.0 ≡ Int id = same_int (rowid y.0) id (int_is (rowid y.0) (shaped.0 y.0 y.1))
@@ -254,24 +254,24 @@ replaced db next id z c s m mark v n r found shaped listed has_id has_it members
     (λ (w : Value). Has found (w ∷ w ∷ Int (pos c) ∷ Int (pos s) ∷ Int (pos m) ∷ Text mark ∷ Int (pos v)
     ∷ Int (pos n) ∷ [])) has_id (members.complete r listed (equality (rowid r) id ∙ passes)) in
     let applied = one_step office_schema Enforced db next edit (no_work _ edit.news) edited in
-    let news : edit.news ≡ map (λ x. cast_row quote (drop 1 x)) found =
-    given left (map (λ x. cast_row quote (drop 1 x)) found) in
+    let news : edit.news ≡ map (λ x. cast_row quote_2 (drop 1 x)) found =
+    given left (map (λ x. cast_row quote_2 (drop 1 x)) found) in
     let is_new : (x : Row) → Has edit.news x → x ≡ new = λ x h.
-    let y = has_mapped (λ w. cast_row quote (drop 1 w)) found x (subst (λ l. Has l x) news h) in
-    y.2 ∙ ap (λ w. cast_row quote (drop 1 w)) (is_target y.0 y.1) ∙ cast_again id c s m mark v n in
+    let y = has_mapped (λ w. cast_row quote_2 (drop 1 w)) found x (subst (λ l. Has l x) news h) in
+    y.2 ∙ ap (λ w. cast_row quote_2 (drop 1 w)) (is_target y.0 y.1) ∙ cast_again id c s m mark v n in
     let has_new : Has edit.news new = subst (λ l. Has l new) (sym news)
-    (subst (Has (map (λ w. cast_row quote (drop 1 w)) found)) (cast_again id c s m mark v n) (mapped_has
-    (λ w. cast_row quote (drop 1 w)) found target has_target)) in
-    let there : Has (next 13) new = subst
+    (subst (Has (map (λ w. cast_row quote_2 (drop 1 w)) found)) (cast_again id c s m mark v n) (mapped_has
+    (λ w. cast_row quote_2 (drop 1 w)) found target has_target)) in
+    let there : Has (next 24) new = subst
     (λ l. Has l new) (sym applied.rows) (put_all_adds edit.news left new applied.fresh has_new) in
     let id_of : (i : ℤ) → Has (ids_of found) i
     → i ≡ id = λ i h. let y = has_mapped (λ w. id_in (rowid w)) found i h in y.2
     ∙ ap (λ w. id_in (rowid w)) (is_target y.0 y.1) in
     let has_the_id : Has (ids_of found) id = mapped_has (λ w. id_in (rowid w)) found target has_target in
-    let unique : (not (clashes plain (1 ∷ 2 ∷ 3 ∷ []) (next 13) new) && true) ≡ true =
-    keeps_at Unique office_schema next quote new (applied.fits.rules Unique (λ e. absurd cc))
-    (inr (inr (inr (inr (inr (inr (inr (inr (inl refl))))))))) there in
-    let alone : clashes plain (1 ∷ 2 ∷ 3 ∷ []) (next 13) new ≡ false = not_true _ (sym (and_true _) ∙ unique) in
+    let unique : (not (clashes plain (1 ∷ 2 ∷ 3 ∷ []) (next 24) new) && true) ≡ true =
+    keeps_at Unique office_schema next quote_2 new (applied.fits.rules Unique (λ e. absurd cc))
+    (inr (inr (inr (inr (inr (inr (inr (inr (inr (inr (inr (inr (inr (inr (inl refl))))))))))))))) there in
+    let alone : clashes plain (1 ∷ 2 ∷ 3 ∷ []) (next 24) new ≡ false = not_true _ (sym (and_true _) ∙ unique) in
     record {
       row = new;
       there = there;
@@ -279,7 +279,7 @@ replaced db next id z c s m mark v n r found shaped listed has_id has_it members
       others = λ x h. elim (put_all_has edit.news left x (subst (λ l. Has l x) applied.rows h)) [
         | inl fresh ↦ inl (is_new x fresh)
         | inr was ↦
-            let kept = left_has (ids_of found) (db 13) x was in
+            let kept = left_has (ids_of found) (db 24) x was in
             let number : rowid x ≡ Int (id_in (rowid x)) = int_is (rowid x) (shaped.0 x kept.0) in
             let missed : equals (Int (id_in (rowid x))) (Int id) ≡ false = subst
             (λ w. equals w (Int id) ≡ false) number (kept.1 id has_the_id) in
@@ -289,13 +289,13 @@ replaced db next id z c s m mark v n r found shaped listed has_id has_it members
               kept.0,
               false_from (has_key c s m x) (λ hit.
                   let clash = some_from (λ other. agree plain (1 ∷ 2 ∷ 3 ∷ []) other (1 ∷ 2 ∷ 3 ∷ []) new
-                  && differ (rowid other) (rowid new)) (next 13) x h
+                  && differ (rowid other) (rowid new)) (next 24) x h
                   (and_from _ _ (agree_is (Int id) c s m mark v n x ∙ hit) apart) in
                   absurd cc),
             )
       ];
       kept = λ x h miss. subst (λ l. Has l x) (sym applied.rows) (put_all_keeps edit.news left x applied.fresh
-          (has_left (ids_of found) (db 13) x h (λ i among. false_from (has_rowid i x) (λ hit.
+          (has_left (ids_of found) (db 24) x h (λ i among. false_from (has_rowid i x) (λ hit.
           let tie : value_cmp (rowid x) (rowid r) ≡ Equal = subst
           (λ w. value_cmp (rowid x) w ≡ Equal) (ap Int (id_of i among) ∙ sym has_id) (equal_is _ hit) in
           let same : x ≡ r = shaped.1 x r h listed tie in
@@ -331,27 +331,27 @@ put_shaped (x ∷ news) rows h e f =
     put_shaped news (put_row x rows) (one_shaped x rows h (not_true _ fresh.0) parts.0) parts.1 fresh.1
 
 pub shaped_after : (keys : Keys) (db next : Trees) (gone : List ℤ) (way : Rowids) (from : ℕ) (sources : List Row)
-    → HasRowids (db 13) → Applies office_schema keys db (edit_of db quote gone way from sources) next
-    → HasRowids (next 13)
+    → HasRowids (db 24) → Applies office_schema keys db (edit_of db quote_2 gone way from sources) next
+    → HasRowids (next 24)
 shaped_after keys db next gone way from sources h applied =
-    subst HasRowids (sym applied.rows) (put_shaped (edit_of db quote gone way from sources).news
-    (without_all (db 13) gone) (rowids_left gone (db 13) h) applied.keyed applied.fresh)
+    subst HasRowids (sym applied.rows) (put_shaped (edit_of db quote_2 gone way from sources).news
+    (without_all (db 24) gone) (rowids_left gone (db 24) h) applied.keyed applied.fresh)
 
 pub others_after : (keys : Keys) (db next : Trees) (gone : List ℤ) (way : Rowids) (from : ℕ) (sources : List Row)
-    → Applies office_schema keys db (edit_of db quote gone way from sources) next → SameBut 13 db next
-others_after keys db next gone way from sources applied = others_same 13 db next next (λ tree. refl) applied.tables
+    → Applies office_schema keys db (edit_of db quote_2 gone way from sources) next → SameBut 24 db next
+others_after keys db next gone way from sources applied = others_same 24 db next next (λ tree. refl) applied.tables
 
 abbrev pub QuoteDone : ℕ → ℕ → ℕ → Row → Trees → Trees → Type 0
-QuoteDone c s m columns old new = IsQuotePut c s m columns old new × HasRowids (new 13)
+QuoteDone c s m columns old new = IsQuotePut c s m columns old new × HasRowids (new 24)
 
-put_either : (limit : Option ℕ) (db next : Trees) (c s m : ℕ) (mark : List ℕ) (v n : ℕ) → HasRowids (db 13)
-    → writing.IsPut limit Enforced office_schema quote.name 13 quote.columns quote.key quote.primary quote.uniques
-    quote.orders quote.references (quote_columns c s m mark v n) (1 ∷ 2 ∷ 3 ∷ [])
-    (record { lets = []; body = update_quote }) (quote_row (Int (next_rowid (db 13))) c s m mark v n) db next
+put_either : (limit : Option ℕ) (db next : Trees) (c s m : ℕ) (mark : List ℕ) (v n : ℕ) → HasRowids (db 24)
+    → writing.IsPut limit Enforced office_schema quote_2.name 24 quote_2.columns quote_2.key quote_2.primary quote_2.uniques
+    quote_2.orders quote_2.references (quote_columns c s m mark v n) (1 ∷ 2 ∷ 3 ∷ [])
+    (record { lets = []; body = update_quote }) (quote_row (Int (next_rowid (db 24))) c s m mark v n) db next
     → QuoteDone c s m (quote_columns c s m mark v n) db next
 unfolding HasRowids
 put_either limit db next c s m mark v n shaped (writing.added none applied) =
-    let sources = quote_row (Int (next_rowid (db 13))) c s m mark v n ∷ [] in (
+    let sources = quote_row (Int (next_rowid (db 24))) c s m mark v n ∷ [] in (
       record {
         quotes = added Enforced db next _ c s m mark v n none applied;
         others = others_after Enforced db next [] Given 0 sources applied;
@@ -359,7 +359,7 @@ put_either limit db next c s m mark v n shaped (writing.added none applied) =
       shaped_after Enforced db next [] Given 0 sources shaped applied,
     )
 put_either limit db next c s m mark v n shaped (writing.updated there more conflicts rows answers edited) =
-    let z = next_rowid (db 13) in
+    let z = next_rowid (db 24) in
     let r = conflicts.sound there (inl refl) in
     let id = id_in (rowid r.0) in
     let has_id : rowid r.0 ≡ Int id = int_is (rowid r.0) (shaped.0 r.0 r.1) in
@@ -367,9 +367,9 @@ put_either limit db next c s m mark v n shaped (writing.updated there more confl
     let base : Database = record { schema = office_schema; trees = db } in
     let asked = subst (λ i. Answers base (record { lets = []; body = update_quote }) (quote_columns c s m mark v n
     ++ i ∷ quote_row (Int z) c s m mark v n) rows) there_is answers in
-    let mem = members 13 key_test update_quote.project [] (overlay db []) (full id z c s m mark v n) rows
+    let mem = members 24 key_test update_quote.project [] (overlay db []) (full id z c s m mark v n) rows
     (asked.answer Null) in
-    let edit = edit_of db quote (ids_of rows) Given 1 rows in
+    let edit = edit_of db quote_2 (ids_of rows) Given 1 rows in
     let applied = one_step office_schema Enforced db next edit (no_work _ edit.news) edited in (
       record {
         quotes = replaced db next id z c s m mark v n r.0 rows shaped r.1 has_id
@@ -381,7 +381,7 @@ put_either limit db next c s m mark v n shaped (writing.updated there more confl
 
 -- the statement, over a database with these tables
 pub quote_done : (limit : Option ℕ) (s₀ : State) (db : Trees) (c s m : ℕ) (mark : List ℕ) (v n : ℕ) (text : List ℕ)
-    (tally : Tally) (after : Database) → HasRowids (db 13)
+    (tally : Tally) (after : Database) → HasRowids (db 24)
     → Does limit (mode_of s₀) (quote_columns c s m mark v n) (record {
       schema = office_schema;
       trees = db;
@@ -391,12 +391,12 @@ quote_done limit s₀ db c s m mark v n text tally after shaped does =
     let columns = quote_columns c s m mark v n in
     let done = went does in
     let now = ap (λ (p : Tally × Database). p.1) (same_value (went (went done.2).2).2) in
-    let put = writing.put_one limit Enforced office_schema quote.name 13 quote.columns quote.key quote.primary
-    quote.uniques quote.orders quote.references columns (1 ∷ 2 ∷ 3 ∷ []) (record { lets = []; body = update_quote })
+    let put = writing.put_one limit Enforced office_schema quote_2.name 24 quote_2.columns quote_2.key quote_2.primary
+    quote_2.uniques quote_2.orders quote_2.references columns (1 ∷ 2 ∷ 3 ∷ []) (record { lets = []; body = update_quote })
     (Values given_quote 7) (Null ∷ columns) db done.0 (λ rows h. h.1) done.1 in
     let made = subst (λ r.
-    writing.IsPut limit Enforced office_schema quote.name 13 quote.columns quote.key quote.primary quote.uniques
-    quote.orders quote.references columns (1 ∷ 2 ∷ 3 ∷ [])
+    writing.IsPut limit Enforced office_schema quote_2.name 24 quote_2.columns quote_2.key quote_2.primary quote_2.uniques
+    quote_2.orders quote_2.references columns (1 ∷ 2 ∷ 3 ∷ [])
     (record { lets = []; body = update_quote }) r db done.0.trees) (new_is db c s m mark v n) put.0 in (
       ap (λ (d : Database). d.schema) now,
       subst (QuoteDone c s m columns db) (sym (ap (λ (d : Database). d.trees) now))

@@ -1,10 +1,9 @@
 -- The rows of a release written, as a change of the office.
-use Rattle.std.proofs.Common.{◌≡◌, ◌≢◌, ℕ, List, map, Some, None, arith, refl, sym, ap, subst, ◌∙◌}
+use Rattle.std.proofs.Common.{◌≡◌, ◌≢◌, ◌≤◌, ℕ, List, map, Option, Some, None, arith, refl, sym, ap, subst, ◌∙◌}
 use Rattle.std.specs.Cmp.{tied_itself}
-use Rattle.std.specs.Ordering.{nat_cmp, ordering_then}
-use Rattle.std.specs.declared.cmp.Ordering.{Ordering}
-use Rattle.std.specs.declared.cmp.Ordering.TheVariants.{Less, Equal, Greater}
+use Rattle.std.specs.declared.cmp.Ordering.TheVariants.{Equal}
 use Rattle.std.proofs.lemmas.Cmp.{nat_cmp_total}
+use Rattle.sqlite.specs.Order.{Row, column}
 use Rattle.sqlite.specs.Tree.{Trees}
 use Rattle.sqlite.specs.Effect.{Database}
 use Rattle.sqlite.specs.State.{State, HasCleanDisk, Survives}
@@ -19,127 +18,143 @@ use Rattle.cpi_release.specs.declared.level.Level.{Level}
 use Rattle.cpi_release.specs.declared.release.Release.{Release}
 use Rattle.cpi_release.specs.FrozenMonths.{release_cmp, release_key}
 use Rattle.cpi_store.specs.Office.{changed, Freezes}
+use Rattle.cpi_store.proofs.Published.{release_total}
 use Rattle.cpi_sql.specs.declared.release_rows.Header.{Header}
 use Rattle.cpi_sql.specs.Lists.{header_in, frozen_in, carried_in, level_in, headers_in, frozens_in, carrieds_in}
 use Rattle.cpi_sql.specs.Lists.{levels_in}
-use Rattle.cpi_sql.specs.Lists.{month_at, office_in, release_from, releases_in}
+use Rattle.cpi_sql.specs.Lists.{month_at, office_in, release_from, releases_in, header_key, ranged, month_from}
+use Rattle.cpi_sql.specs.Lists.{codes_from, revision_from, release_number}
 use Rattle.cpi_sql.specs.ReleaseRows.{frozen_after, carried_after, level_after}
 use Rattle.cpi_sql.specs.ReleaseSteps.{header_of, AddsHeader, FitsTables, IsHeaderStep, IsWritten, Replaces, SameBeside}
 use Rattle.cpi_sql.specs.Shelf.{HasReleases, HasRowids, HasTables, IsDone}
 use Rattle.cpi_sql.specs.Steps.{IsStep, outside}
 use Rattle.cpi_sql.proofs.Inserting.{inserted, none_apart}
-use Rattle.cpi_sql.proofs.Listed.{PutsRow, listed_put, still_keyed}
+use Rattle.cpi_sql.proofs.Listed.{PutsRow, listed_put, listed_stands, still_keyed}
+use Rattle.cpi_sql.proofs.Lists.{bound_is}
 use Rattle.cpi_sql.proofs.MappedPut.{has_map, map_put}
-use Rattle.cpi_sql.proofs.MonthReplaced.{month_replaced}
 use Rattle.cpi_sql.proofs.PlanOffice.{tables_begun}
+use Rattle.cpi_sql.proofs.ReleaseRows.{one_release, within_limits}
+use Rattle.cpi_sql.proofs.ReleaseReplaced.{release_replaced}
 use Rattle.cpi_sql.proofs.Replaced.{ReplacesRows, replaced_keyed, replaced_here, replaced_there}
 use Rattle.cpi_sql.proofs.Unchanged.{same_plans}
 
+some_is : {X : Type 0} {x y : X} → ◌≡◌ {A = Option X} (Some x) (Some y) → x ≡ y
+some_is e = cc
+
 -- the release of a header, as the tables have it
 abbrev from_tables : Trees → Header → Release
-from_tables trees = release_from (frozens_in (trees 16)) (carrieds_in (trees 18)) (levels_in (trees 20))
+from_tables trees = release_from (frozens_in (trees 28)) (carrieds_in (trees 30)) (levels_in (trees 32))
+
+-- the revision of a header is from 1 to 9
+header_range : (row : Row) (h : Header) → header_in row ≡ Some h → (1 ≤ h.revision) × (h.revision ≤ 9)
+header_range row h e =
+    let month = bound_is (month_from (column row 1)) _ _ e in
+    let revision = bound_is (revision_from (column row 2)) _ _ month.2 in
+    let frozen_at = bound_is (ranged 0 9999999999 (column row 3)) _ _ revision.2 in
+    let publishes = bound_is (ranged 0 9999999999 (column row 4)) _ _ frozen_at.2 in
+    let carry = bound_is (codes_from (column row 5)) _ _ publishes.2 in
+    let made = some_is carry.2 in
+    within_limits 1 9 (column row 2) h.revision (revision.1 ∙ ap (λ (x : Header). Some x.revision) made)
 
 module _ (r : Release) (fits : FitsTables r) (old new : State) (has : HasReleases old.now.trees)
-    (none : row_at release_cmp release_key (r.month, r.revision) (releases_in old.now.trees) ≡ None) (w : IsWritten r old new) where
-  frozen_rows : ReplacesRows nat_cmp_total frozen_serial frozen_in r.month r.frozen (old.now.trees 16)
-      (new.now.trees 16)
-  frozen_rows = month_replaced nat_cmp_total frozen_serial frozen_after w.number r.month w.month r.frozen _ _ w.frozen
+    (none : row_at release_cmp release_key (r.month, r.revision) (releases_in old.now.trees) ≡ None)
+    (w : IsWritten r old new) where
+  abbrev number : ℕ
+  number = release_number r.month r.revision
 
-  carried_rows : ReplacesRows nat_cmp_total carried_serial carried_in r.month r.carried (old.now.trees 18)
-      (new.now.trees 18)
-  carried_rows = month_replaced nat_cmp_total carried_serial carried_after w.number r.month w.month r.carried _ _
-      w.carried
+  range : (1 ≤ r.revision) × (r.revision ≤ 9)
+  range = header_range w.header.row (header_of r) w.header.is
 
-  level_rows : ReplacesRows total-law (λ (l : Level). l.code) level_in r.month r.levels (old.now.trees 20)
-      (new.now.trees 20)
-  level_rows = month_replaced total-law
-      (λ (l : Level). l.code) level_after w.number r.month w.month r.levels _ _ w.levels
+  frozen_rows : ReplacesRows nat_cmp_total frozen_serial frozen_in number r.frozen (old.now.trees 28)
+      (new.now.trees 28)
+  frozen_rows = release_replaced nat_cmp_total frozen_serial frozen_after w.number r.month r.revision w.month range.0
+      range.1 r.frozen _ _ w.frozen
 
-  -- first revisions lie as their months do
-  first_order : (a b : ℕ) → release_cmp (a, 1) (b, r.revision) ≡ nat_cmp a b
-  first_order a b = rw fits.revision (alone (nat_cmp a b))
-    where
-      alone : (o : Ordering) → ordering_then o Equal ≡ o
-      alone Less = refl
-      alone Equal = refl
-      alone Greater = refl
+  carried_rows : ReplacesRows nat_cmp_total carried_serial carried_in number r.carried (old.now.trees 30)
+      (new.now.trees 30)
+  carried_rows = release_replaced nat_cmp_total carried_serial carried_after w.number r.month r.revision w.month
+      range.0 range.1 r.carried _ _ w.carried
 
-  -- no header that stands is of the month
-  headers_apart : (h : Header) → Has (headers_in (old.now.trees 15)) h → nat_cmp h.month r.month ≢ Equal
+  level_rows : ReplacesRows total-law (λ (l : Level). l.code) level_in number r.levels (old.now.trees 32)
+      (new.now.trees 32)
+  level_rows = release_replaced total-law (λ (l : Level). l.code) level_after w.number r.month r.revision w.month
+      range.0 range.1 r.levels _ _ w.levels
+
+  -- no header that stands is the release's
+  headers_apart : (h : Header) → Has (headers_in (old.now.trees 26)) h
+      → release_cmp (header_key h) (r.month, r.revision) ≢ Equal
   unfolding releases_in
   headers_apart h there same =
       none_apart release_cmp release_key (r.month, r.revision) (releases_in old.now.trees)
       (from_tables old.now.trees h) none
-      (has_map (from_tables old.now.trees) (headers_in (old.now.trees 15)) h there)
-      (first_order h.month r.month ∙ same)
+      (has_map (from_tables old.now.trees) (headers_in (old.now.trees 26)) h there) same
 
-  months_apart : (h : Header) → Has (headers_in (old.now.trees 15)) h → h.month ≢ r.month
-  months_apart h there same = headers_apart h there (ap (λ m. nat_cmp m r.month) same
-      ∙ tied_itself nat_cmp_total r.month)
+  numbers_apart : (h : Header) → Has (headers_in (old.now.trees 26)) h → release_number h.month h.revision ≢ number
+  numbers_apart h there same =
+      let it = listed_stands release_total header_key header_in (old.now.trees 26) h there in
+      let theirs = header_range it.0 h it.2 in
+      let both = one_release h.month h.revision r.month r.revision theirs.0 theirs.1 range.0 range.1 same in
+      headers_apart h there (rw (both.0, both.1) (tied_itself release_total (r.month, r.revision)))
 
-  header_put : PutsRow nat_cmp_total (λ (h : Header). h.month) header_in (header_of r) (old.now.trees 15)
-      (new.now.trees 15)
+  header_put : PutsRow release_total header_key header_in (header_of r) (old.now.trees 26) (new.now.trees 26)
   header_put =
-      inserted nat_cmp_total (λ (h : Header). h.month) header_in (header_of r) (old.now.trees 15) (new.now.trees 15)
+      inserted release_total header_key header_in (header_of r) (old.now.trees 26) (new.now.trees 26)
       w.header.row w.header.is w.header.rows w.header.kept has.releases headers_apart
 
-  headers_now : headers_in (new.now.trees 15) ≡ put nat_cmp
-      (λ (h : Header). h.month) (header_of r) (headers_in (old.now.trees 15))
+  headers_now : headers_in (new.now.trees 26) ≡ put release_cmp header_key (header_of r)
+      (headers_in (old.now.trees 26))
   headers_now =
-      listed_put nat_cmp_total (λ (h : Header). h.month) header_in (header_of r) (old.now.trees 15) (new.now.trees 15)
+      listed_put release_total header_key header_in (header_of r) (old.now.trees 26) (new.now.trees 26)
       has.releases header_put
 
-  -- what is read of the month is the release
-  made_first : from_tables new.now.trees (header_of r) ≡ record r { revision = 1 }
-  made_first = rw (
-    replaced_here nat_cmp_total frozen_serial frozen_in r.month r.frozen (old.now.trees 16) (new.now.trees 16)
+  -- what is read of the release is what was written
+  made_here : from_tables new.now.trees (header_of r) ≡ r
+  made_here = rw (
+    replaced_here nat_cmp_total frozen_serial frozen_in number r.frozen (old.now.trees 28) (new.now.trees 28)
         has.frozen fits.frozen frozen_rows,
-    replaced_here nat_cmp_total carried_serial carried_in r.month r.carried (old.now.trees 18) (new.now.trees 18)
+    replaced_here nat_cmp_total carried_serial carried_in number r.carried (old.now.trees 30) (new.now.trees 30)
         has.carried fits.carried carried_rows,
-    replaced_here total-law (λ (l : Level). l.code) level_in r.month r.levels (old.now.trees 20) (new.now.trees 20)
+    replaced_here total-law (λ (l : Level). l.code) level_in number r.levels (old.now.trees 32) (new.now.trees 32)
         has.levels fits.levels level_rows,
   ) refl
 
-  made_here : from_tables new.now.trees (header_of r) ≡ r
-  made_here = made_first ∙ ap (λ n. record r { revision = n }) (sym fits.revision)
-
-  -- and of the other months what was
-  made_there : (h : Header) → Has (headers_in (old.now.trees 15)) h
+  -- and of the others what was
+  made_there : (h : Header) → Has (headers_in (old.now.trees 26)) h
       → from_tables new.now.trees h ≡ from_tables old.now.trees h
   made_there h there =
-      let apart = months_apart h there in
+      let n = release_number h.month h.revision in
+      let apart = numbers_apart h there in
       rw (
-        replaced_there nat_cmp_total frozen_serial frozen_in r.month r.frozen (old.now.trees 16) (new.now.trees 16)
-            has.frozen fits.frozen frozen_rows h.month apart,
-        replaced_there nat_cmp_total carried_serial carried_in r.month r.carried (old.now.trees 18) (new.now.trees 18)
-            has.carried fits.carried carried_rows h.month apart,
-        replaced_there total-law (λ (l : Level). l.code) level_in r.month r.levels (old.now.trees 20) (new.now.trees 20)
-            has.levels fits.levels level_rows h.month apart,
+        replaced_there nat_cmp_total frozen_serial frozen_in number r.frozen (old.now.trees 28) (new.now.trees 28)
+            has.frozen fits.frozen frozen_rows n apart,
+        replaced_there nat_cmp_total carried_serial carried_in number r.carried (old.now.trees 30) (new.now.trees 30)
+            has.carried fits.carried carried_rows n apart,
+        replaced_there total-law (λ (l : Level). l.code) level_in number r.levels (old.now.trees 32) (new.now.trees 32)
+            has.levels fits.levels level_rows n apart,
       ) refl
 
   releases_now : releases_in new.now.trees ≡ put release_cmp release_key r (releases_in old.now.trees)
   unfolding releases_in
   releases_now =
       ap (λ hs. map (from_tables new.now.trees) hs) headers_now
-      ∙ map_put nat_cmp (λ (h : Header). h.month) release_cmp release_key (from_tables old.now.trees)
-      (from_tables new.now.trees) (header_of r) r (headers_in (old.now.trees 15)) made_here
-      (λ h. first_order h.month r.month) made_there
+      ∙ map_put release_cmp header_key release_cmp release_key (from_tables old.now.trees)
+      (from_tables new.now.trees) (header_of r) r (headers_in (old.now.trees 26)) made_here
+      (λ h. refl) made_there
 
   releases_hold : HasReleases new.now.trees
   releases_hold = record {
     frozen_ids = w.frozen_ids;
     carried_ids = w.carried_ids;
     level_ids = w.level_ids;
-    releases = still_keyed nat_cmp_total (λ (h : Header). h.month) header_in (header_of r) (old.now.trees 15)
-        (new.now.trees 15)
+    releases = still_keyed release_total header_key header_in (header_of r) (old.now.trees 26) (new.now.trees 26)
         has.releases header_put;
-    frozen = replaced_keyed nat_cmp_total frozen_serial frozen_in r.month r.frozen (old.now.trees 16) (new.now.trees 16)
+    frozen = replaced_keyed nat_cmp_total frozen_serial frozen_in number r.frozen (old.now.trees 28) (new.now.trees 28)
         has.frozen fits.frozen frozen_rows;
-    carried = replaced_keyed nat_cmp_total carried_serial carried_in r.month r.carried (old.now.trees 18)
-        (new.now.trees 18)
+    carried = replaced_keyed nat_cmp_total carried_serial carried_in number r.carried (old.now.trees 30)
+        (new.now.trees 30)
         has.carried fits.carried carried_rows;
-    levels = replaced_keyed total-law (λ (l : Level). l.code) level_in r.month r.levels (old.now.trees 20)
-        (new.now.trees 20)
+    levels = replaced_keyed total-law (λ (l : Level). l.code) level_in number r.levels (old.now.trees 32)
+        (new.now.trees 32)
         has.levels fits.levels level_rows;
   }
 
@@ -176,14 +191,13 @@ written_done r fits old new has none w = record {
 
 -- ---- the steps, one after the other
 
-module _ (r : Release) (number : ℕ) (is : month_at number ≡ Some r.month) (frozen : List Frozen)
-    (carried : List Carried)
-    (levels : List Level) (at_frozen : frozen ≡ r.frozen) (at_carried : carried ≡ r.carried) (at_levels : levels ≡
-    r.levels)
+module _ (r : Release) (m v : ℕ) (is : month_at m ≡ Some r.month) (at_revision : v ≡ r.revision)
+    (frozen : List Frozen) (carried : List Carried) (levels : List Level) (at_frozen : frozen ≡ r.frozen)
+    (at_carried : carried ≡ r.carried) (at_levels : levels ≡ r.levels)
     (a b c d e : State) (one : IsHeaderStep (header_of r) a b)
-    (two : IsStep 16 (Replaces frozen_after number r.month frozen) b c)
-    (three : IsStep 18 (Replaces carried_after number r.month carried) c d)
-    (four : IsStep 20 (Replaces level_after number r.month levels) d e) where
+    (two : IsStep 28 (Replaces frozen_after m v (release_number r.month r.revision) frozen) b c)
+    (three : IsStep 30 (Replaces carried_after m v (release_number r.month r.revision) carried) c d)
+    (four : IsStep 32 (Replaces level_after m v (release_number r.month r.revision) levels) d e) where
   others_kept : SameBeside a.now.trees e.now.trees
   others_kept = record {
     collectors = four.others.collectors (λ n. absurd (omega (arith, n)))
@@ -210,44 +224,63 @@ module _ (r : Release) (number : ℕ) (is : month_at number ≡ Some r.month) (f
         ∙ two.others.quotes (λ n. absurd (omega (arith, n))) ∙ one.others.quotes (λ n. absurd (omega (arith, n)));
   }
 
-  headers_left : e.now.trees 15 ≡ b.now.trees 15
+  headers_left : e.now.trees 26 ≡ b.now.trees 26
   headers_left =
       four.others.releases (λ n. absurd (omega (arith, n))) ∙ three.others.releases (λ n. absurd (omega (arith, n)))
       ∙ two.others.releases (λ n. absurd (omega (arith, n)))
 
-  frozen_begun : b.now.trees 16 ≡ a.now.trees 16
+  frozen_begun : b.now.trees 28 ≡ a.now.trees 28
   frozen_begun = one.others.frozen (λ n. absurd (omega (arith, n)))
 
-  frozen_left : e.now.trees 16 ≡ c.now.trees 16
+  frozen_left : e.now.trees 28 ≡ c.now.trees 28
   frozen_left = four.others.frozen (λ n. absurd (omega (arith, n)))
       ∙ three.others.frozen (λ n. absurd (omega (arith, n)))
 
-  carried_begun : c.now.trees 18 ≡ a.now.trees 18
+  carried_begun : c.now.trees 30 ≡ a.now.trees 30
   carried_begun = two.others.carried (λ n. absurd (omega (arith, n)))
       ∙ one.others.carried (λ n. absurd (omega (arith, n)))
 
-  carried_left : e.now.trees 18 ≡ d.now.trees 18
+  carried_left : e.now.trees 30 ≡ d.now.trees 30
   carried_left = four.others.carried (λ n. absurd (omega (arith, n)))
 
-  levels_begun : d.now.trees 20 ≡ a.now.trees 20
+  levels_begun : d.now.trees 32 ≡ a.now.trees 32
   levels_begun =
       three.others.levels (λ n. absurd (omega (arith, n))) ∙ two.others.levels (λ n. absurd (omega (arith, n)))
       ∙ one.others.levels (λ n. absurd (omega (arith, n)))
 
+  -- of a list: what it was, and then what it is
+  abbrev Lists : {X : Type 0} → (Row → Option X) → ℕ → List X → List Row → List Row → Type 0
+  Lists from revision xs old new = Replaces from m revision (release_number r.month r.revision) xs old new
+
+  frozen_written : Lists frozen_after r.revision r.frozen (a.now.trees 28) (e.now.trees 28)
+  frozen_written =
+      subst (λ k. Lists frozen_after k r.frozen (a.now.trees 28) (e.now.trees 28)) at_revision
+      (subst (λ xs. Lists frozen_after v xs (a.now.trees 28) (e.now.trees 28)) at_frozen
+      (subst (Lists frozen_after v frozen (a.now.trees 28)) (sym frozen_left)
+      (subst (λ rows. Lists frozen_after v frozen rows (c.now.trees 28)) frozen_begun two.rows)))
+
+  carried_written : Lists carried_after r.revision r.carried (a.now.trees 30) (e.now.trees 30)
+  carried_written =
+      subst (λ k. Lists carried_after k r.carried (a.now.trees 30) (e.now.trees 30)) at_revision
+      (subst (λ xs. Lists carried_after v xs (a.now.trees 30) (e.now.trees 30)) at_carried
+      (subst (Lists carried_after v carried (a.now.trees 30)) (sym carried_left)
+      (subst (λ rows. Lists carried_after v carried rows (d.now.trees 30)) carried_begun three.rows)))
+
+  levels_written : Lists level_after r.revision r.levels (a.now.trees 32) (e.now.trees 32)
+  levels_written =
+      subst (λ k. Lists level_after k r.levels (a.now.trees 32) (e.now.trees 32)) at_revision
+      (subst (λ xs. Lists level_after v xs (a.now.trees 32) (e.now.trees 32)) at_levels
+      (subst (λ rows. Lists level_after v levels rows (e.now.trees 32)) levels_begun four.rows))
+
   pub steps_written : IsWritten r a e
   steps_written = record {
     schema = four.schema;
-    number = number;
+    number = m;
     month = is;
-    header = subst (AddsHeader (header_of r) (a.now.trees 15)) (sym headers_left) one.rows;
-    frozen = subst (λ xs. Replaces frozen_after number r.month xs (a.now.trees 16) (e.now.trees 16)) at_frozen
-        (subst (Replaces frozen_after number r.month frozen (a.now.trees 16)) (sym frozen_left)
-        (subst (λ rows. Replaces frozen_after number r.month frozen rows (c.now.trees 16)) frozen_begun two.rows));
-    carried = subst (λ xs. Replaces carried_after number r.month xs (a.now.trees 18) (e.now.trees 18)) at_carried
-        (subst (Replaces carried_after number r.month carried (a.now.trees 18)) (sym carried_left)
-        (subst (λ rows. Replaces carried_after number r.month carried rows (d.now.trees 18)) carried_begun three.rows));
-    levels = subst (λ xs. Replaces level_after number r.month xs (a.now.trees 20) (e.now.trees 20)) at_levels
-        (subst (λ rows. Replaces level_after number r.month levels rows (e.now.trees 20)) levels_begun four.rows);
+    header = subst (AddsHeader (header_of r) (a.now.trees 26)) (sym headers_left) one.rows;
+    frozen = frozen_written;
+    carried = carried_written;
+    levels = levels_written;
     frozen_ids = subst HasRowids (sym frozen_left) two.rowids;
     carried_ids = subst HasRowids (sym carried_left) three.rowids;
     level_ids = four.rowids;
@@ -262,7 +295,8 @@ pub release_survives : (r : Release) (a begun b c : State) → begun.now ≡ a.n
     → row_at release_cmp release_key (r.month, r.revision) (releases_in begun.now.trees) ≡ None
     → IsDone (Freezes r) (outside begun) (outside b))
     → Survives b c (λ db. db ≡ b.now.trees)
-    → Survives a c (λ db. HasTables a → row_at release_cmp release_key (r.month, r.revision) (releases_in a.now.trees) ≡ None
+    → Survives a c (λ db. HasTables a → row_at release_cmp release_key (r.month, r.revision) (releases_in a.now.trees)
+    ≡ None
     → office_in db ≡ changed (Freezes r) (office_in a.now.trees))
 release_survives r a begun b c start one done two =
     survives_then a b c _ _ _ (λ _ db no. absurd no)
@@ -273,6 +307,7 @@ release_survives r a begun b c start one done two =
     ap office_in is ∙ put.office ∙ ap (λ (d : Database). changed (Freezes r) (office_in d.trees)) start) one two
 
 pub unwritten_survives : (r : Release) (a b c : State) → Survives a b (λ _. ⊥) → Survives b c (λ _. ⊥)
-    → Survives a c (λ db. HasTables a → row_at release_cmp release_key (r.month, r.revision) (releases_in a.now.trees) ≡ None
+    → Survives a c (λ db. HasTables a → row_at release_cmp release_key (r.month, r.revision) (releases_in a.now.trees)
+    ≡ None
     → office_in db ≡ changed (Freezes r) (office_in a.now.trees))
 unwritten_survives r a b c one two = survives_then a b c _ _ _ (λ _ db no. absurd no) (λ _ db no. absurd no) one two

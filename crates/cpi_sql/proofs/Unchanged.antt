@@ -19,12 +19,12 @@ others_same tree old done new at h = record {
   nodes = λ apart. at 6 ∙ h.1.1.1.1.0 (λ e. absurd (apart (sym e)));
   places = λ apart. at 8 ∙ h.1.1.1.1.1.0 (λ e. absurd (apart (sym e)));
   calendar = λ apart. at 10 ∙ h.1.1.1.1.1.1.0 (λ e. absurd (apart (sym e)));
-  assignments = λ apart. at 11 ∙ h.1.1.1.1.1.1.1.0 (λ e. absurd (apart (sym e)));
-  quotes = λ apart. at 13 ∙ h.1.1.1.1.1.1.1.1.0 (λ e. absurd (apart (sym e)));
-  releases = λ apart. at 15 ∙ h.1.1.1.1.1.1.1.1.1.0 (λ e. absurd (apart (sym e)));
-  frozen = λ apart. at 16 ∙ h.1.1.1.1.1.1.1.1.1.1.0 (λ e. absurd (apart (sym e)));
-  carried = λ apart. at 18 ∙ h.1.1.1.1.1.1.1.1.1.1.1.0 (λ e. absurd (apart (sym e)));
-  levels = λ apart. at 20 ∙ h.1.1.1.1.1.1.1.1.1.1.1.1.0 (λ e. absurd (apart (sym e)));
+  assignments = λ apart. at 22 ∙ h.1.1.1.1.1.1.1.1.1.1.1.1.1.0 (λ e. absurd (apart (sym e)));
+  quotes = λ apart. at 24 ∙ h.1.1.1.1.1.1.1.1.1.1.1.1.1.1.0 (λ e. absurd (apart (sym e)));
+  releases = λ apart. at 26 ∙ h.1.1.1.1.1.1.1.1.1.1.1.1.1.1.1.0 (λ e. absurd (apart (sym e)));
+  frozen = λ apart. at 28 ∙ h.1.1.1.1.1.1.1.1.1.1.1.1.1.1.1.1.0 (λ e. absurd (apart (sym e)));
+  carried = λ apart. at 30 ∙ h.1.1.1.1.1.1.1.1.1.1.1.1.1.1.1.1.1.0 (λ e. absurd (apart (sym e)));
+  levels = λ apart. at 32 ∙ h.1.1.1.1.1.1.1.1.1.1.1.1.1.1.1.1.1.1.0 (λ e. absurd (apart (sym e)));
 }
 
 pub same_plans : (old new : Trees) → new 6 ≡ old 6 → new 8 ≡ old 8 → HasPlans old → HasPlans new
@@ -38,21 +38,21 @@ same_plans old new nodes places h = record {
 -- ---- releases
 
 pub record SameReleases (old new : Trees) : Type 0 where
-  pub releases : new 15 ≡ old 15
-  pub frozen : new 16 ≡ old 16
-  pub carried : new 18 ≡ old 18
-  pub levels : new 20 ≡ old 20
+  pub releases : new 26 ≡ old 26
+  pub frozen : new 28 ≡ old 28
+  pub carried : new 30 ≡ old 30
+  pub levels : new 32 ≡ old 32
 
-before : (tree n : ℕ) → nat_lt tree 15 ≡ true → 15 ≤ n → tree ≢ n
+before : (tree n : ℕ) → nat_lt tree 26 ≡ true → 26 ≤ n → tree ≢ n
 before tree n less more e = grind (arith, nat_tests)
 
 -- a statement on a table before theirs leaves them
-pub releases_after : (tree : ℕ) (old new : Trees) → nat_lt tree 15 ≡ true → SameBut tree old new → SameReleases old new
+pub releases_after : (tree : ℕ) (old new : Trees) → nat_lt tree 26 ≡ true → SameBut tree old new → SameReleases old new
 releases_after tree old new less others = record {
-  releases = others.releases (before tree 15 less (omega arith));
-  frozen = others.frozen (before tree 16 less (omega arith));
-  carried = others.carried (before tree 18 less (omega arith));
-  levels = others.levels (before tree 20 less (omega arith));
+  releases = others.releases (before tree 26 less (omega arith));
+  frozen = others.frozen (before tree 28 less (omega arith));
+  carried = others.carried (before tree 30 less (omega arith));
+  levels = others.levels (before tree 32 less (omega arith));
 }
 
 pub same_releases : (old new : Trees) → SameReleases old new → releases_in new ≡ releases_in old

@@ -1,10 +1,10 @@
 -- The row of `version` in tables that hold nothing.
-use Rattle.std.proofs.Common.{◌≡◌, ◌≢◌, ◌⊎◌, inl, inr, ℕ, pos, List, [], ◌∷◌, false, Some, None, Ok, refl, sym}
-use Rattle.std.proofs.Common.{ap, subst, ◌∙◌, arith}
+use Rattle.std.proofs.Common.{◌≡◌, inl, inr, ℕ, pos, List, [], ◌∷◌, None, Ok, refl}
+use Rattle.std.proofs.Common.{ap, ◌∙◌, arith}
 use Rattle.sqlite.specs.declared.types.Value.TheVariants.{Null, Int}
 use Rattle.sqlite.specs.Order.{Row}
 use Rattle.sqlite.specs.Tree.{Trees, put_row}
-use Rattle.sqlite.specs.Edit.{edit_of, edited, Applies}
+use Rattle.sqlite.specs.Edit.{edit_of, edited}
 use Rattle.sqlite.specs.Rowids.TheVariants.{Chosen}
 use Rattle.sqlite.specs.Source.TheVariants.{Values}
 use Rattle.sqlite.specs.Term.{lit}
@@ -24,7 +24,7 @@ use Rattle.cpi_sql.proofs.Writing as writing
 use Rattle.cpi_sql.proofs.Writing.{went, same_value, cast_int, cast_null}
 
 abbrev pub version_row : Row
-version_row = Int (pos 1) ∷ Null ∷ []
+version_row = Int (pos 2) ∷ Null ∷ []
 
 pub record AddsVersion (old : Trees) (after : Database) : Type 0 where
   pub schema : after.schema ≡ office_schema
@@ -41,10 +41,10 @@ version_added limit s₀ db text tally after does =
     let it = version in
     let edit = edit_of db it [] Chosen 0 (source ∷ []) in
     let applied = writing.insert_one limit (mode_of s₀).keys office_schema it.name it.tree it.columns it.key
-    it.primary it.uniques it.orders it.references [] (Values (lit (Int (pos 1)) ∷ lit Null ∷ []) 2) source db
+    it.primary it.uniques it.orders it.references [] (Values (lit (Int (pos 2)) ∷ lit Null ∷ []) 2) source db
     done.0 (λ rows h. h.1) done.1 in
     let at : (tree : ℕ) → after.trees tree ≡ done.0.trees tree = λ tree. ap (λ (d : Database). d.trees tree) now in
-    let is : edited db edit ≡ put_row version_row (db 0) = rw (cast_null, cast_int (pos 1)) refl in
+    let is : edited db edit ≡ put_row version_row (db 0) = rw (cast_null, cast_int (pos 2)) refl in
     record {
       schema = ap (λ (d : Database). d.schema) now;
       rows = at 0 ∙ applied.rows ∙ is;
@@ -69,10 +69,10 @@ version_ran old new count start ran =
       nodes = others.nodes (λ e. absurd (omega (arith, e))) ∙ start.empty.1.1.1.1.0;
       places = others.places (λ e. absurd (omega (arith, e))) ∙ start.empty.1.1.1.1.1.0;
       calendar = others.calendar (λ e. absurd (omega (arith, e))) ∙ start.empty.1.1.1.1.1.1.0;
-      assignments = others.assignments (λ e. absurd (omega (arith, e))) ∙ start.empty.1.1.1.1.1.1.1.0;
-      quotes = others.quotes (λ e. absurd (omega (arith, e))) ∙ start.empty.1.1.1.1.1.1.1.1.0;
-      releases = others.releases (λ e. absurd (omega (arith, e))) ∙ start.empty.1.1.1.1.1.1.1.1.1.0;
-      frozen = others.frozen (λ e. absurd (omega (arith, e))) ∙ start.empty.1.1.1.1.1.1.1.1.1.1.0;
-      carried = others.carried (λ e. absurd (omega (arith, e))) ∙ start.empty.1.1.1.1.1.1.1.1.1.1.1.0;
-      levels = others.levels (λ e. absurd (omega (arith, e))) ∙ start.empty.1.1.1.1.1.1.1.1.1.1.1.1.0;
+      assignments = others.assignments (λ e. absurd (omega (arith, e))) ∙ start.empty.1.1.1.1.1.1.1.1.1.1.1.1.1.0;
+      quotes = others.quotes (λ e. absurd (omega (arith, e))) ∙ start.empty.1.1.1.1.1.1.1.1.1.1.1.1.1.1.0;
+      releases = others.releases (λ e. absurd (omega (arith, e))) ∙ start.empty.1.1.1.1.1.1.1.1.1.1.1.1.1.1.1.0;
+      frozen = others.frozen (λ e. absurd (omega (arith, e))) ∙ start.empty.1.1.1.1.1.1.1.1.1.1.1.1.1.1.1.1.0;
+      carried = others.carried (λ e. absurd (omega (arith, e))) ∙ start.empty.1.1.1.1.1.1.1.1.1.1.1.1.1.1.1.1.1.0;
+      levels = others.levels (λ e. absurd (omega (arith, e))) ∙ start.empty.1.1.1.1.1.1.1.1.1.1.1.1.1.1.1.1.1.1.0;
     }

@@ -1,11 +1,10 @@
 -- What the statements show that read a small table whole.
-use Rattle.std.proofs.Common.{◌≡◌, ℕ, List, [], ◌∷◌, true, false, None, Some, Option, Result, Ok, Err, IfOk}
-use Rattle.std.proofs.Common.{refl, sym, ap, subst, ◌∙◌}
+use Rattle.std.proofs.Common.{◌≡◌, ℕ, List, [], ◌∷◌, true, Result, Ok, Err, IfOk}
+use Rattle.std.proofs.Common.{refl, sym, subst}
 use Rattle.std.specs.Ordering.{nat_cmp}
 use Rattle.std.proofs.lemmas.Cmp.{nat_cmp_total}
 use Rattle.sqlite.specs.declared.types.Value.TheVariants.{Null}
 use Rattle.sqlite.specs.Order.{Row, column}
-use Rattle.sqlite.specs.Tree.{Trees}
 use Rattle.sqlite.specs.Program.{overlay}
 use Rattle.sqlite.specs.Term.{Term}
 use Rattle.sqlite.specs.Listing.{understood}
@@ -14,9 +13,8 @@ use Rattle.sqlite.proofs.StateLemmas.{survives_weaker}
 use Rattle.sqlite.proofs.Callers.{IsPlain, reads_as, never_commits}
 use Rattle.cpi_rows.specs.Keyed.{IsInOrder}
 use Rattle.cpi_sql.specs.Tables.{office_schema}
-use Rattle.cpi_sql.specs.Texts.{select, columns, by_columns, whole_query, bearers_text, bearers_command}
-use Rattle.cpi_sql.specs.Texts.{outlets_text, outlets_command, items_text, items_command, calendar_text}
-use Rattle.cpi_sql.specs.Texts.{calendar_command}
+use Rattle.cpi_sql.specs.Texts.{select, columns, by_columns, bearers_text}
+use Rattle.cpi_sql.specs.Texts.{outlets_text, items_text, calendar_text}
 use Rattle.cpi_sql.specs.Read.{AreRead}
 use Rattle.cpi_sql.specs.Lists.{bearer_from, outlet_from, item_of, calendar_from, collector_in, outlet_in}
 use Rattle.cpi_sql.specs.Lists.{item_in, calendar_in, collectors_in, outlets_in, items_in, calendar_rows_in}

@@ -1,12 +1,16 @@
 pub mod Tables
 pub mod Lists
+pub mod FirstSchema
 pub mod Texts
 pub mod Read
 pub mod Shelf
 pub mod Numbered
+pub mod Said
 pub mod Making
 pub mod Steps
 pub mod Finding
+pub mod CopyTexts
+pub mod Copies
 pub mod MonthRows
 pub mod LevelTables
 pub mod ReleaseRows

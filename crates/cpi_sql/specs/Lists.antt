@@ -1,7 +1,7 @@
--- The lists of the office that the rows of the tables stand for.
-use Rattle.std.specs.Prelude.{◌≡◌, ℕ, zero, suc, ◌+◌, ◌/◌, ◌%◌, ◌&&◌, ◌==◌, ℤ, map, filter_map, pos, negsuc}
+-- The lists of the office that the rows of the tables of schema 2 stand for.
+use Rattle.std.specs.Prelude.{◌≡◌, ℕ, zero, suc, ◌+◌, ◌*◌, ◌/◌, ◌%◌, ◌&&◌, ◌==◌, ℤ, map, filter_map, pos, negsuc}
 use Rattle.std.specs.Prelude.{Bool, true, false, if◌then◌else◌, nat_le, nat_lt, bytes_eq, List, [], ◌∷◌, codes}
-use Rattle.std.specs.Prelude.{Option, Some, None, Result, Ok, Err}
+use Rattle.std.specs.Prelude.{Option, Some, None, is_none, Result, Ok, Err}
 use Rattle.std.specs.declared.cmp.Ordering.{Ordering}
 use Rattle.std.specs.Ordering.{nat_cmp}
 use Rattle.sqlite.specs.declared.types.Value.{Value}
@@ -15,6 +15,7 @@ use Rattle.cpi_codes.specs.Key.{key_of}
 use Rattle.cpi_codes.specs.ItemCode.{item_code_of}
 use Rattle.cpi_codes.specs.Month.{month_in}
 use Rattle.cpi_codes.specs.Name.{is_name}
+use Rattle.cpi_codes.specs.declared.series.SeriesId.{SeriesId}
 use Rattle.cpi_plan.specs.declared.items.Item.{Item}
 use Rattle.cpi_plan.specs.Plan.{Plan}
 use Rattle.cpi_plan.specs.Stored.{plan_from, is_whole}
@@ -37,6 +38,7 @@ use Rattle.cpi_index.specs.Carried.{Carried}
 use Rattle.cpi_index.specs.Series.{frozen_serial, carried_serial}
 use Rattle.cpi_release.specs.declared.level.Level.{Level}
 use Rattle.cpi_release.specs.declared.release.Release.{Release}
+use Rattle.cpi_release.specs.FrozenMonths.{ReleaseKey, release_cmp}
 use Rattle.std.specs.List.{slice_split}
 use Rattle.cpi_sql.specs.declared.release_rows.Header.{Header}
 
@@ -56,6 +58,14 @@ text_in (Int n) = None
 text_in Null = None
 text_in (Real x) = None
 text_in (Blob b) = None
+
+-- a whole number, or NULL where there is none
+abbrev pub whole_or_none : Value → Option (Option ℤ)
+whole_or_none Null = Some None
+whole_or_none (Int z) = Some (Some z)
+whole_or_none (Real x) = None
+whole_or_none (Text t) = None
+whole_or_none (Blob b) = None
 
 abbrev pub and_then : {A B : Type 0} → Option A → (A → Option B) → Option B
 and_then None f = None
@@ -128,24 +138,31 @@ calendar_from month opens closes publishes =
 abbrev pub calendar_in : Row → Option CalendarPart
 calendar_in r = calendar_from (column r 0) (column r 2) (column r 3) (column r 4)
 
--- the series is the slot's own
-abbrev pub assignment_from : Value → Value → Value → Value → Value → Value → Option Assignment
-assignment_from number slot outlet item first last =
+-- the series of a slot that took none over: its own, with no price copied. A slot that continues another's series
+-- stands for nothing yet
+abbrev pub own_series : ℕ → ℕ → Value → Value → Value → Option SeriesId
+own_series number slot series_collector series_slot copied =
+    and_then (ranged 1 9999 series_collector) (λ c. and_then (ranged 1 400 series_slot) (λ s.
+    and_then (whole_or_none copied) (λ p.
+    if c == number && (s == slot && is_none p) then Some (record { collector = number; slot = slot }) else None)))
+
+abbrev pub assignment_from : Value → Value → Value → Value → Value → Value → Value → Value → Value → Option Assignment
+assignment_from number slot outlet item first last series_collector series_slot copied =
     and_then (ranged 1 9999 number)
     (λ n. and_then (ranged 1 400 slot) (λ s. and_then (ranged 1 999999 outlet) (λ o. and_then (item_from item) (λ i.
     and_then (month_from first) (λ f. and_then (month_from last) (λ l.
-    Some (record {
+    and_then (own_series n s series_collector series_slot copied) (λ own. Some (record {
       slot = s;
       outlet = o;
       item = i;
       first_month = f;
       last_month = l;
-      series = record { collector = n; slot = s };
-    })))))))
+      series = own;
+    }))))))))
 
 abbrev pub assignment_in : Row → Option (ℕ × Assignment)
 assignment_in r = and_then (assignment_from (column r 1) (column r 2) (column r 3) (column r 4) (column r 5)
-    (column r 6)) (λ a. Some (a.series.collector, a))
+    (column r 6) (column r 7) (column r 8) (column r 9)) (λ a. Some (a.series.collector, a))
 
 -- a mark by its word and its value
 abbrev pub mark_from : List ℕ → ℕ → Option Mark
@@ -183,6 +200,7 @@ shown_quote x = and_then (ranged 1 9999 (column x 0))
 
 abbrev pub shown_assignment : Row → Option Assignment
 shown_assignment x = assignment_from (column x 0) (column x 1) (column x 2) (column x 3) (column x 4) (column x 5)
+    (column x 6) (column x 7) (column x 8)
 
 abbrev pub quote_in : Row → Option (ℕ × QuoteRow)
 quote_in r = and_then (ranged 1 9999 (column r 1))
@@ -297,14 +315,6 @@ change_in (Real x) = None
 change_in (Text t) = None
 change_in (Blob b) = None
 
--- NULL is no change
-abbrev pub change_or_none : Value → Option (Option ℤ)
-change_or_none Null = Some None
-change_or_none (Int z) = Some (Some z)
-change_or_none (Real x) = None
-change_or_none (Text t) = None
-change_or_none (Blob b) = None
-
 -- what all of them stand for, if each stands for something
 abbrev pub each_of : {X Y : Type 0} → (X → Option Y) → List X → Option (List Y)
 each_of f [] = Some []
@@ -318,14 +328,30 @@ codes_of (b ∷ text) = each_of code_of (slice_split (λ x. x == 32) (b ∷ text
 abbrev pub codes_from : Value → Option (List Code)
 codes_from v = and_then (text_in v) codes_of
 
-abbrev pub header_from : Value → Value → Value → Value → Option Header
-header_from month frozen_at publishes carry =
-    and_then (month_from month) (λ m. and_then (ranged 0 9999999999 frozen_at) (λ f.
-    and_then (ranged 0 9999999999 publishes) (λ p. and_then (codes_from carry) (λ c.
-    Some (record { month = m; frozen_at = f; publishes = p; carry = c })))))
+abbrev pub revision_from : Value → Option ℕ
+revision_from v = ranged 1 9 v
+
+abbrev pub header_from : Value → Value → Value → Value → Value → Option Header
+header_from month revision frozen_at publishes carry =
+    and_then (month_from month) (λ m. and_then (revision_from revision) (λ v.
+    and_then (ranged 0 9999999999 frozen_at) (λ f. and_then (ranged 0 9999999999 publishes) (λ p.
+    and_then (codes_from carry) (λ c.
+    Some (record { month = m; revision = v; frozen_at = f; publishes = p; carry = c }))))))
 
 abbrev pub header_in : Row → Option Header
-header_in r = header_from (column r 0) (column r 2) (column r 3) (column r 4)
+header_in r = header_from (column r 1) (column r 2) (column r 3) (column r 4) (column r 5)
+
+-- what a header is listed by: its month, and then its revision
+abbrev pub header_key : Header → ReleaseKey
+header_key h = (h.month, h.revision)
+
+-- the number of a release: that of its month, and then the digit of its revision
+abbrev pub release_number : ℕ → ℕ → ℕ
+release_number month revision = 10 * month + revision
+
+abbrev pub release_from_key : Value → Value → Option ℕ
+release_from_key month revision =
+    and_then (month_from month) (λ m. and_then (revision_from revision) (λ v. Some (release_number m v)))
 
 abbrev pub frozen_from : Value → Value → Value → Value → Value → Value → Option Frozen
 frozen_from number slot item last mark value =
@@ -333,11 +359,11 @@ frozen_from number slot item last mark value =
     and_then (month_from last) (λ l. and_then (mark_in mark value) (λ k.
     Some (record { series = record { collector = n; slot = s }; item = i; last_month = l; mark = k }))))))
 
--- beside their month
+-- beside the number of their release
 abbrev pub frozen_in : Row → Option (ℕ × Frozen)
-frozen_in r = and_then (month_from (column r 1)) (λ m.
-    and_then (frozen_from (column r 2) (column r 3) (column r 4) (column r 5) (column r 6) (column r 7))
-    (λ q. Some (m, q)))
+frozen_in r = and_then (release_from_key (column r 1) (column r 2)) (λ n.
+    and_then (frozen_from (column r 3) (column r 4) (column r 5) (column r 6) (column r 7) (column r 8))
+    (λ q. Some (n, q)))
 
 -- the price and its scale, within their limits
 pub record Priced : Type 0 where
@@ -366,15 +392,15 @@ carried_from number slot item last ticks knum kden observed imputed =
     }))))))))
 
 abbrev pub carried_in : Row → Option (ℕ × Carried)
-carried_in r = and_then (month_from (column r 1)) (λ m.
-    and_then (carried_from (column r 2) (column r 3) (column r 4) (column r 5) (column r 6) (column r 7) (column r 8)
-    (column r 9) (column r 10)) (λ c. Some (m, c)))
+carried_in r = and_then (release_from_key (column r 1) (column r 2)) (λ n.
+    and_then (carried_from (column r 3) (column r 4) (column r 5) (column r 6) (column r 7) (column r 8) (column r 9)
+    (column r 10) (column r 11)) (λ c. Some (n, c)))
 
 abbrev pub level_from : Value → Value → Value → Value → Value → Value → Value → Value → Option Level
 level_from code title weight within chained month_change year_change imputed =
     and_then (code_from code) (λ c. and_then (name_from title) (λ t. and_then (number_in weight) (λ w.
     and_then (ranged 1 10000000000000 within) (λ i. and_then (ranged 1 1000000000000000 chained) (λ l.
-    and_then (change_in month_change) (λ m. and_then (change_or_none year_change) (λ y.
+    and_then (change_in month_change) (λ m. and_then (whole_or_none year_change) (λ y.
     and_then (flag_in imputed) (λ u. Some (record {
       code = c;
       title = t;
@@ -387,40 +413,40 @@ level_from code title weight within chained month_change year_change imputed =
     })))))))))
 
 abbrev pub level_in : Row → Option (ℕ × Level)
-level_in r = and_then (month_from (column r 1)) (λ m.
-    and_then (level_from (column r 2) (column r 3) (column r 4) (column r 5) (column r 6) (column r 7) (column r 8)
-    (column r 9)) (λ l. Some (m, l)))
+level_in r = and_then (release_from_key (column r 1) (column r 2)) (λ n.
+    and_then (level_from (column r 3) (column r 4) (column r 5) (column r 6) (column r 7) (column r 8) (column r 9)
+    (column r 10)) (λ l. Some (n, l)))
 
 abbrev pub headers_in : List Row → List Header
-headers_in rows = listed nat_cmp (λ h. h.month) header_in rows
+headers_in rows = listed release_cmp header_key header_in rows
 
--- beside their months, by month and series
+-- beside the numbers of their releases, by release and series
 abbrev pub frozens_in : List Row → List (ℕ × Frozen)
 frozens_in rows = listed (held_cmp nat_cmp) (held_key frozen_serial) frozen_in rows
 
 abbrev pub carrieds_in : List Row → List (ℕ × Carried)
 carrieds_in rows = listed (held_cmp nat_cmp) (held_key carried_serial) carried_in rows
 
--- by month and code
+-- by release and code
 abbrev pub levels_in : List Row → List (ℕ × Level)
 levels_in rows = listed (held_cmp code_cmp) (held_key (λ l. l.code)) level_in rows
 
--- the release of a header, with what stands beside its month: a database holds the first revision alone
+-- the release of a header, with what stands beside its number
 abbrev pub release_from : List (ℕ × Frozen) → List (ℕ × Carried) → List (ℕ × Level) → Header → Release
 release_from frozen carried levels h = record {
   month = h.month;
-  revision = 1;
+  revision = h.revision;
   frozen_at = h.frozen_at;
   publishes = h.publishes;
-  frozen = held_by h.month frozen;
+  frozen = held_by (release_number h.month h.revision) frozen;
   carry = h.carry;
-  carried = held_by h.month carried;
-  levels = held_by h.month levels;
+  carried = held_by (release_number h.month h.revision) carried;
+  levels = held_by (release_number h.month h.revision) levels;
 }
 
 unfoldable pub releases_in : Trees → List Release
 releases_in trees =
-    map (release_from (frozens_in (trees 16)) (carrieds_in (trees 18)) (levels_in (trees 20))) (headers_in (trees 15))
+    map (release_from (frozens_in (trees 28)) (carrieds_in (trees 30)) (levels_in (trees 32))) (headers_in (trees 26))
 
 abbrev pub office_in : Trees → Office
 office_in trees = record {
@@ -429,7 +455,7 @@ office_in trees = record {
   calendar = calendar_rows_in (trees 10);
   collectors = collectors_in (trees 1);
   outlets = outlets_in (trees 3);
-  assignments = assignments_in (trees 11);
-  quotes = quotes_in (trees 13);
+  assignments = assignments_in (trees 22);
+  quotes = quotes_in (trees 24);
   releases = releases_in trees;
 }

@@ -1,6 +1,5 @@
--- What a CREATE TABLE of the office does.
-use Rattle.std.specs.Prelude.{◌≡◌, ℕ, Bool, false, List, [], ◌∷◌, ◌++◌, codes, Ok, Err, None, Result, IsTrue}
-use Rattle.sqlite.specs.Command.{Command}
+-- What the CREATE TABLEs of the office do.
+use Rattle.std.specs.Prelude.{◌≡◌, ℕ, false, List, [], ◌∷◌, Ok, None, IsTrue}
 use Rattle.sqlite.specs.Command.TheVariants.{CreateTable}
 use Rattle.sqlite.specs.Table.{Table}
 use Rattle.sqlite.specs.Schema.{Schema}
@@ -12,11 +11,12 @@ use Rattle.sqlite.specs.Does.{lacks_sequence}
 use Rattle.sqlite.specs.State.{State, text_of}
 use Rattle.std.specs.List.{AllByRecursion}
 use Rattle.sqlite.specs.Tree.{Trees}
-use Rattle.cpi_sql.specs.Numbered.{IsOne}
+use Rattle.cpi_sql.specs.Numbered.{IsVersion}
 use Rattle.cpi_store.specs.Office.{empty_office}
 use Rattle.cpi_sql.specs.Lists.{office_in}
 use Rattle.cpi_sql.specs.Tables.{office_schema, version, collector, outlet, item, node, plan_item, calendar}
-use Rattle.cpi_sql.specs.Tables.{assignment, quote, release, frozen, carried}
+use Rattle.cpi_sql.specs.Tables.{assignment, quote, release, frozen, carried, level}
+use Rattle.cpi_sql.specs.Tables.{assignment_2, quote_2, release_2, frozen_2, carried_2, level_2, plan_ref}
 
 abbrev pub no_schema : Schema
 no_schema = record { tables = []; indexes = []; views = [] }
@@ -31,16 +31,25 @@ pub record Makes (schema : Schema) (text : List ℕ) (table : Table) : Type 0 wh
   pub defined : table_defined_by text ≡ Ok table
   pub counted : lacks_sequence (created schema table) ≡ false
 
--- the table is there and empty, and the others are as they were
-pub record IsMade (schema : Schema) (table : Table) (old new : State) : Type 0 where
-  pub inside : IsTrue new.in_transaction
-  pub tables : new.now.schema ≡ created schema table
-  pub empty : new.now.trees (next_tree schema) ≡ []
-  pub others : KeepsRows schema.tables old.now.trees new.now.trees
-
 -- each of the tables holds nothing
 abbrev pub AreEmpty : List Table → Trees → Type 0
 AreEmpty tables trees = AllByRecursion (λ t. trees t.tree ≡ []) tables
+
+-- as it stands behind the tables of the schema
+abbrev pub placed : Schema → Table → Table
+placed schema table = record table { tree = next_tree schema }
+
+-- behind the tables of the one schema stand these, which hold nothing, and the others are as they were
+pub record AreMade (from to : Schema) (tables : List Table) (old new : State) : Type 0 where
+  pub inside : IsTrue new.in_transaction
+  pub schema : new.now.schema ≡ to
+  pub empty : AreEmpty tables new.now.trees
+  pub others : KeepsRows from.tables old.now.trees new.now.trees
+
+-- where the one schema is, within a transaction, these tables are made
+abbrev pub MakesTables : Schema → Schema → List Table → State → State → Type 0
+MakesTables from to tables old new =
+    IsTrue old.in_transaction → old.now.schema ≡ from → AreMade from to tables old new
 
 -- the tables are there, within a transaction, and hold nothing
 pub record HasEmpty (schema : Schema) (s : State) : Type 0 where
@@ -51,19 +60,19 @@ pub record HasEmpty (schema : Schema) (s : State) : Type 0 where
 -- the tables of an office are there, and hold nothing but the number of their schema
 pub record IsBlank (s : State) : Type 0 where
   pub schema : s.now.schema ≡ office_schema
-  pub version : IsOne (s.now.trees 0)
+  pub version : IsVersion 2 (s.now.trees 0)
   pub collectors : s.now.trees 1 ≡ []
   pub outlets : s.now.trees 3 ≡ []
   pub items : s.now.trees 4 ≡ []
   pub nodes : s.now.trees 6 ≡ []
   pub places : s.now.trees 8 ≡ []
   pub calendar : s.now.trees 10 ≡ []
-  pub assignments : s.now.trees 11 ≡ []
-  pub quotes : s.now.trees 13 ≡ []
-  pub releases : s.now.trees 15 ≡ []
-  pub frozen : s.now.trees 16 ≡ []
-  pub carried : s.now.trees 18 ≡ []
-  pub levels : s.now.trees 20 ≡ []
+  pub assignments : s.now.trees 22 ≡ []
+  pub quotes : s.now.trees 24 ≡ []
+  pub releases : s.now.trees 26 ≡ []
+  pub frozen : s.now.trees 28 ≡ []
+  pub carried : s.now.trees 30 ≡ []
+  pub levels : s.now.trees 32 ≡ []
 
 -- the rows are those of an office that holds nothing
 unfoldable pub HoldsNothing : Trees → Type 0
@@ -105,3 +114,28 @@ stage_11 = created stage_10 frozen
 
 abbrev pub stage_12 : Schema
 stage_12 = created stage_11 carried
+
+abbrev pub stage_13 : Schema
+stage_13 = created stage_12 level
+
+abbrev pub stage_14 : Schema
+stage_14 = created stage_13 assignment_2
+
+abbrev pub stage_15 : Schema
+stage_15 = created stage_14 quote_2
+
+abbrev pub stage_16 : Schema
+stage_16 = created stage_15 release_2
+
+abbrev pub stage_17 : Schema
+stage_17 = created stage_16 frozen_2
+
+abbrev pub stage_18 : Schema
+stage_18 = created stage_17 carried_2
+
+abbrev pub stage_19 : Schema
+stage_19 = created stage_18 level_2
+
+-- what schema 2 adds
+abbrev pub second_tables : List Table
+second_tables = assignment_2 ∷ quote_2 ∷ release_2 ∷ frozen_2 ∷ carried_2 ∷ level_2 ∷ plan_ref ∷ []

@@ -33,7 +33,8 @@ join_query first second terms project order = record {
 abbrev pub month_rows_text : List ℕ
 month_rows_text =
     codes "SELECT a.collector, a.slot, a.outlet, a.item, a.first_month, a.last_month, "
-    ++ codes "q.collector, q.slot, q.month, q.mark, q.value, q.receipt FROM assignment AS a JOIN quote AS q "
+    ++ codes "a.series_collector, a.series_slot, a.copied, "
+    ++ codes "q.collector, q.slot, q.month, q.mark, q.value, q.receipt FROM assignment_2 AS a JOIN quote_2 AS q "
     ++ codes "ON q.collector = a.collector AND q.slot = a.slot AND q.month = ?1 ORDER BY a.collector, a.slot"
 
 -- the quote is in the assignment's slot, and of the month
@@ -46,19 +47,21 @@ of_month =
 abbrev pub both_shown : List Term
 both_shown =
     col 1 1 ∷ col 1 2 ∷ col 1 3 ∷ col 1 4 ∷ col 1 5 ∷ col 1 6
+    ∷ col 1 7 ∷ col 1 8 ∷ col 1 9
     ∷ col 2 1 ∷ col 2 2 ∷ col 2 3 ∷ col 2 4 ∷ col 2 5 ∷ col 2 6 ∷ []
 
 abbrev pub month_rows_command : Command
 month_rows_command =
-    Select (record { lets = []; body = join_query 11 13 of_month both_shown (by_columns (1 ∷ 2 ∷ [])) })
+    Select (record { lets = []; body = join_query 22 24 of_month both_shown (by_columns (1 ∷ 2 ∷ [])) })
     (codes "collector" ∷ codes "slot" ∷ codes "outlet" ∷ codes "item" ∷ codes "first_month" ∷ codes "last_month"
+    ∷ codes "series_collector" ∷ codes "series_slot" ∷ codes "copied"
     ∷ codes "collector" ∷ codes "slot" ∷ codes "month" ∷ codes "mark" ∷ codes "value" ∷ codes "receipt" ∷ [])
 
--- the quote behind the six columns of its assignment
+-- the quote behind the nine columns of its assignment
 abbrev pub quote_behind : Row → Option QuoteRow
 quote_behind x =
-    and_then (ranged 1 9999 (column x 6))
-    (λ _. quote_from (column x 7) (column x 8) (column x 9) (column x 10) (column x 11))
+    and_then (ranged 1 9999 (column x 9))
+    (λ _. quote_from (column x 10) (column x 11) (column x 12) (column x 13) (column x 14))
 
 -- both together, as they are frozen
 abbrev pub shown_month_quote : Row → Option Frozen

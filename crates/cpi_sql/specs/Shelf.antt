@@ -15,6 +15,7 @@ use Rattle.sqlite.specs.Held.{Held, held_code, state}
 use Rattle.cpi_release.specs.State.{State as BookState}
 use Rattle.cpi_release.specs.Cached.{AreKept}
 use Rattle.cpi_release.specs.declared.cached.Cached.{Cached}
+use Rattle.cpi_release.specs.FrozenMonths.{release_cmp}
 use Rattle.cpi_rows.specs.Keyed.{IsInOrder}
 use Rattle.cpi_rows.specs.Held.{held_cmp, held_key}
 use Rattle.cpi_store.specs.declared.bearer.Bearer.{Bearer}
@@ -28,9 +29,9 @@ use Rattle.cpi_codes.specs.CodeOrder.{code_cmp}
 use Rattle.cpi_index.specs.Series.{frozen_serial, carried_serial}
 use Rattle.cpi_sql.specs.Tables.{office_schema}
 use Rattle.cpi_sql.specs.Lists.{office_in, collector_in, outlet_in, item_in, calendar_in, assignment_in}
-use Rattle.cpi_sql.specs.Lists.{quote_in, node_in, place_in, header_in, frozen_in, carried_in, level_in}
+use Rattle.cpi_sql.specs.Lists.{quote_in, node_in, place_in, header_in, header_key, frozen_in, carried_in, level_in}
 use Rattle.cpi_sql.specs.Lists.{collectors_in, outlets_in, headers_in}
-use Rattle.cpi_sql.specs.LevelTables.{MonthLevels, AreTablesOf}
+use Rattle.cpi_sql.specs.LevelTables.{ReleaseLevels, AreTablesOf}
 use Rattle.cpi_sql.specs.declared.release_rows.Header.{Header}
 
 pub record Shelf (S : Type 0) : Type 0 where
@@ -64,26 +65,26 @@ pub record HasPlans (trees : Trees) : Type 0 where
 
 -- the tables of the releases
 pub record HasReleases (trees : Trees) : Type 0 where
-  pub frozen_ids : HasRowids (trees 16)
-  pub carried_ids : HasRowids (trees 18)
-  pub level_ids : HasRowids (trees 20)
-  pub releases : IsKeyed nat_cmp (λ h. h.month) header_in (trees 15)
-  pub frozen : IsKeyed (held_cmp nat_cmp) (held_key frozen_serial) frozen_in (trees 16)
-  pub carried : IsKeyed (held_cmp nat_cmp) (held_key carried_serial) carried_in (trees 18)
-  pub levels : IsKeyed (held_cmp code_cmp) (held_key (λ l. l.code)) level_in (trees 20)
+  pub frozen_ids : HasRowids (trees 28)
+  pub carried_ids : HasRowids (trees 30)
+  pub level_ids : HasRowids (trees 32)
+  pub releases : IsKeyed release_cmp header_key header_in (trees 26)
+  pub frozen : IsKeyed (held_cmp nat_cmp) (held_key frozen_serial) frozen_in (trees 28)
+  pub carried : IsKeyed (held_cmp nat_cmp) (held_key carried_serial) carried_in (trees 30)
+  pub levels : IsKeyed (held_cmp code_cmp) (held_key (λ l. l.code)) level_in (trees 32)
 
 -- the tables of the office
 pub record HasTables (s : State) : Type 0 where
   pub schema : s.now.schema ≡ office_schema
   pub alone : s.in_transaction ≡ false
-  pub rowids : HasRowids (s.now.trees 13)
+  pub rowids : HasRowids (s.now.trees 24)
   pub days : HasRowids (s.now.trees 10)
   pub collectors : IsKeyed nat_cmp (λ b. b.number) collector_in (s.now.trees 1)
   pub outlets : IsKeyed nat_cmp (λ u. u.number) outlet_in (s.now.trees 3)
   pub items : IsKeyed nat_cmp (λ i. i.code) item_in (s.now.trees 4)
   pub calendar : IsKeyed nat_cmp (λ r. r.month) calendar_in (s.now.trees 10)
-  pub assignments : IsKeyed (held_cmp nat_cmp) (held_key (λ a. a.slot)) assignment_in (s.now.trees 11)
-  pub quotes : IsKeyed (held_cmp quote_cmp) (held_key quote_key) quote_in (s.now.trees 13)
+  pub assignments : IsKeyed (held_cmp nat_cmp) (held_key (λ a. a.slot)) assignment_in (s.now.trees 22)
+  pub quotes : IsKeyed (held_cmp quote_cmp) (held_key quote_key) quote_in (s.now.trees 24)
   pub plans : HasPlans s.now.trees
   pub releases : HasReleases s.now.trees
 
@@ -114,7 +115,7 @@ pub record IsDone (change : Change) (old new : State) : Type 0 where
 
 -- what is kept of the headers of the releases, where they were read
 abbrev pub HeadersStand : Trees → Bool → List Header → Type 0
-HeadersStand trees has_headers headers = IsTrue has_headers → headers ≡ headers_in (trees 15)
+HeadersStand trees has_headers headers = IsTrue has_headers → headers ≡ headers_in (trees 26)
 
 -- what is kept of what everybody may see, where it was read
 abbrev pub PublicStands : Trees → Bool → PublicPart → Type 0
@@ -124,7 +125,7 @@ PublicStands trees has_public public = IsTrue has_public → public ≡ public_p
 pub record KeptReleases : Type 0 where
   pub has_headers : Bool
   pub headers : List Header
-  pub tables : List MonthLevels
+  pub tables : List ReleaseLevels
   pub samples : Option Cached
 
 -- what is kept of the releases is what the tables hold

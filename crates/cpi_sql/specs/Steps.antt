@@ -19,12 +19,12 @@ pub record SameBut (tree : ℕ) (old new : Trees) : Type 0 where
   pub nodes : tree ≢ 6 → new 6 ≡ old 6
   pub places : tree ≢ 8 → new 8 ≡ old 8
   pub calendar : tree ≢ 10 → new 10 ≡ old 10
-  pub assignments : tree ≢ 11 → new 11 ≡ old 11
-  pub quotes : tree ≢ 13 → new 13 ≡ old 13
-  pub releases : tree ≢ 15 → new 15 ≡ old 15
-  pub frozen : tree ≢ 16 → new 16 ≡ old 16
-  pub carried : tree ≢ 18 → new 18 ≡ old 18
-  pub levels : tree ≢ 20 → new 20 ≡ old 20
+  pub assignments : tree ≢ 22 → new 22 ≡ old 22
+  pub quotes : tree ≢ 24 → new 24 ≡ old 24
+  pub releases : tree ≢ 26 → new 26 ≡ old 26
+  pub frozen : tree ≢ 28 → new 28 ≡ old 28
+  pub carried : tree ≢ 30 → new 30 ≡ old 30
+  pub levels : tree ≢ 32 → new 32 ≡ old 32
 
 -- what is left are the rows of other years
 abbrev pub HasDropped : ℕ → List Row → List Row → Type 0

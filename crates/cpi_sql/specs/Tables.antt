@@ -1,10 +1,11 @@
--- The tables as the port understands their texts.
+-- The tables of the office as the port understands their texts: those of schema 1, and then those that schema 2 adds.
 use Rattle.std.specs.Prelude.{ℕ, true, false, List, [], ◌∷◌, ◌++◌, Option, Some, None, codes}
 use Rattle.sqlite.specs.Collation.TheVariants.{Binary}
 use Rattle.sqlite_value.specs.Keys.{plain}
 use Rattle.sqlite_value.specs.declared.keys.Order.{Order}
 use Rattle.sqlite.specs.declared.types.Value.TheVariants.{Null}
 use Rattle.sqlite_schema.specs.declared.schema.Column.{Column}
+use Rattle.sqlite_schema.specs.declared.schema.Index.{Index}
 use Rattle.sqlite_schema.specs.declared.schema.Reference.{Reference}
 use Rattle.sqlite_schema.specs.declared.schema.Action.TheVariants.{NoAction}
 use Rattle.sqlite.specs.Table.{Table}
@@ -160,15 +161,95 @@ level = plain_table (codes "level") 20
     ∷ optional (codes "year_change") Integer ∷ required (codes "imputed") Integer ∷ [])
     None (1 ∷ 2 ∷ []) ((1 ∷ 2 ∷ []) ∷ []) (plain ∷ []) of_release
 
+-- ---- what schema 2 adds
+
+-- the series that a slot begins or takes over, and the price that is copied at a handover
+abbrev pub assignment_2 : Table
+assignment_2 = plain_table (codes "assignment_2") 22
+    (required (codes "collector") Integer ∷ required (codes "slot") Integer ∷ required (codes "outlet") Integer
+    ∷ required (codes "item") Text
+    ∷ required (codes "first_month") Integer ∷ required (codes "last_month") Integer
+    ∷ required (codes "series_collector") Integer ∷ required (codes "series_slot") Integer
+    ∷ optional (codes "copied") Integer ∷ [])
+    None (1 ∷ 2 ∷ []) ((1 ∷ 2 ∷ []) ∷ []) (plain ∷ [])
+    (refers (1 ∷ []) (codes "collector") (codes "number" ∷ [])
+    ∷ refers (3 ∷ []) (codes "outlet") (codes "number" ∷ []) ∷ refers (4 ∷ []) (codes "item") (codes "code" ∷ [])
+    ∷ [])
+
+abbrev pub quote_2 : Table
+quote_2 = plain_table (codes "quote_2") 24
+    (required (codes "collector") Integer ∷ required (codes "slot") Integer ∷ required (codes "month") Integer
+    ∷ required (codes "mark") Text
+    ∷ required (codes "value") Integer ∷ required (codes "receipt") Integer ∷ [])
+    None (1 ∷ 2 ∷ 3 ∷ []) ((1 ∷ 2 ∷ 3 ∷ []) ∷ []) (plain ∷ [])
+    (refers (1 ∷ 2 ∷ []) (codes "assignment_2") (codes "collector" ∷ codes "slot" ∷ []) ∷ [])
+
+abbrev pub release_2 : Table
+release_2 = plain_table (codes "release_2") 26
+    (required (codes "month") Integer ∷ required (codes "revision") Integer ∷ required (codes "frozen_at") Integer
+    ∷ required (codes "publishes") Integer
+    ∷ required (codes "carry") Text ∷ [])
+    None (1 ∷ 2 ∷ []) ((1 ∷ 2 ∷ []) ∷ []) (plain ∷ []) []
+
+-- the month and the revision of a release
+abbrev pub of_revision : List Reference
+of_revision = refers (1 ∷ 2 ∷ []) (codes "release_2") (codes "month" ∷ codes "revision" ∷ []) ∷ []
+
+abbrev pub frozen_2 : Table
+frozen_2 = plain_table (codes "frozen_2") 28
+    (required (codes "month") Integer ∷ required (codes "revision") Integer ∷ required (codes "collector") Integer
+    ∷ required (codes "slot") Integer ∷ required (codes "item") Text
+    ∷ required (codes "last_month") Integer ∷ required (codes "mark") Text ∷ required (codes "value") Integer ∷ [])
+    None (1 ∷ 2 ∷ 3 ∷ 4 ∷ []) ((1 ∷ 2 ∷ 3 ∷ 4 ∷ []) ∷ []) (plain ∷ []) of_revision
+
+abbrev pub carried_2 : Table
+carried_2 = plain_table (codes "carried_2") 30
+    (required (codes "month") Integer ∷ required (codes "revision") Integer ∷ required (codes "collector") Integer
+    ∷ required (codes "slot") Integer ∷ required (codes "item") Text
+    ∷ required (codes "last_month") Integer ∷ required (codes "ticks") Integer ∷ required (codes "knum") Integer
+    ∷ required (codes "kden") Integer
+    ∷ required (codes "observed") Integer ∷ required (codes "imputed") Integer ∷ [])
+    None (1 ∷ 2 ∷ 3 ∷ 4 ∷ []) ((1 ∷ 2 ∷ 3 ∷ 4 ∷ []) ∷ []) (plain ∷ []) of_revision
+
+abbrev pub level_2 : Table
+level_2 = plain_table (codes "level_2") 32
+    (required (codes "month") Integer ∷ required (codes "revision") Integer ∷ required (codes "code") Text
+    ∷ required (codes "title") Text ∷ required (codes "weight") Integer
+    ∷ required (codes "within") Integer ∷ required (codes "chained") Integer ∷ required (codes "month_change") Integer
+    ∷ optional (codes "year_change") Integer ∷ required (codes "imputed") Integer ∷ [])
+    None (1 ∷ 2 ∷ 3 ∷ []) ((1 ∷ 2 ∷ 3 ∷ []) ∷ []) (plain ∷ []) of_revision
+
+-- the month to whose prices the weights of a year's plan are brought
+abbrev pub plan_ref : Table
+plan_ref = plain_table (codes "plan_ref") 34 (rowid_column (codes "year") ∷ required (codes "month") Integer ∷ [])
+    (Some 0) (0 ∷ []) [] [] []
+
+-- ---- the two schemas
+
+abbrev pub first_tables : List Table
+first_tables =
+    version ∷ collector ∷ outlet ∷ item ∷ node ∷ plan_item ∷ calendar ∷ assignment ∷ quote
+    ∷ release ∷ frozen ∷ carried ∷ level ∷ []
+
+abbrev pub first_indexes : List Index
+first_indexes =
+    automatics collector 0 2 collector.uniques ++ automatics item 0 5 item.uniques ++ automatics node 0 7 node.uniques
+    ++ automatics plan_item 0 9 plan_item.uniques ++ automatics assignment 0 12 assignment.uniques
+    ++ automatics quote 0 14 quote.uniques ++ automatics frozen 0 17 frozen.uniques
+    ++ automatics carried 0 19 carried.uniques ++ automatics level 0 21 level.uniques
+
+-- schema 1
+abbrev pub first_schema : Schema
+first_schema = record { tables = first_tables; indexes = first_indexes; views = [] }
+
+-- schema 2: an assignment, a quote and what is frozen stand in the new tables alone
 abbrev pub office_schema : Schema
 office_schema = record {
   tables =
-      version ∷ collector ∷ outlet ∷ item ∷ node ∷ plan_item ∷ calendar ∷ assignment ∷ quote
-      ∷ release ∷ frozen ∷ carried ∷ level ∷ [];
+      first_tables ++ (assignment_2 ∷ quote_2 ∷ release_2 ∷ frozen_2 ∷ carried_2 ∷ level_2 ∷ plan_ref ∷ []);
   indexes =
-      automatics collector 0 2 collector.uniques ++ automatics item 0 5 item.uniques ++ automatics node 0 7 node.uniques
-      ++ automatics plan_item 0 9 plan_item.uniques ++ automatics assignment 0 12 assignment.uniques
-      ++ automatics quote 0 14 quote.uniques ++ automatics frozen 0 17 frozen.uniques
-      ++ automatics carried 0 19 carried.uniques ++ automatics level 0 21 level.uniques;
+      first_indexes ++ automatics assignment_2 0 23 assignment_2.uniques ++ automatics quote_2 0 25 quote_2.uniques
+      ++ automatics release_2 0 27 release_2.uniques ++ automatics frozen_2 0 29 frozen_2.uniques
+      ++ automatics carried_2 0 31 carried_2.uniques ++ automatics level_2 0 33 level_2.uniques;
   views = [];
 }

@@ -50,10 +50,10 @@ select tree terms shown order names = Select (record {
 -- ---- the number of the schema
 
 abbrev pub put_version_text : List ℕ
-put_version_text = codes "INSERT INTO version (number) VALUES (1)"
+put_version_text = codes "INSERT INTO version (number) VALUES (2)"
 
 abbrev pub put_version_command : Command
-put_version_command = Insert 0 (Values (lit (Int (pos 1)) ∷ lit Null ∷ []) 2)
+put_version_command = Insert 0 (Values (lit (Int (pos 2)) ∷ lit Null ∷ []) 2)
 
 -- ---- collectors
 
@@ -133,42 +133,44 @@ put_calendar_command = InsertOr 6 Abort (Values given_calendar 5) (record {
 
 abbrev pub assignments_text : List ℕ
 assignments_text = codes
-    "SELECT collector, slot, outlet, item, first_month, last_month FROM assignment WHERE collector = ?1 ORDER BY collector, slot"
+    "SELECT collector, slot, outlet, item, first_month, last_month, series_collector, series_slot, copied FROM assignment_2 WHERE collector = ?1 ORDER BY collector, slot"
 
 abbrev pub assignments_command : Command
-assignments_command = select 11 (is_first 1) (1 ∷ 2 ∷ 3 ∷ 4 ∷ 5 ∷ 6 ∷ []) (1 ∷ 2 ∷ [])
-    (codes "collector" ∷ codes "slot" ∷ codes "outlet" ∷ codes "item" ∷ codes "first_month" ∷ codes "last_month" ∷ [])
+assignments_command = select 22 (is_first 1) (1 ∷ 2 ∷ 3 ∷ 4 ∷ 5 ∷ 6 ∷ 7 ∷ 8 ∷ 9 ∷ []) (1 ∷ 2 ∷ [])
+    (codes "collector" ∷ codes "slot" ∷ codes "outlet" ∷ codes "item" ∷ codes "first_month" ∷ codes "last_month"
+    ∷ codes "series_collector" ∷ codes "series_slot" ∷ codes "copied" ∷ [])
 
 abbrev pub put_assignment_text : List ℕ
-put_assignment_text =
-    codes "INSERT INTO assignment (collector, slot, outlet, item, first_month, last_month) VALUES (?1, ?2, ?3, ?4, ?5, ?6)"
+put_assignment_text = codes
+    "INSERT INTO assignment_2 (collector, slot, outlet, item, first_month, last_month, series_collector, series_slot, copied) VALUES (?1, ?2, ?3, ?4, ?5, ?6, ?7, ?8, NULL)"
 
 abbrev pub put_assignment_command : Command
-put_assignment_command = Insert 7 (Values (lit Null ∷ col 0 0 ∷ col 0 1 ∷ col 0 2 ∷ col 0 3 ∷ col 0 4 ∷ col 0 5 ∷ []) 7)
+put_assignment_command = Insert 13 (Values (lit Null ∷ col 0 0 ∷ col 0 1 ∷ col 0 2 ∷ col 0 3 ∷ col 0 4 ∷ col 0 5
+    ∷ col 0 6 ∷ col 0 7 ∷ lit Null ∷ []) 10)
 
 -- ---- quotes
 
 abbrev pub quotes_text : List ℕ
-quotes_text = codes "SELECT collector, slot, month, mark, value, receipt FROM quote WHERE collector = ?1 ORDER BY collector, slot, month"
+quotes_text = codes "SELECT collector, slot, month, mark, value, receipt FROM quote_2 WHERE collector = ?1 ORDER BY collector, slot, month"
 
 abbrev pub quotes_command : Command
-quotes_command = select 13 (is_first 1) (1 ∷ 2 ∷ 3 ∷ 4 ∷ 5 ∷ 6 ∷ []) (1 ∷ 2 ∷ 3 ∷ [])
+quotes_command = select 24 (is_first 1) (1 ∷ 2 ∷ 3 ∷ 4 ∷ 5 ∷ 6 ∷ []) (1 ∷ 2 ∷ 3 ∷ [])
     (codes "collector" ∷ codes "slot" ∷ codes "month" ∷ codes "mark" ∷ codes "value" ∷ codes "receipt" ∷ [])
 
 abbrev pub put_quote_text : List ℕ
 put_quote_text = codes
-    "INSERT INTO quote (collector, slot, month, mark, value, receipt) VALUES (?1, ?2, ?3, ?4, ?5, ?6) ON CONFLICT (collector, slot, month) DO UPDATE SET collector = excluded.collector, slot = excluded.slot, month = excluded.month, mark = excluded.mark, value = excluded.value, receipt = excluded.receipt"
+    "INSERT INTO quote_2 (collector, slot, month, mark, value, receipt) VALUES (?1, ?2, ?3, ?4, ?5, ?6) ON CONFLICT (collector, slot, month) DO UPDATE SET collector = excluded.collector, slot = excluded.slot, month = excluded.month, mark = excluded.mark, value = excluded.value, receipt = excluded.receipt"
 
 abbrev pub given_quote : List Term
 given_quote = lit Null ∷ col 0 0 ∷ col 0 1 ∷ col 0 2 ∷ col 0 3 ∷ col 0 4 ∷ col 0 5 ∷ []
 
 -- six parameters, the rowid that is there, and then the new row's rowid and columns
 abbrev pub update_quote : Query
-update_quote = whole_query 13 (op2 (Compare Eq Binary) (col 1 0) (col 0 6) ∷ []) (col 1 0 ∷ col 1 0 ∷ col 0 8
+update_quote = whole_query 24 (op2 (Compare Eq Binary) (col 1 0) (col 0 6) ∷ []) (col 1 0 ∷ col 1 0 ∷ col 0 8
     ∷ col 0 9 ∷ col 0 10 ∷ col 0 11 ∷ col 0 12 ∷ col 0 13 ∷ []) []
 
 abbrev pub put_quote_command : Command
-put_quote_command = InsertOr 8 Abort (Values given_quote 7) (record {
+put_quote_command = InsertOr 14 Abort (Values given_quote 7) (record {
   target = Some (1 ∷ 2 ∷ 3 ∷ []);
   update = Some (record { lets = []; body = update_quote });
 } ∷ [])
@@ -214,101 +216,106 @@ drop_places_command = Delete 5 (record { lets = []; body = whole_query 8 (is_fir
 
 -- ---- releases
 
+-- the month and the revision are the first two parameters
+abbrev pub is_release : List Term
+is_release = op2 (Compare Eq Binary) (col 1 1) (col 0 0) ∷ op2 (Compare Eq Binary) (col 1 2) (col 0 1) ∷ []
+
 abbrev pub headers_text : List ℕ
-headers_text = codes "SELECT month, frozen_at, publishes, carry FROM release ORDER BY month"
+headers_text = codes "SELECT month, revision, frozen_at, publishes, carry FROM release_2 ORDER BY month, revision"
 
 abbrev pub headers_command : Command
-headers_command = select 15 [] (0 ∷ 2 ∷ 3 ∷ 4 ∷ []) (0 ∷ [])
-    (codes "month" ∷ codes "frozen_at" ∷ codes "publishes" ∷ codes "carry" ∷ [])
+headers_command = select 26 [] (1 ∷ 2 ∷ 3 ∷ 4 ∷ 5 ∷ []) (1 ∷ 2 ∷ [])
+    (codes "month" ∷ codes "revision" ∷ codes "frozen_at" ∷ codes "publishes" ∷ codes "carry" ∷ [])
 
 abbrev pub frozen_text : List ℕ
 frozen_text =
-    codes "SELECT month, collector, slot, item, last_month, mark, value FROM frozen WHERE month = ?1 ORDER BY month, collector, slot"
+    codes "SELECT month, revision, collector, slot, item, last_month, mark, value FROM frozen_2 WHERE month = ?1 AND revision = ?2 ORDER BY month, revision, collector, slot"
 
 abbrev pub frozen_command : Command
-frozen_command = select 16 (is_first 1) (1 ∷ 2 ∷ 3 ∷ 4 ∷ 5 ∷ 6 ∷ 7 ∷ []) (1 ∷ 2 ∷ 3 ∷ [])
-    (codes "month" ∷ codes "collector" ∷ codes "slot" ∷ codes "item" ∷ codes "last_month" ∷ codes "mark" ∷
-    codes "value" ∷ [])
+frozen_command = select 28 is_release (1 ∷ 2 ∷ 3 ∷ 4 ∷ 5 ∷ 6 ∷ 7 ∷ 8 ∷ []) (1 ∷ 2 ∷ 3 ∷ 4 ∷ [])
+    (codes "month" ∷ codes "revision" ∷ codes "collector" ∷ codes "slot" ∷ codes "item" ∷ codes "last_month"
+    ∷ codes "mark" ∷ codes "value" ∷ [])
 
 abbrev pub carried_text : List ℕ
 carried_text =
-    codes "SELECT month, collector, slot, item, last_month, ticks, knum, kden, observed, imputed FROM carried WHERE month = ?1 ORDER BY month, collector, slot"
+    codes "SELECT month, revision, collector, slot, item, last_month, ticks, knum, kden, observed, imputed FROM carried_2 WHERE month = ?1 AND revision = ?2 ORDER BY month, revision, collector, slot"
 
 abbrev pub carried_command : Command
-carried_command = select 18 (is_first 1) (1 ∷ 2 ∷ 3 ∷ 4 ∷ 5 ∷ 6 ∷ 7 ∷ 8 ∷ 9 ∷ 10 ∷ []) (1 ∷ 2 ∷ 3 ∷ [])
-    (codes "month" ∷ codes "collector" ∷ codes "slot" ∷ codes "item" ∷ codes "last_month" ∷ codes "ticks" ∷
-    codes "knum" ∷ codes "kden" ∷ codes "observed" ∷ codes "imputed" ∷ [])
+carried_command = select 30 is_release (1 ∷ 2 ∷ 3 ∷ 4 ∷ 5 ∷ 6 ∷ 7 ∷ 8 ∷ 9 ∷ 10 ∷ 11 ∷ []) (1 ∷ 2 ∷ 3 ∷ 4 ∷ [])
+    (codes "month" ∷ codes "revision" ∷ codes "collector" ∷ codes "slot" ∷ codes "item" ∷ codes "last_month"
+    ∷ codes "ticks" ∷ codes "knum" ∷ codes "kden" ∷ codes "observed" ∷ codes "imputed" ∷ [])
 
 abbrev pub levels_text : List ℕ
 levels_text =
-    codes "SELECT month, code, title, weight, within, chained, month_change, year_change, imputed FROM level WHERE month = ?1 ORDER BY month, code"
+    codes "SELECT month, revision, code, title, weight, within, chained, month_change, year_change, imputed FROM level_2 WHERE month = ?1 AND revision = ?2 ORDER BY month, revision, code"
 
 abbrev pub levels_command : Command
-levels_command = select 20 (is_first 1) (1 ∷ 2 ∷ 3 ∷ 4 ∷ 5 ∷ 6 ∷ 7 ∷ 8 ∷ 9 ∷ []) (1 ∷ 2 ∷ [])
-    (codes "month" ∷ codes "code" ∷ codes "title" ∷ codes "weight" ∷ codes "within" ∷ codes "chained" ∷
-    codes "month_change" ∷ codes "year_change" ∷ codes "imputed" ∷ [])
+levels_command = select 32 is_release (1 ∷ 2 ∷ 3 ∷ 4 ∷ 5 ∷ 6 ∷ 7 ∷ 8 ∷ 9 ∷ 10 ∷ []) (1 ∷ 2 ∷ 3 ∷ [])
+    (codes "month" ∷ codes "revision" ∷ codes "code" ∷ codes "title" ∷ codes "weight" ∷ codes "within"
+    ∷ codes "chained" ∷ codes "month_change" ∷ codes "year_change" ∷ codes "imputed" ∷ [])
 
 abbrev pub add_header_text : List ℕ
 add_header_text =
-    codes "INSERT INTO release (month, frozen_at, publishes, carry) VALUES (?1, ?2, ?3, ?4)"
+    codes "INSERT INTO release_2 (month, revision, frozen_at, publishes, carry) VALUES (?1, ?2, ?3, ?4, ?5)"
 
 abbrev pub add_header_terms : List Term
 add_header_terms =
-    col 0 0 ∷ lit Null ∷ col 0 1 ∷ col 0 2 ∷ col 0 3 ∷ []
+    lit Null ∷ col 0 0 ∷ col 0 1 ∷ col 0 2 ∷ col 0 3 ∷ col 0 4 ∷ []
 
 abbrev pub add_header_command : Command
-add_header_command = Insert 9 (Values add_header_terms 5)
+add_header_command = Insert 15 (Values add_header_terms 6)
 
 abbrev pub add_frozen_text : List ℕ
 add_frozen_text =
-    codes "INSERT INTO frozen (month, collector, slot, item, last_month, mark, value) VALUES (?1, ?2, ?3, ?4, ?5, ?6, ?7)"
+    codes "INSERT INTO frozen_2 (month, revision, collector, slot, item, last_month, mark, value) VALUES (?1, ?2, ?3, ?4, ?5, ?6, ?7, ?8)"
 
 abbrev pub add_frozen_terms : List Term
 add_frozen_terms =
-    lit Null ∷ col 0 0 ∷ col 0 1 ∷ col 0 2 ∷ col 0 3 ∷ col 0 4 ∷ col 0 5 ∷ col 0 6 ∷ []
+    lit Null ∷ col 0 0 ∷ col 0 1 ∷ col 0 2 ∷ col 0 3 ∷ col 0 4 ∷ col 0 5 ∷ col 0 6 ∷ col 0 7 ∷ []
 
 abbrev pub add_frozen_command : Command
-add_frozen_command = Insert 10 (Values add_frozen_terms 8)
+add_frozen_command = Insert 16 (Values add_frozen_terms 9)
 
 abbrev pub add_carried_text : List ℕ
 add_carried_text =
-    codes "INSERT INTO carried (month, collector, slot, item, last_month, ticks, knum, kden, observed, imputed) VALUES (?1, ?2, ?3, ?4, ?5, ?6, ?7, ?8, ?9, ?10)"
+    codes "INSERT INTO carried_2 (month, revision, collector, slot, item, last_month, ticks, knum, kden, observed, imputed) VALUES (?1, ?2, ?3, ?4, ?5, ?6, ?7, ?8, ?9, ?10, ?11)"
 
 abbrev pub add_carried_terms : List Term
 add_carried_terms =
-    lit Null ∷ col 0 0 ∷ col 0 1 ∷ col 0 2 ∷ col 0 3 ∷ col 0 4 ∷ col 0 5 ∷ col 0 6 ∷ col 0 7 ∷ col 0 8 ∷ col 0 9 ∷ []
+    lit Null ∷ col 0 0 ∷ col 0 1 ∷ col 0 2 ∷ col 0 3 ∷ col 0 4 ∷ col 0 5 ∷ col 0 6 ∷ col 0 7 ∷ col 0 8 ∷ col 0 9
+    ∷ col 0 10 ∷ []
 
 abbrev pub add_carried_command : Command
-add_carried_command = Insert 11 (Values add_carried_terms 11)
+add_carried_command = Insert 17 (Values add_carried_terms 12)
 
 abbrev pub add_level_text : List ℕ
 add_level_text =
-    codes "INSERT INTO level (month, code, title, weight, within, chained, month_change, year_change, imputed) VALUES (?1, ?2, ?3, ?4, ?5, ?6, ?7, ?8, ?9)"
+    codes "INSERT INTO level_2 (month, revision, code, title, weight, within, chained, month_change, year_change, imputed) VALUES (?1, ?2, ?3, ?4, ?5, ?6, ?7, ?8, ?9, ?10)"
 
 abbrev pub add_level_terms : List Term
 add_level_terms =
-    lit Null ∷ col 0 0 ∷ col 0 1 ∷ col 0 2 ∷ col 0 3 ∷ col 0 4 ∷ col 0 5 ∷ col 0 6 ∷ col 0 7 ∷ col 0 8 ∷ []
+    lit Null ∷ col 0 0 ∷ col 0 1 ∷ col 0 2 ∷ col 0 3 ∷ col 0 4 ∷ col 0 5 ∷ col 0 6 ∷ col 0 7 ∷ col 0 8 ∷ col 0 9 ∷ []
 
 abbrev pub add_level_command : Command
-add_level_command = Insert 12 (Values add_level_terms 10)
+add_level_command = Insert 18 (Values add_level_terms 11)
 
 abbrev pub drop_frozen_text : List ℕ
-drop_frozen_text = codes "DELETE FROM frozen WHERE month = ?1"
+drop_frozen_text = codes "DELETE FROM frozen_2 WHERE month = ?1 AND revision = ?2"
 
 abbrev pub drop_frozen_command : Command
 drop_frozen_command =
-    Delete 10 (record { lets = []; body = whole_query 16 (is_first 1) (col 1 0 ∷ []) [] })
+    Delete 16 (record { lets = []; body = whole_query 28 is_release (col 1 0 ∷ []) [] })
 
 abbrev pub drop_carried_text : List ℕ
-drop_carried_text = codes "DELETE FROM carried WHERE month = ?1"
+drop_carried_text = codes "DELETE FROM carried_2 WHERE month = ?1 AND revision = ?2"
 
 abbrev pub drop_carried_command : Command
 drop_carried_command =
-    Delete 11 (record { lets = []; body = whole_query 18 (is_first 1) (col 1 0 ∷ []) [] })
+    Delete 17 (record { lets = []; body = whole_query 30 is_release (col 1 0 ∷ []) [] })
 
 abbrev pub drop_level_text : List ℕ
-drop_level_text = codes "DELETE FROM level WHERE month = ?1"
+drop_level_text = codes "DELETE FROM level_2 WHERE month = ?1 AND revision = ?2"
 
 abbrev pub drop_level_command : Command
 drop_level_command =
-    Delete 12 (record { lets = []; body = whole_query 20 (is_first 1) (col 1 0 ∷ []) [] })
+    Delete 18 (record { lets = []; body = whole_query 32 is_release (col 1 0 ∷ []) [] })

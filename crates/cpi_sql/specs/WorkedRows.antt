@@ -82,13 +82,14 @@ Quotes =
 
 -- ---- assignments: December 2026 is month 323
 
-abbrev pub assignment_row : ℕ → Row
-assignment_row slot =
-    number 5 ∷ number 7 ∷ number slot ∷ number 10 ∷ word (codes "RICE") ∷ number 202512 ∷ number 202612 ∷ []
+abbrev pub assignment_row : ℕ → ℕ → Value → Row
+assignment_row slot series_slot copied =
+    number 5 ∷ number 7 ∷ number slot ∷ number 10 ∷ word (codes "RICE") ∷ number 202512 ∷ number 202612
+    ∷ number 7 ∷ number series_slot ∷ copied ∷ []
 
 abbrev pub Assignments : Type 0
 Assignments =
-    (assignment_in (assignment_row 400) ≡ Some (
+    (assignment_in (assignment_row 400 400 Null) ≡ Some (
       7,
       record {
         slot = 400;
@@ -99,7 +100,9 @@ Assignments =
         series = record { collector = 7; slot = 400 };
       },
     ))
-    × (assignment_in (assignment_row 401) ≡ None)
+    × (assignment_in (assignment_row 401 401 Null) ≡ None)
+    × (assignment_in (assignment_row 400 399 Null) ≡ None)
+    × (assignment_in (assignment_row 400 400 (number 3040000)) ≡ None)
 
 -- ---- nodes
 
@@ -112,27 +115,27 @@ Nodes =
     ≡ Some (2026, record { code = rice; title = codes "Rice, packed"; weight = 600000 }))
     × (node_in (node_row (codes "01.1.1.1-00")) ≡ None)
 
--- ---- releases
+-- ---- releases: revision 2 of January 2026 has the number 3122
 
 abbrev pub header_row : List ℕ → Row
-header_row carry = number 202601 ∷ Null ∷ number 2000 ∷ number 3000 ∷ word carry ∷ []
+header_row carry = number 5 ∷ number 202601 ∷ number 2 ∷ number 2000 ∷ number 3000 ∷ word carry ∷ []
 
 abbrev pub Headers : Type 0
 Headers =
     (header_in (header_row (codes "01.1.1.1-01 01.1.1.2-01"))
-    ≡ Some (record { month = 312; frozen_at = 2000; publishes = 3000; carry = rice ∷ flour ∷ [] }))
-    × (header_in (header_row []) ≡ Some (record { month = 312; frozen_at = 2000; publishes = 3000; carry = [] }))
+    ≡ Some (record { month = 312; revision = 2; frozen_at = 2000; publishes = 3000; carry = rice ∷ flour ∷ [] }))
+    × (header_in (header_row []) ≡ Some (record { month = 312; revision = 2; frozen_at = 2000; publishes = 3000; carry = [] }))
     × (header_in (header_row (codes "01.1.1.1-01  01.1.1.2-01")) ≡ None)
 
 abbrev pub frozen_row : ℕ → Row
 frozen_row last =
-    number 5 ∷ number 202601 ∷ number 7 ∷ number 1 ∷ word (codes "RICE") ∷ number last ∷ word (codes "price")
+    number 5 ∷ number 202601 ∷ number 2 ∷ number 7 ∷ number 1 ∷ word (codes "RICE") ∷ number last ∷ word (codes "price")
     ∷ number 210 ∷ []
 
 abbrev pub FrozenQuotes : Type 0
 FrozenQuotes =
     (frozen_in (frozen_row 202612) ≡ Some (
-      312,
+      3122,
       record {
         series = record { collector = 7; slot = 1 };
         item = rice_code;
@@ -145,7 +148,7 @@ FrozenQuotes =
 -- observed as a replacement, at 3,040,000 ticks for 400
 abbrev pub carried_row : ℕ → Row
 carried_row imputed =
-    number 5 ∷ number 202603 ∷ number 7 ∷ number 2 ∷ word (codes "RICE") ∷ number 202612 ∷ number 3040000
+    number 5 ∷ number 202603 ∷ number 1 ∷ number 7 ∷ number 2 ∷ word (codes "RICE") ∷ number 202612 ∷ number 3040000
     ∷ number 3040000 ∷ number 400 ∷ number 1 ∷ number imputed ∷ []
 
 abbrev pub carried_price : Carried
@@ -162,14 +165,14 @@ carried_price = record {
 
 abbrev pub CarriedPrices : Type 0
 CarriedPrices =
-    (carried_in (carried_row 0) ≡ Some (314, carried_price))
-    × (carried_in (carried_row 1) ≡ Some (314, record carried_price { imputed = true }))
+    (carried_in (carried_row 0) ≡ Some (3141, carried_price))
+    × (carried_in (carried_row 1) ≡ Some (3141, record carried_price { imputed = true }))
     × (carried_in (carried_row 2) ≡ None)
 
 -- 98 points, which is 2.0 percent less than the month before
 abbrev pub level_row : Value → ℕ → Row
 level_row year_change imputed =
-    number 5 ∷ number 202601 ∷ word (codes "01.1.1.2-01") ∷ word (codes "Flour, wheat") ∷ number 400000
+    number 5 ∷ number 202601 ∷ number 2 ∷ word (codes "01.1.1.2-01") ∷ word (codes "Flour, wheat") ∷ number 400000
     ∷ number 98000000 ∷ number 98000000 ∷ Int (negsuc 19) ∷ year_change ∷ number imputed ∷ []
 
 abbrev pub level_with : Option ℤ → Level
@@ -186,8 +189,8 @@ level_with year_change = record {
 
 abbrev pub Levels : Type 0
 Levels =
-    (level_in (level_row Null 0) ≡ Some (312, level_with None))
-    × (level_in (level_row (number 35) 0) ≡ Some (312, level_with (Some (pos 35))))
-    × (level_in (level_row (Int (negsuc 19)) 0) ≡ Some (312, level_with (Some (negsuc 19))))
+    (level_in (level_row Null 0) ≡ Some (3122, level_with None))
+    × (level_in (level_row (number 35) 0) ≡ Some (3122, level_with (Some (pos 35))))
+    × (level_in (level_row (Int (negsuc 19)) 0) ≡ Some (3122, level_with (Some (negsuc 19))))
     × (level_in (level_row (word (codes "0")) 0) ≡ None)
     × (level_in (level_row Null 2) ≡ None)

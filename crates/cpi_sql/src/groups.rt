@@ -59,7 +59,7 @@ fn link_lists<S: Alter>(
     ensures look { IsLook (state S.Store conn.old) (state S.Store conn.new) }
     ensures open { OnOk result (StaysOpen (state S.Store conn.old) (state S.Store conn.new)) }
     ensures read { IsCleanBook (state S.Store conn.new) → HasTables (state S.Store conn.old) →
-        headers.now ≡ headers_in ((state S.Store conn.old).now.trees 15) → IfOk result (λ x.
+        headers.now ≡ headers_in ((state S.Store conn.old).now.trees 26) → IfOk result (λ x.
         let releases = releases_in (state S.Store conn.old).now.trees in
         (x.carried.items ≡ carried_in releases link) × (x.quotes.items ≡ frozen_in releases link)) }
 {
@@ -79,7 +79,7 @@ fn month_lists<S: Alter>(
     ensures look { IsLook (state S.Store conn.old) (state S.Store conn.new) }
     ensures open { OnOk result (StaysOpen (state S.Store conn.old) (state S.Store conn.new)) }
     ensures read { IsCleanBook (state S.Store conn.new) → HasTables (state S.Store conn.old) →
-        headers.now ≡ headers_in ((state S.Store conn.old).now.trees 15) → IfOk result (λ x.
+        headers.now ≡ headers_in ((state S.Store conn.old).now.trees 26) → IfOk result (λ x.
         let office = office_in (state S.Store conn.old).now.trees in
         (x.carried.items ≡ carried_in office.releases last) × (x.quotes.items ≡ rows_of_month month office)) }
 {
@@ -100,7 +100,7 @@ fn samples<S: Alter>(
     ensures look { IsLook (state S.Store conn.old) (state S.Store conn.new) }
     ensures open { OnOk result (StaysOpen (state S.Store conn.old) (state S.Store conn.new)) }
     ensures read { IsCleanBook (state S.Store conn.new) → HasTables (state S.Store conn.old) →
-        headers.now ≡ headers_in ((state S.Store conn.old).now.trees 15) →
+        headers.now ≡ headers_in ((state S.Store conn.old).now.trees 26) →
         let office = office_in (state S.Store conn.old).now.trees in
         at (λ p. p.year) (year_of month) office.plans ≡ Some plan.now →
         earlier.link ≡ link_month month → earlier.last ≡ month - 1 →
@@ -134,7 +134,7 @@ fn month_samples<S: Alter>(
     ensures look { IsLook (state S.Store conn.old) (state S.Store conn.new) }
     ensures open { OnOk result (StaysOpen (state S.Store conn.old) (state S.Store conn.new)) }
     ensures read { IsCleanBook (state S.Store conn.new) → HasTables (state S.Store conn.old) →
-        headers.now ≡ headers_in ((state S.Store conn.old).now.trees 15) →
+        headers.now ≡ headers_in ((state S.Store conn.old).now.trees 26) →
         let office = office_in (state S.Store conn.old).now.trees in
         public.now ≡ public_part office →
         IfOk result (λ v. AreGroupsOf (office_sources office) month v.items) }
@@ -186,12 +186,12 @@ pub fn sample_of<S: Alter>(
     ensures look { IsLook (state S.Store conn.old) (state S.Store conn.new) }
     ensures open { OnOk result (StaysOpen (state S.Store conn.old) (state S.Store conn.new)) }
     ensures kept { IsCleanBook (state S.Store conn.new) → HasTables (state S.Store conn.old) →
-        headers.now ≡ headers_in ((state S.Store conn.old).now.trees 15) →
+        headers.now ≡ headers_in ((state S.Store conn.old).now.trees 26) →
         let office = office_in (state S.Store conn.old).now.trees in
         public.now ≡ public_part office → AreKept (office_sources office) cached.old →
         AreKept (office_sources office) cached.new }
     ensures read { IsCleanBook (state S.Store conn.new) → HasTables (state S.Store conn.old) →
-        headers.now ≡ headers_in ((state S.Store conn.old).now.trees 15) →
+        headers.now ≡ headers_in ((state S.Store conn.old).now.trees 26) →
         let office = office_in (state S.Store conn.old).now.trees in
         public.now ≡ public_part office → AreKept (office_sources office) cached.old →
         IsFit (office_sources office) → 12 ≤ month →

@@ -1,25 +1,26 @@
 //! What the headers tell of the releases without the rows of their lists.
-ghost use Rattle.std.specs.Prelude.{◌≡◌, IfOk};
-ghost use Rattle.cpi_sql.specs.Headers.{has_release as release_in, header_month, is_published as published_in};
-ghost use Rattle.cpi_sql.specs.Headers.{is_there as there_in, months_of, months_until, revision_published as revision_in};
+ghost use Rattle.std.specs.Prelude.{◌≡◌, ◌==◌, ◌&&◌, nat_le, IfOk};
+ghost use Rattle.std.specs.Option.{option_copied};
+ghost use Rattle.cpi_sql.specs.Headers.{has_release as release_in, header_month, is_there as there_in, latest_header};
+ghost use Rattle.cpi_sql.specs.Headers.{months_of, months_until, revision_published as revision_in};
 
 use crate::release_rows::Header;
 use cpi_codes::{Moment, Month};
 use cpi_release::{FrozenMonth, Revision};
 use std::alloc::{AllocError, Global};
 
-// The release's month in its first revision, and when its table is published.
+// The release's month and revision, and when its table is published.
 fn month_of(header: &Header) -> FrozenMonth
     ensures { result ≡ header_month header.now }
 {
     FrozenMonth {
         month: header.month,
-        revision: Revision::first(),
+        revision: header.revision,
         publishes: header.publishes,
     }
 }
 
-/// The frozen months, by month.
+/// The frozen months in their revisions, by month and revision.
 pub fn frozen_months(alloc: Global, headers: &[Header]) -> Result<Vec<FrozenMonth>, AllocError>
     ensures { IfOk result (λ found. found.items ≡ months_of headers.now) }
 {
@@ -30,7 +31,7 @@ pub fn frozen_months(alloc: Global, headers: &[Header]) -> Result<Vec<FrozenMont
     Ok(found)
 }
 
-/// The months whose tables are published by the moment, by month.
+/// The months and revisions whose tables are published by the moment, by month and revision.
 pub fn published_months(
     alloc: Global,
     until: Moment,
@@ -47,34 +48,51 @@ pub fn published_months(
     Ok(found)
 }
 
-/// Whether the month has a release.
-pub fn has_release(headers: &[Header], month: Month) -> bool
-    ensures { result ≡ release_in month headers.now }
+/// The header of the month's latest release, if it has one.
+pub fn header_of(headers: &[Header], month: Month) -> Option<&Header>
+    ensures { option_copied result ≡ latest_header month headers.now }
 {
-    headers.iter().any(|header| header.month == month)
+    let mut found = None;
+    for header in headers {
+        if header.month == month {
+            found = Some(header);
+        }
+    }
+    found
 }
 
-// Whether the month's table is published by the moment.
-fn is_published(headers: &[Header], month: Month, until: Moment) -> bool
-    ensures { result ≡ published_in month until headers.now }
+/// Whether there is that release.
+pub fn has_release(headers: &[Header], month: Month, revision: Revision) -> bool
+    ensures { result ≡ release_in month revision headers.now }
 {
-    headers.iter().any(|header| header.month == month && header.publishes <= until)
+    headers.iter().any(|header| header.month == month && header.revision == revision)
+}
+
+// Whether the release is of the month, and its table is published by the moment.
+fn is_due(header: &Header, month: Month, until: Moment) -> bool
+    ensures { result ≡ (nat_le header.now.publishes until && (header.now.month == month)) }
+{
+    header.publishes <= until && header.month == month
 }
 
 /// The latest revision of the month whose table is published by the moment.
 pub fn revision_published(headers: &[Header], month: Month, until: Moment) -> Option<Revision>
     ensures { result ≡ revision_in month until headers.now }
 {
-    if is_published(headers, month, until) {
-        Some(Revision::first())
-    } else {
-        None
+    let mut found = None;
+    for header in headers {
+        if is_due(header, month, until) {
+            found = Some(header.revision);
+        }
     }
+    found
 }
 
 /// Whether the month's table in the revision is published by the moment.
 pub fn is_there(headers: &[Header], month: Month, revision: Revision, until: Moment) -> bool
     ensures { result ≡ there_in month revision until headers.now }
 {
-    revision.is_first() && is_published(headers, month, until)
+    headers.iter().any(|header| {
+        header.month == month && header.revision == revision && header.publishes <= until
+    })
 }

@@ -1,16 +1,16 @@
 //! What is read of the releases, by their headers that are kept.
 ghost use Rattle.std.specs.Prelude.{◌≡◌, ◌≤◌, IfOk, IsSome, IsTrue, None, OnOk, map, option_map};
 ghost use Rattle.sqlite.specs.Held.{state};
-ghost use Rattle.cpi_rows.specs.Keyed.{at};
+ghost use Rattle.cpi_rows.specs.Keyed.{row_at};
 ghost use Rattle.cpi_release.specs.Cached.{AreKept, IsFit};
-ghost use Rattle.cpi_release.specs.FrozenMonths.{frozen_months as months_in};
+ghost use Rattle.cpi_release.specs.FrozenMonths.{frozen_months as months_in, release_cmp};
 ghost use Rattle.cpi_release.specs.GroupCalls.{group_of};
 ghost use Rattle.cpi_release.specs.PublishedTables.{frozen_month_of, published_until};
 ghost use Rattle.cpi_release.specs.Releases.{level_at};
 ghost use Rattle.cpi_store.specs.Sources.{office_sources};
 ghost use Rattle.cpi_store.specs.Tables.{table_until};
 ghost use Rattle.cpi_sql.specs.Headers.{is_there as there_in};
-ghost use Rattle.cpi_sql.specs.LevelTables.{AreTablesOf};
+ghost use Rattle.cpi_sql.specs.LevelTables.{AreTablesOf, table_key};
 ghost use Rattle.cpi_sql.specs.Lists.{headers_in, office_in, releases_in};
 ghost use Rattle.cpi_sql.specs.Shelf.{HasTables, HeadersStand, IsCleanBook, IsLook, PublicStands, StaysOpen};
 
@@ -28,7 +28,7 @@ use cpi_survey::Public;
 use sqlite::{Alter, Connection};
 use std::alloc::Global;
 
-/// The frozen months, by month.
+/// The frozen months in their revisions, by month and revision.
 pub fn all_months<S: Alter>(
     conn: &mut Connection<S>,
     alloc: Global,
@@ -51,7 +51,7 @@ pub fn all_months<S: Alter>(
     }
 }
 
-/// The months whose tables are published by the moment, by month.
+/// The months and revisions whose tables are published by the moment, by month and revision.
 pub fn months_published<S: Alter>(
     conn: &mut Connection<S>,
     alloc: Global,
@@ -121,18 +121,20 @@ pub fn find_table<S: Alter>(
         AreTablesOf releases tables.old.items → AreTablesOf releases tables.new.items }
     ensures read { IsCleanBook (state S.Store conn.new) → HasTables (state S.Store conn.old) →
         HeadersStand (state S.Store conn.old).now.trees has_headers.old headers.old.items →
-        IfOk result (λ is. is ≡ there_in month revision until (headers_in ((state S.Store conn.old).now.trees 15))) }
-    ensures ready { IfOk result (λ is. IsTrue is → IsSome (at (λ t. t.month) month tables.new.items)) }
+        IfOk result (λ is. is ≡ there_in month revision until (headers_in ((state S.Store conn.old).now.trees 26))) }
+    ensures ready { IfOk result (λ is.
+        IsTrue is → IsSome (row_at release_cmp table_key (month, revision) tables.new.items)) }
 {
     ready_headers(conn, alloc, headers, has_headers)?;
     if !is_there(headers, month, revision, until) {
         return Ok(false);
     }
-    ready_table(conn, alloc, headers, tables, month)?;
+    ready_table(conn, alloc, headers, tables, month, revision)?;
     Ok(true)
 }
 
-/// The chained level of a code in the table of a month, if it has a row there; the table is kept from then on.
+/// The chained level of a code in the table of a month's latest release, if it has a row there; the table is kept from
+/// then on.
 pub fn level_of<S: Alter>(
     conn: &mut Connection<S>,
     alloc: Global,

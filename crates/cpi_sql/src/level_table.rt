@@ -1,48 +1,50 @@
-//! The table of a month, kept to look up its levels.
+//! The table of a release, kept to look up its levels.
 ghost use Rattle.std.specs.Prelude.{◌≡◌, None, IsSome, OnOk, option_map, if◌then◌else◌};
 ghost use Rattle.std.specs.Option.{option_copied};
 ghost use Rattle.cpi_codes.specs.CodeOrder.{code_cmp};
-ghost use Rattle.cpi_rows.specs.Keyed.{IsInOrder, at, row_at};
-ghost use Rattle.cpi_release.specs.Releases.{levels_of};
-ghost use Rattle.cpi_sql.specs.LevelTables.{AreTablesOf};
+ghost use Rattle.cpi_rows.specs.Keyed.{IsInOrder, row_at};
+ghost use Rattle.cpi_release.specs.FrozenMonths.{release_cmp};
+ghost use Rattle.cpi_sql.specs.LevelTables.{AreTablesOf, levels_at, table_key};
 
 use crate::stored::Unread;
 use cpi_codes::{Code, Month};
 use cpi_index::ChainedLevel;
-use cpi_release::Level;
+use cpi_release::{Level, Revision};
 use cpi_rows::{Rows, find_row};
 use std::marker::Model;
 
 // A freeze asks for the levels of at most three earlier months.
 const MOST_TABLES: usize = 3;
 
-/// The rows of the table of a month, by code.
+/// The rows of the table of a release, by code.
 #[derive(Drop)]
 pub struct LevelTable {
     month: Month,
+    revision: Revision,
     levels: Rows<Level>,
 }
 
 impl Model for LevelTable {
     ghost use Rattle.cpi_codes.specs.CodeOrder.{code_cmp};
     ghost use Rattle.cpi_rows.specs.Keyed.{IsInOrder};
-    ghost use Rattle.cpi_sql.specs.LevelTables.{MonthLevels};
+    ghost use Rattle.cpi_sql.specs.LevelTables.{ReleaseLevels};
 
-    ghost Value = { MonthLevels };
+    ghost Value = { ReleaseLevels };
 
-    ghost view = { λ t. record { month = t.month; levels = t.levels } };
+    ghost view = { λ t. record { month = t.month; revision = t.revision; levels = t.levels } };
 
     ghost invariant = { λ t. IsInOrder code_cmp (λ l. l.code) t.levels };
 }
 
 impl LevelTable {
-    /// The table of a month from its rows, which are in the order of their codes.
-    pub fn new(month: Month, levels: Vec<Level>) -> LevelTable
+    /// The table of a release from its rows, which are in the order of their codes.
+    pub fn new(month: Month, revision: Revision, levels: Vec<Level>) -> LevelTable
         requires { IsInOrder code_cmp (λ l. l.code) levels.items }
-        ensures { result ≡ record { month = month; levels = levels.items } }
+        ensures { result ≡ record { month = month; revision = revision; levels = levels.items } }
     {
         LevelTable {
             month,
+            revision,
             levels: Rows::of(levels),
         }
     }
@@ -52,6 +54,13 @@ impl LevelTable {
         ensures { result ≡ self.now.month }
     {
         self.month
+    }
+
+    /// The revision of the month.
+    pub fn revision(&self) -> Revision
+        ensures { result ≡ self.now.revision }
+    {
+        self.revision
     }
 
     /// The rows, by code.
@@ -72,12 +81,12 @@ impl LevelTable {
     }
 }
 
-/// The table of a month among those that are kept.
-pub fn table_of(tables: &[LevelTable], month: Month) -> Option<&LevelTable>
-    ensures { option_copied result ≡ at (λ t. t.month) month tables.now }
+/// The table of a release among those that are kept.
+pub fn table_of(tables: &[LevelTable], month: Month, revision: Revision) -> Option<&LevelTable>
+    ensures { option_copied result ≡ row_at release_cmp table_key (month, revision) tables.now }
 {
     'tables: for table in tables {
-        if table.month() == month {
+        if table.month() == month && table.revision() == revision {
             return Some(table);
         }
     }
@@ -87,8 +96,8 @@ pub fn table_of(tables: &[LevelTable], month: Month) -> Option<&LevelTable>
 /// Keeps the table too, or in place of those that are kept where they are many.
 pub fn keep_table(tables: &mut Vec<LevelTable>, table: LevelTable) -> Result<(), Unread>
     ensures kept { (releases : _) → AreTablesOf releases tables.old.items →
-        table.levels ≡ levels_of releases table.month → AreTablesOf releases tables.new.items }
-    ensures there { OnOk result (IsSome (at (λ t. t.month) table.month tables.new.items)) }
+        table.levels ≡ levels_at releases (table_key table) → AreTablesOf releases tables.new.items }
+    ensures there { OnOk result (IsSome (row_at release_cmp table_key (table_key table) tables.new.items)) }
 {
     if MOST_TABLES <= tables.len() {
         tables.clear();
@@ -99,15 +108,20 @@ pub fn keep_table(tables: &mut Vec<LevelTable>, table: LevelTable) -> Result<(),
     }
 }
 
-/// The rows of the table of a month among those that are kept, where it is asked for.
-pub fn lent_table(tables: &[LevelTable], is_asked: bool, month: Month) -> Option<&Rows<Level>>
-    ensures { option_copied result
-        ≡ (if is_asked then option_map (λ t. t.levels) (at (λ t. t.month) month tables.now) else None) }
+/// The rows of the table of a release among those that are kept, where it is asked for.
+pub fn lent_table(
+    tables: &[LevelTable],
+    is_asked: bool,
+    month: Month,
+    revision: Revision,
+) -> Option<&Rows<Level>>
+    ensures { option_copied result ≡ (if is_asked
+        then option_map (λ t. t.levels) (row_at release_cmp table_key (month, revision) tables.now) else None) }
 {
     if !is_asked {
         return None;
     }
-    match table_of(tables, month) {
+    match table_of(tables, month, revision) {
         Some(table) => Some(table.levels()),
         None => None,
     }

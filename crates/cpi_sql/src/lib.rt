@@ -1,9 +1,10 @@
-//! The office in a database: a book over the tables of schema 1.
+//! The office in a database: a book over the tables of schema 2.
 #![tactic(auto)]
 
 mod ask;
 mod by_key;
 mod chained;
+mod copy_rows;
 mod earlier;
 mod examples;
 mod follow;
@@ -13,6 +14,7 @@ mod history;
 mod inspect;
 mod level_table;
 mod make;
+mod migrate;
 mod month_rows;
 mod open;
 mod owned;

@@ -20,7 +20,8 @@ use std::marker::Model;
 
 const MONTH_ROWS: &str =
     "SELECT a.collector, a.slot, a.outlet, a.item, a.first_month, a.last_month, \
-    q.collector, q.slot, q.month, q.mark, q.value, q.receipt FROM assignment AS a JOIN quote AS q \
+    a.series_collector, a.series_slot, a.copied, \
+    q.collector, q.slot, q.month, q.mark, q.value, q.receipt FROM assignment_2 AS a JOIN quote_2 AS q \
     ON q.collector = a.collector AND q.slot = a.slot AND q.month = ?1 ORDER BY a.collector, a.slot";
 
 /// A stored quote with what its assignment says of its series, as the answer shows both.
@@ -55,11 +56,11 @@ impl Keyed for MonthQuote {
 fn read_quote(row: &Row) -> Option<Quote>
     ensures { IfSome result (λ q. quote_behind row.now ≡ Some q) }
 {
-    let _collector = read_collector(row, 6)?;
-    let slot = read_slot(row, 7)?;
-    let month = read_month(row, 8)?;
-    let mark = read_mark(row, 9, 10)?;
-    let receipt: u32 = row.get(11).ok()?;
+    let _collector = read_collector(row, 9)?;
+    let slot = read_slot(row, 10)?;
+    let month = read_month(row, 11)?;
+    let mark = read_mark(row, 12, 13)?;
+    let receipt: u32 = row.get(14).ok()?;
     Some(Quote {
         slot,
         month,

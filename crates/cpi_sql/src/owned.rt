@@ -21,8 +21,8 @@ use sqlite::{Alter, Connection, params};
 use std::alloc::Global;
 
 const ASSIGNMENTS: &str =
-    "SELECT collector, slot, outlet, item, first_month, last_month FROM assignment \
-     WHERE collector = ?1 ORDER BY collector, slot";
+    "SELECT collector, slot, outlet, item, first_month, last_month, series_collector, series_slot, copied \
+     FROM assignment_2 WHERE collector = ?1 ORDER BY collector, slot";
 
 /// The assignments of a collector.
 pub fn assignments_of<S: Alter>(
@@ -34,7 +34,7 @@ pub fn assignments_of<S: Alter>(
     ensures kept { IsCleanBook (state S.Store conn.new) → HasTables (state S.Store conn.old)
         → IsKept (state S.Store conn.old) (state S.Store conn.new) }
     ensures read { IsCleanBook (state S.Store conn.new) → HasTables (state S.Store conn.old) → IfOk result (λ xs.
-        xs.items ≡ held_by collector (assignments_in ((state S.Store conn.old).now.trees 11))) }
+        xs.items ≡ held_by collector (assignments_in ((state S.Store conn.old).now.trees 22))) }
     ensures order { IfOk result (λ xs. IsInOrder nat_cmp (λ a. a.slot) xs.items) }
     ensures open { HasCleanDisk (state S.Store conn.new) → OnOk result (IsTrue (state S.Store conn.new).is_open) }
     ensures crash { Survives (state S.Store conn.old) (state S.Store conn.new)
@@ -44,7 +44,7 @@ pub fn assignments_of<S: Alter>(
     list(conn, alloc, ASSIGNMENTS, params![number])
 }
 
-const QUOTES: &str = "SELECT collector, slot, month, mark, value, receipt FROM quote \
+const QUOTES: &str = "SELECT collector, slot, month, mark, value, receipt FROM quote_2 \
      WHERE collector = ?1 ORDER BY collector, slot, month";
 
 /// The quotes of a collector.
@@ -57,7 +57,7 @@ pub fn quotes_of<S: Alter>(
     ensures kept { IsCleanBook (state S.Store conn.new) → HasTables (state S.Store conn.old)
         → IsKept (state S.Store conn.old) (state S.Store conn.new) }
     ensures read { IsCleanBook (state S.Store conn.new) → HasTables (state S.Store conn.old) → IfOk result (λ xs.
-        xs.items ≡ held_by collector (quotes_in ((state S.Store conn.old).now.trees 13))) }
+        xs.items ≡ held_by collector (quotes_in ((state S.Store conn.old).now.trees 24))) }
     ensures order { IfOk result (λ xs. IsInOrder quote_cmp quote_key xs.items) }
     ensures open { HasCleanDisk (state S.Store conn.new) → OnOk result (IsTrue (state S.Store conn.new).is_open) }
     ensures crash { Survives (state S.Store conn.old) (state S.Store conn.new)

@@ -1,15 +1,16 @@
-//! The header of a release is added: its month, its moments and the codes that may be carried.
-ghost use Rattle.std.specs.Prelude.{◌≡◌, ◌∷◌, IfOk, IsTrue, OnOk, Some};
+//! The header of a release is added: its month, its revision, its moments and the codes that may be carried.
+ghost use Rattle.std.specs.Prelude.{◌≡◌, ◌∷◌, IfOk, IsTrue, OnOk, Some, pos};
 ghost use Rattle.std.specs.String.{string_bytes};
+ghost use Rattle.sqlite.specs.declared.types.Value.TheVariants.{Int};
 ghost use Rattle.sqlite.specs.Held.{state};
 ghost use Rattle.sqlite.specs.State.{HasCleanDisk, KeepsCommit, Survives};
 ghost use Rattle.cpi_sql.specs.declared.release_rows.Header.{Header};
-ghost use Rattle.cpi_sql.specs.Lists.{codes_of, month_at};
+ghost use Rattle.cpi_sql.specs.Lists.{codes_of, month_at, revision_from};
 ghost use Rattle.cpi_sql.specs.ReleaseRows.{carry_text};
 ghost use Rattle.cpi_sql.specs.ReleaseSteps.{header_of, IsHeaderStep};
 ghost use Rattle.cpi_sql.specs.Tables.{office_schema};
 
-use crate::release_inserts::run_inside;
+use crate::release_inserts::{ReleaseNumbers, run_inside};
 use crate::stored::Unread;
 use crate::writes::moment_value;
 use cpi_codes::{Code, Moment};
@@ -41,11 +42,11 @@ fn carry_string(alloc: Global, codes: &[Code]) -> Result<String, Unread>
 }
 
 const ADD_HEADER: &str =
-    "INSERT INTO release (month, frozen_at, publishes, carry) VALUES (?1, ?2, ?3, ?4)";
+    "INSERT INTO release_2 (month, revision, frozen_at, publishes, carry) VALUES (?1, ?2, ?3, ?4, ?5)";
 
 fn insert_header<S: Alter>(
     tx: &mut Transaction<'_, S>,
-    number: u32,
+    numbers: ReleaseNumbers,
     frozen_at: Moment,
     publishes: Moment,
     carry: &str,
@@ -54,7 +55,8 @@ fn insert_header<S: Alter>(
     ensures added { HasCleanDisk (state S.Store tx.new.conn.now) →
         IsTrue (state S.Store tx.old.conn.now).in_transaction →
         (state S.Store tx.old.conn.now).now.schema ≡ office_schema →
-        OnOk result ((h : Header) → month_at number ≡ Some h.month → h.frozen_at ≡ frozen_at →
+        OnOk result ((h : Header) → month_at numbers.month ≡ Some h.month →
+        revision_from (Int (pos numbers.revision)) ≡ Some h.revision → h.frozen_at ≡ frozen_at →
         h.publishes ≡ publishes → codes_of carry.now ≡ Some h.carry →
         IsHeaderStep h (state S.Store tx.old.conn.now) (state S.Store tx.new.conn.now)) }
     ensures kept { HasCleanDisk (state S.Store tx.new.conn.now) →
@@ -63,7 +65,11 @@ fn insert_header<S: Alter>(
 {
     let frozen = moment_value(frozen_at);
     let published = moment_value(publishes);
-    run_inside(tx, ADD_HEADER, params![number, &frozen, &published, carry])
+    run_inside(
+        tx,
+        ADD_HEADER,
+        params![numbers.month, numbers.revision, &frozen, &published, carry],
+    )
 }
 
 fn frozen_at_of(release: &Release) -> Moment
@@ -84,17 +90,18 @@ fn carry_of(release: &Release) -> &[Code]
     release.carry.as_slice()
 }
 
-/// Adds the header of a release; the number is its month's.
+/// Adds the header of a release; the numbers are its own.
 pub fn add_header<S: Alter>(
     tx: &mut Transaction<'_, S>,
     alloc: Global,
-    number: u32,
+    numbers: ReleaseNumbers,
     release: &Release,
 ) -> Result<(), Unread>
     ensures same_reference { tx.new.conn.ghost_name ≡ tx.old.conn.ghost_name }
     ensures added { HasCleanDisk (state S.Store tx.new.conn.now) →
         IsTrue (state S.Store tx.old.conn.now).in_transaction →
-        (state S.Store tx.old.conn.now).now.schema ≡ office_schema → month_at number ≡ Some release.now.month →
+        (state S.Store tx.old.conn.now).now.schema ≡ office_schema → month_at numbers.month ≡ Some release.now.month →
+        revision_from (Int (pos numbers.revision)) ≡ Some release.now.revision →
         OnOk result (IsHeaderStep (header_of release.now)
         (state S.Store tx.old.conn.now) (state S.Store tx.new.conn.now)) }
     ensures kept { HasCleanDisk (state S.Store tx.new.conn.now) →
@@ -104,5 +111,5 @@ pub fn add_header<S: Alter>(
     let frozen_at = frozen_at_of(release);
     let publishes = publishes_of(release);
     let carry = carry_string(alloc, carry_of(release))?;
-    insert_header(tx, number, frozen_at, publishes, carry.as_str())
+    insert_header(tx, numbers, frozen_at, publishes, carry.as_str())
 }

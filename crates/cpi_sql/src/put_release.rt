@@ -1,16 +1,18 @@
 //! A release is put: its rows are written in one transaction, all of them or none.
-ghost use Rattle.std.specs.Prelude.{◌≡◌, false, IsTrue, None, OnErr, OnOk};
+ghost use Rattle.std.specs.Prelude.{◌≡◌, false, IsTrue, None, OnErr, OnOk, Some, pos};
+ghost use Rattle.sqlite.specs.declared.types.Value.TheVariants.{Int};
 ghost use Rattle.sqlite.specs.Held.{state};
 ghost use Rattle.sqlite.specs.State.{HasCleanDisk, KeepsCommit, Survives};
 ghost use Rattle.cpi_release.specs.FrozenMonths.{release_cmp, release_key};
 ghost use Rattle.cpi_rows.specs.Keyed.{row_at};
 ghost use Rattle.cpi_store.specs.Office.{changed, Freezes};
-ghost use Rattle.cpi_sql.specs.Lists.{office_in};
+ghost use Rattle.cpi_sql.specs.Lists.{month_at, office_in, revision_from};
 ghost use Rattle.cpi_sql.specs.ReleaseSteps.{FitsTables};
 ghost use Rattle.cpi_sql.specs.Shelf.{HasTables, IsCleanBook, IsDone, IsKept};
 ghost use Rattle.cpi_sql.specs.Steps.{outside};
 
 use crate::put_header::add_header;
+use crate::release_inserts::ReleaseNumbers;
 use crate::release_lists::{replace_carried, replace_frozen, replace_levels};
 use crate::stored::Unread;
 use crate::writes::month_number;
@@ -33,6 +35,19 @@ fn revision_of(release: &Release) -> Revision
     release.revision
 }
 
+// The release's numbers, as each of its rows begins with them.
+fn numbers_of(release: &Release) -> ReleaseNumbers
+    ensures month { month_at result.month ≡ Some release.now.month }
+    ensures revision { result.revision ≡ release.now.revision }
+    ensures range { revision_from (Int (pos result.revision)) ≡ Some release.now.revision }
+{
+    let revision = revision_of(release).number();
+    ReleaseNumbers {
+        month: month_number(month_of(release)),
+        revision: u32::from(revision),
+    }
+}
+
 fn frozen_of(release: &Release) -> &[FrozenQuote]
     ensures { result.now ≡ release.now.frozen }
 {
@@ -51,12 +66,11 @@ fn levels_of(release: &Release) -> &[Level]
     release.levels.as_slice()
 }
 
-// Whether the tables can hold it: the first revision, with lists that rise by their keys.
+// Whether the tables can hold it: its lists rise by their keys.
 fn fits_tables(release: &Release) -> bool
     ensures { IsTrue result → FitsTables release.now }
 {
-    revision_of(release).is_first()
-        && are_in_order(frozen_of(release))
+    are_in_order(frozen_of(release))
         && are_in_order(carried_of(release))
         && are_in_order(levels_of(release))
 }
@@ -79,11 +93,11 @@ fn write_rows<S: Alter>(
         KeepsCommit (state S.Store tx.old.conn.now) (state S.Store tx.new.conn.now) }
     ensures survives { Survives (state S.Store tx.old.conn.now) (state S.Store tx.new.conn.now) (λ _. ⊥) }
 {
-    let number = month_number(month_of(release));
-    add_header(tx, alloc, number, release)?;
-    replace_frozen(tx, alloc, number, frozen_of(release))?;
-    replace_carried(tx, alloc, number, carried_of(release))?;
-    replace_levels(tx, alloc, number, levels_of(release))
+    let numbers = numbers_of(release);
+    add_header(tx, alloc, numbers, release)?;
+    replace_frozen(tx, alloc, numbers, frozen_of(release))?;
+    replace_carried(tx, alloc, numbers, carried_of(release))?;
+    replace_levels(tx, alloc, numbers, levels_of(release))
 }
 
 // In one transaction, which is rolled back where it fails.
@@ -120,8 +134,8 @@ fn write_release<S: Alter>(
     }
 }
 
-/// Puts the release of a month that has none: all of its rows, or none. One that isn't the first revision is
-/// refused before the database is asked.
+/// Puts a release that isn't there yet: all of its rows, or none. What stands beside its number without a header is
+/// dropped.
 pub fn put_release<S: Alter>(
     conn: &mut Connection<S>,
     alloc: Global,

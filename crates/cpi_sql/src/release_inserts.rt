@@ -4,15 +4,15 @@ ghost use Rattle.sqlite.specs.declared.types.Value.TheVariants.{Int, Null, Text}
 ghost use Rattle.sqlite.specs.Held.{state};
 ghost use Rattle.sqlite.specs.State.{Executes, HasCleanDisk, KeepsCommit, Survives};
 ghost use Rattle.sqlite.specs.Values.{bound};
-ghost use Rattle.cpi_sql.specs.Lists.{flag_in, month_at, ranged};
+ghost use Rattle.cpi_sql.specs.Lists.{flag_in, ranged, release_from_key};
 ghost use Rattle.cpi_sql.specs.Lists.{carried_in, frozen_in, level_in};
 ghost use Rattle.cpi_index.specs.Carried.{Carried, IsTicks};
 ghost use Rattle.cpi_index.specs.Frozen.{Frozen};
 ghost use Rattle.cpi_release.specs.declared.level.Level.{Level as LevelRow};
 ghost use Rattle.cpi_sql.specs.ReleaseRows.{annual, frozen_after, carried_after, level_after};
-ghost use Rattle.cpi_sql.specs.ReleaseSteps.{AddsMonth};
+ghost use Rattle.cpi_sql.specs.ReleaseSteps.{AddsRelease, HasDroppedRelease};
 ghost use Rattle.cpi_sql.specs.Shelf.{HasRowids};
-ghost use Rattle.cpi_sql.specs.Steps.{HasDropped, IsStep};
+ghost use Rattle.cpi_sql.specs.Steps.{IsStep};
 ghost use Rattle.cpi_sql.specs.Tables.{office_schema};
 
 use crate::stored::Unread;
@@ -28,6 +28,14 @@ use sqlite::types::Value;
 use sqlite::{Alter, Transaction, params};
 use sqlite_value::value::ValueRef;
 use std::alloc::Global;
+
+/// The columns that each row of a release begins with.
+#[derive(Clone, Copy)]
+pub struct ReleaseNumbers {
+    /// The month, as year * 100 + month.
+    pub month: u32,
+    pub revision: u32,
+}
 
 // A number as a column has it; an error where it is 2^63 or more.
 fn number_value(number: u64) -> Result<Value, Unread>
@@ -79,67 +87,76 @@ pub fn run_inside<S: Alter>(
     Ok(())
 }
 
-const DROP_FROZEN: &str = "DELETE FROM frozen WHERE month = ?1";
+const DROP_FROZEN: &str = "DELETE FROM frozen_2 WHERE month = ?1 AND revision = ?2";
 
-/// Drops the rows of a month.
-pub fn drop_frozen<S: Alter>(tx: &mut Transaction<'_, S>, number: u32) -> Result<(), Unread>
+/// Drops the rows of a release.
+pub fn drop_frozen<S: Alter>(
+    tx: &mut Transaction<'_, S>,
+    numbers: ReleaseNumbers,
+) -> Result<(), Unread>
     ensures same_reference { tx.new.conn.ghost_name ≡ tx.old.conn.ghost_name }
     ensures dropped { HasCleanDisk (state S.Store tx.new.conn.now) →
         IsTrue (state S.Store tx.old.conn.now).in_transaction →
         (state S.Store tx.old.conn.now).now.schema ≡ office_schema →
-        HasRowids ((state S.Store tx.old.conn.now).now.trees 16) →
-        OnOk result (IsStep 16 (HasDropped number)
+        HasRowids ((state S.Store tx.old.conn.now).now.trees 28) →
+        OnOk result (IsStep 28 (HasDroppedRelease numbers.month numbers.revision)
         (state S.Store tx.old.conn.now) (state S.Store tx.new.conn.now)) }
     ensures kept { HasCleanDisk (state S.Store tx.new.conn.now) →
         KeepsCommit (state S.Store tx.old.conn.now) (state S.Store tx.new.conn.now) }
     ensures survives { Survives (state S.Store tx.old.conn.now) (state S.Store tx.new.conn.now) (λ _. ⊥) }
 {
-    run_inside(tx, DROP_FROZEN, params![number])
+    run_inside(tx, DROP_FROZEN, params![numbers.month, numbers.revision])
 }
 
-const DROP_CARRIED: &str = "DELETE FROM carried WHERE month = ?1";
+const DROP_CARRIED: &str = "DELETE FROM carried_2 WHERE month = ?1 AND revision = ?2";
 
-/// Drops the rows of a month.
-pub fn drop_carried<S: Alter>(tx: &mut Transaction<'_, S>, number: u32) -> Result<(), Unread>
+/// Drops the rows of a release.
+pub fn drop_carried<S: Alter>(
+    tx: &mut Transaction<'_, S>,
+    numbers: ReleaseNumbers,
+) -> Result<(), Unread>
     ensures same_reference { tx.new.conn.ghost_name ≡ tx.old.conn.ghost_name }
     ensures dropped { HasCleanDisk (state S.Store tx.new.conn.now) →
         IsTrue (state S.Store tx.old.conn.now).in_transaction →
         (state S.Store tx.old.conn.now).now.schema ≡ office_schema →
-        HasRowids ((state S.Store tx.old.conn.now).now.trees 18) →
-        OnOk result (IsStep 18 (HasDropped number)
+        HasRowids ((state S.Store tx.old.conn.now).now.trees 30) →
+        OnOk result (IsStep 30 (HasDroppedRelease numbers.month numbers.revision)
         (state S.Store tx.old.conn.now) (state S.Store tx.new.conn.now)) }
     ensures kept { HasCleanDisk (state S.Store tx.new.conn.now) →
         KeepsCommit (state S.Store tx.old.conn.now) (state S.Store tx.new.conn.now) }
     ensures survives { Survives (state S.Store tx.old.conn.now) (state S.Store tx.new.conn.now) (λ _. ⊥) }
 {
-    run_inside(tx, DROP_CARRIED, params![number])
+    run_inside(tx, DROP_CARRIED, params![numbers.month, numbers.revision])
 }
 
-const DROP_LEVEL: &str = "DELETE FROM level WHERE month = ?1";
+const DROP_LEVEL: &str = "DELETE FROM level_2 WHERE month = ?1 AND revision = ?2";
 
-/// Drops the rows of a month.
-pub fn drop_level<S: Alter>(tx: &mut Transaction<'_, S>, number: u32) -> Result<(), Unread>
+/// Drops the rows of a release.
+pub fn drop_level<S: Alter>(
+    tx: &mut Transaction<'_, S>,
+    numbers: ReleaseNumbers,
+) -> Result<(), Unread>
     ensures same_reference { tx.new.conn.ghost_name ≡ tx.old.conn.ghost_name }
     ensures dropped { HasCleanDisk (state S.Store tx.new.conn.now) →
         IsTrue (state S.Store tx.old.conn.now).in_transaction →
         (state S.Store tx.old.conn.now).now.schema ≡ office_schema →
-        HasRowids ((state S.Store tx.old.conn.now).now.trees 20) →
-        OnOk result (IsStep 20 (HasDropped number)
+        HasRowids ((state S.Store tx.old.conn.now).now.trees 32) →
+        OnOk result (IsStep 32 (HasDroppedRelease numbers.month numbers.revision)
         (state S.Store tx.old.conn.now) (state S.Store tx.new.conn.now)) }
     ensures kept { HasCleanDisk (state S.Store tx.new.conn.now) →
         KeepsCommit (state S.Store tx.old.conn.now) (state S.Store tx.new.conn.now) }
     ensures survives { Survives (state S.Store tx.old.conn.now) (state S.Store tx.new.conn.now) (λ _. ⊥) }
 {
-    run_inside(tx, DROP_LEVEL, params![number])
+    run_inside(tx, DROP_LEVEL, params![numbers.month, numbers.revision])
 }
 
 const ADD_FROZEN: &str =
-    "INSERT INTO frozen (month, collector, slot, item, last_month, mark, value) \
-    VALUES (?1, ?2, ?3, ?4, ?5, ?6, ?7)";
+    "INSERT INTO frozen_2 (month, revision, collector, slot, item, last_month, mark, value) \
+    VALUES (?1, ?2, ?3, ?4, ?5, ?6, ?7, ?8)";
 
 fn insert_frozen<S: Alter>(
     tx: &mut Transaction<'_, S>,
-    number: u32,
+    numbers: ReleaseNumbers,
     collector: u32,
     slot: u32,
     item: &str,
@@ -151,11 +168,12 @@ fn insert_frozen<S: Alter>(
     ensures added { HasCleanDisk (state S.Store tx.new.conn.now) →
         IsTrue (state S.Store tx.old.conn.now).in_transaction →
         (state S.Store tx.old.conn.now).now.schema ≡ office_schema →
-        HasRowids ((state S.Store tx.old.conn.now).now.trees 16) →
-        OnOk result ((month : ℕ) (x : Frozen) →
-        frozen_in (Null ∷ Int (pos number) ∷ Int (pos collector) ∷ Int (pos slot) ∷ Text item.now ∷ Int (pos last)
-        ∷ Text word.now ∷ Int (pos value) ∷ []) ≡ Some (month, x) →
-        IsStep 16 (AddsMonth frozen_after month (x ∷ []))
+        HasRowids ((state S.Store tx.old.conn.now).now.trees 28) →
+        OnOk result ((number : ℕ) (x : Frozen) →
+        frozen_in (Null ∷ Int (pos numbers.month) ∷ Int (pos numbers.revision) ∷ Int (pos collector)
+        ∷ Int (pos slot) ∷ Text item.now ∷ Int (pos last)
+        ∷ Text word.now ∷ Int (pos value) ∷ []) ≡ Some (number, x) →
+        IsStep 28 (AddsRelease frozen_after number (x ∷ []))
         (state S.Store tx.old.conn.now) (state S.Store tx.new.conn.now)) }
     ensures kept { HasCleanDisk (state S.Store tx.new.conn.now) →
         KeepsCommit (state S.Store tx.old.conn.now) (state S.Store tx.new.conn.now) }
@@ -164,7 +182,16 @@ fn insert_frozen<S: Alter>(
     run_inside(
         tx,
         ADD_FROZEN,
-        params![number, collector, slot, item, last, word, value],
+        params![
+            numbers.month,
+            numbers.revision,
+            collector,
+            slot,
+            item,
+            last,
+            word,
+            value
+        ],
     )
 }
 
@@ -193,20 +220,21 @@ fn quote_mark(quote: &FrozenQuote) -> Mark
     quote.mark
 }
 
-/// Adds a frozen quote beside its month.
+/// Adds a frozen quote beside its release.
 pub fn add_frozen<S: Alter>(
     tx: &mut Transaction<'_, S>,
     alloc: Global,
-    number: u32,
+    numbers: ReleaseNumbers,
     quote: &FrozenQuote,
 ) -> Result<(), Unread>
     ensures same_reference { tx.new.conn.ghost_name ≡ tx.old.conn.ghost_name }
     ensures added { HasCleanDisk (state S.Store tx.new.conn.now) →
         IsTrue (state S.Store tx.old.conn.now).in_transaction →
         (state S.Store tx.old.conn.now).now.schema ≡ office_schema →
-        HasRowids ((state S.Store tx.old.conn.now).now.trees 16) →
-        (month : ℕ) → month_at number ≡ Some month →
-        OnOk result (IsStep 16 (AddsMonth frozen_after month (quote.now ∷ []))
+        HasRowids ((state S.Store tx.old.conn.now).now.trees 28) →
+        (number : ℕ) →
+        release_from_key (Int (pos numbers.month)) (Int (pos numbers.revision)) ≡ Some number →
+        OnOk result (IsStep 28 (AddsRelease frozen_after number (quote.now ∷ []))
         (state S.Store tx.old.conn.now) (state S.Store tx.new.conn.now)) }
     ensures kept { HasCleanDisk (state S.Store tx.new.conn.now) →
         KeepsCommit (state S.Store tx.old.conn.now) (state S.Store tx.new.conn.now) }
@@ -219,7 +247,7 @@ pub fn add_frozen<S: Alter>(
     let last = month_number(quote_last(quote));
     let word = mark_text(quote_mark(quote));
     let value = mark_value(quote_mark(quote));
-    insert_frozen(tx, number, collector, slot, &item, last, word, value)
+    insert_frozen(tx, numbers, collector, slot, &item, last, word, value)
 }
 
 fn ticks_value(ticks: u64) -> Value
@@ -237,12 +265,12 @@ fn denominator(price: &CarriedPrice) -> u32
 }
 
 const ADD_CARRIED: &str =
-    "INSERT INTO carried (month, collector, slot, item, last_month, ticks, knum, kden, observed, imputed) \
-    VALUES (?1, ?2, ?3, ?4, ?5, ?6, ?7, ?8, ?9, ?10)";
+    "INSERT INTO carried_2 (month, revision, collector, slot, item, last_month, ticks, knum, kden, observed, imputed) \
+    VALUES (?1, ?2, ?3, ?4, ?5, ?6, ?7, ?8, ?9, ?10, ?11)";
 
 fn insert_carried<S: Alter>(
     tx: &mut Transaction<'_, S>,
-    number: u32,
+    numbers: ReleaseNumbers,
     collector: u32,
     slot: u32,
     item: &str,
@@ -257,11 +285,12 @@ fn insert_carried<S: Alter>(
     ensures added { HasCleanDisk (state S.Store tx.new.conn.now) →
         IsTrue (state S.Store tx.old.conn.now).in_transaction →
         (state S.Store tx.old.conn.now).now.schema ≡ office_schema →
-        HasRowids ((state S.Store tx.old.conn.now).now.trees 18) →
-        OnOk result ((t n : ℕ) → ticks.now ≡ Int (pos t) → knum.now ≡ Int (pos n) → (month : ℕ) (x : Carried) →
-        carried_in (Null ∷ Int (pos number) ∷ Int (pos collector) ∷ Int (pos slot) ∷ Text item.now ∷ Int (pos last)
-        ∷ Int (pos t) ∷ Int (pos n) ∷ Int (pos kden) ∷ Int (pos observed) ∷ Int (pos imputed) ∷ []) ≡ Some (month, x) →
-        IsStep 18 (AddsMonth carried_after month (x ∷ []))
+        HasRowids ((state S.Store tx.old.conn.now).now.trees 30) →
+        OnOk result ((t n : ℕ) → ticks.now ≡ Int (pos t) → knum.now ≡ Int (pos n) → (number : ℕ) (x : Carried) →
+        carried_in (Null ∷ Int (pos numbers.month) ∷ Int (pos numbers.revision) ∷ Int (pos collector)
+        ∷ Int (pos slot) ∷ Text item.now ∷ Int (pos last)
+        ∷ Int (pos t) ∷ Int (pos n) ∷ Int (pos kden) ∷ Int (pos observed) ∷ Int (pos imputed) ∷ []) ≡ Some (number, x) →
+        IsStep 30 (AddsRelease carried_after number (x ∷ []))
         (state S.Store tx.old.conn.now) (state S.Store tx.new.conn.now)) }
     ensures kept { HasCleanDisk (state S.Store tx.new.conn.now) →
         KeepsCommit (state S.Store tx.old.conn.now) (state S.Store tx.new.conn.now) }
@@ -271,25 +300,36 @@ fn insert_carried<S: Alter>(
         tx,
         ADD_CARRIED,
         params![
-            number, collector, slot, item, last, ticks, knum, kden, observed, imputed
+            numbers.month,
+            numbers.revision,
+            collector,
+            slot,
+            item,
+            last,
+            ticks,
+            knum,
+            kden,
+            observed,
+            imputed
         ],
     )
 }
 
-/// Adds a carried price beside its month.
+/// Adds a carried price beside its release.
 pub fn add_carried<S: Alter>(
     tx: &mut Transaction<'_, S>,
     alloc: Global,
-    number: u32,
+    numbers: ReleaseNumbers,
     price: &CarriedPrice,
 ) -> Result<(), Unread>
     ensures same_reference { tx.new.conn.ghost_name ≡ tx.old.conn.ghost_name }
     ensures added { HasCleanDisk (state S.Store tx.new.conn.now) →
         IsTrue (state S.Store tx.old.conn.now).in_transaction →
         (state S.Store tx.old.conn.now).now.schema ≡ office_schema →
-        HasRowids ((state S.Store tx.old.conn.now).now.trees 18) →
-        (month : ℕ) → month_at number ≡ Some month →
-        OnOk result (IsStep 18 (AddsMonth carried_after month (price.now ∷ []))
+        HasRowids ((state S.Store tx.old.conn.now).now.trees 30) →
+        (number : ℕ) →
+        release_from_key (Int (pos numbers.month)) (Int (pos numbers.revision)) ≡ Some number →
+        OnOk result (IsStep 30 (AddsRelease carried_after number (price.now ∷ []))
         (state S.Store tx.old.conn.now) (state S.Store tx.new.conn.now)) }
     ensures kept { HasCleanDisk (state S.Store tx.new.conn.now) →
         KeepsCommit (state S.Store tx.old.conn.now) (state S.Store tx.new.conn.now) }
@@ -306,7 +346,7 @@ pub fn add_carried<S: Alter>(
     let observed = flag_number(price.was_observed());
     let imputed = flag_number(price.was_imputed());
     insert_carried(
-        tx, number, collector, slot, &item, last, &ticks, &knum, kden, observed, imputed,
+        tx, numbers, collector, slot, &item, last, &ticks, &knum, kden, observed, imputed,
     )
 }
 
@@ -325,12 +365,12 @@ fn chained_value(level: ChainedLevel) -> Value
 }
 
 const ADD_LEVEL: &str =
-    "INSERT INTO level (month, code, title, weight, within, chained, month_change, year_change, imputed) \
-    VALUES (?1, ?2, ?3, ?4, ?5, ?6, ?7, ?8, ?9)";
+    "INSERT INTO level_2 (month, revision, code, title, weight, within, chained, month_change, year_change, imputed) \
+    VALUES (?1, ?2, ?3, ?4, ?5, ?6, ?7, ?8, ?9, ?10)";
 
 fn insert_level<S: Alter>(
     tx: &mut Transaction<'_, S>,
-    number: u32,
+    numbers: ReleaseNumbers,
     code: &str,
     title: &str,
     weight: &Value,
@@ -344,13 +384,14 @@ fn insert_level<S: Alter>(
     ensures added { HasCleanDisk (state S.Store tx.new.conn.now) →
         IsTrue (state S.Store tx.old.conn.now).in_transaction →
         (state S.Store tx.old.conn.now).now.schema ≡ office_schema →
-        HasRowids ((state S.Store tx.old.conn.now).now.trees 20) →
+        HasRowids ((state S.Store tx.old.conn.now).now.trees 32) →
         OnOk result ((w i l : ℕ) (z : ℤ) (y : Option ℤ) → weight.now ≡ Int (pos w) →
         within.now ≡ Int (pos i) → chained.now ≡ Int (pos l) → month_change.now ≡ Int z →
-        year_change.now ≡ annual y → (month : ℕ) (x : LevelRow) →
-        level_in (Null ∷ Int (pos number) ∷ Text code.now ∷ Text title.now ∷ Int (pos w) ∷ Int (pos i)
-        ∷ Int (pos l) ∷ Int z ∷ annual y ∷ Int (pos imputed) ∷ []) ≡ Some (month, x) →
-        IsStep 20 (AddsMonth level_after month (x ∷ []))
+        year_change.now ≡ annual y → (number : ℕ) (x : LevelRow) →
+        level_in (Null ∷ Int (pos numbers.month) ∷ Int (pos numbers.revision) ∷ Text code.now ∷ Text title.now
+        ∷ Int (pos w) ∷ Int (pos i)
+        ∷ Int (pos l) ∷ Int z ∷ annual y ∷ Int (pos imputed) ∷ []) ≡ Some (number, x) →
+        IsStep 32 (AddsRelease level_after number (x ∷ []))
         (state S.Store tx.old.conn.now) (state S.Store tx.new.conn.now)) }
     ensures kept { HasCleanDisk (state S.Store tx.new.conn.now) →
         KeepsCommit (state S.Store tx.old.conn.now) (state S.Store tx.new.conn.now) }
@@ -360,7 +401,8 @@ fn insert_level<S: Alter>(
         tx,
         ADD_LEVEL,
         params![
-            number,
+            numbers.month,
+            numbers.revision,
             code,
             title,
             weight,
@@ -373,20 +415,21 @@ fn insert_level<S: Alter>(
     )
 }
 
-/// Adds a row of the table of a month.
+/// Adds a row of the table of a release.
 pub fn add_level<S: Alter>(
     tx: &mut Transaction<'_, S>,
     alloc: Global,
-    number: u32,
+    numbers: ReleaseNumbers,
     level: &Level,
 ) -> Result<(), Unread>
     ensures same_reference { tx.new.conn.ghost_name ≡ tx.old.conn.ghost_name }
     ensures added { HasCleanDisk (state S.Store tx.new.conn.now) →
         IsTrue (state S.Store tx.old.conn.now).in_transaction →
         (state S.Store tx.old.conn.now).now.schema ≡ office_schema →
-        HasRowids ((state S.Store tx.old.conn.now).now.trees 20) →
-        (month : ℕ) → month_at number ≡ Some month →
-        OnOk result (IsStep 20 (AddsMonth level_after month (level.now ∷ []))
+        HasRowids ((state S.Store tx.old.conn.now).now.trees 32) →
+        (number : ℕ) →
+        release_from_key (Int (pos numbers.month)) (Int (pos numbers.revision)) ≡ Some number →
+        OnOk result (IsStep 32 (AddsRelease level_after number (level.now ∷ []))
         (state S.Store tx.old.conn.now) (state S.Store tx.new.conn.now)) }
     ensures kept { HasCleanDisk (state S.Store tx.new.conn.now) →
         KeepsCommit (state S.Store tx.old.conn.now) (state S.Store tx.new.conn.now) }
@@ -402,7 +445,7 @@ pub fn add_level<S: Alter>(
     let imputed = flag_number(level.imputed);
     insert_level(
         tx,
-        number,
+        numbers,
         &code,
         title,
         &weight,

@@ -3,8 +3,9 @@ ghost use Rattle.std.specs.Prelude.{◌≡◌, ◌==◌, IfOk, IfSome, map, Some
 ghost use Rattle.std.specs.List.{slice_split};
 ghost use Rattle.sqlite.specs.Order.{column};
 ghost use Rattle.cpi_codes.specs.CodeOf.{code_of as spelled};
-ghost use Rattle.cpi_sql.specs.Lists.{change_in, change_or_none, codes_from, codes_of as spelled_all, each_of};
-ghost use Rattle.cpi_sql.specs.Lists.{flag_in, number_in, priced_from, ranged};
+ghost use Rattle.cpi_sql.specs.Lists.{change_in, whole_or_none, codes_from, codes_of as spelled_all, each_of};
+ghost use Rattle.cpi_sql.specs.Lists.{flag_in, number_in, priced_from, ranged, revision_from};
+ghost use Rattle.cpi_sql.specs.Lists.{release_from_key, release_number};
 ghost use Rattle.cpi_sql.specs.Lists.{frozen_from, carried_from, level_from};
 
 use crate::rows::{
@@ -14,7 +15,7 @@ use crate::rows::{
 use crate::stored::Stored;
 use cpi_codes::{Code, Moment, Month, SeriesId};
 use cpi_index::{CarriedPrice, ChainedLevel, FrozenQuote, Index};
-use cpi_release::Level;
+use cpi_release::{Level, Revision};
 use cpi_rows::{Keyed, Rows};
 use sqlite::Row;
 use std::alloc::{AllocError, Global};
@@ -27,6 +28,7 @@ const MOST_DENOMINATOR: u32 = 100_000_000;
 #[derive(Debug, Drop)]
 pub struct Header {
     pub month: Month,
+    pub revision: Revision,
     /// When the month was frozen.
     pub frozen_at: Moment,
     /// When its table is published.
@@ -36,12 +38,14 @@ pub struct Header {
 }
 
 impl Keyed for Header {
-    type Key = Month;
+    ghost use Rattle.cpi_sql.specs.Lists.{header_key};
 
-    ghost key = { λ h. h.month };
+    type Key = (Month, Revision);
 
-    fn key(&self) -> Month {
-        self.month
+    ghost key = { header_key };
+
+    fn key(&self) -> (Month, Revision) {
+        (self.month, self.revision)
     }
 }
 
@@ -82,18 +86,37 @@ fn read_codes(alloc: Global, row: &Row, at: usize) -> Option<Rows<Code>>
     Some(Rows::of(codes_of(alloc, text.as_bytes())?))
 }
 
+fn read_revision(row: &Row, at: usize) -> Option<Revision>
+    ensures { IfSome result (λ v. revision_from (column row.now at) ≡ Some v) }
+{
+    let number: u64 = row.get(at).ok()?;
+    Revision::new(number)
+}
+
+// The release that a row begins with.
+fn read_release(row: &Row) -> Option<(Month, Revision)>
+    ensures { IfSome result (λ p. release_from_key (column row.now 0) (column row.now 1)
+        ≡ Some (release_number p.0 p.1)) }
+{
+    let month = read_month(row, 0)?;
+    let revision = read_revision(row, 1)?;
+    Some((month, revision))
+}
+
 impl Stored for Header {
     ghost use Rattle.cpi_sql.specs.Lists.{header_from};
 
-    ghost stands_for = { λ x. header_from (column x 0) (column x 1) (column x 2) (column x 3) };
+    ghost stands_for = { λ x. header_from (column x 0) (column x 1) (column x 2) (column x 3) (column x 4) };
 
     fn read(alloc: Global, row: &Row) -> Option<Header> {
         let month = read_month(row, 0)?;
-        let frozen_at = read_moment(row, 1)?;
-        let publishes = read_moment(row, 2)?;
-        let carry = read_codes(alloc, row, 3)?;
+        let revision = read_revision(row, 1)?;
+        let frozen_at = read_moment(row, 2)?;
+        let publishes = read_moment(row, 3)?;
+        let carry = read_codes(alloc, row, 4)?;
         Some(Header {
             month,
+            revision,
             frozen_at,
             publishes,
             carry,
@@ -116,11 +139,11 @@ impl Stored for FrozenQuote {
     ghost stands_for = { shown_frozen };
 
     fn read(alloc: Global, row: &Row) -> Option<FrozenQuote> {
-        let _month = read_month(row, 0)?;
-        let series = read_series(row, 1, 2)?;
-        let item = read_item_code(row, 3)?;
-        let last_month = read_month(row, 4)?;
-        let mark = read_mark(row, 5, 6)?;
+        let _release = read_release(row)?;
+        let series = read_series(row, 2, 3)?;
+        let item = read_item_code(row, 4)?;
+        let last_month = read_month(row, 5)?;
+        let mark = read_mark(row, 6, 7)?;
         Some(FrozenQuote {
             series,
             item,
@@ -169,15 +192,15 @@ impl Stored for CarriedPrice {
     ghost stands_for = { shown_carried };
 
     fn read(alloc: Global, row: &Row) -> Option<CarriedPrice> {
-        let _month = read_month(row, 0)?;
-        let series = read_series(row, 1, 2)?;
-        let item = read_item_code(row, 3)?;
-        let last_month = read_month(row, 4)?;
-        let ticks = read_ticks(row, 5)?;
-        let knum = read_ticks(row, 6)?;
-        let kden = read_denominator(row, 7)?;
-        let observed = read_flag(row, 8)?;
-        let imputed = read_flag(row, 9)?;
+        let _release = read_release(row)?;
+        let series = read_series(row, 2, 3)?;
+        let item = read_item_code(row, 4)?;
+        let last_month = read_month(row, 5)?;
+        let ticks = read_ticks(row, 6)?;
+        let knum = read_ticks(row, 7)?;
+        let kden = read_denominator(row, 8)?;
+        let observed = read_flag(row, 9)?;
+        let imputed = read_flag(row, 10)?;
         CarriedPrice::new(
             series, item, last_month, ticks, knum, kden, observed, imputed,
         )
@@ -212,7 +235,7 @@ fn read_change(row: &Row, at: usize) -> Option<i64>
 
 // The annual change, if there is one.
 fn read_change_or_none(row: &Row, at: usize) -> Option<Option<i64>>
-    ensures { IfSome result (λ n. change_or_none (column row.now at) ≡ Some n) }
+    ensures { IfSome result (λ n. whole_or_none (column row.now at) ≡ Some n) }
 {
     row.get(at).ok()
 }
@@ -223,15 +246,15 @@ impl Stored for Level {
     ghost stands_for = { shown_level };
 
     fn read(alloc: Global, row: &Row) -> Option<Level> {
-        let _month = read_month(row, 0)?;
-        let code = read_code(row, 1)?;
-        let title = read_name(alloc, row, 2)?;
-        let weight = read_weight(row, 3)?;
-        let within = read_index(row, 4)?;
-        let chained = read_chained(row, 5)?;
-        let month_change = read_change(row, 6)?;
-        let year_change = read_change_or_none(row, 7)?;
-        let imputed = read_flag(row, 8)?;
+        let _release = read_release(row)?;
+        let code = read_code(row, 2)?;
+        let title = read_name(alloc, row, 3)?;
+        let weight = read_weight(row, 4)?;
+        let within = read_index(row, 5)?;
+        let chained = read_chained(row, 6)?;
+        let month_change = read_change(row, 7)?;
+        let year_change = read_change_or_none(row, 8)?;
+        let imputed = read_flag(row, 9)?;
         Some(Level {
             code,
             title,

@@ -5,7 +5,6 @@ ghost use Rattle.sqlite.specs.Held.{state};
 ghost use Rattle.sqlite.specs.Program.{overlay};
 ghost use Rattle.sqlite.specs.State.{HasCleanDisk, Survives};
 ghost use Rattle.cpi_sql.specs.Shelf.{IsCleanBook, IsKept, HasRowids};
-ghost use Rattle.cpi_sql.specs.Tables.{office_schema};
 ghost use Rattle.cpi_sql.specs.Finding.{AsksRowids};
 
 use crate::stored::{Stored, Unread, list};
@@ -45,14 +44,14 @@ impl Stored for Rowid {
 pub fn scan<S: Alter>(conn: &mut Connection<S>, alloc: Global, text: &str) -> Result<(), Unread>
     ensures clean { IsCleanBook (state S.Store conn.new) → IsCleanBook (state S.Store conn.old) }
     ensures kept { IsCleanBook (state S.Store conn.new) → (state S.Store conn.old).in_transaction ≡ false
-        → (state S.Store conn.old).now.schema ≡ office_schema
-        → (tree : _) → AsksRowids text.now tree → IsKept (state S.Store conn.old) (state S.Store conn.new) }
-    ensures rise { IsCleanBook (state S.Store conn.new) → (state S.Store conn.old).now.schema ≡ office_schema
-        → OnOk result ((tree : _) → AsksRowids text.now tree
+        → (tree : _) → AsksRowids (state S.Store conn.old).now.schema text.now tree
+        → IsKept (state S.Store conn.old) (state S.Store conn.new) }
+    ensures rise { IsCleanBook (state S.Store conn.new)
+        → OnOk result ((tree : _) → AsksRowids (state S.Store conn.old).now.schema text.now tree
         → HasRowids (overlay (state S.Store conn.old).now.trees [] tree)) }
     ensures open { HasCleanDisk (state S.Store conn.new) → OnOk result (IsTrue (state S.Store conn.new).is_open) }
     ensures crash { Survives (state S.Store conn.old) (state S.Store conn.new)
-        (λ _. (state S.Store conn.old).now.schema ≡ office_schema → (tree : _) → AsksRowids text.now tree → ⊥) }
+        (λ _. (tree : _) → AsksRowids (state S.Store conn.old).now.schema text.now tree → ⊥) }
 {
     let _ids = list::<S, Rowid>(conn, alloc, text, &[])?;
     Ok(())

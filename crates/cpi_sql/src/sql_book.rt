@@ -46,13 +46,10 @@ impl Lent {
     }
 }
 
-/// An office in a database. What everybody may see, the collectors and the outlets are read once and kept in memory,
-/// and so are what the collector has who was last asked for, what the releases say beside their lists, the tables of
-/// earlier months that are asked for, and the samples of the month that is being frozen. Each write changes what is
-/// kept, or drops it.
-///
-/// A database holds the first revision of each month alone: any other release is refused with a `StoreFault`, and
-/// nothing is asked of the database.
+/// An office in a database, over the tables of schema 2, which hold each revision of each month. What everybody may
+/// see, the collectors and the outlets are read once and kept in memory, and so are what the collector has who was last
+/// asked for, what the releases say beside their lists, the tables of earlier releases that are asked for, and the
+/// samples of the month that is being frozen. Each write changes what is kept, or drops it.
 #[derive(Drop)]
 pub struct SqlBook<S: Alter> {
     conn: Connection<S>,
@@ -65,10 +62,10 @@ pub struct SqlBook<S: Alter> {
     // what everybody may see, and what the collector has who was last asked for
     lent: Lent,
     whose: Option<CollectorId>,
-    // of all releases, by month
+    // of all releases, by month and revision
     headers: Vec<Header>,
     has_headers: bool,
-    // the tables of earlier months
+    // the tables of earlier releases
     tables: Vec<LevelTable>,
     // the samples of the month that is being frozen; none once anything is written
     cached: Option<Cached>,
@@ -112,7 +109,8 @@ impl<S: Alter + Drop> SqlBook<S> {
     ghost use Rattle.cpi_sql.specs.Finding.{IsOpened, MayBeMade};
 
     /// The office in the database. Where it has no table, the tables are made, all or none; else they are to be those
-    /// of the office with the row 1 in `version`, and no row changes.
+    /// of the office with the row 2 in `version`, and no row changes, or those of schema 1 with the row 1, which are
+    /// migrated, all or none.
     pub fn new(alloc: Global, conn: Connection<S>) -> Result<SqlBook<S>, OpenFault>
         requires { (state S.Store conn).in_transaction ≡ false }
         ensures opened { IfOk result (λ b.
@@ -389,7 +387,7 @@ impl<S: Alter> Book for SqlBook<S> {
             revision,
             until,
         ) {
-            Ok(is_there) => Ok(lent_table(&self.tables, is_there, month)),
+            Ok(is_there) => Ok(lent_table(&self.tables, is_there, month, revision)),
             Err(_) => Err(self.failed.counted(StoreFault)),
         }
     }

@@ -5,8 +5,7 @@ ghost use Rattle.sqlite.specs.Held.{state};
 ghost use Rattle.sqlite.specs.State.{HasCleanDisk, Survives};
 ghost use Rattle.cpi_rows.specs.Keyed.{IsInOrder};
 ghost use Rattle.cpi_sql.specs.Shelf.{IsCleanBook, IsKept, IsKeyed, HasTables};
-ghost use Rattle.cpi_sql.specs.Tables.{office_schema};
-ghost use Rattle.cpi_sql.specs.Finding.{IsQuiet};
+ghost use Rattle.cpi_sql.specs.Finding.{IsOfOffice, IsQuiet};
 ghost use Rattle.cpi_sql.specs.Lists.{collectors_in, outlets_in, items_in, calendar_rows_in, collector_in};
 ghost use Rattle.cpi_sql.specs.Lists.{outlet_in, item_in, calendar_in};
 
@@ -29,9 +28,9 @@ pub fn bearers<S: Alter>(conn: &mut Connection<S>, alloc: Global) -> Result<Vec<
     ensures crash { Survives (state S.Store conn.old) (state S.Store conn.new)
         (λ _. HasTables (state S.Store conn.old) → ⊥) }
     ensures found_kept { IsCleanBook (state S.Store conn.new) → (state S.Store conn.old).in_transaction ≡ false
-        → (state S.Store conn.old).now.schema ≡ office_schema
+        → IsOfOffice (state S.Store conn.old).now.schema
         → IsKept (state S.Store conn.old) (state S.Store conn.new) }
-    ensures found_keyed { IsCleanBook (state S.Store conn.new) → (state S.Store conn.old).now.schema ≡ office_schema
+    ensures found_keyed { IsCleanBook (state S.Store conn.new) → IsOfOffice (state S.Store conn.old).now.schema
         → OnOk result (IsKeyed nat_cmp (λ b. b.number) collector_in ((state S.Store conn.old).now.trees 1)) }
     ensures open { HasCleanDisk (state S.Store conn.new) → OnOk result (IsTrue (state S.Store conn.new).is_open) }
     ensures found_crash { Survives (state S.Store conn.old) (state S.Store conn.new)
@@ -53,9 +52,9 @@ pub fn outlets<S: Alter>(conn: &mut Connection<S>, alloc: Global) -> Result<Vec<
     ensures crash { Survives (state S.Store conn.old) (state S.Store conn.new)
         (λ _. HasTables (state S.Store conn.old) → ⊥) }
     ensures found_kept { IsCleanBook (state S.Store conn.new) → (state S.Store conn.old).in_transaction ≡ false
-        → (state S.Store conn.old).now.schema ≡ office_schema
+        → IsOfOffice (state S.Store conn.old).now.schema
         → IsKept (state S.Store conn.old) (state S.Store conn.new) }
-    ensures found_keyed { IsCleanBook (state S.Store conn.new) → (state S.Store conn.old).now.schema ≡ office_schema
+    ensures found_keyed { IsCleanBook (state S.Store conn.new) → IsOfOffice (state S.Store conn.old).now.schema
         → OnOk result (IsKeyed nat_cmp (λ u. u.number) outlet_in ((state S.Store conn.old).now.trees 3)) }
     ensures open { HasCleanDisk (state S.Store conn.new) → OnOk result (IsTrue (state S.Store conn.new).is_open) }
     ensures found_crash { Survives (state S.Store conn.old) (state S.Store conn.new)
@@ -77,9 +76,9 @@ pub fn items<S: Alter>(conn: &mut Connection<S>, alloc: Global) -> Result<Vec<It
     ensures crash { Survives (state S.Store conn.old) (state S.Store conn.new)
         (λ _. HasTables (state S.Store conn.old) → ⊥) }
     ensures found_kept { IsCleanBook (state S.Store conn.new) → (state S.Store conn.old).in_transaction ≡ false
-        → (state S.Store conn.old).now.schema ≡ office_schema
+        → IsOfOffice (state S.Store conn.old).now.schema
         → IsKept (state S.Store conn.old) (state S.Store conn.new) }
-    ensures found_keyed { IsCleanBook (state S.Store conn.new) → (state S.Store conn.old).now.schema ≡ office_schema
+    ensures found_keyed { IsCleanBook (state S.Store conn.new) → IsOfOffice (state S.Store conn.old).now.schema
         → OnOk result (IsKeyed nat_cmp (λ i. i.code) item_in ((state S.Store conn.old).now.trees 4)) }
     ensures open { HasCleanDisk (state S.Store conn.new) → OnOk result (IsTrue (state S.Store conn.new).is_open) }
     ensures found_crash { Survives (state S.Store conn.old) (state S.Store conn.new)
@@ -104,9 +103,9 @@ pub fn calendar<S: Alter>(
     ensures crash { Survives (state S.Store conn.old) (state S.Store conn.new)
         (λ _. HasTables (state S.Store conn.old) → ⊥) }
     ensures found_kept { IsCleanBook (state S.Store conn.new) → (state S.Store conn.old).in_transaction ≡ false
-        → (state S.Store conn.old).now.schema ≡ office_schema
+        → IsOfOffice (state S.Store conn.old).now.schema
         → IsKept (state S.Store conn.old) (state S.Store conn.new) }
-    ensures found_keyed { IsCleanBook (state S.Store conn.new) → (state S.Store conn.old).now.schema ≡ office_schema
+    ensures found_keyed { IsCleanBook (state S.Store conn.new) → IsOfOffice (state S.Store conn.old).now.schema
         → OnOk result (IsKeyed nat_cmp (λ r. r.month) calendar_in ((state S.Store conn.old).now.trees 10)) }
     ensures open { HasCleanDisk (state S.Store conn.new) → OnOk result (IsTrue (state S.Store conn.new).is_open) }
     ensures found_crash { Survives (state S.Store conn.old) (state S.Store conn.new)

@@ -4,61 +4,85 @@ ghost use Rattle.sqlite.specs.declared.types.Value.TheVariants.{Int};
 ghost use Rattle.sqlite.specs.Held.{state};
 ghost use Rattle.sqlite.specs.Order.{column};
 ghost use Rattle.sqlite.specs.State.{HasCleanDisk, KeepsCommit, Shown, Survives};
-ghost use Rattle.cpi_sql.specs.Numbered.{IsOne, ShowsOther, version_text};
+ghost use Rattle.cpi_sql.specs.declared.version.Version.TheVariants.{Second, Other};
+ghost use Rattle.cpi_sql.specs.Numbered.{IsVersion, ShowsOther, version_text};
+ghost use Rattle.cpi_sql.specs.Said.{Says};
 ghost use Rattle.cpi_sql.specs.Shelf.{IsCleanBook};
 ghost use Rattle.cpi_sql.specs.Tables.{office_schema};
 
 use sqlite::{Alter, Connection, Error, Row, Transaction};
 use sqlite_value::value::ValueRef;
 
+/// What `version` shows.
+#[derive(Clone, Copy, Debug, PartialEq, Eq)]
+pub enum Version {
+    /// One row, which is 1.
+    First,
+    /// One row, which is 2.
+    Second,
+    /// Other rows.
+    Other,
+}
+
 const VERSION: &str = "SELECT number FROM version";
 
-fn begins_with_one(row: &Row) -> bool
-    ensures { IsTrue result ↔ (column row.now 0 ≡ Int (pos 1)) }
+fn begins_with(row: &Row, number: u8) -> bool
+    ensures { IsTrue result ↔ (column row.now 0 ≡ Int (pos number)) }
 {
     match row.get_ref(0) {
-        Ok(ValueRef::Int(number)) => number == 1,
+        Ok(ValueRef::Int(found)) => found == i64::from(number),
         _ => false,
     }
 }
 
-fn is_one(rows: &[Row]) -> bool
-    ensures { IsTrue result ↔ IsOne rows.now }
+fn is_version(rows: &[Row], number: u8) -> bool
+    ensures { IsTrue result ↔ IsVersion number rows.now }
 {
     match rows {
-        [row] => begins_with_one(row),
+        [row] => begins_with(row, number),
         _ => false,
     }
 }
 
-// Whether what is shown is one row, which is 1.
-fn look<S: Alter>(tx: &mut Transaction<'_, S>) -> Result<bool, Error>
+fn said(rows: &[Row]) -> Version
+    ensures { Says result rows.now }
+{
+    if is_version(rows, 1) {
+        Version::First
+    } else if is_version(rows, 2) {
+        Version::Second
+    } else {
+        Version::Other
+    }
+}
+
+/// What is shown under whatever schema.
+pub fn look<S: Alter>(tx: &mut Transaction<'_, S>) -> Result<Version, Error>
     ensures same_reference { tx.new.conn.ghost_name ≡ tx.old.conn.ghost_name }
-    ensures shown { HasCleanDisk (state S.Store tx.new.conn.now) → IfOk result (λ one. (rows : _) ×
-        Shown version_text [] (state S.Store tx.old.conn.now) (state S.Store tx.new.conn.now) rows ×
-        (IsTrue one ↔ IsOne rows)) }
+    ensures shown { HasCleanDisk (state S.Store tx.new.conn.now) → IfOk result (λ v. (rows : _) ×
+        Shown version_text [] (state S.Store tx.old.conn.now) (state S.Store tx.new.conn.now) rows × Says v rows) }
     ensures kept { HasCleanDisk (state S.Store tx.new.conn.now) →
         IsTrue (state S.Store tx.old.conn.now).in_transaction →
         KeepsCommit (state S.Store tx.old.conn.now) (state S.Store tx.new.conn.now) }
     ensures survives { Survives (state S.Store tx.old.conn.now) (state S.Store tx.new.conn.now) (λ _. ⊥) }
 {
     match tx.query_all(VERSION, &[]) {
-        Ok(rows) => Ok(is_one(&rows)),
+        Ok(rows) => Ok(said(&rows)),
         Err(error) => Err(error),
     }
 }
 
-/// Whether the number of the schema is 1, under any schema. Whatever the text means there is undone.
-pub fn is_version_one<S: Alter>(conn: &mut Connection<S>) -> Result<bool, Error>
+/// The number of the schema, under any schema. Whatever the text means there is undone.
+pub fn read_version<S: Alter>(conn: &mut Connection<S>) -> Result<Version, Error>
     requires { (state S.Store conn.old).in_transaction ≡ false }
     ensures alone { (state S.Store conn.new).in_transaction ≡ false }
     ensures clean { IsCleanBook (state S.Store conn.new) → IsCleanBook (state S.Store conn.old) }
     ensures undone { HasCleanDisk (state S.Store conn.new) → IsTrue (state S.Store conn.new).is_open →
         (state S.Store conn.new).now ≡ (state S.Store conn.old).now }
-    ensures one { HasCleanDisk (state S.Store conn.new) → IfOk result (λ one. IsTrue one →
-        (state S.Store conn.old).now.schema ≡ office_schema → IsOne ((state S.Store conn.old).now.trees 0)) }
+    ensures second { HasCleanDisk (state S.Store conn.new) → IfOk result (λ v. v ≡ Second →
+        (state S.Store conn.old).now.schema ≡ office_schema → IsVersion 2 ((state S.Store conn.old).now.trees 0)) }
     ensures other { HasCleanDisk (state S.Store conn.new) →
-        IfOk result (λ one. one ≡ false → ShowsOther S.Store conn.old) }
+        IfOk result (λ v. v ≡ Other → ShowsOther S.Store conn.old) }
     ensures survives { Survives (state S.Store conn.old) (state S.Store conn.new) (λ _. ⊥) }
 {
     let _settled = conn.is_autocommit();

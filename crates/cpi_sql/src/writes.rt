@@ -185,7 +185,8 @@ pub fn put_item<S: Alter>(
 }
 
 const PUT_ASSIGNMENT: &str =
-    "INSERT INTO assignment (collector, slot, outlet, item, first_month, last_month) VALUES (?1, ?2, ?3, ?4, ?5, ?6)";
+    "INSERT INTO assignment_2 (collector, slot, outlet, item, first_month, last_month, series_collector, series_slot, \
+     copied) VALUES (?1, ?2, ?3, ?4, ?5, ?6, ?7, ?8, NULL)";
 
 /// Puts a new assignment of the collector.
 pub fn put_assignment<S: Alter>(
@@ -217,10 +218,21 @@ pub fn put_assignment<S: Alter>(
     let outlet = outlet_number(a.outlet);
     let first = month_number(a.first_month);
     let last = month_number(a.last_month);
+    let series_collector = collector_number(a.series.collector);
+    let series_slot = slot_number(a.series.slot);
     let _count = run(
         conn,
         PUT_ASSIGNMENT,
-        params![collector, slot, outlet, item.as_str(), first, last],
+        params![
+            collector,
+            slot,
+            outlet,
+            item.as_str(),
+            first,
+            last,
+            series_collector,
+            series_slot
+        ],
     )?;
     Ok(())
 }
@@ -258,7 +270,7 @@ pub fn mark_value(mark: Mark) -> u32
 }
 
 const PUT_QUOTE: &str =
-    "INSERT INTO quote (collector, slot, month, mark, value, receipt) VALUES (?1, ?2, ?3, ?4, ?5, ?6) \
+    "INSERT INTO quote_2 (collector, slot, month, mark, value, receipt) VALUES (?1, ?2, ?3, ?4, ?5, ?6) \
      ON CONFLICT (collector, slot, month) DO UPDATE SET collector = excluded.collector, slot = excluded.slot, \
      month = excluded.month, mark = excluded.mark, value = excluded.value, receipt = excluded.receipt";
 

@@ -33,6 +33,6 @@ returns-clause-read g c = λ clean has is.
     let kept = c.in_ok-carried.ensures.look.kept before has in (
       c.in_ok-carried.ensures.read before has is,
       c.in_ok-quotes.ensures.read clean (kept_tables a b kept has) (is
-          ∙ ap (λ (d : Database). headers_in (d.trees 15)) (sym kept.now))
+          ∙ ap (λ (d : Database). headers_in (d.trees 26)) (sym kept.now))
           ∙ ap (λ (d : Database). frozen_of (releases_in d.trees) c.args.link) kept.now,
     )

@@ -44,7 +44,7 @@ returns-in-Ok-clause-read g c = λ clean has is plan link last.
     let kept = c.in_ok-link.ensures.look.kept before has in
     let links = c.in_ok-link.ensures.read before has is in
     let own = c.in_ok-own.ensures.read clean (kept_tables a b kept has) (is
-    ∙ ap (λ (d : Database). headers_in (d.trees 15)) (sym kept.now)) in
+    ∙ ap (λ (d : Database). headers_in (d.trees 26)) (sym kept.now)) in
     let prev_is : c.deref.result.now ≡ carried_of s.releases (link_month month) = c.deref.ensures.value ∙ links.0
     ∙ ap (carried_of s.releases) link in
     let link_is : c.deref-2.result.now ≡ frozen_of s.releases (link_month month) = c.deref-2.ensures.value ∙ links.1

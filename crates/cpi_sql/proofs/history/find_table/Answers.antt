@@ -41,8 +41,8 @@ returns-clause-tables g c = λ clean has stood stand.
     let before = c.ready_table.ensures.look.clean clean in
     let kept = c.ready_headers.ensures.look.kept before has in
     let rows = c.ready_headers.ensures.stands before has stood c.in_ok-ready_headers.ensures.ready in
-    let lent : c.deref-2.result.now ≡ headers_in (b.now.trees 15) = c.deref-2.ensures.value ∙ rows
-    ∙ ap (λ (d : Database). headers_in (d.trees 15)) (sym kept.now) in
+    let lent : c.deref-2.result.now ≡ headers_in (b.now.trees 26) = c.deref-2.ensures.value ∙ rows
+    ∙ ap (λ (d : Database). headers_in (d.trees 26)) (sym kept.now) in
     back (λ t. AreTablesOf (releases_in t) c.ready_table.new.tables.items) kept
     (c.ready_table.ensures.kept clean (kept_tables a b kept has) lent (forth
     (λ t. AreTablesOf (releases_in t) c.args.tables.now.items) kept stand))
@@ -54,8 +54,8 @@ returns-in_err-ready_table-clause-tables g c = λ clean has stood stand.
     let before = c.ready_table.ensures.look.clean clean in
     let kept = c.ready_headers.ensures.look.kept before has in
     let rows = c.ready_headers.ensures.stands before has stood c.in_ok-ready_headers.ensures.ready in
-    let lent : c.deref-2.result.now ≡ headers_in (b.now.trees 15) = c.deref-2.ensures.value ∙ rows
-    ∙ ap (λ (d : Database). headers_in (d.trees 15)) (sym kept.now) in
+    let lent : c.deref-2.result.now ≡ headers_in (b.now.trees 26) = c.deref-2.ensures.value ∙ rows
+    ∙ ap (λ (d : Database). headers_in (d.trees 26)) (sym kept.now) in
     back (λ t. AreTablesOf (releases_in t) c.ready_table.new.tables.items) kept
     (c.ready_table.ensures.kept clean (kept_tables a b kept has) lent (forth
     (λ t. AreTablesOf (releases_in t) c.args.tables.now.items) kept stand))

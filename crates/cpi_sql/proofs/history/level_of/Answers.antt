@@ -25,8 +25,8 @@ returns-clause-tables g c = λ clean has stood stand.
     let before = c.chained_level.ensures.look.clean clean in
     let kept = c.ready_headers.ensures.look.kept before has in
     let rows = c.ready_headers.ensures.stands before has stood c.in_ok-ready_headers.ensures.ready in
-    let lent : c.deref.result.now ≡ headers_in (b.now.trees 15) = c.deref.ensures.value ∙ rows
-    ∙ ap (λ (d : Database). headers_in (d.trees 15)) (sym kept.now) in
+    let lent : c.deref.result.now ≡ headers_in (b.now.trees 26) = c.deref.ensures.value ∙ rows
+    ∙ ap (λ (d : Database). headers_in (d.trees 26)) (sym kept.now) in
     back (λ t. AreTablesOf (releases_in t) c.chained_level.new.tables.items) kept
     (c.chained_level.ensures.kept clean (kept_tables a b kept has) lent (forth
     (λ t. AreTablesOf (releases_in t) c.args.tables.now.items) kept stand))
@@ -38,8 +38,8 @@ returns-clause-read g c = λ clean has stood stand.
     let before = c.chained_level.ensures.look.clean clean in
     let kept = c.ready_headers.ensures.look.kept before has in
     let rows = c.ready_headers.ensures.stands before has stood c.in_ok-ready_headers.ensures.ready in
-    let lent : c.deref.result.now ≡ headers_in (b.now.trees 15) = c.deref.ensures.value ∙ rows
-    ∙ ap (λ (d : Database). headers_in (d.trees 15)) (sym kept.now) in
+    let lent : c.deref.result.now ≡ headers_in (b.now.trees 26) = c.deref.ensures.value ∙ rows
+    ∙ ap (λ (d : Database). headers_in (d.trees 26)) (sym kept.now) in
     back (λ t. IfOk c.chained_level.result (λ level. level ≡ level_at (releases_in t) c.args.month c.args.code)) kept
     (c.chained_level.ensures.read clean (kept_tables a b kept has) lent (forth
     (λ t. AreTablesOf (releases_in t) c.args.tables.now.items) kept stand))

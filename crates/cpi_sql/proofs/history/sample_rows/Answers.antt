@@ -32,8 +32,8 @@ returns-clause-samples g c = λ clean has stood seen held.
     let kept = c.ready_samples.ensures.look.kept before has in
     let rows = c.ready_samples.ensures.headers before has stood c.in_ok-ready_samples.ensures.ready_headers in
     let public = c.ready_samples.ensures.public before has seen c.in_ok-ready_samples.ensures.ready_public in
-    let lent : c.deref.result.now ≡ headers_in (b.now.trees 15) = c.deref.ensures.value ∙ rows
-    ∙ ap (λ (d : Database). headers_in (d.trees 15)) (sym kept.now) in
+    let lent : c.deref.result.now ≡ headers_in (b.now.trees 26) = c.deref.ensures.value ∙ rows
+    ∙ ap (λ (d : Database). headers_in (d.trees 26)) (sym kept.now) in
     back (λ t. AreKept (office_sources (office_in t)) c.sample_of.new.cached) kept
     (c.sample_of.ensures.kept clean (kept_tables a b kept has) lent (public
     ∙ ap (λ (d : Database). public_part (office_in d.trees)) (sym kept.now))
@@ -47,8 +47,8 @@ returns-clause-read g c = λ clean has stood seen held fit late.
     let kept = c.ready_samples.ensures.look.kept before has in
     let rows = c.ready_samples.ensures.headers before has stood c.in_ok-ready_samples.ensures.ready_headers in
     let public = c.ready_samples.ensures.public before has seen c.in_ok-ready_samples.ensures.ready_public in
-    let lent : c.deref.result.now ≡ headers_in (b.now.trees 15) = c.deref.ensures.value ∙ rows
-    ∙ ap (λ (d : Database). headers_in (d.trees 15)) (sym kept.now) in
+    let lent : c.deref.result.now ≡ headers_in (b.now.trees 26) = c.deref.ensures.value ∙ rows
+    ∙ ap (λ (d : Database). headers_in (d.trees 26)) (sym kept.now) in
     back (λ t. IfOk c.sample_of.result
     (λ rows. rows.items ≡ group_of (office_sources (office_in t)) c.args.month c.args.code)) kept
     (c.sample_of.ensures.read clean (kept_tables a b kept has) lent (public

@@ -1,4 +1,3 @@
-use Rattle.std.proofs.Common.{◌≡◌}
 use Rattle.cpi_sql.proofs.FoundTables.{clean_memory}
 use Rattle.cpi_sql.proofs.inspect.filled.Goals as goal
 

@@ -1,28 +1,23 @@
-use Rattle.std.proofs.Common.{◌≡◌, arith}
+use Rattle.std.proofs.Common.{arith, refl}
 use Rattle.sqlite.specs.Held.{state}
 use Rattle.sqlite.specs.State.{HasCleanDisk}
+use Rattle.cpi_sql.specs.Tables.{first_tables, first_schema, office_schema}
+use Rattle.cpi_sql.specs.Making.{no_schema, second_tables}
+use Rattle.cpi_sql.proofs.MakeLemmas.{made_both}
 use Rattle.cpi_sql.proofs.make.make_all.Goals as goal
 
 pub returns-clause-made : goal.returns-clause-made
 returns-clause-made g c = λ clean inside none.
-    let clean_4 : HasCleanDisk (state g.S.Store c.make_releases.new.tx.conn.now) = omega (
+    let clean_2 : HasCleanDisk (state g.S.Store c.make_revisions.new.tx.conn.now) = omega (
       arith,
       c.number_schema.ensures.survives.clean,
     ) in
-    let clean_3 : HasCleanDisk (state g.S.Store c.make_survey.new.tx.conn.now) = omega (
+    let clean_1 : HasCleanDisk (state g.S.Store c.make_first.new.tx.conn.now) = omega (
       arith,
-      c.make_releases.ensures.survives.clean,
+      c.make_revisions.ensures.survives.clean,
     ) in
-    let clean_2 : HasCleanDisk (state g.S.Store c.make_plans.new.tx.conn.now) = omega (
-      arith,
-      c.make_survey.ensures.survives.clean,
-    ) in
-    let clean_1 : HasCleanDisk (state g.S.Store c.make_lists.new.tx.conn.now) = omega (
-      arith,
-      c.make_plans.ensures.survives.clean,
-    ) in
-    let lists = c.in_ok-make_lists.ensures.made clean_1 (record { inside = inside; tables = none; empty = tt }) in
-    let plans = c.in_ok-make_plans.ensures.made clean_2 lists in
-    let survey = c.in_ok-make_survey.ensures.made clean_3 plans in
-    let releases = c.in_ok-make_releases.ensures.made clean_4 survey in
-    c.number_schema.ensures.numbered clean releases
+    let all = made_both no_schema first_schema office_schema first_tables second_tables
+    (state g.S.Store c.args.tx.now.conn.now) (state g.S.Store c.make_first.new.tx.conn.now)
+    (state g.S.Store c.make_revisions.new.tx.conn.now) refl (c.in_ok-make_first.ensures.made clean_1)
+    (c.in_ok-make_revisions.ensures.made clean_2) inside none in
+    c.number_schema.ensures.numbered clean (record { inside = all.inside; tables = all.schema; empty = all.empty })

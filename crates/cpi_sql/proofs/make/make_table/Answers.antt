@@ -1,17 +1,12 @@
-use Rattle.std.proofs.Common.{◌≡◌, ◌∙◌}
+use Rattle.std.proofs.Common.{◌∙◌}
 use Rattle.sqlite.specs.Held.{state}
-use Rattle.cpi_sql.proofs.MakeLemmas.{table_made, made_then}
+use Rattle.cpi_sql.proofs.MakeLemmas.{table_made}
 use Rattle.cpi_sql.proofs.make.make_table.Goals as goal
 
 pub returns-clause-made : goal.returns-clause-made
-returns-clause-made g c = λ clean schema table makes start.
+returns-clause-made g c = λ clean schema table makes inside has.
     let old = state g.S.Store c.args.tx.now.conn.now in
     let new = state g.S.Store c.execute.new.self.conn.now in
-    let ran = c.in_ok-_count.ensures.runs clean start.inside in
-    let it = table_made schema c.args.text.now table old new c.in_ok-_count._count makes start.tables ran.0 in
-    made_then schema table old new start (record {
-      inside = it.3 ∙ start.inside;
-      tables = it.0;
-      empty = it.1;
-      others = it.2;
-    })
+    let ran = c.in_ok-_count.ensures.runs clean inside in
+    let it = table_made schema c.args.text.now table old new c.in_ok-_count._count makes has ran.0 in
+    record { inside = it.3 ∙ inside; schema = it.0; empty = (it.1, tt); others = it.2 }

@@ -1,4 +1,4 @@
-use Rattle.std.proofs.Common.{rules, ◌≡◌, IsTrue, refl}
+use Rattle.std.proofs.Common.{rules}
 use Rattle.sqlite.specs.Held.{state}
 use Rattle.cpi_sql.proofs.MakeLemmas.{made_survives}
 use Rattle.cpi_sql.proofs.make.make_tables.Goals as goal

@@ -1,4 +1,4 @@
-use Rattle.std.proofs.Common.{◌≡◌, ◌∙◌, arith}
+use Rattle.std.proofs.Common.{◌∙◌, arith}
 use Rattle.std.specs.String.{string_bytes}
 use Rattle.cpi_sql.proofs.HeaderColumns.{carry_more}
 use Rattle.cpi_sql.proofs.put_header.spaced.Goals as goal

@@ -1,4 +1,4 @@
-use Rattle.std.proofs.Common.{rules, ◌≡◌}
+use Rattle.std.proofs.Common.{rules}
 use Rattle.sqlite.specs.Held.{state}
 use Rattle.cpi_sql.proofs.ReleaseOffice.{release_survives}
 use Rattle.cpi_sql.proofs.put_release.write_release.Goals as goal

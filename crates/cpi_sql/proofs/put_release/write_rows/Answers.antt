@@ -1,9 +1,9 @@
-use Rattle.std.proofs.Common.{◌≡◌, ◌∙◌, Some, sym, ap, subst, arith}
+use Rattle.std.proofs.Common.{◌≡◌, ◌∙◌, Some, sym, subst, arith}
 use Rattle.sqlite.specs.Held.{state}
 use Rattle.sqlite.specs.State.{HasCleanDisk}
-use Rattle.cpi_sql.specs.Lists.{month_at}
+use Rattle.cpi_sql.specs.Lists.{month_at, release_number}
 use Rattle.cpi_sql.specs.Shelf.{HasRowids}
-use Rattle.cpi_sql.proofs.ReleaseColumns.{on_then}
+use Rattle.cpi_sql.proofs.ReleaseColumns.{on_then, release_row}
 use Rattle.cpi_sql.proofs.ReleaseOffice.{steps_written, written_done}
 use Rattle.cpi_sql.proofs.put_release.write_rows.Goals as goal
 
@@ -18,21 +18,25 @@ returns-clause-written g c = λ clean inside has none.
     let clean_e : HasCleanDisk e = omega (arith, c.replace_levels.ensures.survives.clean) in
     let clean_d : HasCleanDisk d = omega (arith, c.replace_carried.ensures.survives.clean) in
     let clean_b : HasCleanDisk b = omega (arith, c.replace_frozen.ensures.survives.clean) in
-    let is : month_at c.month_number-number.result ≡ Some r.month = c.month_number-number.ensures
-    ∙ ap Some c.month_of.ensures in
-    let one = c.in_ok-add_header.ensures.added clean_b inside has.schema is in
+    let numbers = c.numbers_of-numbers.result in
+    let is : month_at numbers.month ≡ Some r.month = c.numbers_of-numbers.ensures.month in
+    let range = c.numbers_of-numbers.ensures.range in
+    let same : numbers.revision ≡ r.revision = c.numbers_of-numbers.ensures.revision in
+    let number = release_number r.month r.revision in
+    let at = release_row numbers.month r.month numbers.revision r.revision is range in
+    let one = c.in_ok-add_header.ensures.added clean_b inside has.schema is range in
     let frozen_ids = subst HasRowids (sym (one.others.frozen (λ n. absurd (omega (arith, n)))))
     has.releases.frozen_ids in
-    let two = c.in_ok-replace_frozen.ensures.replaced clean_d one.inside one.schema frozen_ids r.month is in
+    let two = c.in_ok-replace_frozen.ensures.replaced clean_d one.inside one.schema frozen_ids number at in
     let carried_ids = subst HasRowids (sym (two.others.carried (λ n. absurd (omega (arith, n)))
     ∙ one.others.carried (λ n. absurd (omega (arith, n))))) has.releases.carried_ids in
-    let three = c.in_ok-replace_carried.ensures.replaced clean_e two.inside two.schema carried_ids r.month is in
+    let three = c.in_ok-replace_carried.ensures.replaced clean_e two.inside two.schema carried_ids number at in
     let level_ids = subst HasRowids (sym (three.others.levels (λ n. absurd (omega (arith, n)))
     ∙ two.others.levels (λ n. absurd (omega (arith, n)))
     ∙ one.others.levels (λ n. absurd (omega (arith, n))))) has.releases.level_ids in
     on_then c.replace_levels.result _ _
-    (c.replace_levels.ensures.replaced clean three.inside three.schema level_ids r.month is)
+    (c.replace_levels.ensures.replaced clean three.inside three.schema level_ids number at)
     (λ four. written_done r c.requires.fits a f has none
-    (steps_written r c.month_number-number.result is c.frozen_of.result.now c.carried_of.result.now
+    (steps_written r numbers.month numbers.revision is same c.frozen_of.result.now c.carried_of.result.now
     c.levels_of.result.now
     c.frozen_of.ensures c.carried_of.ensures c.levels_of.ensures a b d e f one two three four))

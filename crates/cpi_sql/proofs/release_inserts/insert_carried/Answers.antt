@@ -1,6 +1,4 @@
-use Rattle.std.proofs.Common.{◌≡◌, Some, refl, sym, ap, ◌∙◌}
 use Rattle.sqlite.specs.Held.{state}
-use Rattle.cpi_codes.specs.declared.series.SeriesId.{SeriesId}
 use Rattle.cpi_sql.proofs.ReleaseColumns.{on_then}
 use Rattle.cpi_sql.proofs.ReleaseSteps.{add_carried_ran}
 use Rattle.cpi_sql.proofs.release_inserts.insert_carried.Goals as goal
@@ -8,10 +6,11 @@ use Rattle.cpi_sql.proofs.release_inserts.insert_carried.Goals as goal
 pub returns-clause-added : goal.returns-clause-added
 returns-clause-added g c = λ clean inside schema shaped.
     on_then c.run_inside.result _ _ (c.run_inside.ensures.ran clean inside)
-    (λ it t n ticks knum month x is. add_carried_ran (state g.S.Store c.args.tx.now.conn.now)
+    (λ it t n ticks knum number x is. add_carried_ran (state g.S.Store c.args.tx.now.conn.now)
     (state g.S.Store c.run_inside.new.tx.conn.now) it.0 schema inside
-    c.args.number c.args.collector c.args.slot c.args.item.now c.args.last t n c.args.kden c.args.observed
-    c.args.imputed month x is shaped
+    c.args.numbers.month c.args.numbers.revision c.args.collector c.args.slot c.args.item.now c.args.last t n
+    c.args.kden c.args.observed
+    c.args.imputed number x is shaped
     (rw (
       c.params-to_sql.ensures,
       c.params-to_sql-2.ensures,
@@ -23,6 +22,7 @@ returns-clause-added g c = λ clean inside schema shaped.
       c.params-to_sql-8.ensures,
       c.params-to_sql-9.ensures,
       c.params-to_sql-10.ensures,
+      c.params-to_sql-11.ensures,
       ticks,
       knum,
     ) at it.1))

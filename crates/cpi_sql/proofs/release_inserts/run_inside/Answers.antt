@@ -1,6 +1,3 @@
-use Rattle.std.proofs.Common.{◌≡◌, Some, refl, sym, ap, ◌∙◌}
-use Rattle.sqlite.specs.Held.{state}
-use Rattle.cpi_codes.specs.declared.series.SeriesId.{SeriesId}
 use Rattle.cpi_sql.proofs.release_inserts.run_inside.Goals as goal
 
 pub returns-clause-ran : goal.returns-clause-ran

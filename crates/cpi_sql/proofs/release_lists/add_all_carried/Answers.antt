@@ -1,10 +1,10 @@
-use Rattle.std.proofs.Common.{◌≡◌, ℕ, arith, subst, ◌∙◌}
+use Rattle.std.proofs.Common.{arith, subst, ◌∙◌}
 use Rattle.std.proofs.lemmas.List.{take_all}
 use Rattle.sqlite.specs.Held.{state}
 use Rattle.sqlite.specs.State.{HasCleanDisk}
 use Rattle.sqlite.proofs.StateLemmas.{survives_then}
 use Rattle.cpi_sql.specs.ReleaseRows.{carried_after}
-use Rattle.cpi_sql.specs.ReleaseSteps.{AddsMonth}
+use Rattle.cpi_sql.specs.ReleaseSteps.{AddsRelease}
 use Rattle.cpi_sql.specs.Steps.{IsStep}
 use Rattle.cpi_sql.proofs.ReleaseSteps.{step_more}
 use Rattle.cpi_sql.proofs.release_lists.add_all_carried.Goals as goal
@@ -25,16 +25,16 @@ all-preserved g c =
             was_open = λ is. first.was_open (then.was_open is);
             committed = λ is. then.committed is ∙ first.committed (then.was_open is);
           };
-      added = λ clean inside schema ids month is.
-          let done = c.all.invariant.added (before clean) inside schema ids month is in
-          let one = c.in_ok-add_carried.ensures.added clean done.inside done.schema done.rowids month is in
-          step_more 18 carried_after month c.args.prices.now c.all.price-index _ old mid new
+      added = λ clean inside schema ids number is.
+          let done = c.all.invariant.added (before clean) inside schema ids number is in
+          let one = c.in_ok-add_carried.ensures.added clean done.inside done.schema done.rowids number is in
+          step_more 30 carried_after number c.args.prices.now c.all.price-index _ old mid new
           (omega (arith, c.all-test.true)) c.price-item.is done one;
     }
 
 pub returns-clause-added : goal.returns-clause-added
-returns-clause-added g c = λ clean inside schema ids month is.
-    subst (λ ys. IsStep 18 (AddsMonth carried_after month ys) (state g.S.Store c.args.tx.now.conn.now)
+returns-clause-added g c = λ clean inside schema ids number is.
+    subst (λ ys. IsStep 30 (AddsRelease carried_after number ys) (state g.S.Store c.args.tx.now.conn.now)
     (state g.S.Store c.all.tx.conn.now))
     (take_all c.all.price-index c.args.prices.now (omega (arith, c.all-test.false)))
-    (c.all.invariant.added clean inside schema ids month is)
+    (c.all.invariant.added clean inside schema ids number is)

@@ -1,9 +1,10 @@
-use Rattle.std.proofs.Common.{◌≡◌, ℕ, Some, take, IsTrue}
+use Rattle.std.proofs.Common.{◌≡◌, ℕ, pos, Some, take, IsTrue}
+use Rattle.sqlite.specs.declared.types.Value.TheVariants.{Int}
 use Rattle.sqlite.specs.State.{HasCleanDisk, KeepsCommit, Survives}
 use Rattle.sqlite.specs.Held.{state}
-use Rattle.cpi_sql.specs.Lists.{month_at}
+use Rattle.cpi_sql.specs.Lists.{release_from_key}
 use Rattle.cpi_sql.specs.ReleaseRows.{frozen_after}
-use Rattle.cpi_sql.specs.ReleaseSteps.{AddsMonth}
+use Rattle.cpi_sql.specs.ReleaseSteps.{AddsRelease}
 use Rattle.cpi_sql.specs.Shelf.{HasRowids}
 use Rattle.cpi_sql.specs.Steps.{IsStep}
 use Rattle.cpi_sql.specs.Tables.{office_schema}
@@ -17,7 +18,8 @@ invariant-all g l =
       survives : Survives old now (λ _. ⊥);
       kept : HasCleanDisk now → KeepsCommit old now;
       added : HasCleanDisk now → IsTrue old.in_transaction → old.now.schema ≡ office_schema
-          → HasRowids (old.now.trees 16)
-          → (month : ℕ) → month_at l.fn.number ≡ Some month
-          → IsStep 16 (AddsMonth frozen_after month (take l.quote-index l.quotes)) old now;
+          → HasRowids (old.now.trees 28)
+          → (number : ℕ)
+          → release_from_key (Int (pos l.fn.numbers.month)) (Int (pos l.fn.numbers.revision)) ≡ Some number
+          → IsStep 28 (AddsRelease frozen_after number (take l.quote-index l.quotes)) old now;
     }

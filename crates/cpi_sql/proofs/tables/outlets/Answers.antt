@@ -1,4 +1,3 @@
-use Rattle.std.proofs.Common.{◌≡◌}
 use Rattle.sqlite.specs.Held.{state}
 use Rattle.cpi_sql.specs.Texts.{outlets_text}
 use Rattle.cpi_sql.proofs.Whole.{both_ok, outlets_read, outlets_plain, asked_crash}

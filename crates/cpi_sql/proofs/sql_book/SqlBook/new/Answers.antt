@@ -1,6 +1,4 @@
-use Rattle.std.proofs.Common.{◌≡◌}
 use Rattle.std.specs.Ordering.{nat_cmp}
-use Rattle.sqlite.specs.Held.{state}
 use Rattle.cpi_rows.proofs.Places.{none_in_order}
 use Rattle.cpi_sql.proofs.sql_book.SqlBook.new.Goals as goal
 
