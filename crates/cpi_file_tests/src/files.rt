@@ -1,7 +1,10 @@
 //! An office in a database file and its log, both in memory.
+ghost use Rattle.std.specs.Prelude.{IfSome};
+ghost use Rattle.sqlite.specs.Held.{IsNew};
+
 use cpi_codes::zone_of;
 use cpi_office::Office;
-use cpi_sql::SqlBook;
+use cpi_sql::{OpenFault, SqlBook};
 use cpi_store::{Book, VecBook};
 use cpi_wire::replay;
 use sqlite::{Connection, FileStore, Files, Options};
@@ -60,8 +63,8 @@ pub(crate) fn told_in_memory(alloc: Global, before: &str, records: &str) -> Told
 /// What the log and the database file hold.
 #[derive(Drop)]
 pub(crate) struct Held {
-    log: Vec<u8>,
-    db: Vec<u8>,
+    pub(crate) log: Vec<u8>,
+    pub(crate) db: Vec<u8>,
 }
 
 impl Held {
@@ -119,17 +122,67 @@ fn held_by(alloc: Global, files: &Files<Fuse<Memory>>) -> Result<Held, Fail> {
     })
 }
 
-// The office of the files. Their log is copied into the database file whenever it is some commands long.
-fn opened<D: Disk + Drop>(alloc: Global, files: Files<D>) -> Option<SqlBook<FileStore<D>>> {
+// How many frames the log has before it is copied into the database file: those of some commands.
+const FRAMES: usize = 6;
+
+// The database of the files, whatever it holds.
+fn connected<D: Disk + Drop>(
+    alloc: Global,
+    files: Files<D>,
+    frames: usize,
+) -> Option<Connection<FileStore<D>>>
+    ensures { IfSome result IsNew }
+{
     if !files.may_be_used() {
         return None;
     }
     let mut options = Options::new(7);
-    options.checkpoint_frames = 6;
-    match Connection::open_files(alloc, files, options) {
-        Ok(conn) => SqlBook::new(alloc, conn).ok(),
-        Err(_) => None,
+    options.checkpoint_frames = frames;
+    Connection::open_files(alloc, files, options).ok()
+}
+
+// The office of the files.
+fn opened<D: Disk + Drop>(alloc: Global, files: Files<D>) -> Option<SqlBook<FileStore<D>>> {
+    let conn = connected(alloc, files, FRAMES)?;
+    SqlBook::new(alloc, conn).ok()
+}
+
+/// Why files that hold so much can't be opened as an office. None where they can.
+pub(crate) fn fault_of(alloc: Global, held: &Held) -> Result<Option<OpenFault>, Fail> {
+    let files = files_of(alloc, held, ENOUGH)?;
+    let conn = connected(alloc, files, FRAMES).ok_or("no database")?;
+    Ok(SqlBook::new(alloc, conn).err())
+}
+
+/// The files after statements of another program, with what the log holds copied into the database file.
+pub(crate) fn changed(alloc: Global, held: &Held, statements: &str) -> Result<Held, Fail> {
+    let files = files_of(alloc, held, ENOUGH)?;
+    let mut conn = connected(alloc, files, FRAMES).ok_or("no database")?;
+    conn.execute_batch(statements)?;
+    match conn.close_files() {
+        Ok(files) => held_by(alloc, &files),
+        Err((error, store)) => {
+            drop(store.close());
+            Err(Fail::from(error))
+        }
     }
+}
+
+/// The number that a query of another program finds.
+pub(crate) fn number_in(alloc: Global, held: &Held, query: &str) -> Result<i64, Fail> {
+    let files = files_of(alloc, held, ENOUGH)?;
+    let mut conn = connected(alloc, files, FRAMES).ok_or("no database")?;
+    let row = conn.query_row(query, &[])?;
+    Ok(row.get(0)?)
+}
+
+/// What the files hold once they were opened as an office, and nothing of the log was copied into the database file.
+pub(crate) fn opened_in_the_log(alloc: Global, held: &Held) -> Result<Held, Fail> {
+    let files = files_of(alloc, held, ENOUGH)?;
+    let conn = connected(alloc, files, usize::MAX).ok_or("no database")?;
+    let book = SqlBook::new(alloc, conn)?;
+    let files = let_go(book, End::Process).ok_or("no files")?;
+    held_by(alloc, &files)
 }
 
 /// How an office in files is let go.
