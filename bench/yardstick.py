@@ -103,11 +103,12 @@ class Office:
         return {"receipt": receipt}
 
 
-MONTH_QUOTES = """SELECT a.collector, a.slot, a.item, a.last_month, q.mark, q.value FROM assignment AS a JOIN quote AS q
+MONTH_QUOTES = """SELECT a.collector, a.slot, a.item, a.last_month, q.mark, q.value FROM assignment_2 AS a JOIN quote_2 AS q
     ON q.collector = a.collector AND q.slot = a.slot AND q.month = ? ORDER BY a.collector, a.slot"""
-FROZEN_QUOTES = "SELECT collector, slot, item, last_month, mark, value FROM frozen WHERE month = ?"
-CARRIED = """SELECT collector, slot, item, last_month, ticks, knum, kden, observed FROM carried WHERE month = ?
-    ORDER BY collector, slot"""
+FROZEN_QUOTES = "SELECT collector, slot, item, last_month, mark, value FROM frozen_2 WHERE month = ? AND revision = 1"
+CARRIED = """SELECT collector, slot, item, last_month, ticks, knum, kden, observed FROM carried_2
+    WHERE month = ? AND revision = 1 ORDER BY collector, slot"""
+LEVELS = "SELECT code, chained FROM level_2 WHERE month = ? AND revision = 1"
 WHOLE, MOST = 10**8, 10**15
 
 
@@ -125,7 +126,8 @@ class Fault(Exception):
 
 
 class Releases:
-    """The freezes of an office whose tables stand in a file, by the rules of docs/OFFICE.md."""
+    """The freezes of an office whose tables stand in a file, by the rules of docs/OFFICE.md: of each month the first
+    revision alone."""
 
     def __init__(self, file):
         self.db = sqlite3.connect(file, isolation_level=None)
@@ -139,10 +141,10 @@ class Releases:
     def reply(self, fields):
         moment, _, word, *rest = fields
         if word == "tables":
-            rows = self.rows("SELECT month, publishes FROM release WHERE publishes <= ? ORDER BY month", int(moment))
+            rows = self.rows("SELECT month, publishes FROM release_2 WHERE publishes <= ? ORDER BY month", int(moment))
             return {"tables": [[text_of(at), 1, publishes] for at, publishes in rows]}
         at, carry = month(rest[0]), rest[1:]
-        months = [it for (it,) in self.rows("SELECT month FROM release ORDER BY month")]
+        months = [it for (it,) in self.rows("SELECT month FROM release_2 ORDER BY month")]
         if at in months:
             return {"refused": 50}
         if at != after(months[-1]) if months else at % 100 != 12:
@@ -169,10 +171,10 @@ class Releases:
             levels = [*self.table(at, link, last, nodes, sample, prices)]
         self.db.execute("BEGIN IMMEDIATE")
         header = at, moment, publishes, " ".join(sorted(set(carry)))
-        self.db.execute("INSERT INTO release VALUES (?, ?, ?, ?)", header)
-        self.db.executemany("INSERT INTO frozen VALUES (?, ?, ?, ?, ?, ?, ?)", ((at, *row) for row in quotes))
-        self.db.executemany(f"INSERT INTO carried VALUES ({at}, {', '.join('?' * 9)})", prices)
-        self.db.executemany(f"INSERT INTO level VALUES ({at}, {', '.join('?' * 8)})", levels)
+        self.db.execute("INSERT INTO release_2 VALUES (?, 1, ?, ?, ?)", header)
+        self.db.executemany("INSERT INTO frozen_2 VALUES (?, 1, ?, ?, ?, ?, ?, ?)", ((at, *row) for row in quotes))
+        self.db.executemany(f"INSERT INTO carried_2 VALUES ({at}, 1, {', '.join('?' * 9)})", prices)
+        self.db.executemany(f"INSERT INTO level_2 VALUES ({at}, 1, {', '.join('?' * 8)})", levels)
         self.db.execute("COMMIT")
         return {"done": True}
 
@@ -209,7 +211,7 @@ class Releases:
                 whole[0] += weight * index
                 whole[1] |= is_imputed
         links, befores, years = (
-            dict(self.rows("SELECT code, chained FROM level WHERE month = ?", it)) for it in (link, last, at - 100)
+            dict(self.rows(LEVELS, it)) for it in (link, last, at - 100)
         )
         for code, title, weight in nodes:
             base, within = links.get(code, WHOLE), rounded(sums[code][0], weight)

@@ -19,11 +19,7 @@ def month_text(month):
 
 
 class Office:
-    """An office in memory, or in a database: there, for now, only the first revision of each month can be stored, and
-    the freeze of a further one is refused by 90."""
-
-    def __init__(self, is_in_a_database=False):
-        self.is_in_a_database = is_in_a_database
+    def __init__(self):
         self.items = {}  # by code: text, unit, low, high
         self.plans = {}
         self.calendar = {}  # by month: opens, closes, publishes
@@ -207,8 +203,6 @@ class Office:
         fault = None if self.is_first(month) else index.fault(month)
         if fault is not None:
             return refused(49, fault=fault[0], code=fault[1])
-        if self.is_in_a_database and month in self.tables:
-            return refused(90)
         self.index = index
         self.tables.setdefault(month, []).append((self.calendar[month][2], index.table(month)))
         return DONE
