@@ -15,9 +15,9 @@ use Rattle.cpi_plan.specs.declared.plan_rows.Weight.{Weight}
 use Rattle.cpi_plan.specs.declared.plan_rows.Place.{Place}
 use Rattle.cpi_plan.specs.declared.plan_rows.Node.{Node}
 use Rattle.cpi_plan.specs.declared.plan_faults.PlanFault.{PlanFault}
-use Rattle.cpi_plan.specs.declared.plan_faults.PlanFault.TheVariants.{DuplicateCode, NotElementary, ZeroWeight, WeightSum, TitleMissing, UnknownItem, ItemTwice, UnknownAggregate, NoMemory}
+use Rattle.cpi_plan.specs.declared.plan_faults.PlanFault.TheVariants.{DuplicateCode, NotElementary, ZeroWeight, WeightSum, TitleMissing, UnknownItem, ItemTwice, UnknownAggregate, Reference, NoMemory}
 use Rattle.cpi_plan.specs.Sums.{is_node}
-use Rattle.cpi_plan.specs.Plan.{IsOnePlan, Body, Plan, IsBuilt, IsFirstFault, Passes2, Passes3, Passes4, Passes5, Passes6, Passes7, Passes8, CodesOnce, are_elementary, has_zero, total, is_untitled, has_unplaced, row_of, node}
+use Rattle.cpi_plan.specs.Plan.{IsOnePlan, Body, Plan, IsBuilt, IsFirstFault, Passes2, Passes3, Passes4, Passes5, Passes6, Passes7, Passes8, Passes9, CodesOnce, are_elementary, has_zero, total, is_untitled, has_unplaced, row_of, node}
 use Rattle.cpi_plan.proofs.OnceLemmas.{once_from_order}
 use Rattle.cpi_plan.proofs.UnderLemmas.{any_agree}
 use Rattle.cpi_plan.proofs.MovedLemmas.{all_moved, weight_moved}
@@ -28,12 +28,12 @@ use Rattle.std.proofs.lemmas.Cmp.{nat_cmp_total as item-law}
 pub codes_once : (titles moved : List Title) (weights placed : List Weight) → IsPermutation titles moved → IsPermutation weights placed → IsInOrder code_cmp (λ t. t.code) moved → IsInOrder code_cmp (λ w. w.code) placed → CodesOnce titles weights
 codes_once titles moved weights placed m n s t = (once_from_order total-law (λ x. x.code) titles moved m s, once_from_order total-law (λ x. x.code) weights placed n t)
 
-module _ (year : ℕ) (known : List Item) (titles moved : List Title) (weights placed : List Weight) (places : List Place) (m : IsPermutation titles moved) (n : IsPermutation weights placed) (s : IsInOrder code_cmp (λ t. t.code) moved) (t : IsInOrder code_cmp (λ w. w.code) placed) where
+module _ (year : ℕ) (known : List Item) (titles moved : List Title) (weights placed : List Weight) (places : List Place) (references : List ℕ) (m : IsPermutation titles moved) (n : IsPermutation weights placed) (s : IsInOrder code_cmp (λ t. t.code) moved) (t : IsInOrder code_cmp (λ w. w.code) placed) where
   abbrev given : Body
-  given = record { known = known; titles = titles; weights = weights; places = places }
+  given = record { known = known; titles = titles; weights = weights; places = places; references = references }
 
   abbrev ordered : Body
-  ordered = record { known = known; titles = moved; weights = placed; places = places }
+  ordered = record { known = known; titles = moved; weights = placed; places = places; references = references }
 
   once : CodesOnce titles weights
   once = codes_once titles moved weights placed m n s t
@@ -87,7 +87,10 @@ module _ (year : ℕ) (known : List Item) (titles moved : List Title) (weights p
   pass8 : Passes8 ordered → Passes8 given
   pass8 p = (pass7 p.0, unplaced ∙ p.1)
 
-  fault_moved : (f : PlanFault) → IsFirstFault f ordered → IsFirstFault f given
+  pass9 : Passes9 year ordered → Passes9 year given
+  pass9 p = (pass8 p.0, p.1)
+
+  fault_moved : (f : PlanFault) → IsFirstFault year f ordered → IsFirstFault year f given
   fault_moved DuplicateCode h = absurd (h (codes_once moved moved placed placed (IsPermutation-refl moved) (IsPermutation-refl placed) s t))
   fault_moved NotElementary h = (once, elementary ∙ h.1)
   fault_moved ZeroWeight h = (pass2 h.0, zero ∙ h.1)
@@ -96,25 +99,27 @@ module _ (year : ℕ) (known : List Item) (titles moved : List Title) (weights p
   fault_moved UnknownItem h = (pass5 h.0, h.1)
   fault_moved ItemTwice h = (pass6 h.0, h.1)
   fault_moved UnknownAggregate h = (pass7 h.0, unplaced ∙ h.1)
+  fault_moved Reference h = (pass8 h.0, h.1)
   fault_moved NoMemory h = tt
 
   pub built_moved : (r : Result Plan PlanFault) → IsBuilt year ordered r → IsBuilt year given r
   built_moved (Ok plan) h = (
-    pass8 h.0,
+    pass9 h.0,
     record {
       of_year = h.1.of_year;
       has_nodes = λ q. h.1.has_nodes q ∙ row_agree q;
       has_weights = IsPermutation-trans weights placed plan.weights n h.1.has_weights;
       has_places = h.1.has_places;
+      has_reference = h.1.has_reference;
     },
   )
   built_moved (Err f) h = fault_moved f h
 
-parts_are : (y z : ℕ) (ws vs : List Weight) (ps qs : List Place) (ns ms : List Node) → y ≡ z → ws ≡ vs → ps ≡ qs → ns ≡ ms → plan_with y ws ps ns ≡ plan_with z vs qs ms
-parts_are y z ws vs ps qs ns ms a b c d = rw (a, b, c, d) refl
+parts_are : (y z : ℕ) (ws vs : List Weight) (ps qs : List Place) (r s : Option ℕ) (ns ms : List Node) → y ≡ z → ws ≡ vs → ps ≡ qs → r ≡ s → ns ≡ ms → plan_with y ws ps r ns ≡ plan_with z vs qs s ms
+parts_are y z ws vs ps qs r s ns ms a b c d e = rw (a, b, c, d, e) refl
 
-pub plan_is : (p q : Plan) → p.year ≡ q.year → p.nodes ≡ q.nodes → p.weights ≡ q.weights → p.places ≡ q.places → p ≡ q
-plan_is p q a b c d = parts_are p.year q.year p.weights q.weights p.places q.places p.nodes q.nodes a c d b
+pub plan_is : (p q : Plan) → p.year ≡ q.year → p.nodes ≡ q.nodes → p.weights ≡ q.weights → p.places ≡ q.places → p.reference ≡ q.reference → p ≡ q
+plan_is p q a b c d e = parts_are p.year q.year p.weights q.weights p.places q.places p.reference q.reference p.nodes q.nodes a c d e b
 
 pub one_plan : (year : ℕ) (b : Body) → IsOnePlan year b
 one_plan year b p q v w f g =
@@ -122,3 +127,4 @@ one_plan year b p q v w f g =
     (same_rows total-law (λ n. n.code) p.nodes q.nodes v.nodes_in_order w.nodes_in_order (λ k. f.has_nodes k ∙ sym (g.has_nodes k)))
     (same_rows total-law (λ x. x.code) p.weights q.weights v.weights_in_order w.weights_in_order (λ k. row_moved total-law (λ x. x.code) k b.weights p.weights f.has_weights v.weights_in_order ∙ sym (row_moved total-law (λ x. x.code) k b.weights q.weights g.has_weights w.weights_in_order)))
     (same_rows item-law (λ x. x.item) p.places q.places v.places_in_order w.places_in_order (λ k. row_moved item-law (λ x. x.item) k b.places p.places f.has_places v.places_in_order ∙ sym (row_moved item-law (λ x. x.item) k b.places q.places g.has_places w.places_in_order)))
+    (f.has_reference ∙ sym g.has_reference)

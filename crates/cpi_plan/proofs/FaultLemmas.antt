@@ -9,8 +9,8 @@ use Rattle.cpi_codes.specs.contracts.codes.CodeOrd.TheImpl.Laws.{total-law}
 use Rattle.cpi_codes.proofs.CodeIs.{same_code_is}
 use Rattle.cpi_codes.proofs.CodePath.{same_part, is_eq-parts}
 use Rattle.cpi_plan.specs.declared.plan_faults.PlanFault.{PlanFault}
-use Rattle.cpi_plan.specs.declared.plan_faults.PlanFault.TheVariants.{DuplicateCode, NotElementary, ZeroWeight, WeightSum, TitleMissing, UnknownItem, ItemTwice, UnknownAggregate, NoMemory}
-use Rattle.cpi_plan.specs.Plan.{Body, IsFirstFault, CodesOnce, Passes2, Passes3, Passes4, Passes5, Passes6, Passes7}
+use Rattle.cpi_plan.specs.declared.plan_faults.PlanFault.TheVariants.{DuplicateCode, NotElementary, ZeroWeight, WeightSum, TitleMissing, UnknownItem, ItemTwice, UnknownAggregate, Reference, NoMemory}
+use Rattle.cpi_plan.specs.Plan.{Body, IsFirstFault, CodesOnce, Passes2, Passes3, Passes4, Passes5, Passes6, Passes7, Passes8}
 use Rattle.cpi_plan.proofs.UnderLemmas.{number_is, part_is, and_first, and_second}
 
 -- codes that compare equal are one code
@@ -32,29 +32,32 @@ level Less Greater e f g = cc
 true_false : true ≡ false → ⊥
 true_false e = cc
 
-module _ (b : Body) where
-  clash1 : IsFirstFault DuplicateCode b → CodesOnce b.titles b.weights → ⊥
+module _ (year : ℕ) (b : Body) where
+  clash1 : IsFirstFault year DuplicateCode b → CodesOnce b.titles b.weights → ⊥
   clash1 h p = h p
 
-  clash2 : IsFirstFault NotElementary b → Passes2 b → ⊥
+  clash2 : IsFirstFault year NotElementary b → Passes2 b → ⊥
   clash2 h p = true_false (sym p.1 ∙ h.1)
 
-  clash3 : IsFirstFault ZeroWeight b → Passes3 b → ⊥
+  clash3 : IsFirstFault year ZeroWeight b → Passes3 b → ⊥
   clash3 h p = true_false (sym h.1 ∙ p.1)
 
-  clash4 : (n : ℕ) → IsFirstFault (WeightSum n) b → Passes4 b → ⊥
+  clash4 : (n : ℕ) → IsFirstFault year (WeightSum n) b → Passes4 b → ⊥
   clash4 n h p = h.2 (h.1 ∙ p.1)
 
-  clash5 : (c : Code) → IsFirstFault (TitleMissing c) b → Passes5 b → ⊥
+  clash5 : (c : Code) → IsFirstFault year (TitleMissing c) b → Passes5 b → ⊥
   clash5 c h p = true_false (sym h.1.0 ∙ p.1 c)
 
-  clash6 : IsFirstFault UnknownItem b → Passes6 b → ⊥
+  clash6 : IsFirstFault year UnknownItem b → Passes6 b → ⊥
   clash6 h p = true_false (sym h.1 ∙ p.1)
 
-  clash7 : IsFirstFault ItemTwice b → Passes7 b → ⊥
+  clash7 : IsFirstFault year ItemTwice b → Passes7 b → ⊥
   clash7 h p = h.1 p.1
 
-  pub one_fault : (f g : PlanFault) → f ≢ NoMemory → g ≢ NoMemory → IsFirstFault f b → IsFirstFault g b → f ≡ g
+  clash8 : IsFirstFault year UnknownAggregate b → Passes8 b → ⊥
+  clash8 h p = true_false (sym h.1 ∙ p.1)
+
+  pub one_fault : (f g : PlanFault) → f ≢ NoMemory → g ≢ NoMemory → IsFirstFault year f b → IsFirstFault year g b → f ≡ g
   one_fault NoMemory g p q h k = absurd (p refl)
   one_fault DuplicateCode NoMemory p q h k = absurd (q refl)
   one_fault DuplicateCode DuplicateCode p q h k = refl
@@ -65,6 +68,7 @@ module _ (b : Body) where
   one_fault DuplicateCode UnknownItem p q h k = absurd (clash1 h k.0.0.0.0.0)
   one_fault DuplicateCode ItemTwice p q h k = absurd (clash1 h k.0.0.0.0.0.0)
   one_fault DuplicateCode UnknownAggregate p q h k = absurd (clash1 h k.0.0.0.0.0.0.0)
+  one_fault DuplicateCode Reference p q h k = absurd (clash1 h k.0.0.0.0.0.0.0.0)
   one_fault NotElementary NoMemory p q h k = absurd (q refl)
   one_fault NotElementary DuplicateCode p q h k = absurd (clash1 k h.0)
   one_fault NotElementary NotElementary p q h k = refl
@@ -74,6 +78,7 @@ module _ (b : Body) where
   one_fault NotElementary UnknownItem p q h k = absurd (clash2 h k.0.0.0.0)
   one_fault NotElementary ItemTwice p q h k = absurd (clash2 h k.0.0.0.0.0)
   one_fault NotElementary UnknownAggregate p q h k = absurd (clash2 h k.0.0.0.0.0.0)
+  one_fault NotElementary Reference p q h k = absurd (clash2 h k.0.0.0.0.0.0.0)
   one_fault ZeroWeight NoMemory p q h k = absurd (q refl)
   one_fault ZeroWeight DuplicateCode p q h k = absurd (clash1 k h.0.0)
   one_fault ZeroWeight NotElementary p q h k = absurd (clash2 k h.0)
@@ -83,6 +88,7 @@ module _ (b : Body) where
   one_fault ZeroWeight UnknownItem p q h k = absurd (clash3 h k.0.0.0)
   one_fault ZeroWeight ItemTwice p q h k = absurd (clash3 h k.0.0.0.0)
   one_fault ZeroWeight UnknownAggregate p q h k = absurd (clash3 h k.0.0.0.0.0)
+  one_fault ZeroWeight Reference p q h k = absurd (clash3 h k.0.0.0.0.0.0)
   one_fault (WeightSum m) NoMemory p q h k = absurd (q refl)
   one_fault (WeightSum m) DuplicateCode p q h k = absurd (clash1 k h.0.0.0)
   one_fault (WeightSum m) NotElementary p q h k = absurd (clash2 k h.0.0)
@@ -92,6 +98,7 @@ module _ (b : Body) where
   one_fault (WeightSum m) UnknownItem p q h k = absurd (clash4 m h k.0.0)
   one_fault (WeightSum m) ItemTwice p q h k = absurd (clash4 m h k.0.0.0)
   one_fault (WeightSum m) UnknownAggregate p q h k = absurd (clash4 m h k.0.0.0.0)
+  one_fault (WeightSum m) Reference p q h k = absurd (clash4 m h k.0.0.0.0.0)
   one_fault (TitleMissing m) NoMemory p q h k = absurd (q refl)
   one_fault (TitleMissing m) DuplicateCode p q h k = absurd (clash1 k h.0.0.0.0)
   one_fault (TitleMissing m) NotElementary p q h k = absurd (clash2 k h.0.0.0)
@@ -101,6 +108,7 @@ module _ (b : Body) where
   one_fault (TitleMissing m) UnknownItem p q h k = absurd (clash5 m h k.0)
   one_fault (TitleMissing m) ItemTwice p q h k = absurd (clash5 m h k.0.0)
   one_fault (TitleMissing m) UnknownAggregate p q h k = absurd (clash5 m h k.0.0.0)
+  one_fault (TitleMissing m) Reference p q h k = absurd (clash5 m h k.0.0.0.0)
   one_fault UnknownItem NoMemory p q h k = absurd (q refl)
   one_fault UnknownItem DuplicateCode p q h k = absurd (clash1 k h.0.0.0.0.0)
   one_fault UnknownItem NotElementary p q h k = absurd (clash2 k h.0.0.0.0)
@@ -110,6 +118,7 @@ module _ (b : Body) where
   one_fault UnknownItem UnknownItem p q h k = refl
   one_fault UnknownItem ItemTwice p q h k = absurd (clash6 h k.0)
   one_fault UnknownItem UnknownAggregate p q h k = absurd (clash6 h k.0.0)
+  one_fault UnknownItem Reference p q h k = absurd (clash6 h k.0.0.0)
   one_fault ItemTwice NoMemory p q h k = absurd (q refl)
   one_fault ItemTwice DuplicateCode p q h k = absurd (clash1 k h.0.0.0.0.0.0)
   one_fault ItemTwice NotElementary p q h k = absurd (clash2 k h.0.0.0.0.0)
@@ -119,6 +128,7 @@ module _ (b : Body) where
   one_fault ItemTwice UnknownItem p q h k = absurd (clash6 k h.0)
   one_fault ItemTwice ItemTwice p q h k = refl
   one_fault ItemTwice UnknownAggregate p q h k = absurd (clash7 h k.0)
+  one_fault ItemTwice Reference p q h k = absurd (clash7 h k.0.0)
   one_fault UnknownAggregate NoMemory p q h k = absurd (q refl)
   one_fault UnknownAggregate DuplicateCode p q h k = absurd (clash1 k h.0.0.0.0.0.0.0)
   one_fault UnknownAggregate NotElementary p q h k = absurd (clash2 k h.0.0.0.0.0.0)
@@ -128,3 +138,14 @@ module _ (b : Body) where
   one_fault UnknownAggregate UnknownItem p q h k = absurd (clash6 k h.0.0)
   one_fault UnknownAggregate ItemTwice p q h k = absurd (clash7 k h.0)
   one_fault UnknownAggregate UnknownAggregate p q h k = refl
+  one_fault UnknownAggregate Reference p q h k = absurd (clash8 h k.0)
+  one_fault Reference NoMemory p q h k = absurd (q refl)
+  one_fault Reference DuplicateCode p q h k = absurd (clash1 k h.0.0.0.0.0.0.0.0)
+  one_fault Reference NotElementary p q h k = absurd (clash2 k h.0.0.0.0.0.0.0)
+  one_fault Reference ZeroWeight p q h k = absurd (clash3 k h.0.0.0.0.0.0)
+  one_fault Reference (WeightSum n) p q h k = absurd (clash4 n k h.0.0.0.0.0)
+  one_fault Reference (TitleMissing n) p q h k = absurd (clash5 n k h.0.0.0.0)
+  one_fault Reference UnknownItem p q h k = absurd (clash6 k h.0.0.0)
+  one_fault Reference ItemTwice p q h k = absurd (clash7 k h.0.0)
+  one_fault Reference UnknownAggregate p q h k = absurd (clash8 k h.0)
+  one_fault Reference Reference p q h k = refl

@@ -21,7 +21,7 @@ use Rattle.cpi_plan.specs.declared.plan_rows.Node.{Node}
 use Rattle.cpi_plan.specs.declared.plan_rows.Place.{Place}
 use Rattle.cpi_plan.specs.Sums.{sum_at, weight_under, is_node}
 use Rattle.cpi_plan.specs.Steps.{is_without, IsFirst, node_with, nodes_with}
-use Rattle.cpi_plan.specs.Plan.{Plan, IsPlan, are_elementary, has_zero, total, is_untitled, has_unplaced, row_of, node}
+use Rattle.cpi_plan.specs.Plan.{Plan, IsPlan, are_elementary, has_zero, total, is_untitled, has_unplaced, row_of, node, may_refer, has_fit_reference, reference_in, is_fit_reference}
 use Rattle.cpi_plan.proofs.UnderLemmas.{weighs, under_total}
 use Rattle.cpi_plan.proofs.RowLemmas.{found}
 use Rattle.cpi_plan.proofs.FirstLemmas.{same_sum}
@@ -40,8 +40,8 @@ both_same : (b : Bool) (n : Option Node) → n ≡ cond b n n
 both_same true n = refl
 both_same false n = refl
 
-abbrev pub plan_with : ℕ → List Weight → List Place → List Node → Plan
-plan_with year weights places nodes = record { year = year; nodes = nodes; weights = weights; places = places }
+abbrev pub plan_with : ℕ → List Weight → List Place → Option ℕ → List Node → Plan
+plan_with year weights places reference nodes = record { year = year; nodes = nodes; weights = weights; places = places; reference = reference }
 
 and_left : (a b : Bool) → (a && b) ≡ true → a ≡ true
 and_left true b h = refl
@@ -114,10 +114,10 @@ module _ (sums : BTreeMap Code ℕ) (weights : List Weight) (kept : (q : Code) �
   pub few : total weights ≡ 1000000 → (q : Code) → sum_at sums q < 2 ^ 32
   few whole q = omega (arith, kept q, under_total q weights, whole)
 
-  pub is_plan : (year : ℕ) (titles : List Title) (places : List Place) → (2000 ≤ year) × (year ≤ 2199) → IsInOrder code_cmp (λ t. t.code) titles → IsInOrder code_cmp (λ w. w.code) weights → IsInOrder nat_cmp (λ p. p.item) places
-      → are_elementary weights places ≡ true → total weights ≡ 1000000 → ((q : Code) → is_untitled titles weights q ≡ false) → has_unplaced weights places ≡ false
-      → IsPlan (plan_with year weights places (nodes_with (sum_at sums) titles))
-  is_plan year titles places y s t u elementary whole titled placed = record {
+  pub is_plan : (year : ℕ) (titles : List Title) (places : List Place) (reference : Option ℕ) → (2000 ≤ year) × (year ≤ 2199) → IsInOrder code_cmp (λ t. t.code) titles → IsInOrder code_cmp (λ w. w.code) weights → IsInOrder nat_cmp (λ p. p.item) places
+      → are_elementary weights places ≡ true → total weights ≡ 1000000 → ((q : Code) → is_untitled titles weights q ≡ false) → has_unplaced weights places ≡ false → is_fit_reference year reference ≡ true
+      → IsPlan (plan_with year weights places reference (nodes_with (sum_at sums) titles))
+  is_plan year titles places reference y s t u elementary whole titled placed referred = record {
     in_calendar = y;
     nodes_in_order = nodes_in_order titles s;
     weights_in_order = t;
@@ -128,7 +128,14 @@ module _ (sums : BTreeMap Code ℕ) (weights : List Weight) (kept : (q : Code) �
     complete = λ q. nodes_complete titles titled q;
     weighed = all_weighed (filter (λ t. nat_lt 0 (sum_at sums t.code)) titles);
     placed = placed;
+    referred = referred;
   }
+
+-- ---- a reference month that was sent alone and may be referred to is fit
+pub fit_alone : (year : ℕ) (months : List ℕ) → has_fit_reference year months ≡ true → is_fit_reference year (reference_in months) ≡ true
+fit_alone year [] h = refl
+fit_alone year (month ∷ []) h = and_left (may_refer year month) true h
+fit_alone year (month ∷ other ∷ months) h = cc
 
 -- ---- a look-up finds the same row after rows were put in order
 module _ {X K : Type 0} {R : K → K → Ordering} (o : IsTotalOrder R) (key : X → K) (k : K) where

@@ -5,7 +5,7 @@ use Rattle.cpi_codes.specs.CodeOrder.{code_cmp}
 use Rattle.cpi_codes.specs.declared.codes.Code.{Code}
 use Rattle.cpi_codes.specs.contracts.codes.CodeOrd.TheImpl.Laws.{total-law}
 use Rattle.cpi_rows.specs.Keyed.{IsInOrder}
-use Rattle.cpi_plan.specs.Plan.{Body, Plan, are_elementary, has_zero, total, has_unknown, has_unplaced}
+use Rattle.cpi_plan.specs.Plan.{Body, Plan, are_elementary, has_zero, total, has_unknown, has_unplaced, has_fit_reference}
 use Rattle.cpi_plan.specs.Planned.{are_codes_once, are_items_once, first_untitled, nodes_of, plan_of, placed, titled, planned}
 use Rattle.cpi_plan.specs.declared.plan_faults.PlanFault.{PlanFault}
 use Rattle.cpi_plan.proofs.InOrder.{is_in_order}
@@ -19,9 +19,10 @@ module _ (year : ℕ) (b : Body) (p : Plan) where
   from_placed : placed year b ≡ Ok p → plan_of year b ≡ p
   from_placed e =
       let made : Ok (plan_of year b) ≡ Ok p =
-      passed (has_unplaced b.weights b.places) _ _ p
+      passed (not (has_fit_reference year b.references)) _ _ p
+      (passed (has_unplaced b.weights b.places) _ _ p
       (passed (not (are_items_once b.places)) _ _ p
-      (passed (has_unknown b.known b.places) _ _ p e)) in
+      (passed (has_unknown b.known b.places) _ _ p e))) in
       cc
 
   from_titled : (o : Option Code) → titled year b o ≡ Ok p → plan_of year b ≡ p

@@ -14,9 +14,9 @@ use Rattle.cpi_plan.specs.declared.plan_rows.Title.{Title}
 use Rattle.cpi_plan.specs.declared.plan_rows.Weight.{Weight}
 use Rattle.cpi_plan.specs.declared.plan_rows.Node.{Node}
 use Rattle.cpi_plan.specs.declared.plan_faults.PlanFault.{PlanFault}
-use Rattle.cpi_plan.specs.declared.plan_faults.PlanFault.TheVariants.{DuplicateCode, NotElementary, ZeroWeight, WeightSum, TitleMissing, UnknownItem, ItemTwice, UnknownAggregate, NoMemory}
+use Rattle.cpi_plan.specs.declared.plan_faults.PlanFault.TheVariants.{DuplicateCode, NotElementary, ZeroWeight, WeightSum, TitleMissing, UnknownItem, ItemTwice, UnknownAggregate, Reference, NoMemory}
 use Rattle.cpi_plan.specs.Sums.{is_node}
-use Rattle.cpi_plan.specs.Plan.{Body, Plan, IsPlan, IsPlanOf, IsBuilt, IsFirstFault, CodesOnce, Passes2, Passes3, Passes4, Passes5, Passes6, Passes7, Passes8, are_elementary, has_zero, total, has_unknown, has_unplaced, is_same_item, row_of, node}
+use Rattle.cpi_plan.specs.Plan.{Body, Plan, IsPlan, IsPlanOf, IsBuilt, IsFirstFault, CodesOnce, Passes2, Passes3, Passes4, Passes5, Passes6, Passes7, Passes8, Passes9, are_elementary, has_zero, total, has_unknown, has_unplaced, is_same_item, row_of, node, has_fit_reference}
 use Rattle.cpi_plan.specs.Planned.{are_codes_once, are_items_once, are_distinct, first_untitled, nodes_of, in_order, plan_of, titled, planned}
 use Rattle.cpi_plan.proofs.InOrder.{distinct, from_distinct, not_distinct, is_in_order, row_in_order}
 use Rattle.cpi_plan.proofs.FirstUntitled.{first_untitled_is, none_untitled}
@@ -58,8 +58,11 @@ module _ (year : ℕ) (b : Body) where
   abbrev after_codes : Bool → Result Plan PlanFault
   after_codes t = cond (not t) (Err DuplicateCode) (after_kinds (are_elementary b.weights b.places))
 
+  abbrev after_referred : Bool → Result Plan PlanFault
+  after_referred t = cond (not t) (Err Reference) (Ok (plan_of year b))
+
   abbrev after_placed : Bool → Result Plan PlanFault
-  after_placed t = cond t (Err UnknownAggregate) (Ok (plan_of year b))
+  after_placed t = cond t (Err UnknownAggregate) (after_referred (has_fit_reference year b.references))
 
   abbrev after_items : Bool → Result Plan PlanFault
   after_items t = cond (not t) (Err ItemTwice) (after_placed (has_unplaced b.weights b.places))
@@ -88,10 +91,13 @@ module _ (year : ℕ) (b : Body) where
   step7 : Passes7 b → planned year b ≡ after_placed (has_unplaced b.weights b.places)
   step7 h = step6 h.0 ∙ ap after_items (distinct (λ p q. is_same_item p.item q.item) b.places h.1)
 
-  step8 : Passes8 b → planned year b ≡ Ok (plan_of year b)
+  step8 : Passes8 b → planned year b ≡ after_referred (has_fit_reference year b.references)
   step8 h = step7 h.0 ∙ ap after_placed h.1
 
-  fault_planned : (f : PlanFault) → f ≢ NoMemory → IsFirstFault f b → planned year b ≡ Err f
+  step9 : Passes9 year b → planned year b ≡ Ok (plan_of year b)
+  step9 h = step8 h.0 ∙ ap after_referred h.1
+
+  fault_planned : (f : PlanFault) → f ≢ NoMemory → IsFirstFault year f b → planned year b ≡ Err f
   fault_planned NoMemory n h = absurd (n refl)
   fault_planned DuplicateCode n h = ap after_codes (codes_twice b.titles b.weights h)
   fault_planned NotElementary n h = step1 h.0 ∙ ap after_kinds h.1
@@ -101,6 +107,7 @@ module _ (year : ℕ) (b : Body) where
   fault_planned UnknownItem n h = step5 h.0 ∙ ap after_known h.1
   fault_planned ItemTwice n h = step6 h.0 ∙ ap after_items (not_distinct (λ p q. is_same_item p.item q.item) b.places h.1)
   fault_planned UnknownAggregate n h = step7 h.0 ∙ ap after_placed h.1
+  fault_planned Reference n h = step8 h.0 ∙ ap after_referred h.1
 
 -- ---- the nodes
 module _ (weights : List Weight) where
@@ -132,10 +139,11 @@ plan_planned year b plan v f =
     (λ k. row_moved total-law (λ w. w.code) k b.weights plan.weights f.has_weights v.weights_in_order ∙ sym (row_in_order total-law (λ w. w.code) k b.weights)))
     (same_rows item-law (λ p. p.item) plan.places (in_order nat_cmp (λ p. p.item) b.places) v.places_in_order (is_in_order item-law (λ p. p.item) b.places)
     (λ k. row_moved item-law (λ p. p.item) k b.places plan.places f.has_places v.places_in_order ∙ sym (row_in_order item-law (λ p. p.item) k b.places)))
+    f.has_reference
 
 -- what is built, unless memory was refused, is what is planned
 pub built_planned : (year : ℕ) (b : Body) (r : Result Plan PlanFault) → IsBuilt year b r → ((plan : Plan) → r ≡ Ok plan → IsPlan plan) → r ≢ Err NoMemory → r ≡ planned year b
-built_planned year b (Ok plan) h v n = ap (λ p. Ok p) (plan_planned year b plan (v plan refl) h.1) ∙ sym (step8 year b h.0)
+built_planned year b (Ok plan) h v n = ap (λ p. Ok p) (plan_planned year b plan (v plan refl) h.1) ∙ sym (step9 year b h.0)
 built_planned year b (Err f) h v n = sym (fault_planned year b f (λ e. n (ap (λ g. Err g) e)) h)
 
 other_fault : DuplicateCode ≢ NoMemory

@@ -1,5 +1,5 @@
 -- Plans are the same exactly where they are equal.
-use Rattle.std.proofs.Common.{◌≡◌, Bool, true, List, refl, ap, subst, ◌&&◌, ◌==◌}
+use Rattle.std.proofs.Common.{◌≡◌, ℕ, Bool, true, List, Option, Some, None, refl, ap, subst, ◌&&◌, ◌==◌}
 use Rattle.std.specs.Bool.{Decides}
 use Rattle.std.specs.Cmp.Lexicographic.{pointwise, pointwise_decides, bytes_decides}
 use Rattle.std.specs.Ordering.{is_eq}
@@ -13,7 +13,7 @@ use Rattle.cpi_plan.specs.declared.plan_rows.Node.{Node}
 use Rattle.cpi_plan.specs.declared.plan_rows.Weight.{Weight}
 use Rattle.cpi_plan.specs.declared.plan_rows.Place.{Place}
 use Rattle.cpi_plan.specs.Plan.{Plan}
-use Rattle.cpi_plan.specs.SamePlan.{same_node, same_weight, same_place, same_plan}
+use Rattle.cpi_plan.specs.SamePlan.{same_node, same_weight, same_place, same_reference, same_plan}
 use Rattle.cpi_plan.proofs.UnderLemmas.{and_first, and_second}
 use Rattle.cpi_plan.proofs.FaultLemmas.{equal_is}
 
@@ -63,6 +63,12 @@ place_decides a b = (is, by)
     by : a ≡ b → same_place a b ≡ true
     by e = all_true (a.item == b.item) (is_same a.aggregate b.aggregate) ((Decides-eqb a.item b.item).1 (ap (λ x. x.item) e)) ((code_decides a.aggregate b.aggregate).1 (ap (λ x. x.aggregate) e))
 
+reference_decides : (a b : Option ℕ) → Decides (same_reference a b) (a ≡ b)
+reference_decides None None = (λ e. refl, λ e. refl)
+reference_decides None (Some y) = (λ e. cc, λ e. cc)
+reference_decides (Some x) None = (λ e. cc, λ e. cc)
+reference_decides (Some x) (Some y) = (λ e. ap (λ n. Some n) ((Decides-eqb x y).0 e), λ e. let same : x ≡ y = cc in (Decides-eqb x y).1 same)
+
 module _ (a b : Plan) where
   abbrev of_year : Bool
   of_year = a.year == b.year
@@ -76,23 +82,30 @@ module _ (a b : Plan) where
   abbrev of_places : Bool
   of_places = pointwise same_place a.places b.places
 
+  abbrev of_reference : Bool
+  of_reference = same_reference a.reference b.reference
+
   plan_is : same_plan a b ≡ true → a ≡ b
   plan_is e =
-      let front = and_first (of_year && of_nodes && of_weights) of_places e in
+      let all = and_first (of_year && of_nodes && of_weights && of_places) of_reference e in
+      let front = and_first (of_year && of_nodes && of_weights) of_places all in
       let first = and_first (of_year && of_nodes) of_weights front in
       let year : a.year ≡ b.year = (Decides-eqb a.year b.year).0 (and_first of_year of_nodes first) in
       let nodes : a.nodes ≡ b.nodes = (pointwise_decides node_decides a.nodes b.nodes).0 (and_second of_year of_nodes first) in
       let weights : a.weights ≡ b.weights = (pointwise_decides weight_decides a.weights b.weights).0 (and_second (of_year && of_nodes) of_weights front) in
-      let places : a.places ≡ b.places = (pointwise_decides place_decides a.places b.places).0 (and_second (of_year && of_nodes && of_weights) of_places e) in
-      λ n. record { year = year n; nodes = nodes n; weights = weights n; places = places n }
+      let places : a.places ≡ b.places = (pointwise_decides place_decides a.places b.places).0 (and_second (of_year && of_nodes && of_weights) of_places all) in
+      let reference : a.reference ≡ b.reference = (reference_decides a.reference b.reference).0 (and_second (of_year && of_nodes && of_weights && of_places) of_reference e) in
+      λ n. record { year = year n; nodes = nodes n; weights = weights n; places = places n; reference = reference n }
 
   is_plan : a ≡ b → same_plan a b ≡ true
   is_plan e =
-      all_true (of_year && of_nodes && of_weights) of_places
+      all_true (of_year && of_nodes && of_weights && of_places) of_reference
+      (all_true (of_year && of_nodes && of_weights) of_places
       (all_true (of_year && of_nodes) of_weights
       (all_true of_year of_nodes ((Decides-eqb a.year b.year).1 (ap (λ p. p.year) e)) ((pointwise_decides node_decides a.nodes b.nodes).1 (ap (λ p. p.nodes) e)))
       ((pointwise_decides weight_decides a.weights b.weights).1 (ap (λ p. p.weights) e)))
-      ((pointwise_decides place_decides a.places b.places).1 (ap (λ p. p.places) e))
+      ((pointwise_decides place_decides a.places b.places).1 (ap (λ p. p.places) e)))
+      ((reference_decides a.reference b.reference).1 (ap (λ p. p.reference) e))
 
 -- two plans are the same exactly where they are one
 pub plan_decides : (a b : Plan) → Decides (same_plan a b) (a ≡ b)

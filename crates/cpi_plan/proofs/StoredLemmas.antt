@@ -1,33 +1,24 @@
--- A plan is what is made of its nodes and places.
-use Rattle.std.proofs.Common.{◌≡◌, ◌⊎◌, inl, inr, ℕ, ◌+◌, Bool, true, false, cond, List, [], ◌∷◌, ◌++◌, map, filter, sum_by, Some, None, Option, refl, sym, ap, subst, ◌∙◌, arith, not, ◌&&◌, ◌||◌, ◌==◌}
+-- A plan is what is made of its nodes, its places and its reference month.
+use Rattle.std.proofs.Common.{◌≡◌, ℕ, Bool, true, false, List, [], ◌∷◌, ◌++◌, Some, None, Option, refl, sym, ap, ◌∙◌, arith, ◌&&◌, ◌||◌, ◌==◌}
 use Rattle.std.proofs.lemmas.Bool.Decides.{nat_tests}
-use Rattle.std.specs.Prelude.{is_some}
 use Rattle.std.specs.Ordering.{is_eq}
-use Rattle.std.specs.declared.cmp.Ordering.{Ordering}
-use Rattle.std.specs.declared.cmp.Ordering.TheVariants.{Less, Equal, Greater}
 use Rattle.std.specs.Cmp.{tied_itself}
-use Rattle.std.specs.List.{list_any, list_all, AllByRecursion}
-use Rattle.std.specs.List.Sorted.{IsStrictlySortedBy}
+use Rattle.std.specs.List.{list_any, list_all}
 use Rattle.std.proofs.lemmas.List.Folds.{list_all-append}
-use Rattle.std.proofs.lemmas.Map.Keys.{sorted_head, sorted_tail}
-use Rattle.cpi_codes.specs.CodeOrder.{code_cmp, is_same, is_elementary}
+use Rattle.cpi_codes.specs.CodeOrder.{is_same}
 use Rattle.cpi_codes.specs.CodeText.{is_at_or_below}
 use Rattle.cpi_codes.specs.CodePath.{path, code_with, code_if}
 use Rattle.cpi_codes.specs.CodeParts.{are_parts}
 use Rattle.cpi_codes.specs.declared.codes.Code.{Code}
 use Rattle.cpi_codes.specs.contracts.codes.CodeOrd.TheImpl.Laws.{total-law}
-use Rattle.cpi_codes.proofs.CodePath.{at_or_below-parts, no_group}
-use Rattle.cpi_codes.proofs.CodeBytes.{absent_below}
+use Rattle.cpi_codes.proofs.CodePath.{at_or_below-parts}
 use Rattle.cpi_codes.proofs.CodeBelow.{fits}
-use Rattle.cpi_codes.proofs.CodeIs.{same_code_is, code}
-use Rattle.cpi_rows.specs.Keyed.{IsInOrder}
+use Rattle.cpi_codes.proofs.CodeIs.{code}
 use Rattle.cpi_plan.specs.Sums.{weight_under, is_node}
-use Rattle.cpi_plan.specs.Plan.{Plan, IsPlan, has_zero, total, has_unplaced}
-use Rattle.cpi_plan.specs.Stored.{weight_of, weights_of, plan_from, is_weighed, is_complete, is_whole}
+use Rattle.cpi_plan.specs.Plan.{Plan, IsPlan, total}
+use Rattle.cpi_plan.specs.Stored.{is_weighed, is_complete, is_whole}
 use Rattle.cpi_plan.specs.declared.plan_rows.Weight.{Weight}
-use Rattle.cpi_plan.specs.declared.plan_rows.Node.{Node}
-use Rattle.cpi_plan.proofs.FaultLemmas.{equal_is}
-use Rattle.cpi_plan.proofs.UnderLemmas.{number_is, and_first, and_second}
+use Rattle.cpi_plan.proofs.UnderLemmas.{and_first, and_second}
 
 pub same_itself : (c : Code) → is_same c c ≡ true
 same_itself c = ap is_eq (tied_itself total-law c)
@@ -116,4 +107,4 @@ module _ (p : Plan) (v : IsPlan p) where
   pub plan_whole : is_whole p ≡ true
   plan_whole =
       let whole : (total p.weights == 1000000) ≡ true = rw v.whole refl in
-      rw (whole, v.positive, weighed, complete, v.placed) refl
+      rw (whole, v.positive, weighed, complete, v.placed, v.referred) refl

@@ -1,9 +1,11 @@
 -- A year's plan: what the desk sends for it, its faults, and the plan that is made of it.
-use Rattle.std.specs.Prelude.{ℕ, ◌≤◌, ◌≡◌, ◌==◌, ◌≢◌, ◌&&◌, ⊤, Bool, true, false, not, List, sum_by, Result, MatchResult, Option, None, option_map, is_none, if◌then◌else◌}
+use Rattle.std.specs.Prelude.{ℕ, ◌≤◌, ◌≡◌, ◌==◌, ◌≢◌, ◌&&◌, ⊤, Bool, true, false, not, List, [], ◌∷◌, sum_by, nat_lt, Result, MatchResult, Option, Some, None, option_map, is_none, if◌then◌else◌}
+use Rattle.std.specs.Option.{option_map_or}
 use Rattle.std.specs.Ordering.{nat_cmp, is_eq}
 use Rattle.std.specs.List.{list_any, list_all, IsDistinct}
 use Rattle.std.specs.List.Sorted.{IsPermutation}
 use Rattle.cpi_codes.specs.CodeOrder.{code_cmp, is_same, is_elementary}
+use Rattle.cpi_codes.specs.Month.{year_of}
 use Rattle.cpi_codes.specs.declared.codes.Code.{Code}
 use Rattle.cpi_plan.specs.declared.items.Item.{Item}
 use Rattle.cpi_rows.specs.Keyed.{IsInOrder, row_at, at}
@@ -14,21 +16,24 @@ use Rattle.cpi_plan.specs.declared.plan_rows.Weight.{Weight}
 use Rattle.cpi_plan.specs.declared.plan_rows.Place.{Place}
 use Rattle.cpi_plan.specs.declared.plan_rows.Node.{Node}
 use Rattle.cpi_plan.specs.declared.plan_faults.PlanFault.{PlanFault}
-use Rattle.cpi_plan.specs.declared.plan_faults.PlanFault.TheVariants.{DuplicateCode, NotElementary, ZeroWeight, WeightSum, TitleMissing, UnknownItem, ItemTwice, UnknownAggregate, NoMemory}
+use Rattle.cpi_plan.specs.declared.plan_faults.PlanFault.TheVariants.{DuplicateCode, NotElementary, ZeroWeight, WeightSum, TitleMissing, UnknownItem, ItemTwice, UnknownAggregate, Reference, NoMemory}
 
--- what the desk sends, in any order, with the items that are known
+-- what the desk sends, in any order, with the items that are known; references are months
 pub record Body : Type 0 where
   pub known : List Item
   pub titles : List Title
   pub weights : List Weight
   pub places : List Place
+  pub references : List ℕ
 
--- a plan: nodes and weights by code, places by item
+-- a plan: nodes and weights by code, places by item; with a reference month, the weights are moved by prices from that
+-- month to the link month
 pub record Plan : Type 0 where
   pub year : ℕ
   pub nodes : List Node
   pub weights : List Weight
   pub places : List Place
+  pub reference : Option ℕ
 
 abbrev pub is_same_item : ℕ → ℕ → Bool
 is_same_item a b = is_eq (nat_cmp a b)
@@ -65,6 +70,24 @@ ItemsOnce places = IsDistinct (λ p q. is_same_item p.item q.item) places
 abbrev pub has_unplaced : List Weight → List Place → Bool
 has_unplaced weights places = list_any (λ p. not (list_any (λ w. is_same w.code p.aggregate) weights)) places
 
+-- a month that a plan's weights may refer to: one before the plan's year, so the link month at the latest
+abbrev pub may_refer : ℕ → ℕ → Bool
+may_refer year month = nat_lt (year_of month) year
+
+abbrev pub is_one_at_most : List ℕ → Bool
+is_one_at_most [] = true
+is_one_at_most (_ ∷ []) = true
+is_one_at_most (_ ∷ _ ∷ _) = false
+
+-- no reference month, or one that the weights may refer to
+abbrev pub has_fit_reference : ℕ → List ℕ → Bool
+has_fit_reference year months = is_one_at_most months && list_all (may_refer year) months
+
+-- the reference month, if one was sent
+abbrev pub reference_in : List ℕ → Option ℕ
+reference_in [] = None
+reference_in (month ∷ _) = Some month
+
 -- ---- what stands once the first tests are passed
 abbrev pub Passes2 : Body → Type 0
 Passes2 b = CodesOnce b.titles b.weights × (are_elementary b.weights b.places ≡ true)
@@ -87,21 +110,25 @@ Passes7 b = Passes6 b × ItemsOnce b.places
 abbrev pub Passes8 : Body → Type 0
 Passes8 b = Passes7 b × (has_unplaced b.weights b.places ≡ false)
 
+abbrev pub Passes9 : ℕ → Body → Type 0
+Passes9 year b = Passes8 b × (has_fit_reference year b.references ≡ true)
+
 -- the first node without a title, in the order of codes
 abbrev pub IsFirstUntitled : List Title → List Weight → Code → Type 0
 IsFirstUntitled titles weights code = IsFirst (is_untitled titles weights) code
 
--- the fault of a body: the first that there is. Want of memory can come at any time.
-abbrev pub IsFirstFault : PlanFault → Body → Type 0
-IsFirstFault DuplicateCode b = CodesOnce b.titles b.weights → ⊥
-IsFirstFault NotElementary b = CodesOnce b.titles b.weights × (are_elementary b.weights b.places ≡ false)
-IsFirstFault ZeroWeight b = Passes2 b × (has_zero b.weights ≡ true)
-IsFirstFault (WeightSum found) b = Passes3 b × (found ≡ total b.weights) × (found ≢ 1000000)
-IsFirstFault (TitleMissing code) b = Passes4 b × IsFirstUntitled b.titles b.weights code
-IsFirstFault UnknownItem b = Passes5 b × (has_unknown b.known b.places ≡ true)
-IsFirstFault ItemTwice b = Passes6 b × (ItemsOnce b.places → ⊥)
-IsFirstFault UnknownAggregate b = Passes7 b × (has_unplaced b.weights b.places ≡ true)
-IsFirstFault NoMemory b = ⊤
+-- the fault of a body sent for a year: the first that there is. Want of memory can come at any time.
+abbrev pub IsFirstFault : ℕ → PlanFault → Body → Type 0
+IsFirstFault year DuplicateCode b = CodesOnce b.titles b.weights → ⊥
+IsFirstFault year NotElementary b = CodesOnce b.titles b.weights × (are_elementary b.weights b.places ≡ false)
+IsFirstFault year ZeroWeight b = Passes2 b × (has_zero b.weights ≡ true)
+IsFirstFault year (WeightSum found) b = Passes3 b × (found ≡ total b.weights) × (found ≢ 1000000)
+IsFirstFault year (TitleMissing code) b = Passes4 b × IsFirstUntitled b.titles b.weights code
+IsFirstFault year UnknownItem b = Passes5 b × (has_unknown b.known b.places ≡ true)
+IsFirstFault year ItemTwice b = Passes6 b × (ItemsOnce b.places → ⊥)
+IsFirstFault year UnknownAggregate b = Passes7 b × (has_unplaced b.weights b.places ≡ true)
+IsFirstFault year Reference b = Passes8 b × (has_fit_reference year b.references ≡ false)
+IsFirstFault year NoMemory b = ⊤
 
 -- ---- the plan
 -- a title with the sum of the weights under its code
@@ -118,6 +145,11 @@ pub record IsPlanOf (year : ℕ) (b : Body) (plan : Plan) : Type 0 where
   pub has_nodes : (code : Code) → row_at code_cmp (λ n. n.code) code plan.nodes ≡ row_of b.titles b.weights code
   pub has_weights : IsPermutation b.weights plan.weights
   pub has_places : IsPermutation b.places plan.places
+  pub has_reference : plan.reference ≡ reference_in b.references
+
+-- a reference month, if there is one, is one that the weights may refer to
+abbrev pub is_fit_reference : ℕ → Option ℕ → Bool
+is_fit_reference year reference = option_map_or (may_refer year) reference true
 
 -- what every plan keeps
 pub record IsPlan (plan : Plan) : Type 0 where
@@ -132,15 +164,16 @@ pub record IsPlan (plan : Plan) : Type 0 where
   pub complete : (code : Code) → is_node plan.weights code ≡ list_any (λ n. is_same n.code code) plan.nodes
   pub weighed : list_all (λ n. n.weight == weight_under n.code plan.weights) plan.nodes ≡ true
   pub placed : has_unplaced plan.weights plan.places ≡ false
+  pub referred : is_fit_reference plan.year plan.reference ≡ true
 
 -- what is built of a body: a plan exactly where no test fails, else the first fault
 abbrev pub IsBuilt : ℕ → Body → Result Plan PlanFault → Type 0
-IsBuilt year b result = MatchResult result (λ plan. Passes8 b × IsPlanOf year b plan) (λ fault. IsFirstFault fault b)
+IsBuilt year b result = MatchResult result (λ plan. Passes9 year b × IsPlanOf year b plan) (λ fault. IsFirstFault year fault b)
 
 -- two plans of one body are the same plan
 abbrev pub IsOnePlan : ℕ → Body → Type 0
 IsOnePlan year b = (p q : Plan) → IsPlan p → IsPlan q → IsPlanOf year b p → IsPlanOf year b q → p ≡ q
 
 -- two faults of one body are the same fault, want of memory aside
-abbrev pub IsOneFault : Body → Type 0
-IsOneFault b = (f g : PlanFault) → f ≢ NoMemory → g ≢ NoMemory → IsFirstFault f b → IsFirstFault g b → f ≡ g
+abbrev pub IsOneFault : ℕ → Body → Type 0
+IsOneFault year b = (f g : PlanFault) → f ≢ NoMemory → g ≢ NoMemory → IsFirstFault year f b → IsFirstFault year g b → f ≡ g

@@ -8,13 +8,13 @@ use Rattle.cpi_codes.specs.CodePath.{path}
 use Rattle.cpi_codes.specs.declared.codes.Code.{Code}
 use Rattle.cpi_rows.specs.Keyed.{put}
 use Rattle.cpi_plan.specs.Sums.{is_node}
-use Rattle.cpi_plan.specs.Plan.{Body, Plan, node, are_elementary, has_zero, total, is_untitled, has_unknown, is_same_item, has_unplaced}
+use Rattle.cpi_plan.specs.Plan.{Body, Plan, node, are_elementary, has_zero, total, is_untitled, has_unknown, is_same_item, has_unplaced, has_fit_reference, reference_in}
 use Rattle.cpi_plan.specs.declared.plan_rows.Title.{Title}
 use Rattle.cpi_plan.specs.declared.plan_rows.Weight.{Weight}
 use Rattle.cpi_plan.specs.declared.plan_rows.Place.{Place}
 use Rattle.cpi_plan.specs.declared.plan_rows.Node.{Node}
 use Rattle.cpi_plan.specs.declared.plan_faults.PlanFault.{PlanFault}
-use Rattle.cpi_plan.specs.declared.plan_faults.PlanFault.TheVariants.{DuplicateCode, NotElementary, ZeroWeight, WeightSum, TitleMissing, UnknownItem, ItemTwice, UnknownAggregate}
+use Rattle.cpi_plan.specs.declared.plan_faults.PlanFault.TheVariants.{DuplicateCode, NotElementary, ZeroWeight, WeightSum, TitleMissing, UnknownItem, ItemTwice, UnknownAggregate, Reference}
 
 -- no row is the same as a later one
 abbrev pub are_distinct : {X : Type 0} → (X → X → Bool) → List X → Bool
@@ -58,14 +58,16 @@ plan_of year b = record {
   nodes = in_order code_cmp (λ n. n.code) (nodes_of b.titles b.weights);
   weights = in_order code_cmp (λ w. w.code) b.weights;
   places = in_order nat_cmp (λ p. p.item) b.places;
+  reference = reference_in b.references;
 }
 
--- the tests of the places, the last ones
+-- the tests of the places and of the reference month, the last ones
 abbrev pub placed : ℕ → Body → Result Plan PlanFault
 placed year b =
     if has_unknown b.known b.places then Err UnknownItem else
     if not (are_items_once b.places) then Err ItemTwice else
     if has_unplaced b.weights b.places then Err UnknownAggregate else
+    if not (has_fit_reference year b.references) then Err Reference else
     Ok (plan_of year b)
 
 -- the test of the titles, and those after it

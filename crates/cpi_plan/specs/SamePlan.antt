@@ -1,5 +1,5 @@
--- Whether two plans are one: the titles of nodes count, in what order rows were sent doesn't.
-use Rattle.std.specs.Prelude.{Bool, ◌&&◌, ◌==◌}
+-- Whether two plans are one: the titles of nodes and the reference month count, in what order rows were sent doesn't.
+use Rattle.std.specs.Prelude.{ℕ, Bool, true, false, ◌&&◌, ◌==◌, Option, Some, None}
 use Rattle.std.specs.Cmp.Lexicographic.{pointwise}
 use Rattle.cpi_codes.specs.CodeOrder.{is_same}
 use Rattle.cpi_codes.specs.Text.{same_text}
@@ -17,5 +17,10 @@ same_weight a b = is_same a.code b.code && a.parts == b.parts
 abbrev pub same_place : Place → Place → Bool
 same_place a b = a.item == b.item && is_same a.aggregate b.aggregate
 
+abbrev pub same_reference : Option ℕ → Option ℕ → Bool
+same_reference None None = true
+same_reference (Some a) (Some b) = a == b
+same_reference _ _ = false
+
 abbrev pub same_plan : Plan → Plan → Bool
-same_plan a b = a.year == b.year && pointwise same_node a.nodes b.nodes && pointwise same_weight a.weights b.weights && pointwise same_place a.places b.places
+same_plan a b = a.year == b.year && pointwise same_node a.nodes b.nodes && pointwise same_weight a.weights b.weights && pointwise same_place a.places b.places && same_reference a.reference b.reference

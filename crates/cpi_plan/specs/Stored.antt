@@ -1,10 +1,10 @@
--- A plan by its nodes and places, as a store keeps it: its weights are those of the elementary nodes.
-use Rattle.std.specs.Prelude.{ℕ, ◌==◌, Bool, ◌&&◌, not, List, map, filter}
+-- A plan by its nodes, places and reference month, as a store keeps it: its weights are those of the elementary nodes.
+use Rattle.std.specs.Prelude.{ℕ, ◌==◌, Bool, ◌&&◌, not, List, map, filter, Option}
 use Rattle.std.specs.List.{list_any, list_all}
 use Rattle.cpi_codes.specs.CodeOrder.{is_same, is_elementary}
 use Rattle.cpi_codes.specs.CodePath.{path}
 use Rattle.cpi_plan.specs.Sums.{weight_under, is_node}
-use Rattle.cpi_plan.specs.Plan.{Plan, has_zero, total, has_unplaced}
+use Rattle.cpi_plan.specs.Plan.{Plan, has_zero, total, has_unplaced, is_fit_reference}
 use Rattle.cpi_plan.specs.declared.plan_rows.Weight.{Weight}
 use Rattle.cpi_plan.specs.declared.plan_rows.Place.{Place}
 use Rattle.cpi_plan.specs.declared.plan_rows.Node.{Node}
@@ -15,8 +15,8 @@ weight_of n = record { code = n.code; parts = n.weight }
 abbrev pub weights_of : List Node → List Weight
 weights_of nodes = map weight_of (filter (λ n. is_elementary n.code) nodes)
 
-abbrev pub plan_from : ℕ → List Node → List Place → Plan
-plan_from year nodes places = record { year = year; nodes = nodes; weights = weights_of nodes; places = places }
+abbrev pub plan_from : ℕ → List Node → List Place → Option ℕ → Plan
+plan_from year nodes places reference = record { year = year; nodes = nodes; weights = weights_of nodes; places = places; reference = reference }
 
 -- a node with its sum
 abbrev pub is_weighed : List Weight → Node → Bool
@@ -28,4 +28,4 @@ is_complete p = list_all (λ w. list_all (λ c. list_any (λ n. is_same n.code c
 
 -- whether the rows, each list in order, make a plan
 abbrev pub is_whole : Plan → Bool
-is_whole p = total p.weights == 1000000 && not (has_zero p.weights) && list_all (is_weighed p.weights) p.nodes && is_complete p && not (has_unplaced p.weights p.places)
+is_whole p = total p.weights == 1000000 && not (has_zero p.weights) && list_all (is_weighed p.weights) p.nodes && is_complete p && not (has_unplaced p.weights p.places) && is_fit_reference p.year p.reference

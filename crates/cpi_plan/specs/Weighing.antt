@@ -7,8 +7,8 @@ use Rattle.cpi_plan.specs.Sums.{sum_at, weight_under}
 use Rattle.cpi_plan.specs.declared.plan_faults.PlanFault.{PlanFault}
 
 -- where none of their tests fails, the sums at and below each code, else the first fault
-abbrev pub IsWeighed : Body → Result (BTreeMap Code ℕ) PlanFault → Type 0
-IsWeighed b result =
+abbrev pub IsWeighed : ℕ → Body → Result (BTreeMap Code ℕ) PlanFault → Type 0
+IsWeighed year b result =
     MatchResult result
     (λ sums. Passes5 b × ((code : Code) → sum_at sums code ≡ weight_under code b.weights))
-    (λ fault. IsFirstFault fault b)
+    (λ fault. IsFirstFault year fault b)

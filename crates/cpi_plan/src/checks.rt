@@ -1,5 +1,5 @@
 //! The tests that a plan has to pass, and the nodes that are made of it.
-ghost use Rattle.std.specs.Prelude.{◌≡◌, ◌^◌, ◌<◌, not, ◌&&◌, nat_lt, IfOk, MatchOption, true, false};
+ghost use Rattle.std.specs.Prelude.{◌≡◌, ◌^◌, ◌<◌, not, ◌&&◌, nat_lt, IfOk, MatchOption, MatchResult, true, false};
 ghost use Rattle.std.specs.List.{list_all, list_any};
 ghost use Rattle.cpi_codes.specs.CodeOrder.{code_cmp, is_elementary, is_same};
 ghost use Rattle.cpi_codes.specs.declared.codes.Code.{Code};
@@ -7,11 +7,14 @@ ghost use Rattle.cpi_rows.specs.Keyed.{IsInOrder, at};
 ghost use Rattle.cpi_plan.specs.Sums.{sum_at, weight_under};
 ghost use Rattle.cpi_plan.specs.Steps.{is_without, IsFirst, nodes_with};
 ghost use Rattle.cpi_plan.specs.Plan.{are_elementary as are_all_elementary, has_zero as has_zero_weight, total as total_weight, has_unknown as has_unknown_item, is_unknown as is_unknown_item, has_unplaced as has_unplaced_item};
+ghost use Rattle.cpi_plan.specs.Plan.{may_refer as may_refer_to, has_fit_reference, reference_in};
+ghost use Rattle.cpi_plan.specs.declared.plan_faults.PlanFault.TheVariants.{Reference};
 
 use crate::items::Item;
+use crate::plan_faults::PlanFault;
 use crate::plan_rows::{Node, Place, Title, Weight};
 use crate::sums::add_path;
-use cpi_codes::Code;
+use cpi_codes::{Code, Month};
 use cpi_rows::{RowsByKey, find_row};
 use std::alloc::{AllocError, Global};
 use std::collections::BTreeMap;
@@ -113,6 +116,25 @@ pub(crate) fn has_unplaced(weights: &[Weight], places: &[Place]) -> bool
     ensures { result ≡ has_unplaced_item weights.now places.now }
 {
     places.iter().any(|place| is_unplaced(weights, place))
+}
+
+fn may_refer(year: u16, month: Month) -> bool
+    ensures { result ≡ may_refer_to year month }
+{
+    month.year() < year
+}
+
+// The reference month, if one was sent; a fault where two were, or one that isn't before the year.
+pub(crate) fn one_reference(year: u16, references: &[Month]) -> Result<Option<Month>, PlanFault>
+    ensures { MatchResult result
+        (λ month. (has_fit_reference year references.now ≡ true) × (month ≡ reference_in references.now))
+        (λ fault. (has_fit_reference year references.now ≡ false) × (fault ≡ Reference)) }
+{
+    match references {
+        [] => Ok(None),
+        [month] if may_refer(year, *month) => Ok(Some(*month)),
+        _ => Err(PlanFault::Reference),
+    }
 }
 
 // The titles of nodes, with their weights.

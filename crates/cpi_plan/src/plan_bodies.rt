@@ -1,5 +1,6 @@
 //! What the desk sends for a year.
 use crate::plan_rows::{Place, Title, Weight};
+use cpi_codes::Month;
 use cpi_rows::Rows;
 
 /// What the desk sends for the plan of a year, each list in any order. Nothing is checked yet: a code may come twice,
@@ -9,4 +10,6 @@ pub struct PlanBody {
     pub titles: Rows<Title>,
     pub weights: Rows<Weight>,
     pub places: Rows<Place>,
+    /// The price reference months of the weights: a plan has one or none.
+    pub references: Rows<Month>,
 }

@@ -20,6 +20,8 @@ pub enum PlanFault {
     ItemTwice,
     /// An item is placed at an elementary aggregate without weight.
     UnknownAggregate,
+    /// Two reference months, or one that isn't before the plan's year.
+    Reference,
     /// Memory was refused.
     NoMemory,
 }

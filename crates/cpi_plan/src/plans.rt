@@ -10,14 +10,14 @@ ghost use Rattle.cpi_plan.specs.SamePlan.{same_plan};
 ghost use Rattle.cpi_plan.specs.Sums.{weight_under, is_node};
 ghost use Rattle.cpi_plan.specs.declared.plan_faults.PlanFault.TheVariants.{NoMemory};
 
-use crate::checks::{has_unknown, has_unplaced, nodes_of};
+use crate::checks::{has_unknown, has_unplaced, nodes_of, one_reference};
 use crate::items::Item;
 use crate::once::put_in_order;
 use crate::plan_faults::PlanFault;
 use crate::plan_rows::{Node, Place, Title, Weight};
 use crate::same_rows::are_same;
 use crate::weighing::weighed;
-use cpi_codes::{Code, ItemCode, Name};
+use cpi_codes::{Code, ItemCode, Month, Name};
 use cpi_rows::{Keyed, RowsByKey, find_row};
 use std::alloc::{AllocError, Global};
 use std::marker::Model;
@@ -29,6 +29,7 @@ pub struct YearPlan {
     nodes: Vec<Node>,
     weights: Vec<Weight>,
     places: Vec<Place>,
+    reference: Option<Month>,
 }
 
 impl Model for YearPlan {
@@ -36,9 +37,9 @@ impl Model for YearPlan {
 
     ghost Value = { Plan };
 
-    ghost view = { λ p. record { year = p.year; nodes = p.nodes.items; weights = p.weights.items; places = p.places.items } };
+    ghost view = { λ p. record { year = p.year; nodes = p.nodes.items; weights = p.weights.items; places = p.places.items; reference = p.reference } };
 
-    ghost invariant = { λ p. IsPlan (record { year = p.year; nodes = p.nodes.items; weights = p.weights.items; places = p.places.items }) };
+    ghost invariant = { λ p. IsPlan (record { year = p.year; nodes = p.nodes.items; weights = p.weights.items; places = p.places.items; reference = p.reference }) };
 }
 
 fn of_ordered(
@@ -48,11 +49,12 @@ fn of_ordered(
     titles: Vec<Title>,
     weights: Vec<Weight>,
     mut places: Vec<Place>,
+    references: Vec<Month>,
 ) -> Result<YearPlan, PlanFault>
     requires year_in_calendar { (2000 ≤ year) × (year ≤ 2199) }
     requires titles_in_order { IsInOrder code_cmp (λ t. t.code) titles.items }
     requires weights_in_order { IsInOrder code_cmp (λ w. w.code) weights.items }
-    ensures { IsBuilt year (record { known = known_items.now; titles = titles.items; weights = weights.items; places = places.items }) result }
+    ensures { IsBuilt year (record { known = known_items.now; titles = titles.items; weights = weights.items; places = places.items; references = references.items }) result }
 {
     let sums = weighed(alloc, &titles, &weights, &places)?;
     if has_unknown(known_items, &places) {
@@ -64,12 +66,14 @@ fn of_ordered(
     if has_unplaced(&weights, &places) {
         return Err(PlanFault::UnknownAggregate);
     }
+    let reference = one_reference(year, &references)?;
     let nodes = nodes_of(alloc, titles, &sums).map_err(|_| PlanFault::NoMemory)?;
     Ok(YearPlan {
         year,
         nodes,
         weights,
         places,
+        reference,
     })
 }
 
@@ -96,12 +100,13 @@ fn is_alike(plan: &YearPlan, other: &YearPlan) -> bool
         && are_same(&plan.nodes, &other.nodes)
         && are_same(&plan.weights, &other.weights)
         && are_same(&plan.places, &other.places)
+        && plan.reference == other.reference
 }
 
 impl YearPlan {
     /// The plan of a year, 2000 to 2199, or the first fault of what was sent, over all of it. Rows may come in any
-    /// order; titles of codes that are no nodes are dropped. `known_items` are the items that are known. O(n log n)
-    /// for n rows.
+    /// order; titles of codes that are no nodes are dropped. `known_items` are the items that are known, `references`
+    /// the price reference months that were sent, of which a plan has one or none. O(n log n) for n rows.
     pub fn build(
         alloc: Global,
         year: u16,
@@ -109,17 +114,26 @@ impl YearPlan {
         mut titles: Vec<Title>,
         mut weights: Vec<Weight>,
         places: Vec<Place>,
+        references: Vec<Month>,
     ) -> Result<YearPlan, PlanFault>
         requires { (2000 ≤ year) × (year ≤ 2199) }
-        ensures built { IsBuilt year (record { known = known_items.now; titles = titles.items; weights = weights.items; places = places.items }) result }
-        ensures planned { result ≢ Err NoMemory → result ≡ planned year (record { known = known_items.now; titles = titles.items; weights = weights.items; places = places.items }) }
+        ensures built { IsBuilt year (record { known = known_items.now; titles = titles.items; weights = weights.items; places = places.items; references = references.items }) result }
+        ensures planned { result ≢ Err NoMemory → result ≡ planned year (record { known = known_items.now; titles = titles.items; weights = weights.items; places = places.items; references = references.items }) }
     {
         let titles_once = put_in_order(&mut titles).map_err(|_| PlanFault::NoMemory)?;
         let weights_once = put_in_order(&mut weights).map_err(|_| PlanFault::NoMemory)?;
         if !titles_once || !weights_once {
             return Err(PlanFault::DuplicateCode);
         }
-        of_ordered(alloc, year, known_items, titles, weights, places)
+        of_ordered(
+            alloc,
+            year,
+            known_items,
+            titles,
+            weights,
+            places,
+            references,
+        )
     }
 
     /// The year, 2000 to 2199.
@@ -154,6 +168,14 @@ impl YearPlan {
         &self.places
     }
 
+    /// The price reference month of the weights, if the plan has one: a month before its year.
+    pub fn reference(&self) -> Option<Month>
+        ensures value { result ≡ self.now.reference }
+        ensures kept { IsPlan self.now }
+    {
+        self.reference
+    }
+
     /// The plan once more.
     pub fn copy(&self, alloc: Global) -> Result<YearPlan, AllocError>
         ensures { IfOk result (λ p. p ≡ self.now) }
@@ -166,10 +188,12 @@ impl YearPlan {
             nodes,
             weights,
             places,
+            reference: self.reference,
         })
     }
 
-    /// Whether the two plans are one: the year, the nodes with their titles, the weights and the places.
+    /// Whether the two plans are one: the year, the nodes with their titles, the weights, the places and the reference
+    /// month.
     pub fn is_same(&self, other: &YearPlan) -> bool
         ensures content { result ≡ same_plan self.now other.now }
         ensures same { IsTrue result ↔ (self.now ≡ other.now) }
@@ -214,9 +238,9 @@ pub fn makes_one_plan()
     ensures { (year : ℕ) (b : Body) → IsOnePlan year b }
 {}
 
-/// A law: what is sent has one first fault.
+/// A law: what is sent for a year has one first fault.
 pub fn has_one_fault()
-    ensures { (b : Body) → IsOneFault b }
+    ensures { (year : ℕ) (b : Body) → IsOneFault year b }
 {}
 
 /// A law: a plan that is made of what was sent has its nodes in the order of codes.

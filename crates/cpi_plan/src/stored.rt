@@ -1,11 +1,13 @@
 //! Plans by the rows of a store.
 ghost use Rattle.std.specs.Prelude.{◌≡◌, ◌≤◌, IfOk, IfSome, IsTrue, map};
+ghost use Rattle.cpi_plan.specs.Plan.{reference_in};
 ghost use Rattle.cpi_plan.specs.Stored.{plan_from, weights_of as weights_in};
 
 use crate::items::Item;
 use crate::plan_rows::{Node, Place, Title, Weight};
 use crate::plans::YearPlan;
 use crate::same_rows::are_same;
+use cpi_codes::Month;
 use cpi_rows::RowsByKey;
 use std::alloc::{AllocError, Global};
 
@@ -47,6 +49,17 @@ fn copies(alloc: Global, places: &[Place]) -> Result<Vec<Place>, AllocError>
     Ok(copies)
 }
 
+// The list of a reference month, if there is one.
+fn references_of(alloc: Global, reference: Option<Month>) -> Result<Vec<Month>, AllocError>
+    ensures { IfOk result (λ ms. reference_in ms.items ≡ reference) }
+{
+    let mut months = Vec::new(alloc);
+    if let Some(month) = reference {
+        months.push(month)?;
+    }
+    Ok(months)
+}
+
 // Whether the plan has these nodes, each in its place.
 #[tactic(auto, using(crate::proofs::SamePlans::nodes_are))]
 fn has_nodes(plan: &YearPlan, nodes: &[Node]) -> bool
@@ -70,24 +83,34 @@ fn has_places(plan: &YearPlan, places: &[Place]) -> bool
 }
 
 impl YearPlan {
-    /// The plan of a year with these nodes, whose elementary ones are its weights, and these places, each in order; none
-    /// where there is no such plan, or where memory was refused. `known_items` are the items that are known.
-    /// O(n log n) for n rows.
+    /// The plan of a year with these nodes, whose elementary ones are its weights, and these places, each in order, and
+    /// this reference month, if there is one; none where there is no such plan, or where memory was refused.
+    /// `known_items` are the items that are known. O(n log n) for n rows.
     pub fn from_rows(
         alloc: Global,
         year: u16,
         known_items: &RowsByKey<Item>,
         nodes: &[Node],
         places: &[Place],
+        reference: Option<Month>,
     ) -> Option<YearPlan>
         requires year_in_calendar { (2000 ≤ year) × (year ≤ 2199) }
-        ensures { IfSome result (λ plan. plan ≡ plan_from year nodes.now places.now) }
+        ensures { IfSome result (λ plan. plan ≡ plan_from year nodes.now places.now reference) }
     {
         let titles = titles_of(alloc, nodes).ok()?;
         let sent = weights_of(alloc, nodes).ok()?;
         let weights = weights_of(alloc, nodes).ok()?;
         let placed = copies(alloc, places).ok()?;
-        let plan = YearPlan::build(alloc, year, known_items, titles, sent, placed).ok()?;
+        let references = references_of(alloc, reference).ok()?;
+        let plan = YearPlan::build(
+            alloc,
+            year,
+            known_items,
+            titles,
+            sent,
+            placed,
+            references,
+        ).ok()?;
         if has_nodes(&plan, nodes) && has_weights(&plan, &weights) && has_places(&plan, places) {
             Some(plan)
         } else {

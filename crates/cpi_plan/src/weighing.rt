@@ -1,5 +1,5 @@
 //! The weights of a plan, tested and summed.
-ghost use Rattle.std.specs.Prelude.{List};
+ghost use Rattle.std.specs.Prelude.{ℕ, List};
 ghost use Rattle.cpi_codes.specs.CodeOrder.{code_cmp};
 ghost use Rattle.cpi_rows.specs.Keyed.{IsInOrder};
 ghost use Rattle.cpi_plan.specs.Weighing.{IsWeighed};
@@ -23,8 +23,9 @@ pub(crate) fn weighed(
 ) -> Result<BTreeMap<Code, u128>, PlanFault>
     requires titles_in_order { IsInOrder code_cmp (λ t. t.code) titles.now }
     requires weights_in_order { IsInOrder code_cmp (λ w. w.code) weights.now }
-    ensures { (known : List Item) →
-        IsWeighed (record { known = known; titles = titles.now; weights = weights.now; places = places.now }) result }
+    ensures { (year : ℕ) (known : List Item) (references : List ℕ) →
+        IsWeighed year (record { known = known; titles = titles.now; weights = weights.now; places = places.now; references = references })
+        result }
 {
     if !are_elementary(weights, places) {
         return Err(PlanFault::NotElementary);

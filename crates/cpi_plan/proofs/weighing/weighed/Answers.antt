@@ -11,17 +11,17 @@ use Rattle.cpi_plan.proofs.weighing.weighed.Goals as goal
 pub returns-then-not-are_elementary : goal.returns-then-not-are_elementary
 returns-then-not-are_elementary c =
     let once = codes_once _ _ _ _ (IsPermutation-refl c.args.titles.now) (IsPermutation-refl c.args.weights.now) c.requires.titles_in_order c.requires.weights_in_order in
-    λ known. (once, search rules)
+    λ year known references. (once, search rules)
 
 pub returns-then-has_zero : goal.returns-then-has_zero
 returns-then-has_zero c =
     let once = codes_once _ _ _ _ (IsPermutation-refl c.args.titles.now) (IsPermutation-refl c.args.weights.now) c.requires.titles_in_order c.requires.weights_in_order in
-    λ known. ((once, search rules), search rules)
+    λ year known references. ((once, search rules), search rules)
 
 pub returns-then-found-ne-WHOLE : goal.returns-then-found-ne-WHOLE
 returns-then-found-ne-WHOLE c =
     let once = codes_once _ _ _ _ (IsPermutation-refl c.args.titles.now) (IsPermutation-refl c.args.weights.now) c.requires.titles_in_order c.requires.weights_in_order in
-    λ known. (((once, search rules), search rules), search rules, search rules)
+    λ year known references. (((once, search rules), search rules), search rules, search rules)
 
 pub returns-in-Some : goal.returns-in-Some
 returns-in-Some c =
@@ -34,7 +34,7 @@ returns-in-Some c =
     let whole : total weights ≡ 1000000 = search rules in
     let kept : (q : Code) → sum_at sums q ≡ weight_under q weights = search rules in
     let first : IsFirst (is_without sums titles) c.in-Some.code = search rules in
-    λ known. ((((once, elementary), positive), whole), first_is sums weights kept positive titles c.in-Some.code first)
+    λ year known references. ((((once, elementary), positive), whole), first_is sums weights kept positive titles c.in-Some.code first)
 
 pub returns : goal.returns
 returns c =
@@ -48,4 +48,4 @@ returns c =
     let kept : (q : Code) → sum_at sums q ≡ weight_under q weights = search rules in
     let none : (q : Code) → is_without sums titles q ≡ false = search rules in
     let titled : (q : Code) → is_untitled titles weights q ≡ false = λ q. sym (without_untitled sums weights kept positive titles q) ∙ none q in
-    λ known. (((((once, elementary), positive), whole), titled), kept)
+    λ year known references. (((((once, elementary), positive), whole), titled), kept)
