@@ -11,6 +11,7 @@ pub mod Faults
 pub mod Sums
 pub mod Outside
 pub mod MeanLemmas
+pub mod WeightLemmas
 pub mod Gather
 pub mod BySeries
 pub mod CarryRise

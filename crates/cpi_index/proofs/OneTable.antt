@@ -110,7 +110,7 @@ same_sum f g p (w ∷ ws) h =
     ]
 
 pub means_are : MeansAreOfRows
-means_are plan kept bases before frozen keep node =
+means_are plan order bases before frozen keep node =
     let rows = rows_of bases before frozen in
     let carried = carry_month plan rows in
     let row = index_row plan bases carried in
@@ -119,6 +119,6 @@ means_are plan kept bases before frozen keep node =
     ap (λ z. rounded z (weight_under node plan.weights))
     (same_sum (λ w. w.parts * index_of listed w.code) (λ w. w.parts * own w.code) (λ w. is_at_or_below node w.code) plan.weights
     (λ k d l. ap (λ z. (get_or plan.weights k d).parts * z)
-    (index_at plan.weights listed k d (row d) kept.weights_in_order (of_weights plan bases carried plan.weights) l
+    (index_at plan.weights listed k d (row d) order (of_weights plan bases carried plan.weights) l
     ∙ ap (λ (z : NodeIndex). z.index) (map_at row plan.weights k d)
     ∙ indices_are plan bases before frozen keep (get_or plan.weights k d).code)))

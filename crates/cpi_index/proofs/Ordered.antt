@@ -13,7 +13,7 @@ use Rattle.cpi_codes.specs.CodeOrder.{code_cmp}
 use Rattle.cpi_codes.specs.declared.codes.Code.{Code}
 use Rattle.cpi_codes.specs.contracts.codes.CodeOrd.TheImpl.Laws.{total-law}
 use Rattle.cpi_rows.specs.Keyed.{IsInOrder}
-use Rattle.cpi_plan.specs.Plan.{Plan, IsPlan}
+use Rattle.cpi_plan.specs.Plan.{Plan}
 use Rattle.cpi_plan.specs.declared.plan_rows.Weight.{Weight}
 use Rattle.cpi_plan.specs.declared.plan_rows.Node.{Node}
 use Rattle.cpi_index.specs.Carried.{Carried}
@@ -59,9 +59,9 @@ unfolding IsStrictlySortedBy
 none_in_order = tt
 
 -- all nodes are done where none is left
-pub means_done : (plan : Plan) → IsPlan plan → (indices rows : List NodeIndex) (nodes : List Node) (i : ℕ) → nodes ≡ plan.nodes → length nodes ≤ i → rows ≡ map (upper_row plan indices) (take i nodes) → IsInOrder code_cmp (λ x. x.code) rows
-means_done plan kept indices rows nodes i is l e =
-    subst (IsInOrder code_cmp (λ x. x.code)) (sym (e ∙ ap (map (upper_row plan indices)) (take_all i nodes l ∙ is))) (means_rise plan indices plan.nodes kept.nodes_in_order)
+pub means_done : (plan : Plan) → IsInOrder code_cmp (λ n. n.code) plan.nodes → (indices rows : List NodeIndex) (nodes : List Node) (i : ℕ) → nodes ≡ plan.nodes → length nodes ≤ i → rows ≡ map (upper_row plan indices) (take i nodes) → IsInOrder code_cmp (λ x. x.code) rows
+means_done plan order indices rows nodes i is l e =
+    subst (IsInOrder code_cmp (λ x. x.code)) (sym (e ∙ ap (map (upper_row plan indices)) (take_all i nodes l ∙ is))) (means_rise plan indices plan.nodes order)
 
 -- a table that was chained stands in the order of its indices
 pub table_rises : (december : List NodeLevel) (within : List NodeIndex) (r : Result (Vec NodeLevel) IndexFault) (P : Type 0) (Q : IndexFault → Type 0) → MatchResult r (λ v. P × (v.items ≡ chained december within)) Q → IsInOrder code_cmp (λ x. x.code) within → IfOk r (λ v. IsInOrder code_cmp (λ l. l.code) v.items)

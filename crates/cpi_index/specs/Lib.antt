@@ -10,6 +10,7 @@ pub mod Indices
 pub mod Group
 pub mod MonthGroups
 pub mod Totals
+pub mod Weights
 pub mod Means
 pub mod Level
 pub mod Chaining

@@ -1,8 +1,10 @@
 -- One table: whether taken from lists of carried prices and of indices, or from the rows of each aggregate's sample.
 use Rattle.std.specs.Prelude.{◌≡◌, List}
 use Rattle.std.specs.List.{AllByRecursion}
+use Rattle.cpi_codes.specs.CodeOrder.{code_cmp}
 use Rattle.cpi_codes.specs.declared.codes.Code.{Code}
-use Rattle.cpi_plan.specs.Plan.{Plan, IsPlan}
+use Rattle.cpi_rows.specs.Keyed.{IsInOrder}
+use Rattle.cpi_plan.specs.Plan.{Plan}
 use Rattle.cpi_index.specs.Carried.{Carried}
 use Rattle.cpi_index.specs.Frozen.{Frozen}
 use Rattle.cpi_index.specs.Row.{Row}
@@ -21,9 +23,10 @@ IndicesAreOfRows = (plan : Plan) (bases before : List Carried) (frozen : List Fr
     let rows = rows_of bases before frozen in KeepItems rows → (aggregate : Code) →
     elementary_index plan bases (carry_month plan rows) aggregate ≡ group_index (sample_rows plan aggregate rows)
 
--- so is the mean of each node
+-- so is the mean of each node, by whatever weights, if they are in code order
 abbrev pub MeansAreOfRows : Type 0
-MeansAreOfRows = (plan : Plan) → IsPlan plan → (bases before : List Carried) (frozen : List Frozen) →
+MeansAreOfRows = (plan : Plan) → IsInOrder code_cmp (λ w. w.code) plan.weights →
+    (bases before : List Carried) (frozen : List Frozen) →
     let rows = rows_of bases before frozen in KeepItems rows → (node : Code) →
     upper_index plan (elementary plan bases (carry_month plan rows)) node
     ≡ mean_index plan (λ e. group_index (sample_rows plan e rows)) node

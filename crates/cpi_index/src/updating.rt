@@ -1,0 +1,159 @@
+//! The weights in use of a plan: its own, or moved by prices from its reference month to its link month.
+ghost use Rattle.std.specs.Prelude.{◌≡◌, ◌≢◌, true, false, None, Some, map, find, option_map, is_some};
+ghost use Rattle.std.specs.Prelude.{IfOk, IsErrAnd, IsTrue, MatchResult, SomeIff};
+ghost use Rattle.cpi_codes.specs.CodeOrder.{code_cmp};
+ghost use Rattle.cpi_rows.specs.Keyed.{IsInOrder};
+ghost use Rattle.cpi_index.specs.Weights.{lacks_level as lacks_a_level, moved_parts, moved_weight, moved_weights};
+ghost use Rattle.cpi_index.specs.Weights.{moving_fault, with_levels, effective_weights as weights_in_use, weights_fault};
+ghost use Rattle.cpi_index.specs.Weights.{level_in, is_moved_out, IsEffective};
+ghost use Rattle.cpi_index.specs.Unfit.{IsFirstOutOfRange};
+ghost use Rattle.cpi_index.specs.declared.fault.IndexFault.TheVariants.{OutOfRange, NoMemory};
+
+use crate::carry::first_aggregate;
+use crate::effective::EffectiveWeight;
+use crate::fault::IndexFault;
+use crate::level::{ChainedLevel, NodeLevel};
+use crate::weight_levels::WeightLevels;
+use cpi_codes::{Code, round_div};
+use cpi_plan::{Weight, YearPlan};
+use cpi_rows::{are_in_order, find_row};
+use std::alloc::{AllocError, Global};
+
+fn lacks_level(row: &WeightLevels) -> bool
+    ensures { result ≡ lacks_a_level row.now }
+{
+    row.link.is_none() || row.reference.is_none()
+}
+
+// The first aggregate without a level in one of the two months.
+fn first_without(rows: &[WeightLevels]) -> Option<Code>
+    ensures { result ≡ option_map (λ w. w.weight.code) (find lacks_a_level rows.now) }
+{
+    for row in rows {
+        if lacks_level(row) {
+            return Some(row.weight.code);
+        }
+    }
+    None
+}
+
+// A weight, moved by its aggregate's two levels; none outside the limits.
+fn moved(row: &WeightLevels) -> Option<EffectiveWeight>
+    requires { lacks_a_level row.now ≡ false }
+    ensures { SomeIff result (IsEffective (moved_parts row.now)) (moved_weight row.now) }
+{
+    let link = row.link?.millionths();
+    let reference = row.reference?.millionths();
+    let product = u128::from(row.weight.parts) * u128::from(link);
+    EffectiveWeight::new(row.weight.code, round_div(product, u128::from(reference)))
+}
+
+// The weights, each moved by its two levels; else the first outside the limits.
+fn moved_all(alloc: Global, rows: &[WeightLevels]) -> Result<Vec<EffectiveWeight>, IndexFault>
+    requires { find lacks_a_level rows.now ≡ None }
+    ensures { let out = option_map (λ w. OutOfRange w.weight.code) (find is_moved_out rows.now) in MatchResult result
+        (λ v. (out ≡ None) × (v.items ≡ moved_weights rows.now))
+        (λ f. f ≢ NoMemory → out ≡ Some f) }
+{
+    let mut weights = Vec::new(alloc);
+    for row in rows {
+        let Some(weight) = moved(row) else {
+            return Err(IndexFault::OutOfRange(row.weight.code));
+        };
+        let Ok(()) = weights.push(weight) else {
+            return Err(IndexFault::NoMemory);
+        };
+    }
+    Ok(weights)
+}
+
+/// The weights in use of a plan with a reference month, in the order of `rows`, which have its weights with the levels
+/// of their aggregates: each weight times the level in the link month over the level in the reference month, rounded.
+/// `NoReference` names the first aggregate without one of the two levels; else `OutOfRange` the first whose weight in
+/// use is outside 1 to 10^9.
+pub fn move_weights(
+    alloc: Global,
+    rows: &[WeightLevels],
+) -> Result<Vec<EffectiveWeight>, IndexFault>
+    ensures { let fault = moving_fault rows.now in MatchResult result
+        (λ v. (fault ≡ None) × (v.items ≡ moved_weights rows.now))
+        (λ f. f ≢ NoMemory → fault ≡ Some f) }
+{
+    match first_without(rows) {
+        Some(code) => Err(IndexFault::NoReference(code)),
+        None => moved_all(alloc, rows),
+    }
+}
+
+/// The weights in use of a plan without a reference month: its own, in code order.
+pub fn own_weights(alloc: Global, plan: &YearPlan) -> Result<Vec<EffectiveWeight>, AllocError>
+    ensures { IfOk result (λ v. v.items ≡ plan.now.weights) }
+{
+    let mut weights = Vec::new(alloc);
+    for weight in plan.weights() {
+        let own = EffectiveWeight::new(weight.code, u128::from(weight.parts)).unwrap();
+        weights.push(own)?;
+    }
+    Ok(weights)
+}
+
+// The level of an aggregate in a table.
+fn level_of(table: &[NodeLevel], code: &Code) -> Option<ChainedLevel>
+    requires { IsInOrder code_cmp (λ l. l.code) table.now }
+    ensures { result ≡ level_in table.now code.now }
+{
+    Some(find_row(table, code)?.level)
+}
+
+// Each weight with the levels of its aggregate in two tables.
+fn levelled(
+    alloc: Global,
+    weights: &[Weight],
+    link: &[NodeLevel],
+    reference: &[NodeLevel],
+) -> Result<Vec<WeightLevels>, AllocError>
+    requires link { IsInOrder code_cmp (λ l. l.code) link.now }
+    requires reference { IsInOrder code_cmp (λ l. l.code) reference.now }
+    ensures { IfOk result (λ v. v.items ≡ map (with_levels (level_in link.now) (level_in reference.now)) weights.now) }
+{
+    let mut rows = Vec::new(alloc);
+    for weight in weights {
+        rows.push(WeightLevels {
+            weight: *weight,
+            link: level_of(link, &weight.code),
+            reference: level_of(reference, &weight.code),
+        })?;
+    }
+    Ok(rows)
+}
+
+/// The weights in use of a plan, in code order: its own, or, where it has a reference month, moved by prices from that
+/// month to the link month. `link` and `reference` are the tables of these two months, in code order, in their latest
+/// revisions; without a reference month they aren't looked at. The faults are those of `move_weights`, and `OutOfRange`
+/// of the first aggregate where a table isn't in code order. O(n log m) for n aggregates and m rows.
+pub fn effective_weights(
+    alloc: Global,
+    plan: &YearPlan,
+    link: &[NodeLevel],
+    reference: &[NodeLevel],
+) -> Result<Vec<EffectiveWeight>, IndexFault>
+    ensures weights { (IsTrue (is_some plan.now.reference) →
+        IsInOrder code_cmp (λ l. l.code) link.now × IsInOrder code_cmp (λ l. l.code) reference.now) →
+        let fault = weights_fault (level_in link.now) (level_in reference.now) plan.now in MatchResult result
+        (λ v. (fault ≡ None) × (v.items ≡ weights_in_use (level_in link.now) (level_in reference.now) plan.now))
+        (λ f. f ≢ NoMemory → fault ≡ Some f) }
+    ensures unfit { IsTrue (is_some plan.now.reference) →
+        (IsInOrder code_cmp (λ l. l.code) link.now × IsInOrder code_cmp (λ l. l.code) reference.now → ⊥) →
+        IsErrAnd result (IsFirstOutOfRange plan.now) }
+{
+    if plan.reference().is_none() {
+        return own_weights(alloc, plan).map_err(|_| IndexFault::NoMemory);
+    }
+    if !are_in_order(link) || !are_in_order(reference) {
+        return Err(IndexFault::OutOfRange(first_aggregate(plan)));
+    }
+    let Ok(rows) = levelled(alloc, plan.weights(), link, reference) else {
+        return Err(IndexFault::NoMemory);
+    };
+    move_weights(alloc, &rows)
+}
