@@ -5,6 +5,7 @@ pub mod PassLemmas
 pub mod PassedLemmas
 pub mod FaultLaw
 pub mod LevelLemmas
+pub mod InUse
 pub mod Summing
 pub mod MakeLemmas
 pub mod Sound

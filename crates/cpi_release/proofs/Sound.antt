@@ -14,8 +14,7 @@ use Rattle.cpi_index.specs.Month.{sample_rows, carry_month}
 use Rattle.cpi_index.proofs.Kept.{bases_rise}
 use Rattle.cpi_index.proofs.CarryRise.{carry_rises, sample_rises}
 use Rattle.cpi_release.specs.Releases.{release_of, carried_of, frozen_of, levels_of, link_month, bases_in, before_in, rows_in}
-use Rattle.cpi_release.specs.Publishing.{Freeze, AreInOrder, IsOrdered, has_earlier, plan_of, published}
-use Rattle.cpi_release.specs.MonthTable.{table_of}
+use Rattle.cpi_release.specs.Publishing.{Freeze, AreInOrder, IsOrdered, has_earlier, plan_of, published, table_in}
 use Rattle.cpi_release.specs.declared.level.Level.{Level}
 use Rattle.cpi_index.specs.Carried.{Carried}
 use Rattle.cpi_release.specs.GroupCalls.{Sources, group_of, IsAfterFrozen}
@@ -88,5 +87,5 @@ can_ask s month p frozen order after h = record {
 abbrev release_with : Freeze → List Carried → List Level → Release
 release_with x carried levels = record { month = x.month; revision = x.revision; frozen_at = x.frozen_at; publishes = x.publishes; frozen = x.frozen; carry = x.carry; carried = carried; levels = levels }
 
-pub released : (p : Plan) (releases : List Release) (x : Freeze) (carried : List Carried) (levels : List Level) (r : Release) → r ≡ release_with x carried levels → carried ≡ carry_month p (rows_in p releases x.month x.frozen) → levels ≡ table_of p releases x.month (rows_in p releases x.month x.frozen) → r ≡ published (Some p) releases x
+pub released : (p : Plan) (releases : List Release) (x : Freeze) (carried : List Carried) (levels : List Level) (r : Release) → r ≡ release_with x carried levels → carried ≡ carry_month p (rows_in p releases x.month x.frozen) → levels ≡ table_in p releases x.month (rows_in p releases x.month x.frozen) → r ≡ published (Some p) releases x
 released p releases x carried levels r e c l = e ∙ ap (λ z. release_with x z levels) c ∙ ap (release_with x (carry_month p (rows_in p releases x.month x.frozen))) l

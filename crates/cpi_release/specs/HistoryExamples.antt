@@ -11,7 +11,7 @@ use Rattle.cpi_index.specs.Carried.{Carried}
 use Rattle.cpi_index.specs.Frozen.{Frozen}
 use Rattle.cpi_index.specs.Examples.{all_items, rice, flour, quote}
 use Rattle.cpi_index.specs.declared.fault.IndexFault.{IndexFault}
-use Rattle.cpi_index.specs.declared.fault.IndexFault.TheVariants.{NoSample, NoMatch, OutOfRange}
+use Rattle.cpi_index.specs.declared.fault.IndexFault.TheVariants.{NoReference, NoSample, NoMatch, OutOfRange}
 use Rattle.cpi_release.specs.Publishing.{Freeze, plan_of, published, fault_of, all_published}
 use Rattle.cpi_release.specs.Releases.{levels_of}
 use Rattle.cpi_release.specs.CsvTable.{csv_table}
@@ -28,6 +28,7 @@ rice_alone year = record {
   nodes = node all_items 1000000 ∷ node rice 1000000 ∷ [];
   weights = record { code = rice; parts = 1000000 } ∷ [];
   places = record { item = 1; aggregate = rice } ∷ [];
+  reference = None;
 }
 
 abbrev pub rice_and_flour : ℕ → Code → Plan
@@ -38,6 +39,7 @@ rice_and_flour year third = record {
   places =
       record { item = 1; aggregate = rice } ∷ record { item = 2; aggregate = flour }
       ∷ record { item = 3; aggregate = third } ∷ [];
+  reference = None;
 }
 
 -- ---- freezes; December 2025 is month 311. A slot prices an item up to December 2027, which is month 335
@@ -78,9 +80,9 @@ table_after plans before x = map line (published (plan_of plans before x.month) 
 abbrev pub fault_after : List Plan → List Release → Freeze → Option IndexFault
 fault_after plans before x = fault_of (plan_of plans before x.month) before x
 
--- a December's release as it stands
-abbrev pub december : ℕ → List Frozen → List Carried → List Level → Release
-december month quotes carried levels = record {
+-- a month's release as it stands
+abbrev pub standing : ℕ → List Frozen → List Carried → List Level → Release
+standing month quotes carried levels = record {
   month = month;
   revision = 1;
   frozen_at = 0;
@@ -139,7 +141,7 @@ CarriedDecember =
 -- ---- linking: all items had a level in December, rice is new in the year, and flour is gone
 abbrev pub linked : List Release
 linked =
-    december 311 (priced 1 1 (Price 200) ∷ []) [] (level_row all_items 112345678 ∷ level_row flour 98000000 ∷ []) ∷ []
+    standing 311 (priced 1 1 (Price 200) ∷ []) [] (level_row all_items 112345678 ∷ level_row flour 98000000 ∷ []) ∷ []
 
 abbrev pub Linking : Type 0
 Linking =
@@ -176,7 +178,7 @@ third_carried = record {
 
 abbrev pub end_of_2026 : List Release
 end_of_2026 =
-    december 323 (
+    standing 323 (
     priced 1 1 (Price 100) ∷ priced 2 2 (Price 200) ∷ priced 3 3 (Missing Stock) ∷ quote 4 1 323 (Price 1000) ∷ [])
     (third_carried ∷ []) [] ∷ []
 
@@ -220,7 +222,7 @@ Unmatched =
 -- ---- the order of faults: each kind over all aggregates before the next
 abbrev pub fault_from : Mark → Mark → Mark → Mark → Option IndexFault
 fault_from a b c d =
-    fault_after both (december 311 (rice_and_flour_at 311 a b).frozen [] [] ∷ []) (rice_and_flour_at 312 c d)
+    fault_after both (standing 311 (rice_and_flour_at 311 a b).frozen [] [] ∷ []) (rice_and_flour_at 312 c d)
 
 abbrev pub FirstFault : Type 0
 FirstFault =
@@ -232,17 +234,17 @@ FirstFault =
 
 -- the greatest index; and a chained level past its limit, after indices within theirs
 abbrev pub highest : List Release
-highest = december 311 (priced 1 1 (Price 200) ∷ []) [] (level_row rice 1000000000000000 ∷ []) ∷ []
+highest = standing 311 (priced 1 1 (Price 200) ∷ []) [] (level_row rice 1000000000000000 ∷ []) ∷ []
 
 abbrev pub lowest : List Release
-lowest = december 311 (priced 1 1 (Price 1) ∷ []) [] [] ∷ []
+lowest = standing 311 (priced 1 1 (Price 1) ∷ []) [] [] ∷ []
 
 -- 10^8 minor units in the December before; and a chained level of one millionth
 abbrev pub costly : List Release
-costly = december 311 (priced 1 1 (Price 100000000) ∷ []) [] [] ∷ []
+costly = standing 311 (priced 1 1 (Price 100000000) ∷ []) [] [] ∷ []
 
 abbrev pub sunk : List Release
-sunk = december 311 (priced 1 1 (Price 200) ∷ []) [] (level_row rice 1 ∷ []) ∷ []
+sunk = standing 311 (priced 1 1 (Price 200) ∷ []) [] (level_row rice 1 ∷ []) ∷ []
 
 -- a price of 1 after 10^8 is the least index, a fall by 99.999999 percent; half of a level of 1 is rounded up to 1, and
 -- less than half of it to nothing
@@ -258,3 +260,63 @@ Limits =
     ≡ twice (10000000000000, 10000000000000, pos 99999000, None, false))
     × (fault_after (rice_alone 2026 ∷ []) highest (rice_at 312 (Price 201)) ≡ Some (OutOfRange rice))
     × (fault_after (rice_alone 2026 ∷ []) highest (rice_at 312 (Price 200)) ≡ None)
+
+-- ---- weights moved by prices: rice has 600,000 parts and flour 400,000 of November 2025
+abbrev pub referring : List Plan
+referring = record (rice_and_flour 2026 rice) { reference = Some 310 } ∷ []
+
+-- the chained levels of rice and flour
+abbrev pub levels_at : ℕ → ℕ → List Level
+levels_at a b = level_row rice a ∷ level_row flour b ∷ []
+
+-- November's table, and December's with the prices of that month
+abbrev pub november : List Level → Release
+november levels = standing 310 [] [] levels
+
+abbrev pub end_of_2025 : Mark → List Level → Release
+end_of_2025 mark levels = standing 311 (rice_and_flour_at 311 mark (Price 100)).frozen [] levels
+
+abbrev pub start_of_2026 : Freeze
+start_of_2026 = rice_and_flour_at 312 (Price 102) (Price 101)
+
+abbrev pub weights_after : List Plan → List Release → Freeze → List ℕ
+weights_after plans before x = map (λ l. l.weight) (published (plan_of plans before x.month) before x).levels
+
+-- December's levels are 105 and 98 where November's are 100
+abbrev pub by_december : List Release → List Release
+by_december before = before ++ end_of_2025 (Price 100) (levels_at 105000000 98000000) ∷ []
+
+abbrev pub by_november : List Release
+by_november = by_december (november (levels_at 100000000 100000000) ∷ [])
+
+-- the second revision of November has 98 for flour
+abbrev pub by_revision : List Release
+by_revision = by_december (
+    november (levels_at 100000000 100000000)
+    ∷ record (november (levels_at 100000000 98000000)) { revision = 2 } ∷ [])
+
+-- the weights in use are those of the table, and all items are averaged by them; the plan's own weights stay 600,000
+-- and 400,000, and where a month is revised its latest levels count
+abbrev pub MovedWeights : Type 0
+MovedWeights =
+    (weights_after referring by_november start_of_2026 ≡ 1022000 ∷ 630000 ∷ 392000 ∷ [])
+    × (table_after referring by_november start_of_2026
+    ≡ (101616438, 101616438, pos 16, None, false) ∷ (102000000, 107100000, pos 20, None, false)
+    ∷ (101000000, 98980000, pos 10, None, false) ∷ [])
+    × (weights_after both by_november start_of_2026 ≡ 1000000 ∷ 600000 ∷ 400000 ∷ [])
+    × (weights_after referring by_revision start_of_2026 ≡ 1030000 ∷ 630000 ∷ 400000 ∷ [])
+
+-- ---- no weights in use: November has no table, or an aggregate no row in one of the two; and then a weight past its
+-- limit. Each comes before an aggregate without a sample
+abbrev pub fault_by : List Level → List Level → Option IndexFault
+fault_by reference link =
+    fault_after referring (november reference ∷ end_of_2025 (Missing Stock) link ∷ []) start_of_2026
+
+abbrev pub WeightFaults : Type 0
+WeightFaults =
+    (fault_after referring (by_december []) start_of_2026 ≡ Some (NoReference rice))
+    × (fault_by (level_row rice 100000000 ∷ []) (levels_at 105000000 98000000) ≡ Some (NoReference flour))
+    × (fault_by (levels_at 100000000 100000000) (level_row rice 105000000 ∷ []) ≡ Some (NoReference flour))
+    × (fault_by (levels_at 1 100000000) (level_row rice 105000000 ∷ []) ≡ Some (NoReference flour))
+    × (fault_by (levels_at 1 100000000) (levels_at 105000000 98000000) ≡ Some (OutOfRange rice))
+    × (fault_by (levels_at 100000000 100000000) (levels_at 105000000 98000000) ≡ Some (NoSample rice))

@@ -1,10 +1,11 @@
--- The table of a month and its first fault, from the rows of its samples.
+-- The table of a month and its first fault, from the rows of its samples and by the weights of a plan.
 use Rattle.std.specs.Prelude.{ℕ, ◌&&◌, Bool, not, List, Option, option_map, map, find}
 use Rattle.std.specs.Option.{option_or}
 use Rattle.std.specs.List.{list_any}
 use Rattle.cpi_codes.specs.CodeText.{is_at_or_below}
 use Rattle.cpi_codes.specs.declared.codes.Code.{Code}
 use Rattle.cpi_plan.specs.Plan.{Plan}
+use Rattle.cpi_plan.specs.Sums.{weight_under}
 use Rattle.cpi_plan.specs.declared.plan_rows.Node.{Node}
 use Rattle.cpi_index.specs.Row.{Row}
 use Rattle.cpi_index.specs.Aggregate.{is_index}
@@ -39,12 +40,12 @@ is_imputed_under plan rows node =
     list_any (λ w. is_at_or_below node w.code && has_imputed (sample_rows plan w.code rows)) plan.weights
 
 -- ---- the table
--- a row from the node's index, the levels before it, and whether something was imputed
-abbrev pub level_with : Node → ℕ → ℕ → ℕ → Option ℕ → Bool → Level
-level_with n within link last year imputed = let level = chained_from link within in record {
+-- a row from the node's weight and index, the levels before it, and whether something was imputed
+abbrev pub level_with : Node → ℕ → ℕ → ℕ → ℕ → Option ℕ → Bool → Level
+level_with n weight within link last year imputed = let level = chained_from link within in record {
   code = n.code;
   title = n.title;
-  weight = n.weight;
+  weight = weight;
   within = within;
   chained = level;
   month_change = change last level;
@@ -54,7 +55,7 @@ level_with n within link last year imputed = let level = chained_from link withi
 
 abbrev pub level_row : Plan → List Release → ℕ → List Row → Node → Level
 level_row plan releases month rows n =
-    level_with n (within_year plan rows n.code) (link_of releases month n.code) (month_before releases month n.code)
+    level_with n (weight_under n.code plan.weights) (within_year plan rows n.code) (link_of releases month n.code) (month_before releases month n.code)
     (year_before releases month n.code) (is_imputed_under plan rows n.code)
 
 abbrev pub table_of : Plan → List Release → ℕ → List Row → List Level

@@ -2,6 +2,7 @@
 use Rattle.std.specs.Prelude.{◌≡◌, ◌⊎◌, ℕ, ◌+◌, ◌<◌, ◌%◌, Bool, true, List, [], ◌∷◌, ◌++◌, length, map, fold, Contains}
 use Rattle.std.specs.Prelude.{Option, Some, None, IsSome, nat_lt, slice_index_or, if◌then◌else◌}
 use Rattle.std.specs.List.{list_any}
+use Rattle.std.specs.Option.{option_or}
 use Rattle.std.specs.Ordering.{nat_cmp}
 use Rattle.cpi_codes.specs.Month.{year_of}
 use Rattle.cpi_codes.specs.CodeOrder.{code_cmp}
@@ -9,11 +10,13 @@ use Rattle.cpi_codes.specs.declared.codes.Code.{Code}
 use Rattle.cpi_rows.specs.Keyed.{at, IsInOrder}
 use Rattle.cpi_plan.specs.Plan.{Plan}
 use Rattle.cpi_index.specs.Frozen.{Frozen}
+use Rattle.cpi_index.specs.Row.{Row}
 use Rattle.cpi_index.specs.Series.{is_by_series, carried_serial, frozen_serial}
 use Rattle.cpi_index.specs.Month.{carry_month}
 use Rattle.cpi_index.specs.declared.fault.IndexFault.{IndexFault}
-use Rattle.cpi_release.specs.Releases.{release_of, rows_in}
+use Rattle.cpi_release.specs.Releases.{release_of, rows_in, plan_in_use, weights_fault_in}
 use Rattle.cpi_release.specs.MonthTable.{table_of, table_fault}
+use Rattle.cpi_release.specs.declared.level.Level.{Level}
 use Rattle.cpi_release.specs.declared.release.Release.{Release}
 
 -- what is frozen with a release
@@ -43,6 +46,16 @@ has_earlier releases month = list_any (λ r. nat_lt r.month month) releases
 abbrev pub plan_of : List Plan → List Release → ℕ → Option Plan
 plan_of plans releases month = if has_earlier releases month then at (λ p. p.year) (year_of month) plans else None
 
+-- the table of a month, by the weights in use
+abbrev pub table_in : Plan → List Release → ℕ → List Row → List Level
+table_in plan releases month rows = table_of (plan_in_use plan releases month) releases month rows
+
+-- the first fault of a month: that of the weights in use, then that of its table
+abbrev pub fault_in : Plan → List Release → ℕ → List Code → List Row → Option IndexFault
+fault_in plan releases month carry rows =
+    option_or (weights_fault_in plan releases month)
+    (table_fault (plan_in_use plan releases month) releases month carry rows)
+
 -- the release of what is frozen; without a plan it has no carried prices and no rows
 abbrev pub published : Option Plan → List Release → Freeze → Release
 published plan releases x = record {
@@ -53,13 +66,13 @@ published plan releases x = record {
   frozen = x.frozen;
   carry = x.carry;
   carried = elim plan [ None ↦ [] | Some p ↦ carry_month p (rows_in p releases x.month x.frozen) ];
-  levels = elim plan [ None ↦ [] | Some p ↦ table_of p releases x.month (rows_in p releases x.month x.frozen) ];
+  levels = elim plan [ None ↦ [] | Some p ↦ table_in p releases x.month (rows_in p releases x.month x.frozen) ];
 }
 
--- why nothing is published, if so: the first fault of the table; the first release has none
+-- why nothing is published, if so: the first fault of the month; the first release has none
 abbrev pub fault_of : Option Plan → List Release → Freeze → Option IndexFault
 fault_of None releases x = None
-fault_of (Some p) releases x = table_fault p releases x.month x.carry (rows_in p releases x.month x.frozen)
+fault_of (Some p) releases x = fault_in p releases x.month x.carry (rows_in p releases x.month x.frozen)
 
 -- each release as it is published after those before it
 abbrev pub all_published : List Plan → List Freeze → List Release

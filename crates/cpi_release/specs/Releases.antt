@@ -1,5 +1,5 @@
 -- Releases of earlier months, and what a month reads from them.
-use Rattle.std.specs.Prelude.{ℕ, ◌*◌, ◌-◌, ◌/◌, ◌%◌, ◌==◌, Bool, List, [], Option, Some, option_map, unwrap_or}
+use Rattle.std.specs.Prelude.{ℕ, ◌*◌, ◌-◌, ◌/◌, ◌%◌, ◌==◌, Bool, List, [], Option, Some, option_map, option_and_then, unwrap_or}
 use Rattle.std.specs.Prelude.{if◌then◌else◌}
 use Rattle.std.specs.Option.{option_map_or}
 use Rattle.cpi_codes.specs.CodeOrder.{code_cmp}
@@ -11,6 +11,8 @@ use Rattle.cpi_index.specs.Frozen.{Frozen}
 use Rattle.cpi_index.specs.Row.{Row}
 use Rattle.cpi_index.specs.Sample.{bases_of_year}
 use Rattle.cpi_index.specs.Month.{rows_of}
+use Rattle.cpi_index.specs.Weights.{effective_weights, weights_fault, with_weights}
+use Rattle.cpi_index.specs.declared.fault.IndexFault.{IndexFault}
 use Rattle.cpi_release.specs.Latest.{latest}
 use Rattle.cpi_release.specs.declared.level.Level.{Level}
 use Rattle.cpi_release.specs.declared.release.Release.{Release}
@@ -44,6 +46,22 @@ levels_of releases month = option_map_or (λ r. r.levels) (release_of releases m
 abbrev pub level_at : List Release → ℕ → Code → Option ℕ
 level_at releases month node =
     option_map (λ l. l.chained) (row_at code_cmp (λ l. l.code) node (levels_of releases month))
+
+-- ---- the weights in use
+-- the chained level of a node in the table of a plan's reference month
+abbrev pub reference_level : List Release → Plan → Code → Option ℕ
+reference_level releases plan node = option_and_then (λ month. level_at releases month node) plan.reference
+
+-- the plan by which a month is averaged: with a reference month, its weights are moved by prices from that month to the
+-- link month
+abbrev pub plan_in_use : Plan → List Release → ℕ → Plan
+plan_in_use plan releases month =
+    with_weights plan (effective_weights (level_at releases (link_month month)) (reference_level releases plan) plan)
+
+-- why a month has no weights in use, if so
+abbrev pub weights_fault_in : Plan → List Release → ℕ → Option IndexFault
+weights_fault_in plan releases month =
+    weights_fault (level_at releases (link_month month)) (reference_level releases plan) plan
 
 -- ---- the sample of a month
 abbrev pub bases_in : Plan → List Release → ℕ → List Carried

@@ -7,7 +7,7 @@ ghost use Rattle.cpi_index.specs.Month.{carry_month, sample_rows};
 ghost use Rattle.cpi_release.specs.State.{Keeps, StaysClean};
 ghost use Rattle.cpi_release.specs.GroupCalls.{group_of};
 ghost use Rattle.cpi_release.specs.Asking.{CanAsk};
-ghost use Rattle.cpi_release.specs.MonthTable.{table_fault, table_of};
+ghost use Rattle.cpi_release.specs.Publishing.{fault_in, table_in};
 ghost use Rattle.cpi_release.specs.Summed.{IsFreezeFault};
 ghost use Rattle.cpi_release.specs.declared.freeze_fault.FreezeFault.TheVariants.{Group};
 
@@ -17,6 +17,7 @@ use crate::level::Level;
 use crate::levels::levels_of;
 use crate::pass::Pass;
 use crate::passing::{first_fault, pass_over};
+use crate::weights::weights_of;
 use cpi_codes::{Code, Month};
 use cpi_index::{CarriedPrice, IndexFault, put_by_series, unchanged_of};
 use cpi_plan::YearPlan;
@@ -54,24 +55,27 @@ pub(crate) fn make<G: Groups>(
         ((code : Code) → group_of (G.sources (G.holds groups.old).held) month code ≡ sample_rows plan.now code rows) →
         is_by_series carried_serial (carry_month plan.now rows) ≡ true →
         let releases = (G.sources (G.holds groups.old).held).releases in
-        let fault = table_fault plan.now releases month carry.now rows in
+        let fault = fault_in plan.now releases month carry.now rows in
         MatchResult result
         (λ m. (fault ≡ None) × (m.carried.items ≡ carry_month plan.now rows)
-        × (m.levels.items ≡ table_of plan.now releases month rows))
+        × (m.levels.items ≡ table_in plan.now releases month rows))
         (IsFreezeFault fault) }
 {
-    let weights = plan.weights();
-    let Ok(unchanged) = unchanged_of(alloc, weights, carry) else {
+    let Ok(unchanged) = unchanged_of(alloc, plan.weights(), carry) else {
         return Err(FreezeFault::Index(IndexFault::NoMemory));
     };
-    let pass = match pass_over(alloc, groups, plan, month, &unchanged) {
+    let weights = match weights_of(alloc, groups, plan, month) {
+        Ok(weights) => weights,
+        Err(fault) => return Err(fault),
+    };
+    let pass = match pass_over(alloc, groups, &weights, month, &unchanged) {
         Ok(pass) => pass,
         Err(fault) => return Err(fault),
     };
     if let Some(fault) = first_fault(&pass.faults) {
         return Err(FreezeFault::Index(fault));
     }
-    let levels = match levels_of(alloc, groups, plan, month, &pass) {
+    let levels = match levels_of(alloc, groups, plan, &weights, month, &pass) {
         Ok(levels) => levels,
         Err(fault) => return Err(fault),
     };
@@ -80,7 +84,7 @@ pub(crate) fn make<G: Groups>(
         return Err(FreezeFault::Index(IndexFault::NoMemory));
     };
     if !once {
-        return Err(FreezeFault::Index(IndexFault::OutOfRange(weights[0].code)));
+        return Err(FreezeFault::Index(IndexFault::OutOfRange(weights[0].code())));
     }
     Ok(Made { carried, levels })
 }

@@ -1,16 +1,16 @@
 //! A row of the table of a month.
 use cpi_codes::{Code, Name};
-use cpi_index::{ChainedLevel, Index};
+use cpi_index::{ChainedLevel, Index, NodeWeight};
 use cpi_rows::Keyed;
 
-/// A row of the table of a month: a node of the plan with its title, its weight in parts per million, its index
-/// within the year and its chained level, how much that changed against the month and the year before, in tenths of a
-/// percent, and whether a price at or below it was imputed.
+/// A row of the table of a month: a node of the plan with its title, the sum of the weights in use at and below it,
+/// its index within the year and its chained level, how much that changed against the month and the year before, in
+/// tenths of a percent, and whether a price at or below it was imputed.
 #[derive(Debug, Drop)]
 pub struct Level {
     pub code: Code,
     pub title: Name,
-    pub weight: u64,
+    pub weight: NodeWeight,
     pub within: Index,
     pub chained: ChainedLevel,
     pub month_change: i64,

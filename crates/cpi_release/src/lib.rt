@@ -28,6 +28,7 @@ mod printed_table;
 mod release;
 mod revision;
 mod text_table;
+mod weights;
 mod whole;
 
 pub use cached::Cached;

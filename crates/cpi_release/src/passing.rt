@@ -1,6 +1,8 @@
 //! One pass over the aggregates of a plan.
 ghost use Rattle.std.specs.Prelude.{◌≡◌, ◌≢◌, ◌+◌, ◌*◌, ◌≤◌, ◌<◌, ◌^◌, ℕ, [], List, Some, None, true, length};
 ghost use Rattle.std.specs.Prelude.{IsSome, IfOk, Err, IfErr, OnOk, option_map, if◌then◌else◌};
+ghost use Rattle.std.specs.List.{list_all};
+ghost use Rattle.cpi_codes.specs.CodeOrder.{is_elementary};
 ghost use Rattle.std.specs.Option.{option_or};
 ghost use Rattle.cpi_codes.specs.CodeText.{is_at_or_below};
 ghost use Rattle.cpi_codes.specs.declared.codes.Code.{Code};
@@ -19,8 +21,8 @@ use crate::freeze_fault::FreezeFault;
 use crate::groups::Groups;
 use crate::pass::Pass;
 use cpi_codes::{Code, Month};
-use cpi_index::{GroupLack, GroupRow, IndexFault, carry_group};
-use cpi_plan::{Weight, YearPlan, add_path};
+use cpi_index::{EffectiveWeight, GroupLack, GroupRow, IndexFault, carry_group};
+use cpi_plan::add_path;
 use std::alloc::{AllocError, Global};
 use std::collections::BTreeMap;
 
@@ -81,61 +83,59 @@ pub(crate) fn empty_pass(alloc: Global) -> Pass
 // what it lacks.
 pub(crate) fn add(
     pass: &mut Pass,
-    weight: Weight,
+    weight: EffectiveWeight,
     rows: &[GroupRow],
     unchanged: bool,
 ) -> Result<(), AllocError>
     requires elementary { IsSome weight.code.aggregate }
-    requires parts { weight.parts ≤ 1000000 }
-    requires sums { (q : Code) → sum_at pass.old.sums q ≤ 10000000000000000000 }
+    requires sums { (q : Code) → sum_at pass.old.sums q ≤ 10000000000000000000000000000 }
     requires imputed { (q : Code) → sum_at pass.old.imputed q < 2 ^ 64 }
     ensures most { OnOk result ((q : Code) → sum_at pass.new.sums q ≤ sum_at pass.old.sums q
         + (if is_at_or_below q weight.code then 10000000000000 * weight.parts else 0)) }
+    ensures within { OnOk result ((q : Code) → sum_at pass.new.sums q ≤ sum_at pass.old.sums q + 10000000000000000000000) }
     ensures few { OnOk result ((q : Code) → sum_at pass.new.imputed q ≤ sum_at pass.old.imputed q + 1) }
     ensures step { OnOk result (is_by_series row_serial rows.now ≡ true →
         IsStep unchanged rows.now weight pass.old pass.new) }
 {
+    let code = weight.code();
     match carry_group(rows, unchanged, &mut pass.carried)? {
         Ok(group) => {
             let index = u128::from(group.index.millionths());
-            add_path(
-                &mut pass.sums,
-                weight.code,
-                u128::from(weight.parts) * index,
-            )?;
+            add_path(&mut pass.sums, code, u128::from(weight.parts()) * index)?;
             let imputed = u128::from(group.imputed);
-            add_path(&mut pass.imputed, weight.code, imputed)?;
+            add_path(&mut pass.imputed, code, imputed)?;
         }
-        Err(lack) => note(&mut pass.faults, lack, weight.code),
+        Err(lack) => note(&mut pass.faults, lack, code),
     }
     Ok(())
 }
 
-// A pass over all aggregates of a plan, each read once.
+// A pass over all aggregates with a weight in use, each read once.
 pub(crate) fn pass_over<G: Groups>(
     alloc: Global,
     groups: &mut G,
-    plan: &YearPlan,
+    weights: &[EffectiveWeight],
     month: Month,
     unchanged: &[bool],
 ) -> Result<Pass, FreezeFault>
-    requires { length unchanged.now ≡ length plan.now.weights }
+    requires elementary { list_all (λ w. is_elementary w.code) weights.now ≡ true }
+    requires few { length weights.now ≤ 1000000 }
+    requires each { length unchanged.now ≡ length weights.now }
     ensures keeps { Keeps (G.holds groups.old) (G.holds groups.new) }
     ensures stays { result ≢ Err Group → StaysClean (G.holds groups.old) (G.holds groups.new) }
     ensures count { (G.holds groups.old).failures ≤ (G.holds groups.new).failures }
-    ensures most { IfOk result (λ p. (q : Code) → sum_at p.sums q ≤ 10000000000000 * weight_under q plan.now.weights) }
-    ensures exact { (carry : List Code) → AreListed plan.now.weights carry unchanged.now →
+    ensures most { IfOk result (λ p. (q : Code) → sum_at p.sums q ≤ 10000000000000 * weight_under q weights.now) }
+    ensures exact { (carry : List Code) → AreListed weights.now carry unchanged.now →
         (G.holds groups.new).is_clean →
         G.is_sound (G.holds groups.old).held → CanAsk (G.sources (G.holds groups.old).held) month →
         let own = group_of (G.sources (G.holds groups.old).held) month in
-        IfOk result (λ p. IsPassed own (is_listed carry) plan.now.weights p) }
+        IfOk result (λ p. IsPassed own (is_listed carry) weights.now p) }
     ensures fault { IfErr result (λ f. IsReadFault (G.holds groups.old).failures (G.holds groups.new).failures f) }
 {
-    let weights = plan.weights();
     let mut pass = empty_pass(alloc);
     for i in 0..weights.len() {
         let weight = weights[i];
-        let Ok(rows) = groups.rows(month.year(), month, weight.code) else {
+        let Ok(rows) = groups.rows(month.year(), month, weight.code()) else {
             return Err(FreezeFault::Group);
         };
         let Ok(()) = add(&mut pass, weight, &rows, unchanged[i]) else {

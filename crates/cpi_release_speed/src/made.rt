@@ -121,7 +121,16 @@ fn plan_of(alloc: Global, year: u16, count: u32, first: u32) -> Option<YearPlan>
     }
     let items = known_items(alloc, count)?;
     let titles = titles(alloc, first, first + count)?;
-    YearPlan::build(alloc, year, &items, titles, weights, places).ok()
+    YearPlan::build(
+        alloc,
+        year,
+        &items,
+        titles,
+        weights,
+        places,
+        Vec::new(alloc),
+    )
+    .ok()
 }
 
 /// The plan of the first year.

@@ -45,7 +45,7 @@ const NOTHING: Sums = Sums {
 
 fn with_row(sums: Sums, place: usize, row: &Level) -> Option<Sums> {
     Some(Sums {
-        weights: one_more(sums.weights, place, u128::from(row.weight))?,
+        weights: one_more(sums.weights, place, u128::from(row.weight.parts()))?,
         indices: one_more(sums.indices, place, u128::from(row.within.millionths()))?,
         levels: one_more(sums.levels, place, u128::from(row.chained.millionths()))?,
         month_changes: one_change_more(sums.month_changes, place, row.month_change)?,

@@ -31,3 +31,9 @@ returns-clause-two_years c = (refl, refl, refl, refl)
 pub returns-clause-carried_december : goal.returns-clause-carried_december
 unfolding digits fields_text escaped is_blank
 returns-clause-carried_december c = (refl, refl)
+
+pub returns-clause-moved_weights : goal.returns-clause-moved_weights
+returns-clause-moved_weights c = (refl, refl, refl, refl)
+
+pub returns-clause-weight_faults : goal.returns-clause-weight_faults
+returns-clause-weight_faults c = (refl, refl, refl, refl, refl, refl)

@@ -1,4 +1,4 @@
-use Rattle.std.proofs.Common.{rules, string_bytes, ◌≡◌, ◌∙◌}
+use Rattle.std.proofs.Common.{rules, string_bytes, ◌∙◌}
 use Rattle.cpi_release.specs.TextTable.{heading, line_text}
 use Rattle.cpi_release.proofs.Lines.{line_more}
 use Rattle.cpi_release.proofs.printed_table.lines.Goals as goal
