@@ -22,7 +22,7 @@ use Rattle.cpi_index.specs.Row.{Row}
 use Rattle.cpi_index.specs.Series.{is_by_series, frozen_serial, carried_serial}
 use Rattle.cpi_release.specs.FrozenMonths.{ReleaseKey, frozen_months, is_next, is_after_first, release_cmp, release_key, plan_for}
 use Rattle.cpi_release.specs.Publishing.{Freeze, published, freeze_of, has_earlier, plan_of, AreMonths, IsOrdered}
-use Rattle.cpi_release.specs.Releases.{release_of, rows_in}
+use Rattle.cpi_release.specs.Releases.{release_of, rows_in, plan_in_use}
 use Rattle.cpi_release.specs.MonthTable.{level_row}
 use Rattle.cpi_release.specs.declared.level.Level.{Level}
 use Rattle.cpi_release.proofs.LatestRows.{latest_all}
@@ -183,7 +183,7 @@ module _ (plans : List Plan) (nodes : AllByRecursion HasNodesInOrder plans) wher
       by (Some p) e = let is : r ≡ published (Some p) before (freeze_of r) = one.computed ∙ ap (λ w. published w before (freeze_of r)) e in record {
         frozen = frozen;
         carried = ap (λ (x : Release). is_by_series carried_serial x.carried) is ∙ carry_in_order before (λ month s found. (latest_all (λ (x : Release). x.month) month IsOrdered before s done found).0) p r.month r.frozen;
-        levels = subst (λ (x : Release). IsInOrder code_cmp (λ l. l.code) x.levels) (sym is) (table_in_order p before r.month (rows_in p before r.month r.frozen) p.nodes (plan_ordered p before r.month e));
+        levels = subst (λ (x : Release). IsInOrder code_cmp (λ l. l.code) x.levels) (sym is) (table_in_order (plan_in_use p before r.month) before r.month (rows_in p before r.month r.frozen) p.nodes (plan_ordered p before r.month e));
       }
 
   all_ordered : (before rs : List Release) → AllByRecursion IsOrdered before → AllByRecursion (λ (r : Release). is_by_series frozen_serial r.frozen ≡ true) rs → ArePublished plans before rs → AllByRecursion IsOrdered rs
