@@ -22,25 +22,25 @@ pair_is e = cc
 true_false : true ≡ false → ⊥
 true_false e = cc
 
--- rows that begin with the number of their holder
-module _ {X : Type 0} (low high : ℕ) (from : Row → Option X) where
-  numbered : (r : Row) (n : ℕ) (x : X) → entry low high from r ≡ Some (n, x) → column r 1 ≡ Int (pos n)
+-- rows that have the number of their holder in one column
+module _ {X : Type 0} (place low high : ℕ) (from : Row → Option X) where
+  numbered : (r : Row) (n : ℕ) (x : X) → entry place low high from r ≡ Some (n, x) → column r place ≡ Int (pos n)
   numbered r n x e =
-      let one = bound_is (ranged low high (column r 1)) _ _ e in
+      let one = bound_is (ranged low high (column r place)) _ _ e in
       let two = bound_is (from r) _ _ one.2 in
       let pair : ◌≡◌ {A = ℕ × X} (one.0, two.0) (n, x) = pair_is two.2 in
-      ranged_is low high (column r 1) one.0 one.1 ∙ ap (λ (p : ℕ × X). Int (pos p.0)) pair
+      ranged_is low high (column r place) one.0 one.1 ∙ ap (λ (p : ℕ × X). Int (pos p.0)) pair
 
-  pub added_none : (year : ℕ) (mid : List Row) → AddsRows low high from year [] mid mid
+  pub added_none : (year : ℕ) (mid : List Row) → AddsRows place low high from year [] mid mid
   added_none year mid = record { others = λ r h. inl h; kept = λ r h. h; there = λ x h. absurd h }
 
   -- one row more
   pub added_more : (year : ℕ) (xs : List X) (x : X) (row : Row) (mid now new : List Row)
-      → entry low high from row ≡ Some (year, x) → AddsRows low high from year xs mid now
-      → new ≡ put_row row now → ((r : Row) → Has now r → Has new r) → AddsRows low high from year (xs ++ x ∷ []) mid new
+      → entry place low high from row ≡ Some (year, x) → AddsRows place low high from year xs mid now
+      → new ≡ put_row row now → ((r : Row) → Has now r → Has new r) → AddsRows place low high from year (xs ++ x ∷ []) mid new
   added_more year xs x row mid now new is adds rows keeps = record {
     others = λ r h. elim (put_row_has row now r (subst (λ l. Has l r) rows h)) [
-      | inl same ↦ inr (x, has_right xs (x ∷ []) x (inl refl), ap (entry low high from) same ∙ is)
+      | inl same ↦ inr (x, has_right xs (x ∷ []) x (inl refl), ap (entry place low high from) same ∙ is)
       | inr was ↦ elim (adds.others r was) [
         | inl old ↦ inl old
         | inr it ↦ inr (it.0, has_left xs (x ∷ []) it.0 it.1, it.2)
@@ -62,8 +62,8 @@ module _ {X : Type 0} (low high : ℕ) (from : Row → Option X) where
   }
 
   -- rows added after others
-  pub added_then : (year : ℕ) (xs ys : List X) (a b c : List Row) → AddsRows low high from year xs a b
-      → AddsRows low high from year ys b c → AddsRows low high from year (xs ++ ys) a c
+  pub added_then : (year : ℕ) (xs ys : List X) (a b c : List Row) → AddsRows place low high from year xs a b
+      → AddsRows place low high from year ys b c → AddsRows place low high from year (xs ++ ys) a c
   added_then year xs ys a b c p q = record {
     others = λ r h. elim (q.others r h) [
       | inl was ↦ elim (p.others r was) [
@@ -81,14 +81,14 @@ module _ {X : Type 0} (low high : ℕ) (from : Row → Option X) where
 
   module _ {K : Type 0} {R : K → K → Ordering} (o : IsTotalOrder R) (key : X → K) where
     -- so they replace those of the year
-    pub replaced_by : (year : ℕ) (xs : List X) (old mid new : List Row) → HasDropped year old mid
-        → AddsRows low high from year xs mid new → ReplacesRows o key (entry low high from) year xs old new
+    pub replaced_by : (year : ℕ) (xs : List X) (old mid new : List Row) → HasDropped place year old mid
+        → AddsRows place low high from year xs mid new → ReplacesRows o key (entry place low high from) year xs old new
     replaced_by year xs old mid new dropped adds = record {
       others = λ r n x h e. elim (adds.others r h) [
         | inl was ↦
             let it = (dropped r).0 was in
             inr (
-              (λ same. true_false (sym (equal_number (column r 1) year (numbered r n x e
+              (λ same. true_false (sym (equal_number (column r place) year (numbered r n x e
                   ∙ ap (λ k. Int (pos k)) same)) ∙ it.1)),
               it.0,
             )
@@ -98,8 +98,8 @@ module _ {X : Type 0} (low high : ℕ) (from : Row → Option X) where
       ];
       kept = λ r n x h e apart. adds.kept r ((dropped r).1 (
         h,
-        elim (cases_Bool (equals (column r 1) (Int (pos year)))) [
-          | inl hit ↦ absurd (apart (same_number (column r 1) n year (numbered r n x e) hit))
+        elim (cases_Bool (equals (column r place) (Int (pos year)))) [
+          | inl hit ↦ absurd (apart (same_number (column r place) n year (numbered r n x e) hit))
           | inr miss ↦ miss
         ],
       ));

@@ -94,6 +94,7 @@ module _ (b : Bearer) (row : Row) (is : collector_in row ≡ Some b) (old : Stat
     adds.others.quotes (λ e. absurd (omega (arith, e))),
     adds.others.nodes (λ e. absurd (omega (arith, e))),
     adds.others.places (λ e. absurd (omega (arith, e))),
+    adds.others.references (λ e. absurd (omega (arith, e))),
     same_releases old.now.trees after.trees (releases_after 1 old.now.trees after.trees refl adds.others),
     listed_put nat_cmp_total (λ (b : Bearer). b.number) collector_in b (old.now.trees 1)
         (after.trees 1) has.collectors collector_puts,
@@ -105,7 +106,8 @@ module _ (b : Bearer) (row : Row) (is : collector_in row ≡ Some b) (old : Stat
       schema = adds.schema;
       alone = alone;
       plans = same_plans old.now.trees after.trees (adds.others.nodes (λ e. absurd (omega (arith, e))))
-          (adds.others.places (λ e. absurd (omega (arith, e)))) has.plans;
+          (adds.others.places (λ e. absurd (omega (arith, e))))
+          (adds.others.references (λ e. absurd (omega (arith, e)))) has.plans;
       releases = releases_kept old.now.trees after.trees (releases_after 1 old.now.trees after.trees refl adds.others)
           has.releases;
       rowids = subst HasRowids (sym (adds.others.quotes (λ e. absurd (omega (arith, e))))) has.rowids;
@@ -167,6 +169,7 @@ module _ (u : Outlet) (row : Row) (is : outlet_in row ≡ Some u) (old : State) 
     adds.others.quotes (λ e. absurd (omega (arith, e))),
     adds.others.nodes (λ e. absurd (omega (arith, e))),
     adds.others.places (λ e. absurd (omega (arith, e))),
+    adds.others.references (λ e. absurd (omega (arith, e))),
     same_releases old.now.trees after.trees (releases_after 3 old.now.trees after.trees refl adds.others),
     listed_put nat_cmp_total (λ (u : Outlet). u.number) outlet_in u (old.now.trees 3)
         (after.trees 3) has.outlets outlet_puts,
@@ -178,7 +181,8 @@ module _ (u : Outlet) (row : Row) (is : outlet_in row ≡ Some u) (old : State) 
       schema = adds.schema;
       alone = alone;
       plans = same_plans old.now.trees after.trees (adds.others.nodes (λ e. absurd (omega (arith, e))))
-          (adds.others.places (λ e. absurd (omega (arith, e)))) has.plans;
+          (adds.others.places (λ e. absurd (omega (arith, e))))
+          (adds.others.references (λ e. absurd (omega (arith, e)))) has.plans;
       releases = releases_kept old.now.trees after.trees (releases_after 3 old.now.trees after.trees refl adds.others)
           has.releases;
       rowids = subst HasRowids (sym (adds.others.quotes (λ e. absurd (omega (arith, e))))) has.rowids;
@@ -237,6 +241,7 @@ module _ (i : Item) (row : Row) (is : item_in row ≡ Some i) (old : State) (aft
     adds.others.quotes (λ e. absurd (omega (arith, e))),
     adds.others.nodes (λ e. absurd (omega (arith, e))),
     adds.others.places (λ e. absurd (omega (arith, e))),
+    adds.others.references (λ e. absurd (omega (arith, e))),
     same_releases old.now.trees after.trees (releases_after 4 old.now.trees after.trees refl adds.others),
     listed_put nat_cmp_total (λ (i : Item). i.code) item_in i (old.now.trees 4) (after.trees 4) has.items item_puts,
   ) refl
@@ -247,7 +252,8 @@ module _ (i : Item) (row : Row) (is : item_in row ≡ Some i) (old : State) (aft
       schema = adds.schema;
       alone = alone;
       plans = same_plans old.now.trees after.trees (adds.others.nodes (λ e. absurd (omega (arith, e))))
-          (adds.others.places (λ e. absurd (omega (arith, e)))) has.plans;
+          (adds.others.places (λ e. absurd (omega (arith, e))))
+          (adds.others.references (λ e. absurd (omega (arith, e)))) has.plans;
       releases = releases_kept old.now.trees after.trees (releases_after 4 old.now.trees after.trees refl adds.others)
           has.releases;
       rowids = subst HasRowids (sym (adds.others.quotes (λ e. absurd (omega (arith, e))))) has.rowids;
@@ -330,6 +336,7 @@ module _ (b : Bearer) (a : Assigned) (row : Row) (is : assignment_in row ≡ Som
     adds.others.quotes (λ e. absurd (omega (arith, e))),
     adds.others.nodes (λ e. absurd (omega (arith, e))),
     adds.others.places (λ e. absurd (omega (arith, e))),
+    adds.others.references (λ e. absurd (omega (arith, e))),
     same_releases old.now.trees after.trees (releases_after 22 old.now.trees after.trees refl adds.others),
     listed_put (held_total nat_cmp_total) (held_key (λ (a : Assignment). a.slot)) assignment_in (
       b.number,
@@ -343,7 +350,8 @@ module _ (b : Bearer) (a : Assigned) (row : Row) (is : assignment_in row ≡ Som
       schema = adds.schema;
       alone = alone;
       plans = same_plans old.now.trees after.trees (adds.others.nodes (λ e. absurd (omega (arith, e))))
-          (adds.others.places (λ e. absurd (omega (arith, e)))) has.plans;
+          (adds.others.places (λ e. absurd (omega (arith, e))))
+          (adds.others.references (λ e. absurd (omega (arith, e)))) has.plans;
       releases = releases_kept old.now.trees after.trees
           (releases_after 22 old.now.trees after.trees refl adds.others) has.releases;
       rowids = subst HasRowids (sym (adds.others.quotes (λ e. absurd (omega (arith, e))))) has.rowids;

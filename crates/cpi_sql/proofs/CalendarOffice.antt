@@ -106,6 +106,7 @@ module _ (x : CalendarPart) (m o c p : ℕ) (month : month_at m ≡ Some x.month
       done.others.quotes (λ e. absurd (omega (arith, e))),
       done.others.nodes (λ e. absurd (omega (arith, e))),
       done.others.places (λ e. absurd (omega (arith, e))),
+      done.others.references (λ e. absurd (omega (arith, e))),
       same_releases old.now.trees after.trees (releases_after 10 old.now.trees after.trees refl done.others),
       listed_put nat_cmp_total key calendar_in x (old.now.trees 10) (after.trees 10) has.calendar puts,
     ) refl
@@ -116,7 +117,8 @@ module _ (x : CalendarPart) (m o c p : ℕ) (month : month_at m ≡ Some x.month
         schema = done.schema;
         alone = alone;
         plans = same_plans old.now.trees after.trees (done.others.nodes (λ e. absurd (omega (arith, e))))
-            (done.others.places (λ e. absurd (omega (arith, e)))) has.plans;
+            (done.others.places (λ e. absurd (omega (arith, e))))
+            (done.others.references (λ e. absurd (omega (arith, e)))) has.plans;
         releases = releases_kept old.now.trees after.trees
             (releases_after 10 old.now.trees after.trees refl done.others) has.releases;
         rowids = subst HasRowids (sym (done.others.quotes (λ e. absurd (omega (arith, e))))) has.rowids;

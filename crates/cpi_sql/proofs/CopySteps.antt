@@ -182,6 +182,7 @@ module _ (a b c d e f g : State) (ready : IsReady a) (ran_1 : Ran copy_assignmen
     survey = record {
       assignments = subst HasRowids (sym (from_b.others 22 refl)) one.rowids;
       quotes = subst HasRowids (sym (from_c.others 24 refl)) two.rowids;
+      references = subst HasRowids (sym (to_g.others 34 refl ∙ ready.empty.1.1.1.1.1.1.0)) no_rowids;
     }
 
     releases : HaveReleaseRowids g.now.trees
@@ -244,6 +245,7 @@ module _ (a b c d e f g : State) (ready : IsReady a) (ran_1 : Ran copy_assignmen
       to_g.others 6 refl,
       to_g.others 8 refl,
       to_g.others 10 refl,
+      to_g.others 34 refl ∙ ready.empty.1.1.1.1.1.1.0,
       same_list (held_total nat_cmp_total) (held_key (λ (x : Assignment). x.slot)) assignment_in
           (λ r. assignment_in (assignment_copy r)) (a.now.trees 11) (g.now.trees 22) assignments
           (assignments_keyed g.now.trees sound survey.assignments),

@@ -38,7 +38,7 @@ use Rattle.cpi_plan.specs.declared.plan_rows.Node.{Node}
 use Rattle.cpi_plan.specs.declared.plan_rows.Place.{Place}
 use Rattle.cpi_sql.specs.Tables.{office_schema, node, plan_item}
 use Rattle.cpi_sql.specs.Lists.{ranged, text_in, number_in, name_from, code_from, item_from}
-use Rattle.cpi_sql.specs.Lists.{node_from, place_from, node_in, place_in}
+use Rattle.cpi_sql.specs.Lists.{node_from, place_from, node_in, place_in, reference_row}
 use Rattle.cpi_sql.specs.Shelf.{IsKeyed, HasRowids}
 use Rattle.cpi_sql.proofs.Lists.{bound_is, ranged_is}
 use Rattle.cpi_sql.proofs.QuoteRows.{not_true}
@@ -200,3 +200,11 @@ module _ (db : Trees) (sound : IsSound office_schema db) where
       (agree_text (column r 2) (column s 2) b.bytes (a.item_is ∙ ap Text bytes) b.item_is) in
       let same : r ≡ s = apart_or (db 8) r s h hr hs (no_place r s hr hs level) in
       some_is (sym er ∙ ap place_in same ∙ es)
+
+-- a year and a month are all that a row of a reference month says
+pub references_keyed : (rows : List Row) → IsKeyed (held_cmp nat_cmp) (held_key (λ m. m.month)) reference_row rows
+unfolding IsKeyed
+references_keyed rows r s x y hr hs er es tie =
+    let year : x.0 ≡ y.0 = ranked x.0 y.0 Equal (sym (first_tied _ _ tie)) in
+    let month : x.1.month ≡ y.1.month = ranked x.1.month y.1.month Equal (sym (second_tied _ _ tie)) in
+    λ i. (year i, record { month = month i })

@@ -299,7 +299,7 @@ level_code : (r : Row) (l : Level) → level_after r ≡ Some l → column r 3 �
 level_code r l e =
     let one = bound_is (code_from (column r 3)) _ _ e in
     let two = bound_is (name_from (column r 4)) _ _ one.2 in
-    let three = bound_is (number_in (column r 5)) _ _ two.2 in
+    let three = bound_is (ranged 1 1000000000000000 (column r 5)) _ _ two.2 in
     let four = bound_is (ranged 1 10000000000000 (column r 6)) _ _ three.2 in
     let five = bound_is (ranged 1 1000000000000000 (column r 7)) _ _ four.2 in
     let six = bound_is (change_in (column r 8)) _ _ five.2 in

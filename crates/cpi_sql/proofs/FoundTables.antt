@@ -18,7 +18,7 @@ use Rattle.cpi_sql.specs.Finding.{IsQuietOver, KeepsLists, IsMoved}
 use Rattle.cpi_sql.specs.Shelf.{HasTables, HasRowids, IsKept, IsCleanBook}
 use Rattle.cpi_sql.proofs.Kept.{kept_then}
 use Rattle.cpi_sql.proofs.Found.{assignments_keyed, quotes_keyed}
-use Rattle.cpi_sql.proofs.FoundPlans.{nodes_keyed, places_keyed}
+use Rattle.cpi_sql.proofs.FoundPlans.{nodes_keyed, places_keyed, references_keyed}
 use Rattle.cpi_sql.proofs.FoundReleases.{headers_keyed, frozen_keyed, carried_keyed, levels_keyed}
 
 -- ---- the texts that ask for rowids
@@ -84,6 +84,14 @@ pub quote_rowids : (schema : Schema) → IsSecond schema
     → AsksRowids schema (codes "SELECT rowid FROM quote_2 ORDER BY rowid") 24
 quote_rowids = under_second _ 24 second_quote_rowids
 
+second_reference_rowids : AsksRowids office_schema (codes "SELECT rowid FROM plan_ref ORDER BY rowid") 34
+unfolding understood everything
+second_reference_rowids = record { names = codes "year" ∷ []; command = refl; listing = refl; plain = (refl, refl) }
+
+pub reference_rowids : (schema : Schema) → IsSecond schema
+    → AsksRowids schema (codes "SELECT rowid FROM plan_ref ORDER BY rowid") 34
+reference_rowids = under_second _ 34 second_reference_rowids
+
 second_release_rowids : AsksRowids office_schema (codes "SELECT rowid FROM release_2 ORDER BY rowid") 26
 unfolding understood everything
 second_release_rowids = record { names = codes "rowid" ∷ []; command = refl; listing = refl; plain = (refl, refl) }
@@ -145,8 +153,10 @@ found_tables s alone has is_open live keyed rise =
       plans = record {
         node_ids = rise.plans.nodes;
         place_ids = rise.plans.places;
+        reference_ids = rise.survey.references;
         nodes = nodes_keyed s.now.trees sound rise.plans.nodes;
         places = places_keyed s.now.trees sound rise.plans.places;
+        references = references_keyed (s.now.trees 34);
       };
       releases = record {
         frozen_ids = rise.releases.frozen;

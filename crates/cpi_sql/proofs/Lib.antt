@@ -56,6 +56,7 @@ pub mod ReleaseOffice
 pub mod FoundReleases
 pub mod Opened
 pub mod HeaderLists
+pub mod KeptTables
 pub mod CopyTexts
 pub mod CopiedRows
 pub mod CopiedTables

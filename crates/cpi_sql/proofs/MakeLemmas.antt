@@ -423,8 +423,10 @@ blank_tables s b alone = record {
   plans = record {
     node_ids = subst HasRowids (sym b.nodes) no_rowids;
     place_ids = subst HasRowids (sym b.places) no_rowids;
+    reference_ids = subst HasRowids (sym b.references) no_rowids;
     nodes = rw b.nodes (λ r t x y hr ht er et same. absurd hr);
     places = rw b.places (λ r t x y hr ht er et same. absurd hr);
+    references = rw b.references (λ r t x y hr ht er et same. absurd hr);
   };
   releases = record {
     frozen_ids = subst HasRowids (sym b.frozen) no_rowids;
@@ -437,7 +439,7 @@ blank_tables s b alone = record {
   };
 }
 
-no_plans : (ys : List ℕ) → plans_of ys [] [] ≡ []
+no_plans : (ys : List ℕ) → plans_of ys [] [] [] ≡ []
 no_plans [] = refl
 no_plans (y ∷ ys) = no_plans ys
 
@@ -457,6 +459,7 @@ blank_office s b = rw (
   b.quotes,
   b.nodes,
   b.places,
+  b.references,
   no_plans (years 200),
 ) refl
 

@@ -35,6 +35,7 @@ same_office old new k = rw (
   k 10 refl,
   k 22 refl,
   k 24 refl,
+  k 34 refl,
   same_releases old new (record {
     releases = k 26 refl;
     frozen = k 28 refl;
@@ -89,6 +90,7 @@ module _ (a b : State) (m : AreMade first_schema office_schema second_tables a b
       survey = record {
         assignments = subst HasRowids (sym (rest 22 refl)) copied.survey.assignments;
         quotes = subst HasRowids (sym (rest 24 refl)) copied.survey.quotes;
+        references = subst HasRowids (sym (rest 34 refl)) copied.survey.references;
       };
       releases = record {
         headers = subst HasRowids (sym (rest 26 refl)) copied.releases.headers;

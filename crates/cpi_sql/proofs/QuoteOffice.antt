@@ -177,6 +177,7 @@ module _ (b : Bearer) (q : QuoteRow) (m : ℕ) (mark : List ℕ) (v : ℕ) (mont
           others.assignments (λ e. absurd (omega (arith, e))),
           others.nodes (λ e. absurd (omega (arith, e))),
           others.places (λ e. absurd (omega (arith, e))),
+          others.references (λ e. absurd (omega (arith, e))),
           same_releases old.now.trees after.trees (releases_after 24 old.now.trees after.trees refl others),
           listed_put (held_total quote_total) key quote_in (
             b.number,
@@ -192,7 +193,8 @@ module _ (b : Bearer) (q : QuoteRow) (m : ℕ) (mark : List ℕ) (v : ℕ) (mont
             schema = done.0;
             alone = alone;
             plans = same_plans old.now.trees after.trees (others.nodes (λ e. absurd (omega (arith, e))))
-                (others.places (λ e. absurd (omega (arith, e)))) has.plans;
+                (others.places (λ e. absurd (omega (arith, e))))
+                (others.references (λ e. absurd (omega (arith, e)))) has.plans;
             releases = releases_kept old.now.trees after.trees
                 (releases_after 24 old.now.trees after.trees refl others) has.releases;
             rowids = done.1.1;

@@ -61,7 +61,8 @@ annual_read (Some z) = refl
 
 pub level_row : (m v w i l u : ℕ) (c t : List ℕ) (z : ℤ) (y : Option ℤ) (number : ℕ) (x : Level)
     → release_from_key (Int (pos m)) (Int (pos v)) ≡ Some number
-    → code_of c ≡ Some x.code → name_of t ≡ Some x.title → w ≡ x.weight
+    → code_of c ≡ Some x.code → name_of t ≡ Some x.title
+    → ranged 1 1000000000000000 (Int (pos w)) ≡ Some x.weight
     → ranged 1 10000000000000 (Int (pos i)) ≡ Some x.within → ranged 1 1000000000000000 (Int (pos l)) ≡ Some x.chained
     → z ≡ x.month_change → y ≡ x.year_change → flag_in (Int (pos u)) ≡ Some x.imputed
     → level_in (Null ∷ Int (pos m) ∷ Int (pos v) ∷ Text c ∷ Text t ∷ Int (pos w) ∷ Int (pos i) ∷ Int (pos l)

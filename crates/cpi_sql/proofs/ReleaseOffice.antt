@@ -173,7 +173,7 @@ written_done r fits old new has none w = record {
     calendar = rw w.others.calendar has.calendar;
     assignments = rw w.others.assignments has.assignments;
     quotes = rw w.others.quotes has.quotes;
-    plans = same_plans old.now.trees new.now.trees w.others.nodes w.others.places has.plans;
+    plans = same_plans old.now.trees new.now.trees w.others.nodes w.others.places w.others.references has.plans;
     releases = releases_hold r fits old new has.releases none w;
   };
   office = rw (
@@ -185,6 +185,7 @@ written_done r fits old new has none w = record {
     w.others.quotes,
     w.others.nodes,
     w.others.places,
+    w.others.references,
     releases_now r fits old new has.releases none w,
   ) refl;
 }
@@ -222,6 +223,10 @@ module _ (r : Release) (m v : ℕ) (is : month_at m ≡ Some r.month) (at_revisi
         ∙ one.others.assignments (λ n. absurd (omega (arith, n)));
     quotes = four.others.quotes (λ n. absurd (omega (arith, n))) ∙ three.others.quotes (λ n. absurd (omega (arith, n)))
         ∙ two.others.quotes (λ n. absurd (omega (arith, n))) ∙ one.others.quotes (λ n. absurd (omega (arith, n)));
+    references = four.others.references (λ n. absurd (omega (arith, n)))
+        ∙ three.others.references (λ n. absurd (omega (arith, n)))
+        ∙ two.others.references (λ n. absurd (omega (arith, n)))
+        ∙ one.others.references (λ n. absurd (omega (arith, n)));
   }
 
   headers_left : e.now.trees 26 ≡ b.now.trees 26

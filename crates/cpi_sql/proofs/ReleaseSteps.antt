@@ -92,6 +92,7 @@ same_then tree a b c p q = record {
   frozen = λ apart. q.frozen apart ∙ p.frozen apart;
   carried = λ apart. q.carried apart ∙ p.carried apart;
   levels = λ apart. q.levels apart ∙ p.levels apart;
+  references = λ apart. q.references apart ∙ p.references apart;
 }
 
 same_here : (tree : ℕ) (a : Trees) → SameBut tree a a
@@ -108,6 +109,7 @@ same_here tree a = record {
   frozen = λ _. refl;
   carried = λ _. refl;
   levels = λ _. refl;
+  references = λ _. refl;
 }
 
 module _ {X : Type 0} (tree : ℕ) (from : Row → Option X) (number : ℕ) where

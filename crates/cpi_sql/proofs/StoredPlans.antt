@@ -1,4 +1,4 @@
--- A plan is what is made of its nodes and places, and rows that are put for it put it among the plans.
+-- A plan is what is made of its nodes, places and reference month, and rows that are put for it put it among the plans.
 use Rattle.std.proofs.Common.{◌≡◌, ◌≢◌, ◌⊎◌, inl, inr, ℕ, ◌+◌, ◌<◌, ◌≤◌, Bool, true, false, cond, List, [], ◌∷◌}
 use Rattle.std.proofs.Common.{map, Some, None, Option, refl, sym, ap, subst, ◌∙◌, arith, ◌&&◌, ◌||◌, ◌==◌}
 use Rattle.std.proofs.lemmas.Bool.Decides.{nat_tests}
@@ -24,7 +24,7 @@ use Rattle.cpi_codes.proofs.CodeBytes.{absent_below}
 use Rattle.cpi_codes.proofs.CodeBelow.{fits}
 use Rattle.cpi_codes.proofs.CodeIs.{same_code_is}
 use Rattle.cpi_rows.specs.Keyed.{IsInOrder, put_by}
-use Rattle.cpi_rows.specs.Held.{held_by}
+use Rattle.cpi_rows.specs.Held.{held_by, held_cmp, held_key}
 use Rattle.cpi_plan.specs.Sums.{weight_under, is_node}
 use Rattle.cpi_plan.specs.Plan.{Plan, IsPlan}
 use Rattle.cpi_plan.specs.Stored.{weight_of, weights_of, plan_from, is_whole}
@@ -35,9 +35,11 @@ use Rattle.cpi_plan.proofs.FaultLemmas.{equal_is}
 use Rattle.cpi_plan.proofs.UnderLemmas.{number_is, and_first, and_second, under_cons}
 use Rattle.cpi_plan.proofs.StoredLemmas.{below_itself, same_itself, or_left, or_right}
 use Rattle.cpi_sql.specs.Lists.{years, if_whole, plan_at, plans_in, nodes_in, places_in, node_in, place_in}
-use Rattle.cpi_sql.specs.Shelf.{HasPlans}
+use Rattle.cpi_sql.specs.Lists.{reference_of, reference_row, references_for, references_in}
+use Rattle.cpi_sql.specs.declared.reference_months.ReferenceMonth.{ReferenceMonth}
+use Rattle.cpi_sql.specs.Shelf.{HasPlans, IsKeyed}
 use Rattle.cpi_sql.proofs.Listed.{same_in_order, kept_has, has_kept, head_in}
-use Rattle.cpi_sql.proofs.Replaced.{ReplacesRows, replaced_here, replaced_there}
+use Rattle.cpi_sql.proofs.Replaced.{ReplacesRows, replaced_here, replaced_keyed, replaced_there}
 use Rattle.cpi_sql.proofs.PlanLists.{made_put}
 use Rattle.cpi_sql.proofs.YearLemmas.{stored_is}
 
@@ -207,43 +209,83 @@ module _ (p : Plan) (v : IsPlan p) where
       subst (Has (weights_of p.nodes)) (same_weight n.0 w n.1 h mine same) (has_weights p.nodes n.0 n.1 mine))
 
   -- so the plan is what is made of its nodes and places
-  pub plan_again : p ≡ plan_from p.year p.nodes p.places
-  plan_again = λ i. record { year = p.year; nodes = p.nodes; weights = sym weights_are i; places = p.places }
+  pub plan_again : p ≡ plan_from p.year p.nodes p.places p.reference
+  plan_again = λ i. record {
+    year = p.year;
+    nodes = p.nodes;
+    weights = sym weights_are i;
+    places = p.places;
+    reference = p.reference;
+  }
 
 -- ---- plans by year
-of_year : (nodes : List (ℕ × Node)) (places : List (ℕ × Place)) (y : ℕ) (q : Plan) → plan_at nodes places y ≡ Some q
+of_year : (nodes : List (ℕ × Node)) (places : List (ℕ × Place)) (references : List (ℕ × ReferenceMonth)) (y : ℕ)
+    (q : Plan) → plan_at nodes places references y ≡ Some q
     → q.year ≡ y
-of_year nodes places y q e = at (is_whole (plan_from y (held_by y nodes) (held_by y places))) e
+of_year nodes places references y q e = at (is_whole (read y)) e
   where
-    at : (b : Bool) → (if b then Some (plan_from y (held_by y nodes) (held_by y places)) else None) ≡ Some q
-        → q.year ≡ y
+    read : ℕ → Plan
+    read z = plan_from z (held_by z nodes) (held_by z places) (reference_of (held_by z references))
+
+    at : (b : Bool) → (if b then Some (read y) else None) ≡ Some q → q.year ≡ y
     at true e = ap (λ (r : Plan). r.year) (sym (some_is e))
     at false e = cc
 
+-- the rows of a reference month say it
+says_reference : (o : Option ℕ) → reference_of (references_for o) ≡ o
+says_reference None = refl
+says_reference (Some month) = refl
+
+one_in_order : (o : Option ℕ) → IsInOrder nat_cmp (λ (m : ReferenceMonth). m.month) (references_for o)
+unfolding IsStrictlySortedBy
+one_in_order None = tt
+one_in_order (Some month) = (tt, tt)
+
 module _ (p : Plan) (v : IsPlan p) (old new : Trees) (has : HasPlans old)
     (nodes : ReplacesRows total-law (λ (n : Node). n.code) node_in p.year p.nodes (old 6) (new 6))
-    (places : ReplacesRows nat_cmp_total (λ (q : Place). q.item) place_in p.year p.places (old 8) (new 8)) where
-  here : plan_at (nodes_in (new 6)) (places_in (new 8)) p.year ≡ Some p
-  here =
-      ap (λ xs. if_whole (plan_from p.year xs (held_by p.year (places_in (new 8))))) (replaced_here total-law
-      (λ (n : Node). n.code) node_in p.year p.nodes (old 6) (new 6) has.nodes v.nodes_in_order nodes)
-      ∙ ap (λ ys. if_whole (plan_from p.year p.nodes ys)) (replaced_here nat_cmp_total
-      (λ (q : Place). q.item) place_in p.year p.places (old 8) (new 8) has.places v.places_in_order places)
-      ∙ sym (stored_is p (plan_from p.year p.nodes p.places) v (plan_again p v))
+    (places : ReplacesRows nat_cmp_total (λ (q : Place). q.item) place_in p.year p.places (old 8) (new 8))
+    (references : ReplacesRows nat_cmp_total (λ (m : ReferenceMonth). m.month) reference_row p.year
+    (references_for p.reference) (old 34) (new 34)) where
+  abbrev plan_in : Trees → ℕ → Option Plan
+  plan_in trees y = plan_at (nodes_in (trees 6)) (places_in (trees 8)) (references_in (trees 34)) y
 
-  there : (y : ℕ) → y ≢ p.year
-      → plan_at (nodes_in (new 6)) (places_in (new 8)) y ≡ plan_at (nodes_in (old 6)) (places_in (old 8)) y
+  here : plan_in new p.year ≡ Some p
+  here =
+      ap (λ xs. if_whole (plan_from p.year xs (held_by p.year (places_in (new 8)))
+      (reference_of (held_by p.year (references_in (new 34)))))) (replaced_here total-law
+      (λ (n : Node). n.code) node_in p.year p.nodes (old 6) (new 6) has.nodes v.nodes_in_order nodes)
+      ∙ ap (λ ys. if_whole (plan_from p.year p.nodes ys
+      (reference_of (held_by p.year (references_in (new 34)))))) (replaced_here nat_cmp_total
+      (λ (q : Place). q.item) place_in p.year p.places (old 8) (new 8) has.places v.places_in_order places)
+      ∙ ap (λ zs. if_whole (plan_from p.year p.nodes p.places (reference_of zs))) (replaced_here nat_cmp_total
+      (λ (m : ReferenceMonth). m.month) reference_row p.year (references_for p.reference) (old 34) (new 34)
+      has.references (one_in_order p.reference) references)
+      ∙ ap (λ o. if_whole (plan_from p.year p.nodes p.places o)) (says_reference p.reference)
+      ∙ sym (stored_is p (plan_from p.year p.nodes p.places p.reference) v (plan_again p v))
+
+  there : (y : ℕ) → y ≢ p.year → plan_in new y ≡ plan_in old y
   there y apart =
-      ap (λ xs. if_whole (plan_from y xs (held_by y (places_in (new 8))))) (replaced_there total-law
+      ap (λ xs. if_whole (plan_from y xs (held_by y (places_in (new 8)))
+      (reference_of (held_by y (references_in (new 34)))))) (replaced_there total-law
       (λ (n : Node). n.code) node_in p.year p.nodes (old 6) (new 6) has.nodes v.nodes_in_order nodes y apart)
-      ∙ ap (λ ys. if_whole (plan_from y (held_by y (nodes_in (old 6))) ys)) (replaced_there nat_cmp_total
+      ∙ ap (λ ys. if_whole (plan_from y (held_by y (nodes_in (old 6))) ys
+      (reference_of (held_by y (references_in (new 34)))))) (replaced_there nat_cmp_total
       (λ (q : Place). q.item) place_in p.year p.places (old 8) (new 8) has.places v.places_in_order places y apart)
+      ∙ ap (λ zs. if_whole (plan_from y (held_by y (nodes_in (old 6))) (held_by y (places_in (old 8)))
+      (reference_of zs))) (replaced_there nat_cmp_total
+      (λ (m : ReferenceMonth). m.month) reference_row p.year (references_for p.reference) (old 34) (new 34)
+      has.references (one_in_order p.reference) references y apart)
+
+  pub references_hold : IsKeyed (held_cmp nat_cmp) (held_key (λ m. m.month)) reference_row (new 34)
+  references_hold =
+      replaced_keyed nat_cmp_total (λ (m : ReferenceMonth). m.month) reference_row p.year (references_for p.reference)
+      (old 34) (new 34) has.references (one_in_order p.reference) references
 
   -- the plan is put among the plans
   pub plans_put : plans_in new ≡ put_by (λ q. q.year) p (plans_in old)
   unfolding years
   plans_put =
-      made_put (λ (q : Plan). q.year) (plan_at (nodes_in (old 6)) (places_in (old 8)))
-      (plan_at (nodes_in (new 6)) (places_in (new 8))) p
-      (of_year (nodes_in (old 6)) (places_in (old 8))) (of_year (nodes_in (new 6)) (places_in (new 8))) here there
+      made_put (λ (q : Plan). q.year) (plan_in old) (plan_in new) p
+      (of_year (nodes_in (old 6)) (places_in (old 8)) (references_in (old 34)))
+      (of_year (nodes_in (new 6)) (places_in (new 8)) (references_in (new 34))) here there
       2000 200 v.in_calendar.0 (omega (arith, v.in_calendar.1))

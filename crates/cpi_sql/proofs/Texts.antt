@@ -14,7 +14,8 @@ use Rattle.cpi_sql.specs.Texts.{put_assignment_text, put_assignment_command, quo
 use Rattle.cpi_sql.specs.Texts.{put_quote_text, put_quote_command, nodes_text, nodes_command, places_text}
 use Rattle.cpi_sql.specs.Texts.{places_command, add_node_text, add_node_command, add_place_text}
 use Rattle.cpi_sql.specs.Texts.{add_place_command, drop_nodes_text, drop_nodes_command, drop_places_text}
-use Rattle.cpi_sql.specs.Texts.{drop_places_command}
+use Rattle.cpi_sql.specs.Texts.{drop_places_command, references_text, references_command, add_reference_text}
+use Rattle.cpi_sql.specs.Texts.{add_reference_command, drop_references_text, drop_references_command}
 use Rattle.cpi_sql.specs.Texts.{headers_text, headers_command, frozen_text, frozen_command, carried_text}
 use Rattle.cpi_sql.specs.Texts.{carried_command, levels_text, levels_command}
 use Rattle.cpi_sql.specs.Texts.{add_header_text, add_header_command, add_frozen_text, add_frozen_command}
@@ -152,3 +153,15 @@ drop_carried_is = (refl, (refl, refl))
 pub drop_level_is : Makes drop_level_text drop_level_command
 unfolding understood everything
 drop_level_is = (refl, (refl, refl))
+
+pub references_is : Asks references_text references_command
+unfolding understood everything
+references_is = (refl, refl, (refl, refl))
+
+pub add_reference_is : Makes add_reference_text add_reference_command
+unfolding understood everything
+add_reference_is = (refl, (refl, refl))
+
+pub drop_references_is : Makes drop_references_text drop_references_command
+unfolding understood everything
+drop_references_is = (refl, (refl, refl))

@@ -25,14 +25,17 @@ others_same tree old done new at h = record {
   frozen = λ apart. at 28 ∙ h.1.1.1.1.1.1.1.1.1.1.1.1.1.1.1.1.0 (λ e. absurd (apart (sym e)));
   carried = λ apart. at 30 ∙ h.1.1.1.1.1.1.1.1.1.1.1.1.1.1.1.1.1.0 (λ e. absurd (apart (sym e)));
   levels = λ apart. at 32 ∙ h.1.1.1.1.1.1.1.1.1.1.1.1.1.1.1.1.1.1.0 (λ e. absurd (apart (sym e)));
+  references = λ apart. at 34 ∙ h.1.1.1.1.1.1.1.1.1.1.1.1.1.1.1.1.1.1.1.0 (λ e. absurd (apart (sym e)));
 }
 
-pub same_plans : (old new : Trees) → new 6 ≡ old 6 → new 8 ≡ old 8 → HasPlans old → HasPlans new
-same_plans old new nodes places h = record {
+pub same_plans : (old new : Trees) → new 6 ≡ old 6 → new 8 ≡ old 8 → new 34 ≡ old 34 → HasPlans old → HasPlans new
+same_plans old new nodes places references h = record {
   node_ids = subst HasRowids (sym nodes) h.node_ids;
   place_ids = subst HasRowids (sym places) h.place_ids;
+  reference_ids = subst HasRowids (sym references) h.reference_ids;
   nodes = rw nodes h.nodes;
   places = rw places h.places;
+  references = rw references h.references;
 }
 
 -- ---- releases

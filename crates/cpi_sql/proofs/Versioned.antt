@@ -75,4 +75,6 @@ version_ran old new count start ran =
       frozen = others.frozen (λ e. absurd (omega (arith, e))) ∙ start.empty.1.1.1.1.1.1.1.1.1.1.1.1.1.1.1.1.0;
       carried = others.carried (λ e. absurd (omega (arith, e))) ∙ start.empty.1.1.1.1.1.1.1.1.1.1.1.1.1.1.1.1.1.0;
       levels = others.levels (λ e. absurd (omega (arith, e))) ∙ start.empty.1.1.1.1.1.1.1.1.1.1.1.1.1.1.1.1.1.1.0;
+      references = others.references (λ e. absurd (omega (arith, e)))
+          ∙ start.empty.1.1.1.1.1.1.1.1.1.1.1.1.1.1.1.1.1.1.1.0;
     }

@@ -44,6 +44,7 @@ pub record HavePlanRowids (trees : Trees) : Type 0 where
 pub record HaveSurveyRowids (trees : Trees) : Type 0 where
   pub assignments : HasRowids (trees 22)
   pub quotes : HasRowids (trees 24)
+  pub references : HasRowids (trees 34)
 
 pub record HaveReleaseRowids (trees : Trees) : Type 0 where
   pub headers : HasRowids (trees 26)

@@ -1,5 +1,5 @@
 -- The lists of the office that the rows of schema 1 stand for: each row for what its copy in schema 2 does, which has
--- the slot's own series, no copied price and revision 1.
+-- the slot's own series, no copied price and revision 1. No plan has a reference month.
 use Rattle.std.specs.Prelude.{ℕ, pos, List, [], ◌∷◌, map}
 use Rattle.std.specs.Ordering.{nat_cmp}
 use Rattle.sqlite.specs.declared.types.Value.TheVariants.{Null, Int}
@@ -12,7 +12,7 @@ use Rattle.cpi_release.specs.FrozenMonths.{release_cmp}
 use Rattle.cpi_release.specs.declared.release.Release.{Release}
 use Rattle.cpi_store.specs.Office.{Office}
 use Rattle.cpi_sql.specs.Lists.{listed, assignment_in, quotes_in, header_in, header_key, frozen_in, carried_in}
-use Rattle.cpi_sql.specs.Lists.{level_in, release_from, office_in}
+use Rattle.cpi_sql.specs.Lists.{level_in, release_from, office_in, plans_of, years, nodes_in, places_in}
 
 -- ---- rows: each is its rowid, and then its columns
 
@@ -57,4 +57,5 @@ first_office_in trees = record (office_in trees) {
   assignments = listed (held_cmp nat_cmp) (held_key (λ a. a.slot)) (λ r. assignment_in (assignment_copy r)) (trees 11);
   quotes = quotes_in (trees 13);
   releases = first_releases_in trees;
+  plans = plans_of (years 200) (nodes_in (trees 6)) (places_in (trees 8)) [];
 }

@@ -40,6 +40,7 @@ use Rattle.cpi_release.specs.declared.level.Level.{Level}
 use Rattle.cpi_release.specs.declared.release.Release.{Release}
 use Rattle.cpi_release.specs.FrozenMonths.{ReleaseKey, release_cmp}
 use Rattle.std.specs.List.{slice_split}
+use Rattle.cpi_sql.specs.declared.reference_months.ReferenceMonth.{ReferenceMonth}
 use Rattle.cpi_sql.specs.declared.release_rows.Header.{Header}
 
 -- ---- values
@@ -272,6 +273,31 @@ nodes_in rows = listed (held_cmp code_cmp) (held_key (λ n. n.code)) node_in row
 abbrev pub places_in : List Row → List (ℕ × Place)
 places_in rows = listed (held_cmp nat_cmp) (held_key (λ p. p.item)) place_in rows
 
+abbrev pub reference_from : Value → Option ReferenceMonth
+reference_from month = and_then (month_from month) (λ m. Some (record { month = m }))
+
+abbrev pub shown_reference : Row → Option ReferenceMonth
+shown_reference x = and_then (ranged 2000 2199 (column x 0)) (λ _. reference_from (column x 1))
+
+-- the year of a reference month is its rowid
+abbrev pub reference_row : Row → Option (ℕ × ReferenceMonth)
+reference_row r = and_then (ranged 2000 2199 (column r 0))
+    (λ y. and_then (reference_from (column r 2)) (λ m. Some (y, m)))
+
+-- reference months beside their years
+abbrev pub references_in : List Row → List (ℕ × ReferenceMonth)
+references_in rows = listed (held_cmp nat_cmp) (held_key (λ m. m.month)) reference_row rows
+
+-- the reference month of a year, if it has one
+abbrev pub reference_of : List ReferenceMonth → Option ℕ
+reference_of [] = None
+reference_of (m ∷ _) = Some m.month
+
+-- the rows of a year that has this reference month, or none
+abbrev pub references_for : Option ℕ → List ReferenceMonth
+references_for None = []
+references_for (Some month) = record { month = month } ∷ []
+
 -- so many numbers, from one on
 abbrev pub numbers : ℕ → ℕ → List ℕ
 numbers first zero = []
@@ -281,12 +307,13 @@ abbrev pub if_whole : Plan → Option Plan
 if_whole p = if is_whole p then Some p else None
 
 -- the plan of a year, if its rows make one
-abbrev pub plan_at : List (ℕ × Node) → List (ℕ × Place) → ℕ → Option Plan
-plan_at nodes places year = if_whole (plan_from year (held_by year nodes) (held_by year places))
+abbrev pub plan_at : List (ℕ × Node) → List (ℕ × Place) → List (ℕ × ReferenceMonth) → ℕ → Option Plan
+plan_at nodes places references year =
+    if_whole (plan_from year (held_by year nodes) (held_by year places) (reference_of (held_by year references)))
 
 -- the plans of some years
-abbrev pub plans_of : List ℕ → List (ℕ × Node) → List (ℕ × Place) → List Plan
-plans_of years nodes places = filter_map (plan_at nodes places) years
+abbrev pub plans_of : List ℕ → List (ℕ × Node) → List (ℕ × Place) → List (ℕ × ReferenceMonth) → List Plan
+plans_of years nodes places references = filter_map (plan_at nodes places references) years
 
 -- so many years from 2000 on
 unfoldable pub years : ℕ → List ℕ
@@ -294,7 +321,7 @@ years count = numbers 2000 count
 
 -- of the years 2000 to 2199
 abbrev pub plans_in : Trees → List Plan
-plans_in trees = plans_of (years 200) (nodes_in (trees 6)) (places_in (trees 8))
+plans_in trees = plans_of (years 200) (nodes_in (trees 6)) (places_in (trees 8)) (references_in (trees 34))
 
 -- ---- releases
 
@@ -398,7 +425,8 @@ carried_in r = and_then (release_from_key (column r 1) (column r 2)) (λ n.
 
 abbrev pub level_from : Value → Value → Value → Value → Value → Value → Value → Value → Option Level
 level_from code title weight within chained month_change year_change imputed =
-    and_then (code_from code) (λ c. and_then (name_from title) (λ t. and_then (number_in weight) (λ w.
+    and_then (code_from code) (λ c. and_then (name_from title) (λ t.
+    and_then (ranged 1 1000000000000000 weight) (λ w.
     and_then (ranged 1 10000000000000 within) (λ i. and_then (ranged 1 1000000000000000 chained) (λ l.
     and_then (change_in month_change) (λ m. and_then (whole_or_none year_change) (λ y.
     and_then (flag_in imputed) (λ u. Some (record {

@@ -73,6 +73,7 @@ pub record IsBlank (s : State) : Type 0 where
   pub frozen : s.now.trees 28 ≡ []
   pub carried : s.now.trees 30 ≡ []
   pub levels : s.now.trees 32 ≡ []
+  pub references : s.now.trees 34 ≡ []
 
 -- the rows are those of an office that holds nothing
 unfoldable pub HoldsNothing : Trees → Type 0

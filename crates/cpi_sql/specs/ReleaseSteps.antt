@@ -71,6 +71,7 @@ pub record SameBeside (old new : Trees) : Type 0 where
   pub calendar : new 10 ≡ old 10
   pub assignments : new 22 ≡ old 22
   pub quotes : new 24 ≡ old 24
+  pub references : new 34 ≡ old 34
 
 -- the rows of a release are written
 pub record IsWritten (r : Release) (old new : State) : Type 0 where

@@ -29,7 +29,7 @@ use Rattle.cpi_codes.specs.CodeOrder.{code_cmp}
 use Rattle.cpi_index.specs.Series.{frozen_serial, carried_serial}
 use Rattle.cpi_sql.specs.Tables.{office_schema}
 use Rattle.cpi_sql.specs.Lists.{office_in, collector_in, outlet_in, item_in, calendar_in, assignment_in}
-use Rattle.cpi_sql.specs.Lists.{quote_in, node_in, place_in, header_in, header_key, frozen_in, carried_in, level_in}
+use Rattle.cpi_sql.specs.Lists.{quote_in, node_in, place_in, reference_row, header_in, header_key, frozen_in, carried_in, level_in}
 use Rattle.cpi_sql.specs.Lists.{collectors_in, outlets_in, headers_in}
 use Rattle.cpi_sql.specs.LevelTables.{ReleaseLevels, AreTablesOf}
 use Rattle.cpi_sql.specs.declared.release_rows.Header.{Header}
@@ -60,8 +60,10 @@ IsKeyed {X} cmp key entry rows = (r s : Row) (x y : X) → Has rows r → Has ro
 pub record HasPlans (trees : Trees) : Type 0 where
   pub node_ids : HasRowids (trees 6)
   pub place_ids : HasRowids (trees 8)
+  pub reference_ids : HasRowids (trees 34)
   pub nodes : IsKeyed (held_cmp code_cmp) (held_key (λ n. n.code)) node_in (trees 6)
   pub places : IsKeyed (held_cmp nat_cmp) (held_key (λ p. p.item)) place_in (trees 8)
+  pub references : IsKeyed (held_cmp nat_cmp) (held_key (λ m. m.month)) reference_row (trees 34)
 
 -- the tables of the releases
 pub record HasReleases (trees : Trees) : Type 0 where

@@ -8,7 +8,8 @@ use Rattle.sqlite_rules.specs.Lists.{Has}
 use Rattle.cpi_plan.specs.declared.plan_rows.Node.{Node}
 use Rattle.cpi_plan.specs.declared.plan_rows.Place.{Place}
 use Rattle.cpi_sql.specs.Tables.{office_schema}
-use Rattle.cpi_sql.specs.Lists.{and_then, ranged, node_from, place_from}
+use Rattle.cpi_sql.specs.Lists.{and_then, ranged, node_from, place_from, reference_from}
+use Rattle.cpi_sql.specs.declared.reference_months.ReferenceMonth.{ReferenceMonth}
 use Rattle.cpi_sql.specs.Shelf.{HasRowids, equals}
 
 -- each table but the one with this tree is as it was
@@ -25,15 +26,17 @@ pub record SameBut (tree : ℕ) (old new : Trees) : Type 0 where
   pub frozen : tree ≢ 28 → new 28 ≡ old 28
   pub carried : tree ≢ 30 → new 30 ≡ old 30
   pub levels : tree ≢ 32 → new 32 ≡ old 32
+  pub references : tree ≢ 34 → new 34 ≡ old 34
 
--- what is left are the rows of other years
-abbrev pub HasDropped : ℕ → List Row → List Row → Type 0
-HasDropped year rows left = (r : Row) → Has left r ↔ (Has rows r × (equals (column r 1) (Int (pos year)) ≡ false))
+-- what is left are the rows of other years; the year is in one column of a row
+abbrev pub HasDropped : ℕ → ℕ → List Row → List Row → Type 0
+HasDropped place year rows left =
+    (r : Row) → Has left r ↔ (Has rows r × (equals (column r place) (Int (pos year)) ≡ false))
 
--- rows that begin with the number of their holder
-module _ {X : Type 0} (low high : ℕ) (from : Row → Option X) where
+-- rows that have the number of their holder in one column
+module _ {X : Type 0} (place low high : ℕ) (from : Row → Option X) where
   abbrev pub entry : Row → Option (ℕ × X)
-  entry r = and_then (ranged low high (column r 1)) (λ c. and_then (from r) (λ x. Some (c, x)))
+  entry r = and_then (ranged low high (column r place)) (λ c. and_then (from r) (λ x. Some (c, x)))
 
   -- the rows that are there, and those of the list
   pub record AddsRows (year : ℕ) (xs : List X) (mid new : List Row) : Type 0 where
@@ -57,10 +60,17 @@ abbrev pub place_at : Row → Option Place
 place_at r = place_from (column r 2) (column r 3)
 
 abbrev pub AddsPlaces : ℕ → List Place → List Row → List Row → Type 0
-AddsPlaces year places = AddsRows 2000 2199 place_at year places
+AddsPlaces year places = AddsRows 1 2000 2199 place_at year places
 
 abbrev pub node_at : Row → Option Node
 node_at r = node_from (column r 2) (column r 3) (column r 4)
 
 abbrev pub AddsNodes : ℕ → List Node → List Row → List Row → Type 0
-AddsNodes year nodes = AddsRows 2000 2199 node_at year nodes
+AddsNodes year nodes = AddsRows 1 2000 2199 node_at year nodes
+
+abbrev pub reference_at : Row → Option ReferenceMonth
+reference_at r = reference_from (column r 2)
+
+-- the year of a reference month is its rowid
+abbrev pub AddsReferences : ℕ → List ReferenceMonth → List Row → List Row → Type 0
+AddsReferences year months = AddsRows 0 2000 2199 reference_at year months

@@ -202,6 +202,24 @@ add_place_text = codes "INSERT INTO plan_item (year, item, code) VALUES (?1, ?2,
 abbrev pub add_place_command : Command
 add_place_command = Insert 5 (Values (lit Null ∷ col 0 0 ∷ col 0 1 ∷ col 0 2 ∷ []) 4)
 
+abbrev pub references_text : List ℕ
+references_text = codes "SELECT year, month FROM plan_ref WHERE year = ?1 ORDER BY year, month"
+
+abbrev pub references_command : Command
+references_command = select 34 (is_first 0) (0 ∷ 2 ∷ []) (0 ∷ 2 ∷ []) (codes "year" ∷ codes "month" ∷ [])
+
+abbrev pub add_reference_text : List ℕ
+add_reference_text = codes "INSERT INTO plan_ref (year, month) VALUES (?1, ?2)"
+
+abbrev pub add_reference_command : Command
+add_reference_command = Insert 19 (Values given_pair 3)
+
+abbrev pub drop_references_text : List ℕ
+drop_references_text = codes "DELETE FROM plan_ref WHERE year = ?1"
+
+abbrev pub drop_references_command : Command
+drop_references_command = Delete 19 (record { lets = []; body = whole_query 34 (is_first 0) (col 1 0 ∷ []) [] })
+
 abbrev pub drop_nodes_text : List ℕ
 drop_nodes_text = codes "DELETE FROM node WHERE year = ?1"
 

@@ -170,16 +170,16 @@ CarriedPrices =
     × (carried_in (carried_row 2) ≡ None)
 
 -- 98 points, which is 2.0 percent less than the month before
-abbrev pub level_row : Value → ℕ → Row
-level_row year_change imputed =
-    number 5 ∷ number 202601 ∷ number 2 ∷ word (codes "01.1.1.2-01") ∷ word (codes "Flour, wheat") ∷ number 400000
+abbrev pub level_row : ℕ → Value → ℕ → Row
+level_row weight year_change imputed =
+    number 5 ∷ number 202601 ∷ number 2 ∷ word (codes "01.1.1.2-01") ∷ word (codes "Flour, wheat") ∷ number weight
     ∷ number 98000000 ∷ number 98000000 ∷ Int (negsuc 19) ∷ year_change ∷ number imputed ∷ []
 
-abbrev pub level_with : Option ℤ → Level
-level_with year_change = record {
+abbrev pub level_with : ℕ → Option ℤ → Level
+level_with weight year_change = record {
   code = flour;
   title = codes "Flour, wheat";
-  weight = 400000;
+  weight = weight;
   within = 98000000;
   chained = 98000000;
   month_change = negsuc 19;
@@ -189,8 +189,16 @@ level_with year_change = record {
 
 abbrev pub Levels : Type 0
 Levels =
-    (level_in (level_row Null 0) ≡ Some (3122, level_with None))
-    × (level_in (level_row (number 35) 0) ≡ Some (3122, level_with (Some (pos 35))))
-    × (level_in (level_row (Int (negsuc 19)) 0) ≡ Some (3122, level_with (Some (negsuc 19))))
-    × (level_in (level_row (word (codes "0")) 0) ≡ None)
-    × (level_in (level_row Null 2) ≡ None)
+    (level_in (level_row 400000 Null 0) ≡ Some (3122, level_with 400000 None))
+    × (level_in (level_row 400000 (number 35) 0) ≡ Some (3122, level_with 400000 (Some (pos 35))))
+    × (level_in (level_row 400000 (Int (negsuc 19)) 0) ≡ Some (3122, level_with 400000 (Some (negsuc 19))))
+    × (level_in (level_row 400000 (word (codes "0")) 0) ≡ None)
+    × (level_in (level_row 400000 Null 2) ≡ None)
+
+-- the weights in use at and below a node: 1 to 10^15
+abbrev pub Weights : Type 0
+Weights =
+    (level_in (level_row 1 Null 0) ≡ Some (3122, level_with 1 None))
+    × (level_in (level_row 1000000000000000 Null 0) ≡ Some (3122, level_with 1000000000000000 None))
+    × (level_in (level_row 0 Null 0) ≡ None)
+    × (level_in (level_row 1000000000000001 Null 0) ≡ None)

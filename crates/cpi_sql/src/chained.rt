@@ -11,7 +11,7 @@ ghost use Rattle.cpi_sql.specs.Lists.{headers_in, releases_in};
 
 use crate::earlier::earlier_levels;
 use crate::headers::header_of;
-use crate::level_table::{LevelTable, keep_table, table_of};
+use crate::level_table::{LevelTable, keep_table, take_table};
 use crate::release_rows::Header;
 use crate::stored::Unread;
 use cpi_codes::{Code, Month};
@@ -40,6 +40,31 @@ fn read_table<S: Alter>(
     Ok(LevelTable::new(month, revision, levels))
 }
 
+// The table of a release, taken out of those that are kept, or read.
+fn table_at<S: Alter>(
+    conn: &mut Connection<S>,
+    alloc: Global,
+    headers: &[Header],
+    tables: &mut Vec<LevelTable>,
+    month: Month,
+    revision: Revision,
+) -> Result<LevelTable, Unread>
+    ensures look { IsLook (state S.Store conn.old) (state S.Store conn.new) }
+    ensures open { OnOk result (StaysOpen (state S.Store conn.old) (state S.Store conn.new)) }
+    ensures month { IfOk result (λ t. t.month ≡ month) }
+    ensures revision { IfOk result (λ t. t.revision ≡ revision) }
+    ensures left { (releases : _) → AreTablesOf releases tables.old.items → AreTablesOf releases tables.new.items }
+    ensures read { IsCleanBook (state S.Store conn.new) → HasTables (state S.Store conn.old) →
+        headers.now ≡ headers_in ((state S.Store conn.old).now.trees 26) →
+        let releases = releases_in (state S.Store conn.old).now.trees in
+        AreTablesOf releases tables.old.items → IfOk result (λ t. t.levels ≡ levels_at releases (month, revision)) }
+{
+    if let Some(table) = take_table(tables, month, revision) {
+        return Ok(table);
+    }
+    read_table(conn, alloc, headers, month, revision)
+}
+
 /// Reads the table of a release, unless it is kept. `headers` are those of all releases.
 pub fn ready_table<S: Alter>(
     conn: &mut Connection<S>,
@@ -57,10 +82,7 @@ pub fn ready_table<S: Alter>(
         AreTablesOf releases tables.old.items → AreTablesOf releases tables.new.items }
     ensures ready { OnOk result (IsSome (row_at release_cmp table_key (month, revision) tables.new.items)) }
 {
-    if table_of(tables, month, revision).is_some() {
-        return Ok(());
-    }
-    let table = read_table(conn, alloc, headers, month, revision)?;
+    let table = table_at(conn, alloc, headers, tables, month, revision)?;
     keep_table(tables, table)
 }
 
@@ -86,10 +108,7 @@ fn release_level<S: Alter>(
         AreTablesOf releases tables.old.items → IfOk result (λ level. level
         ≡ option_map (λ l. l.chained) (row_at code_cmp (λ l. l.code) code (levels_at releases (month, revision)))) }
 {
-    if let Some(table) = table_of(tables, month, revision) {
-        return Ok(table.chained(code));
-    }
-    let table = read_table(conn, alloc, headers, month, revision)?;
+    let table = table_at(conn, alloc, headers, tables, month, revision)?;
     let level = table.chained(code);
     match keep_table(tables, table) {
         Ok(()) => Ok(level),

@@ -1,5 +1,5 @@
 ghost use Rattle.cpi_sql.specs.WorkedRows.{Items, Calendar, Quotes, Assignments, Nodes};
-ghost use Rattle.cpi_sql.specs.WorkedRows.{Headers, FrozenQuotes, CarriedPrices, Levels};
+ghost use Rattle.cpi_sql.specs.WorkedRows.{Headers, FrozenQuotes, CarriedPrices, Levels, Weights};
 
 /// Rows of the tables, computed by the definitions: what they stand for, each kind of column among them, and rows that
 /// stand for nothing, since one column is outside of its limits.
@@ -13,4 +13,5 @@ pub fn worked_rows()
     ensures frozen { FrozenQuotes }
     ensures carried { CarriedPrices }
     ensures levels { Levels }
+    ensures weights { Weights }
 {}

@@ -111,7 +111,9 @@ const ASSIGNMENTS: &str = "SELECT rowid FROM assignment_2 ORDER BY rowid";
 
 const QUOTES: &str = "SELECT rowid FROM quote_2 ORDER BY rowid";
 
-// Tests the rowids of the assignments and of the quotes.
+const REFERENCES: &str = "SELECT rowid FROM plan_ref ORDER BY rowid";
+
+// Tests the rowids of the assignments, of the quotes and of the reference months.
 fn scan_survey<S: Alter>(conn: &mut Connection<S>, alloc: Global) -> Result<(), Unread>
     ensures clean { IsCleanBook (state S.Store conn.new) → IsCleanBook (state S.Store conn.old) }
     ensures kept { IsCleanBook (state S.Store conn.new) → (state S.Store conn.old).in_transaction ≡ false
@@ -123,7 +125,8 @@ fn scan_survey<S: Alter>(conn: &mut Connection<S>, alloc: Global) -> Result<(), 
         (λ _. IsQuietOver IsSecond (state S.Store conn.old)) }
 {
     scan(conn, alloc, ASSIGNMENTS)?;
-    scan(conn, alloc, QUOTES)
+    scan(conn, alloc, QUOTES)?;
+    scan(conn, alloc, REFERENCES)
 }
 
 const HEADERS: &str = "SELECT rowid FROM release_2 ORDER BY rowid";

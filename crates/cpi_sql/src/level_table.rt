@@ -1,10 +1,10 @@
 //! The table of a release, kept to look up its levels.
-ghost use Rattle.std.specs.Prelude.{◌≡◌, None, IsSome, OnOk, option_map, if◌then◌else◌};
+ghost use Rattle.std.specs.Prelude.{◌≡◌, ◌<◌, None, IfSome, IsSome, OnOk, length, option_map, slice_index_or, if◌then◌else◌};
 ghost use Rattle.std.specs.Option.{option_copied};
 ghost use Rattle.cpi_codes.specs.CodeOrder.{code_cmp};
 ghost use Rattle.cpi_rows.specs.Keyed.{IsInOrder, row_at};
 ghost use Rattle.cpi_release.specs.FrozenMonths.{release_cmp};
-ghost use Rattle.cpi_sql.specs.LevelTables.{AreTablesOf, levels_at, table_key};
+ghost use Rattle.cpi_sql.specs.LevelTables.{AreTablesOf, ReleaseLevels, levels_at, table_key};
 
 use crate::stored::Unread;
 use cpi_codes::{Code, Month};
@@ -13,8 +13,9 @@ use cpi_release::{Level, Revision};
 use cpi_rows::{Rows, find_row};
 use std::marker::Model;
 
-// A freeze asks for the levels of at most three earlier months.
-const MOST_TABLES: usize = 3;
+// A freeze asks for the levels of at most four earlier months: the link month, the month before, twelve months before,
+// and the reference month of the plan's weights.
+const MOST_TABLES: usize = 4;
 
 /// The rows of the table of a release, by code.
 #[derive(Drop)]
@@ -93,14 +94,44 @@ pub fn table_of(tables: &[LevelTable], month: Month, revision: Revision) -> Opti
     None
 }
 
-/// Keeps the table too, or in place of those that are kept where they are many.
+// Where the table of a release stands among those that are kept.
+fn place_of(tables: &[LevelTable], month: Month, revision: Revision) -> Option<usize>
+    ensures inside { IfSome result (λ i. i < length tables.now) }
+    ensures found { (d : ReleaseLevels) → row_at release_cmp table_key (month, revision) tables.now
+        ≡ option_map (λ i. slice_index_or tables.now i d) result }
+{
+    for i in 0..tables.len() {
+        if tables[i].month() == month && tables[i].revision() == revision {
+            return Some(i);
+        }
+    }
+    None
+}
+
+/// Takes the table of a release out of those that are kept.
+#[tactic(auto, using(crate::proofs::KeptTables::all_less))]
+pub fn take_table(
+    tables: &mut Vec<LevelTable>,
+    month: Month,
+    revision: Revision,
+) -> Option<LevelTable>
+    ensures taken { result ≡ row_at release_cmp table_key (month, revision) tables.old.items }
+    ensures left { (releases : _) → AreTablesOf releases tables.old.items → AreTablesOf releases tables.new.items }
+{
+    let place = place_of(tables, month, revision)?;
+    Some(tables.remove(place))
+}
+
+/// Keeps the table, behind the others. Where they are many the first of them is dropped, which was asked for longest
+/// ago.
+#[tactic(auto, using(crate::proofs::KeptTables::all_less))]
 pub fn keep_table(tables: &mut Vec<LevelTable>, table: LevelTable) -> Result<(), Unread>
     ensures kept { (releases : _) → AreTablesOf releases tables.old.items →
         table.levels ≡ levels_at releases (table_key table) → AreTablesOf releases tables.new.items }
     ensures there { OnOk result (IsSome (row_at release_cmp table_key (table_key table) tables.new.items)) }
 {
     if MOST_TABLES <= tables.len() {
-        tables.clear();
+        let _first = tables.remove(0);
     }
     match tables.push(table) {
         Ok(()) => Ok(()),

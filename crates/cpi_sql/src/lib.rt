@@ -23,6 +23,7 @@ mod put_header;
 mod put_plan;
 mod put_release;
 mod ready;
+mod reference_months;
 mod release_inserts;
 mod release_lists;
 mod release_rows;

@@ -4,11 +4,12 @@ ghost use Rattle.sqlite.specs.declared.types.Value.TheVariants.{Int, Null, Text}
 ghost use Rattle.sqlite.specs.Held.{state};
 ghost use Rattle.cpi_plan.specs.declared.plan_rows.Node.{Node};
 ghost use Rattle.cpi_plan.specs.declared.plan_rows.Place.{Place};
-ghost use Rattle.cpi_sql.specs.Lists.{node_in, place_in};
+ghost use Rattle.cpi_sql.specs.Lists.{node_in, place_in, reference_row};
 ghost use Rattle.sqlite.specs.State.{HasCleanDisk, KeepsCommit, Survives};
+ghost use Rattle.cpi_sql.specs.declared.reference_months.ReferenceMonth.{ReferenceMonth};
 ghost use Rattle.cpi_sql.specs.Tables.{office_schema};
 ghost use Rattle.cpi_sql.specs.Shelf.{HasRowids};
-ghost use Rattle.cpi_sql.specs.Steps.{AddsNodes, AddsPlaces, HasDropped, IsStep};
+ghost use Rattle.cpi_sql.specs.Steps.{AddsNodes, AddsPlaces, AddsReferences, HasDropped, IsStep};
 
 use sqlite::{Alter, Error, Transaction, params};
 
@@ -21,7 +22,7 @@ pub fn drop_places<S: Alter>(tx: &mut Transaction<'_, S>, year: u32) -> Result<(
         → IsTrue (state S.Store tx.old.conn.now).in_transaction
         → (state S.Store tx.old.conn.now).now.schema ≡ office_schema
         → HasRowids ((state S.Store tx.old.conn.now).now.trees 8)
-        → OnOk result (IsStep 8 (HasDropped year) (state S.Store tx.old.conn.now) (state S.Store tx.new.conn.now)) }
+        → OnOk result (IsStep 8 (HasDropped 1 year) (state S.Store tx.old.conn.now) (state S.Store tx.new.conn.now)) }
     ensures kept { HasCleanDisk (state S.Store tx.new.conn.now)
         → KeepsCommit (state S.Store tx.old.conn.now) (state S.Store tx.new.conn.now) }
     ensures survives { Survives (state S.Store tx.old.conn.now) (state S.Store tx.new.conn.now) (λ _. ⊥) }
@@ -39,7 +40,7 @@ pub fn drop_nodes<S: Alter>(tx: &mut Transaction<'_, S>, year: u32) -> Result<()
         → IsTrue (state S.Store tx.old.conn.now).in_transaction
         → (state S.Store tx.old.conn.now).now.schema ≡ office_schema
         → HasRowids ((state S.Store tx.old.conn.now).now.trees 6)
-        → OnOk result (IsStep 6 (HasDropped year) (state S.Store tx.old.conn.now) (state S.Store tx.new.conn.now)) }
+        → OnOk result (IsStep 6 (HasDropped 1 year) (state S.Store tx.old.conn.now) (state S.Store tx.new.conn.now)) }
     ensures kept { HasCleanDisk (state S.Store tx.new.conn.now)
         → KeepsCommit (state S.Store tx.old.conn.now) (state S.Store tx.new.conn.now) }
     ensures survives { Survives (state S.Store tx.old.conn.now) (state S.Store tx.new.conn.now) (λ _. ⊥) }
@@ -96,5 +97,47 @@ pub fn add_place<S: Alter>(
     ensures survives { Survives (state S.Store tx.old.conn.now) (state S.Store tx.new.conn.now) (λ _. ⊥) }
 {
     let _count = tx.execute(ADD_PLACE, params![year, item, code])?;
+    Ok(())
+}
+
+const DROP_REFERENCES: &str = "DELETE FROM plan_ref WHERE year = ?1";
+
+/// Drops the reference month of a year, if it has one.
+pub fn drop_references<S: Alter>(tx: &mut Transaction<'_, S>, year: u32) -> Result<(), Error>
+    ensures same_reference { tx.new.conn.ghost_name ≡ tx.old.conn.ghost_name }
+    ensures dropped { HasCleanDisk (state S.Store tx.new.conn.now)
+        → IsTrue (state S.Store tx.old.conn.now).in_transaction
+        → (state S.Store tx.old.conn.now).now.schema ≡ office_schema
+        → HasRowids ((state S.Store tx.old.conn.now).now.trees 34)
+        → OnOk result (IsStep 34 (HasDropped 0 year) (state S.Store tx.old.conn.now) (state S.Store tx.new.conn.now)) }
+    ensures kept { HasCleanDisk (state S.Store tx.new.conn.now)
+        → KeepsCommit (state S.Store tx.old.conn.now) (state S.Store tx.new.conn.now) }
+    ensures survives { Survives (state S.Store tx.old.conn.now) (state S.Store tx.new.conn.now) (λ _. ⊥) }
+{
+    let _count = tx.execute(DROP_REFERENCES, params![year])?;
+    Ok(())
+}
+
+const ADD_REFERENCE: &str = "INSERT INTO plan_ref (year, month) VALUES (?1, ?2)";
+
+/// Adds the reference month of a year.
+pub fn add_reference<S: Alter>(
+    tx: &mut Transaction<'_, S>,
+    year: u32,
+    month: u32,
+) -> Result<(), Error>
+    ensures same_reference { tx.new.conn.ghost_name ≡ tx.old.conn.ghost_name }
+    ensures added { HasCleanDisk (state S.Store tx.new.conn.now)
+        → IsTrue (state S.Store tx.old.conn.now).in_transaction
+        → (state S.Store tx.old.conn.now).now.schema ≡ office_schema
+        → HasRowids ((state S.Store tx.old.conn.now).now.trees 34)
+        → OnOk result ((m : ReferenceMonth)
+        → reference_row (Int (pos year) ∷ Null ∷ Int (pos month) ∷ []) ≡ Some (year, m)
+        → IsStep 34 (AddsReferences year (m ∷ [])) (state S.Store tx.old.conn.now) (state S.Store tx.new.conn.now)) }
+    ensures kept { HasCleanDisk (state S.Store tx.new.conn.now)
+        → KeepsCommit (state S.Store tx.old.conn.now) (state S.Store tx.new.conn.now) }
+    ensures survives { Survives (state S.Store tx.old.conn.now) (state S.Store tx.new.conn.now) (λ _. ⊥) }
+{
+    let _count = tx.execute(ADD_REFERENCE, params![year, month])?;
     Ok(())
 }

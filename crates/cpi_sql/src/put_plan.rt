@@ -3,14 +3,17 @@ ghost use Rattle.std.specs.Prelude.{◌≡◌, ◌≤◌, [], ◌∷◌, false, 
 ghost use Rattle.sqlite.specs.Held.{state};
 ghost use Rattle.sqlite.specs.State.{HasCleanDisk, KeepsCommit, Survives};
 ghost use Rattle.cpi_store.specs.Office.{changed, PutsPlan};
-ghost use Rattle.cpi_sql.specs.Lists.{office_in};
+ghost use Rattle.cpi_sql.specs.Lists.{office_in, references_for};
 ghost use Rattle.cpi_sql.specs.Shelf.{HasRowids, HasTables, IsCleanBook, IsDone, IsKept};
-ghost use Rattle.cpi_sql.specs.Steps.{AddsNodes, AddsPlaces, IsStep, outside};
+ghost use Rattle.cpi_sql.specs.Steps.{AddsNodes, AddsPlaces, AddsReferences, IsStep, outside};
 ghost use Rattle.cpi_sql.specs.Tables.{office_schema};
 
-use crate::plan_rows::{add_node, add_place, drop_nodes, drop_places};
+use crate::plan_rows::{
+    add_node, add_place, add_reference, drop_nodes, drop_places, drop_references,
+};
 use crate::stored::Unread;
-use crate::writes::{code_text, item_text, name_text};
+use crate::writes::{code_text, item_text, month_number, name_text};
+use cpi_codes::Month;
 use cpi_plan::{Node, Place, YearPlan};
 use sqlite::{Alter, Connection, Transaction};
 use std::alloc::Global;
@@ -115,6 +118,30 @@ fn put_places<S: Alter>(
     Ok(())
 }
 
+// Adds the reference month of a year, if the plan has one.
+fn put_reference<S: Alter>(
+    tx: &mut Transaction<'_, S>,
+    year: u32,
+    reference: Option<Month>,
+) -> Result<(), Unread>
+    requires in_calendar { (2000 ≤ year) × (year ≤ 2199) }
+    ensures same_reference { tx.new.conn.ghost_name ≡ tx.old.conn.ghost_name }
+    ensures added { HasCleanDisk (state S.Store tx.new.conn.now) →
+        IsTrue (state S.Store tx.old.conn.now).in_transaction →
+        (state S.Store tx.old.conn.now).now.schema ≡ office_schema →
+        HasRowids ((state S.Store tx.old.conn.now).now.trees 34) →
+        OnOk result (IsStep 34 (AddsReferences year (references_for reference))
+        (state S.Store tx.old.conn.now) (state S.Store tx.new.conn.now)) }
+    ensures kept { HasCleanDisk (state S.Store tx.new.conn.now) →
+        KeepsCommit (state S.Store tx.old.conn.now) (state S.Store tx.new.conn.now) }
+    ensures survives { Survives (state S.Store tx.old.conn.now) (state S.Store tx.new.conn.now) (λ _. ⊥) }
+{
+    match reference {
+        Some(month) => Ok(add_reference(tx, year, month_number(month))?),
+        None => Ok(()),
+    }
+}
+
 // The rows of the plan in place of those of its year.
 fn replace_rows<S: Alter>(
     tx: &mut Transaction<'_, S>,
@@ -134,7 +161,9 @@ fn replace_rows<S: Alter>(
     drop_nodes(tx, year)?;
     put_nodes(tx, alloc, year, plan.nodes())?;
     drop_places(tx, year)?;
-    put_places(tx, alloc, year, plan.places())
+    put_places(tx, alloc, year, plan.places())?;
+    drop_references(tx, year)?;
+    put_reference(tx, year, plan.reference())
 }
 
 // In one transaction, which is rolled back where it fails.

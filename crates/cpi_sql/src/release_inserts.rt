@@ -1,5 +1,5 @@
 //! The rows of a release, dropped and added within a transaction.
-ghost use Rattle.std.specs.Prelude.{◌≡◌, ℕ, ℤ, [], ◌∷◌, IfOk, IsTrue, Ok, OnOk, Option, Some, pos};
+ghost use Rattle.std.specs.Prelude.{◌≡◌, ℕ, ℤ, [], ◌∷◌, IsTrue, Ok, OnOk, Option, Some, pos};
 ghost use Rattle.sqlite.specs.declared.types.Value.TheVariants.{Int, Null, Text};
 ghost use Rattle.sqlite.specs.Held.{state};
 ghost use Rattle.sqlite.specs.State.{Executes, HasCleanDisk, KeepsCommit, Survives};
@@ -21,7 +21,7 @@ use crate::writes::{
     slot_number,
 };
 use cpi_codes::{ItemCode, Month, SeriesId};
-use cpi_index::{CarriedPrice, ChainedLevel, FrozenQuote, Index};
+use cpi_index::{CarriedPrice, ChainedLevel, FrozenQuote, Index, NodeWeight};
 use cpi_release::Level;
 use cpi_survey::Mark;
 use sqlite::types::Value;
@@ -35,16 +35,6 @@ pub struct ReleaseNumbers {
     /// The month, as year * 100 + month.
     pub month: u32,
     pub revision: u32,
-}
-
-// A number as a column has it; an error where it is 2^63 or more.
-fn number_value(number: u64) -> Result<Value, Unread>
-    ensures { IfOk result (λ v. v ≡ Int (pos number)) }
-{
-    match i64::try_from(number) {
-        Ok(column) => Ok(Value::Int(column)),
-        Err(_) => Err(Unread),
-    }
 }
 
 fn month_change(level: &Level) -> Value
@@ -364,6 +354,13 @@ fn chained_value(level: ChainedLevel) -> Value
     Value::Int(level.millionths() as i64)
 }
 
+fn weight_value(weight: NodeWeight) -> Value
+    ensures value { result ≡ Int (pos weight) }
+    ensures range { ranged 1 1000000000000000 (Int (pos weight)) ≡ Some weight }
+{
+    Value::Int(weight.parts() as i64)
+}
+
 const ADD_LEVEL: &str =
     "INSERT INTO level_2 (month, revision, code, title, weight, within, chained, month_change, year_change, imputed) \
     VALUES (?1, ?2, ?3, ?4, ?5, ?6, ?7, ?8, ?9, ?10)";
@@ -437,7 +434,7 @@ pub fn add_level<S: Alter>(
 {
     let code = code_text(alloc, level.code)?;
     let title = name_text(&level.title);
-    let weight = number_value(level.weight)?;
+    let weight = weight_value(level.weight);
     let within = index_value(level.within);
     let chained = chained_value(level.chained);
     let month_change = month_change(level);

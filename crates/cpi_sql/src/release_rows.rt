@@ -4,7 +4,7 @@ ghost use Rattle.std.specs.List.{slice_split};
 ghost use Rattle.sqlite.specs.Order.{column};
 ghost use Rattle.cpi_codes.specs.CodeOf.{code_of as spelled};
 ghost use Rattle.cpi_sql.specs.Lists.{change_in, whole_or_none, codes_from, codes_of as spelled_all, each_of};
-ghost use Rattle.cpi_sql.specs.Lists.{flag_in, number_in, priced_from, ranged, revision_from};
+ghost use Rattle.cpi_sql.specs.Lists.{flag_in, priced_from, ranged, revision_from};
 ghost use Rattle.cpi_sql.specs.Lists.{release_from_key, release_number};
 ghost use Rattle.cpi_sql.specs.Lists.{frozen_from, carried_from, level_from};
 
@@ -14,7 +14,7 @@ use crate::rows::{
 };
 use crate::stored::Stored;
 use cpi_codes::{Code, Moment, Month, SeriesId};
-use cpi_index::{CarriedPrice, ChainedLevel, FrozenQuote, Index};
+use cpi_index::{CarriedPrice, ChainedLevel, FrozenQuote, Index, NodeWeight};
 use cpi_release::{Level, Revision};
 use cpi_rows::{Keyed, Rows};
 use sqlite::Row;
@@ -221,10 +221,12 @@ fn read_chained(row: &Row, at: usize) -> Option<ChainedLevel>
     ChainedLevel::new(u128::from(millionths))
 }
 
-fn read_weight(row: &Row, at: usize) -> Option<u64>
-    ensures { IfSome result (λ n. number_in (column row.now at) ≡ Some n) }
+// The sum of the weights in use at and below a node.
+fn read_weight(row: &Row, at: usize) -> Option<NodeWeight>
+    ensures { IfSome result (λ n. ranged 1 1000000000000000 (column row.now at) ≡ Some n) }
 {
-    row.get(at).ok()
+    let parts: u64 = row.get(at).ok()?;
+    NodeWeight::new(u128::from(parts))
 }
 
 fn read_change(row: &Row, at: usize) -> Option<i64>

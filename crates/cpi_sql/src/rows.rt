@@ -5,6 +5,7 @@ ghost use Rattle.cpi_codes.specs.CodeOf.{code_of as spelled};
 ghost use Rattle.cpi_sql.specs.Lists.{code_from, month_at, mark_from, mark_in, month_from, name_from};
 ghost use Rattle.cpi_sql.specs.Lists.{item_from, own_series, ranged, whole_or_none};
 
+use crate::reference_months::ReferenceMonth;
 use crate::stored::Stored;
 use cpi_codes::{
     Code, CollectorId, ItemCode, Key, Moment, Month, Name, OutletId, Price, SeriesId, Slot,
@@ -275,5 +276,17 @@ impl Stored for Place {
         let item = read_item_code(row, 1)?;
         let aggregate = read_code(row, 2)?;
         Some(Place { item, aggregate })
+    }
+}
+
+impl Stored for ReferenceMonth {
+    ghost use Rattle.cpi_sql.specs.Lists.{shown_reference};
+
+    ghost stands_for = { shown_reference };
+
+    fn read(_alloc: Global, row: &Row) -> Option<ReferenceMonth> {
+        let _year = read_year(row, 0)?;
+        let month = read_month(row, 1)?;
+        Some(ReferenceMonth { month })
     }
 }

@@ -10,8 +10,11 @@ ghost use Rattle.cpi_rows.specs.Held.{held_by};
 ghost use Rattle.cpi_plan.specs.Stored.{plan_from};
 ghost use Rattle.cpi_sql.specs.Shelf.{IsCleanBook, IsKept, HasTables, StaysOpen};
 ghost use Rattle.cpi_sql.specs.Lists.{if_whole, nodes_in, places_in, plan_at, plans_in, plans_of, years};
+ghost use Rattle.cpi_sql.specs.Lists.{reference_of, references_in};
 
+use crate::reference_months::ReferenceMonth;
 use crate::stored::{Unread, list};
+use cpi_codes::Month;
 use cpi_plan::{Item, Node, Place, YearPlan};
 use cpi_rows::{RowsByKey, are_in_order};
 use sqlite::{Alter, Connection, params};
@@ -60,6 +63,36 @@ fn places_of<S: Alter>(
     list(conn, alloc, PLACES, params![number])
 }
 
+const REFERENCES: &str = "SELECT year, month FROM plan_ref WHERE year = ?1 ORDER BY year, month";
+
+// The reference month of a year.
+fn references_of<S: Alter>(
+    conn: &mut Connection<S>,
+    alloc: Global,
+    year: u16,
+) -> Result<Vec<ReferenceMonth>, Unread>
+    ensures clean { IsCleanBook (state S.Store conn.new) → IsCleanBook (state S.Store conn.old) }
+    ensures kept { IsCleanBook (state S.Store conn.new) → HasTables (state S.Store conn.old)
+        → IsKept (state S.Store conn.old) (state S.Store conn.new) }
+    ensures read { IsCleanBook (state S.Store conn.new) → HasTables (state S.Store conn.old)
+        → IfOk result (λ xs. xs.items ≡ held_by year (references_in ((state S.Store conn.old).now.trees 34))) }
+    ensures open { HasCleanDisk (state S.Store conn.new) → OnOk result (IsTrue (state S.Store conn.new).is_open) }
+    ensures crash { Survives (state S.Store conn.old) (state S.Store conn.new)
+        (λ _. HasTables (state S.Store conn.old) → ⊥) }
+{
+    let number = u32::from(year);
+    list(conn, alloc, REFERENCES, params![number])
+}
+
+fn first_month(references: &[ReferenceMonth]) -> Option<Month>
+    ensures { result ≡ reference_of references.now }
+{
+    match references.first() {
+        Some(reference) => Some(reference.month),
+        None => None,
+    }
+}
+
 // The plan that the rows of a year make; none where it has no nodes.
 fn made(
     alloc: Global,
@@ -67,14 +100,15 @@ fn made(
     year: u16,
     nodes: &[Node],
     places: &[Place],
+    reference: Option<Month>,
 ) -> Result<Option<YearPlan>, Unread>
     requires year_in_calendar { (2000 ≤ year) × (year ≤ 2199) }
-    ensures { IfOk result (λ p. p ≡ if_whole (plan_from year nodes.now places.now)) }
+    ensures { IfOk result (λ p. p ≡ if_whole (plan_from year nodes.now places.now reference)) }
 {
     if nodes.is_empty() {
         return Ok(None);
     }
-    match YearPlan::from_rows(alloc, year, items, nodes, places) {
+    match YearPlan::from_rows(alloc, year, items, nodes, places, reference) {
         Some(plan) => {
             let _kept = plan.nodes();
             Ok(Some(plan))
@@ -97,14 +131,23 @@ fn plan_of<S: Alter>(
         → IsKept (state S.Store conn.old) (state S.Store conn.new) }
     ensures read { IsCleanBook (state S.Store conn.new) → HasTables (state S.Store conn.old)
         → IfOk result (λ p. p ≡ plan_at (nodes_in ((state S.Store conn.old).now.trees 6))
-        (places_in ((state S.Store conn.old).now.trees 8)) year) }
+        (places_in ((state S.Store conn.old).now.trees 8))
+        (references_in ((state S.Store conn.old).now.trees 34)) year) }
     ensures open { HasCleanDisk (state S.Store conn.new) → OnOk result (IsTrue (state S.Store conn.new).is_open) }
     ensures crash { Survives (state S.Store conn.old) (state S.Store conn.new)
         (λ _. HasTables (state S.Store conn.old) → ⊥) }
 {
     let nodes = nodes_of(conn, alloc, year)?;
     let places = places_of(conn, alloc, year)?;
-    made(alloc, items, year, &nodes, &places)
+    let references = references_of(conn, alloc, year)?;
+    made(
+        alloc,
+        items,
+        year,
+        &nodes,
+        &places,
+        first_month(&references),
+    )
 }
 
 fn add(plans: &mut Vec<YearPlan>, plan: Option<YearPlan>) -> Result<(), Unread>
@@ -129,7 +172,8 @@ fn plans_until<S: Alter>(
         → IsKept (state S.Store conn.old) (state S.Store conn.new) }
     ensures read { IsCleanBook (state S.Store conn.new) → HasTables (state S.Store conn.old)
         → IfOk result (λ ps. ps.items ≡ plans_of (years count) (nodes_in ((state S.Store conn.old).now.trees 6))
-        (places_in ((state S.Store conn.old).now.trees 8))) }
+        (places_in ((state S.Store conn.old).now.trees 8))
+        (references_in ((state S.Store conn.old).now.trees 34))) }
     ensures open { OnOk result (StaysOpen (state S.Store conn.old) (state S.Store conn.new)) }
     ensures crash { Survives (state S.Store conn.old) (state S.Store conn.new)
         (λ _. IsCleanBook (state S.Store conn.old) → HasTables (state S.Store conn.old) → ⊥) }

@@ -1,20 +1,22 @@
-use Rattle.std.proofs.Common.{◌≡◌, Some, sym, ap, ◌∙◌}
-use Rattle.std.specs.Option.{option_copied}
 use Rattle.sqlite.specs.Held.{state}
-use Rattle.cpi_rows.specs.Keyed.{row_at}
-use Rattle.cpi_release.specs.FrozenMonths.{ReleaseKey, release_cmp}
-use Rattle.cpi_sql.specs.LevelTables.{table_key}
 use Rattle.cpi_sql.specs.Lists.{releases_in}
-use Rattle.cpi_sql.proofs.HeaderLists.{kept_is}
-use Rattle.cpi_sql.proofs.ReleaseLists.{level_among}
+use Rattle.cpi_sql.proofs.KeptTables.{levels_of_key}
 use Rattle.cpi_sql.proofs.chained.release_level.Goals as goal
 
-pub returns-in-Some-clause-read : goal.returns-in-Some-clause-read
-returns-in-Some-clause-read g c = λ clean has is stand.
+pub returns-in_err-table-clause-kept : goal.returns-in_err-table-clause-kept
+returns-in_err-table-clause-kept g c = λ clean has is stand.
+    c.in_err-table.ensures.left (releases_in (state g.S.Store c.args.conn.now).now.trees) stand
+
+pub returns-in-Ok-clause-kept : goal.returns-in-Ok-clause-kept
+returns-in-Ok-clause-kept g c = λ clean has is stand.
     let releases = releases_in (state g.S.Store c.args.conn.now).now.trees in
-    let key : ReleaseKey = (c.args.month, c.args.revision) in
-    let found : row_at release_cmp table_key key c.args.tables.now.items ≡ Some c.in-Some.table.now =
-    ap (row_at release_cmp table_key key) (sym c.deref.ensures.value) ∙ sym c.table_of.ensures
-    ∙ ap option_copied c.in-Some.is in
-    c.chained.ensures ∙ ap (level_among c.args.code)
-    (kept_is releases c.args.tables.now.items c.args.month c.args.revision c.in-Some.table.now stand found)
+    c.keep_table.ensures.kept releases (c.in_ok-table.ensures.left releases stand)
+    (levels_of_key releases c.args.month c.args.revision c.in_ok-table.table c.in_ok-table.ensures.month
+    c.in_ok-table.ensures.revision (c.in_ok-table.ensures.read clean has is stand))
+
+pub returns-in-Err-clause-kept : goal.returns-in-Err-clause-kept
+returns-in-Err-clause-kept g c = λ clean has is stand.
+    let releases = releases_in (state g.S.Store c.args.conn.now).now.trees in
+    c.keep_table.ensures.kept releases (c.in_ok-table.ensures.left releases stand)
+    (levels_of_key releases c.args.month c.args.revision c.in_ok-table.table c.in_ok-table.ensures.month
+    c.in_ok-table.ensures.revision (c.in_ok-table.ensures.read clean has is stand))

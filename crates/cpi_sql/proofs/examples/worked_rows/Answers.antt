@@ -39,3 +39,7 @@ returns-clause-carried c = (refl, refl, refl)
 pub returns-clause-levels : goal.returns-clause-levels
 unfolding code_of is_name is_utf8 chars encode
 returns-clause-levels c = (refl, refl, refl, refl, refl)
+
+pub returns-clause-weights : goal.returns-clause-weights
+unfolding code_of is_name is_utf8 chars encode
+returns-clause-weights c = (refl, refl, refl, refl)

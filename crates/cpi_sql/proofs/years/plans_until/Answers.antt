@@ -2,7 +2,7 @@ use Rattle.std.proofs.Common.{◌≡◌, ◌+◌, ◌++◌, refl, sym, ap, ◌�
 use Rattle.std.specs.Option.{option_to_list}
 use Rattle.sqlite.specs.Effect.{Database}
 use Rattle.sqlite.specs.Held.{state}
-use Rattle.cpi_sql.specs.Lists.{nodes_in, places_in, plan_at}
+use Rattle.cpi_sql.specs.Lists.{nodes_in, places_in, plan_at, references_in}
 use Rattle.cpi_sql.specs.Shelf.{IsKept, IsLook}
 use Rattle.cpi_sql.proofs.Kept.{kept_tables, kept_then}
 use Rattle.cpi_sql.proofs.Looking.{looks, looks_then, still}
@@ -15,7 +15,7 @@ years-init g c = record {
   kept = λ h has. record { now = refl; alone = has.alone };
   stays = λ disk was. was;
   crash = still (state g.S.Store c.args.conn.now) _;
-  read = λ h has. c.new-plans.ensures.items ∙ sym (no_years _ _);
+  read = λ h has. c.new-plans.ensures.items ∙ sym (no_years _ _ _);
 }
 
 pub years-preserved : goal.years-preserved
@@ -40,12 +40,13 @@ years-preserved g c =
           let before = c.plan_of.ensures.clean h in
           let kept : IsKept old mid = c.years.invariant.kept before has in
           let plan : c.in_ok-plan.plan ≡ plan_at (nodes_in (old.now.trees 6)) (places_in (old.now.trees 8))
-          (2000 + c.years.n) =
+          (references_in (old.now.trees 34)) (2000 + c.years.n) =
           c.in_ok-plan.ensures.read h (kept_tables old mid kept has)
-          ∙ ap (λ (d : Database). plan_at (nodes_in (d.trees 6)) (places_in (d.trees 8)) (2000 + c.years.n))
+          ∙ ap (λ (d : Database). plan_at (nodes_in (d.trees 6)) (places_in (d.trees 8))
+          (references_in (d.trees 34)) (2000 + c.years.n))
           kept.now in
           c.in_ok-add.ensures ∙ ap (λ ps. ps ++ option_to_list c.in_ok-plan.plan) (c.years.invariant.read before has)
-          ∙ sym (plans_more _ _ c.years.n c.in_ok-plan.plan plan);
+          ∙ sym (plans_more _ _ _ c.years.n c.in_ok-plan.plan plan);
     }
 
 pub returns-in_err-plan-clause-crash : goal.returns-in_err-plan-clause-crash

@@ -2,7 +2,7 @@ use Rattle.std.proofs.Common.{◌≡◌}
 use Rattle.sqlite.specs.Held.{state}
 use Rattle.sqlite.specs.State.{Survives}
 use Rattle.cpi_sql.specs.Shelf.{IsCleanBook, IsKept, HasTables, StaysOpen}
-use Rattle.cpi_sql.specs.Lists.{years, plans_of, nodes_in, places_in}
+use Rattle.cpi_sql.specs.Lists.{years, plans_of, nodes_in, places_in, references_in}
 use Rattle.cpi_sql.proofs.years.plans_until.Given as goal
 
 abbrev pub invariant-years : goal.invariant-years
@@ -14,5 +14,6 @@ invariant-years g l =
       stays : StaysOpen old now;
       crash : Survives old now (λ _. IsCleanBook old → HasTables old → ⊥);
       read : IsCleanBook now → HasTables old
-          → l.plans.items ≡ plans_of (years l.n) (nodes_in (old.now.trees 6)) (places_in (old.now.trees 8));
+          → l.plans.items ≡ plans_of (years l.n) (nodes_in (old.now.trees 6)) (places_in (old.now.trees 8))
+          (references_in (old.now.trees 34));
     }
