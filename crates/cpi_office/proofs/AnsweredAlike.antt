@@ -1,5 +1,5 @@
 -- Two offices over books of any two kinds answer a caller alike who saw the same.
-use Rattle.std.proofs.Common.{◌≡◌, ◌≢◌, ℕ, List, false, inl, inr, sym, ap, ◌∙◌}
+use Rattle.std.proofs.Common.{◌≡◌, ◌≢◌, ℕ, List, inl, inr, sym, ap, ◌∙◌}
 use Rattle.std.proofs.lemmas.Bool.{false≢true}
 use Rattle.cpi_store.specs.Office.{Office}
 use Rattle.cpi_office.specs.Views.{view}

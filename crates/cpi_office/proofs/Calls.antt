@@ -1,14 +1,12 @@
 -- A call after a read, and a call under a premise.
 use Rattle.std.proofs.Common.{◌≡◌, Result, ◌∙◌, inl, inr, arith, sym, ap}
 use Rattle.std.specs.Prelude.{◌⊎◌, IsTrue}
-use Rattle.cpi_office.specs.declared.refusal.Refusal.TheVariants.{Unavailable}
 use Rattle.cpi_release.specs.State.{State, Keeps, StaysClean, Reads}
 use Rattle.cpi_store.specs.Office.{Office}
 use Rattle.cpi_office.specs.Calls.{Serves, ServesWhere, Endures, Crashes, Lasts, IsServed, is_refused}
 use Rattle.cpi_office.specs.Verdicts.{Verdict, Refuses, Stands, Makes, verdict_reply, with_verdict}
 use Rattle.std.proofs.lemmas.Bool.{false≢true}
 use Rattle.cpi_office.specs.declared.reply.Reply.{Reply}
-use Rattle.cpi_office.specs.declared.reply.Reply.TheVariants as say
 
 -- what is answered after a read lasts as it does without the read
 lasts_after : (old mid new : State Office) → Keeps old mid → old.is_clean → mid.is_clean → Lasts mid new → Lasts old new

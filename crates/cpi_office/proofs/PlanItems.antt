@@ -1,5 +1,5 @@
 -- The items of a plan that was built are known.
-use Rattle.std.proofs.Common.{◌≡◌, ℕ, Bool, true, false, not, List, [], ◌∷◌, Option, Some, None, Result, Ok, Err, refl, sym, ap, ◌∙◌, subst}
+use Rattle.std.proofs.Common.{◌≡◌, ℕ, Bool, true, false, not, List, [], ◌∷◌, Option, Some, None, Result, Ok, Err, refl, ap, ◌∙◌, subst}
 use Rattle.std.specs.Prelude.{if◌then◌else◌, ◌||◌, ◌==◌}
 use Rattle.std.specs.List.{AllByRecursion, list_any}
 use Rattle.std.specs.Ordering.{nat_cmp}
@@ -7,8 +7,8 @@ use Rattle.cpi_codes.specs.declared.codes.Code.{Code}
 use Rattle.cpi_plan.specs.declared.items.Item.{Item}
 use Rattle.cpi_plan.specs.declared.plan_rows.Place.{Place}
 use Rattle.cpi_plan.specs.declared.plan_faults.PlanFault.{PlanFault}
-use Rattle.cpi_plan.specs.declared.plan_faults.PlanFault.TheVariants.{TitleMissing, DuplicateCode, NotElementary, ZeroWeight, WeightSum, UnknownItem, ItemTwice, UnknownAggregate}
-use Rattle.cpi_plan.specs.Plan.{Body, Plan, is_unknown, has_unknown, has_unplaced, has_zero, are_elementary, total}
+use Rattle.cpi_plan.specs.declared.plan_faults.PlanFault.TheVariants.{TitleMissing, DuplicateCode, NotElementary, ZeroWeight, WeightSum, UnknownItem, ItemTwice, UnknownAggregate, Reference}
+use Rattle.cpi_plan.specs.Plan.{Body, Plan, is_unknown, has_unknown, has_unplaced, has_zero, are_elementary, total, has_fit_reference}
 use Rattle.cpi_plan.specs.Planned.{planned, are_codes_once, are_items_once, placed, titled, plan_of, in_order, first_untitled}
 use Rattle.cpi_office.specs.Replacing.{plan_standing}
 use Rattle.cpi_office.specs.declared.standing.Standing.{Standing}
@@ -48,7 +48,8 @@ placed_known year b p h =
     let one = after_test (has_unknown b.known b.places) UnknownItem _ p h in
     let two = after_test (not (are_items_once b.places)) ItemTwice _ p one.1 in
     let three = after_test (has_unplaced b.weights b.places) UnknownAggregate _ p two.1 in
-    let is : plan_of year b ≡ p = ap (value_or p) three.1 in
+    let four = after_test (not (has_fit_reference year b.references)) Reference _ p three.1 in
+    let is : plan_of year b ≡ p = ap (value_or p) four.1 in
     subst (λ (q : Plan). has_unknown b.known q.places ≡ false) is (known_in_order b.known b.places one.0)
 
 titled_known : (year : ℕ) (b : Body) (p : Plan) (code : Option Code) → titled year b code ≡ Ok p → has_unknown b.known p.places ≡ false

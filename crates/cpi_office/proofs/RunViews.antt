@@ -6,7 +6,6 @@ use Rattle.cpi_store.specs.Office.{Office}
 use Rattle.cpi_office.specs.Views.{view}
 use Rattle.cpi_office.specs.Answers.{answer}
 use Rattle.cpi_office.specs.Runs.{replies, reply_to, after, next}
-use Rattle.cpi_office.specs.Sights.{seen}
 use Rattle.cpi_store.specs.Sound.{IsSound}
 use Rattle.cpi_office.specs.Calls.{is_failure}
 use Rattle.cpi_office.specs.Served.{all_served, all_told, IsRun}

@@ -1,5 +1,5 @@
 -- The printed table that was found, and the latest table by its revision.
-use Rattle.std.proofs.Common.{◌≡◌, ◌≢◌, ◌⊎◌, inl, inr, ℕ, Bool, true, false, eqb, cond, List, [], ◌∷◌, filter, Some, None, Option, Result, Ok, Err, IfOk, ◌≤◌, arith, refl, sym, ap, subst, ◌∙◌}
+use Rattle.std.proofs.Common.{◌≡◌, ◌≢◌, ◌⊎◌, inl, inr, ℕ, Bool, true, false, eqb, cond, List, [], ◌∷◌, filter, Some, None, Option, Result, Ok, Err, IfOk, ◌≤◌, arith, refl, sym, ap, ◌∙◌}
 use Rattle.std.specs.Prelude.{option_map, ◌==◌}
 use Rattle.std.specs.Option.{option_or}
 use Rattle.std.specs.List.{AllByRecursion}

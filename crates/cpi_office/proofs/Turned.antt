@@ -14,7 +14,7 @@ use Rattle.cpi_office.specs.declared.reply.Reply.TheVariants.{Refused}
 use Rattle.cpi_store.specs.Office.{Office}
 use Rattle.cpi_store.specs.declared.bearer.Bearer.{Bearer}
 use Rattle.cpi_office.specs.Known.{collector_view, collector_reply}
-use Rattle.cpi_office.specs.declared.refusal.Refusal.TheVariants.{NotForCaller, UnknownKey, Unavailable}
+use Rattle.cpi_office.specs.declared.refusal.Refusal.TheVariants.{NotForCaller, Unavailable}
 use Rattle.cpi_office.proofs.Failures.{decision_own, work_own, table_own}
 
 no : {A : Type 0} (t : Bool) → t ≡ false → IsTrue t → A

@@ -9,7 +9,7 @@ use Rattle.cpi_release.specs.declared.form.Form.TheVariants.{Text}
 use Rattle.cpi_store.specs.Office.{Office, empty_office}
 use Rattle.cpi_office.specs.Runs.{replies}
 use Rattle.cpi_office.specs.Examples.{key_a, rice_code, shop_name, by_desk, by_key, by_public, put_shop, register, assign, put_month, quote}
-use Rattle.cpi_office.specs.PlanExamples.{body, retitled, put_plan, flour, packed_rice, wheat_flour, other_flour}
+use Rattle.cpi_office.specs.PlanExamples.{body, retitled, referring, put_plan, flour, packed_rice, wheat_flour, other_flour}
 use Rattle.cpi_office.specs.declared.caller.Caller.TheVariants.{Desk}
 use Rattle.cpi_office.specs.declared.request.NewAssignment.{NewAssignment}
 use Rattle.cpi_office.specs.declared.request.Request.{Request}
@@ -92,6 +92,15 @@ FreezeRefusals =
     ∷ Refused refusal.FreezeOrder ∷ Refused refusal.FreezeTooEarly
     ∷ Refused (refusal.PlanFault fault.UnknownAggregate) ∷ Refused (refusal.Index (index.NoSample packed_rice))
     ∷ Refused refusal.NotForCaller ∷ Refused refusal.NotForCaller ∷ []
+
+-- the first table has no rows, so no weights can be moved by prices up to its month; the plan stays as it was sent
+abbrev pub WithoutReference : Type 0
+WithoutReference =
+    replies (opened ++ put_plan 2026 (referring (311 ∷ [])) ∷ december ++ freeze 1000 311 [] ∷ freeze 2000 312 []
+    ∷ put_plan 2026 body ∷ january ++ freeze 2000 312 [] ∷ by_public 3000 (request.Table 312 Text None) ∷ []) empty_office
+    ≡ all_done ++ Done ∷ Receipt 1 ∷ Receipt 2 ∷ Receipt 3 ∷ Receipt 4 ∷ Done
+    ∷ Refused (refusal.Index (index.NoReference packed_rice))
+    ∷ Done ∷ Receipt 5 ∷ Receipt 6 ∷ Receipt 7 ∷ Receipt 8 ∷ Done ∷ Table january_text ∷ []
 
 -- without a calendar row, and without a plan
 abbrev pub early : Office

@@ -91,6 +91,7 @@ body = record {
   titles = upper_titles ++ title food (codes "Food") ∷ lower_titles;
   weights = weight packed_rice 600000 ∷ weight wheat_flour 400000 ∷ [];
   places = place rice.code packed_rice ∷ place flour.code wheat_flour ∷ [];
+  references = [];
 }
 
 -- the same rows in another order, with a title of a code that is no node
@@ -99,6 +100,7 @@ turned = record {
   titles = lower_titles ++ title other_flour (codes "Flour, other") ∷ title food (codes "Food") ∷ upper_titles;
   weights = weight wheat_flour 400000 ∷ weight packed_rice 600000 ∷ [];
   places = place flour.code wheat_flour ∷ place rice.code packed_rice ∷ [];
+  references = [];
 }
 
 -- another title of a node
@@ -106,7 +108,11 @@ abbrev pub retitled : PlanBody
 retitled = record body { titles = upper_titles ++ title food (codes "Foods") ∷ lower_titles }
 
 abbrev pub nothing : PlanBody
-nothing = record { titles = []; weights = []; places = [] }
+nothing = record { titles = []; weights = []; places = []; references = [] }
+
+-- with these reference months; December 2025 is month 311
+abbrev pub referring : List ℕ → PlanBody
+referring months = record body { references = months }
 
 -- ---- plans
 
@@ -124,7 +130,12 @@ plan year words = record {
       ∷ node of_flour (codes "Flour") 400000 ∷ node wheat_flour (codes "Flour, wheat") 400000 ∷ [];
   weights = weight packed_rice 600000 ∷ weight wheat_flour 400000 ∷ [];
   places = place flour.code wheat_flour ∷ place rice.code packed_rice ∷ [];
+  reference = None;
 }
+
+-- the plan of 2026 with a reference month
+abbrev pub plan_referring : ℕ → Plan
+plan_referring month = record (plan 2026 (codes "Food")) { reference = Some month }
 
 -- ---- runs
 
@@ -146,6 +157,7 @@ broken =
     ∷ put_plan 2026 (record body { places = body.places ++ place tea_code packed_rice ∷ [] })
     ∷ put_plan 2026 (record body { places = body.places ++ place rice.code wheat_flour ∷ [] })
     ∷ put_plan 2026 (record body { places = place rice.code packed_rice ∷ place flour.code other_flour ∷ [] })
+    ∷ put_plan 2026 (referring (310 ∷ 311 ∷ [])) ∷ put_plan 2026 (referring (312 ∷ []))
     ∷ []
 
 -- each fault, by one change of a body that makes a plan
@@ -158,6 +170,7 @@ EachFault =
     ∷ Refused (refusal.PlanFault (fault.TitleMissing food))
     ∷ Refused (refusal.PlanFault fault.UnknownItem) ∷ Refused (refusal.PlanFault fault.ItemTwice)
     ∷ Refused (refusal.PlanFault fault.UnknownAggregate)
+    ∷ Refused (refusal.PlanFault fault.Reference) ∷ Refused (refusal.PlanFault fault.Reference)
     ∷ Done ∷ []
 
 -- what is refused changes nothing, also where a plan of the year stands
@@ -174,38 +187,45 @@ FirstFault =
       weights = weight food 0 ∷ [];
       places = place tea_code food
           ∷ place tea_code food ∷ [];
+      references = 312 ∷ [];
     })
     ∷ put_plan 2026 (record {
       titles = twice ∷ [];
       weights = weight food 0 ∷ [];
       places = place tea_code food
           ∷ place tea_code food ∷ [];
+      references = 312 ∷ [];
     })
     ∷ put_plan 2026 (record {
       titles = twice ∷ [];
       weights = weight packed_rice 0
           ∷ [];
       places = place tea_code wheat_flour ∷ place tea_code wheat_flour ∷ [];
+      references = 312 ∷ [];
     })
     ∷ put_plan 2026 (record {
       titles = twice ∷ [];
       weights = weight packed_rice 1
           ∷ [];
       places = place tea_code wheat_flour ∷ place tea_code wheat_flour ∷ [];
+      references = 312 ∷ [];
     })
     ∷ put_plan 2026 (record {
       titles = twice ∷ [];
       weights = weight packed_rice 1000000
           ∷ [];
       places = place tea_code wheat_flour ∷ place tea_code wheat_flour ∷ [];
+      references = 312 ∷ [];
     })
-    ∷ put_plan 2026 (record body { places = place tea_code other_flour ∷ place tea_code other_flour ∷ [] })
-    ∷ put_plan 2026 (record body { places = place rice.code other_flour ∷ place rice.code other_flour ∷ [] })
+    ∷ put_plan 2026 (record (referring (312 ∷ [])) { places = place tea_code other_flour ∷ place tea_code other_flour ∷ [] })
+    ∷ put_plan 2026 (record (referring (312 ∷ [])) { places = place rice.code other_flour ∷ place rice.code other_flour ∷ [] })
+    ∷ put_plan 2026 (record (referring (312 ∷ [])) { places = place rice.code other_flour ∷ [] })
     ∷ []) shelf
     ≡ Refused (refusal.PlanFault fault.DuplicateCode) ∷ Refused (refusal.PlanFault fault.NotElementary)
     ∷ Refused (refusal.PlanFault fault.ZeroWeight)
     ∷ Refused (refusal.PlanFault (fault.WeightSum 1)) ∷ Refused (refusal.PlanFault (fault.TitleMissing food_and_drink))
-    ∷ Refused (refusal.PlanFault fault.UnknownItem) ∷ Refused (refusal.PlanFault fault.ItemTwice) ∷ []
+    ∷ Refused (refusal.PlanFault fault.UnknownItem) ∷ Refused (refusal.PlanFault fault.ItemTwice)
+    ∷ Refused (refusal.PlanFault fault.UnknownAggregate) ∷ []
 
 -- A plan that stands is done and changes nothing, in whatever order its rows come, and with titles of no nodes. Another
 -- title of a node replaces it.
@@ -217,6 +237,25 @@ PlanStands =
     (replies again shelf ≡ Done ∷ Done ∷ Done ∷ [])
     × (changes again shelf ≡ PutsPlan (plan 2026 (codes "Food")) ∷ PutsPlan (plan 2026 (codes "Foods")) ∷ [])
     × (after again shelf ≡ record shelf { plans = plan 2026 (codes "Foods") ∷ [] })
+
+-- A plan keeps its reference month, which is the link month at the latest. Another month replaces it, and so does none.
+abbrev pub referred : List Ask
+referred =
+    put_plan 2026 (referring (311 ∷ [])) ∷ put_plan 2026 (referring (311 ∷ []))
+    ∷ put_plan 2026 (referring (0 ∷ [])) ∷ put_plan 2026 body ∷ []
+
+abbrev pub ReferenceStands : Type 0
+ReferenceStands =
+    (replies referred shelf ≡ Done ∷ Done ∷ Done ∷ Done ∷ [])
+    × (changes referred shelf ≡ PutsPlan (plan_referring 311) ∷ PutsPlan (plan_referring 0)
+    ∷ PutsPlan (plan 2026 (codes "Food")) ∷ [])
+
+-- no month is before the calendar's first year
+abbrev pub NoFirstReference : Type 0
+NoFirstReference =
+    replies (put_plan 2000 (referring (0 ∷ [])) ∷ put_plan 2001 (referring (11 ∷ []))
+    ∷ put_plan 2001 (referring (12 ∷ [])) ∷ []) shelf
+    ≡ Refused (refusal.PlanFault fault.Reference) ∷ Done ∷ Refused (refusal.PlanFault fault.Reference) ∷ []
 
 -- everybody sees the plans that were accepted
 abbrev pub PlansAreSeen : Type 0

@@ -34,7 +34,7 @@ calendar_put frozen row old =
 
 -- what is sent for a year, among the items that are known
 abbrev pub sent : List Item → PlanBody → Body
-sent known body = record { known = known; titles = body.titles; weights = body.weights; places = body.places }
+sent known body = record { known = known; titles = body.titles; weights = body.weights; places = body.places; references = body.references }
 
 -- a plan against the one that stands for its year, or the fault of what was sent
 abbrev pub plan_standing : List Plan → Result Plan Fault → Result (Plan × Standing) Fault

@@ -1,4 +1,4 @@
-ghost use Rattle.cpi_office.specs.FreezeExamples.{OneMonth, FreezeRefusals, WithoutRows, FrozenRows};
+ghost use Rattle.cpi_office.specs.FreezeExamples.{OneMonth, FreezeRefusals, WithoutReference, WithoutRows, FrozenRows};
 ghost use Rattle.cpi_office.specs.FreezeExamples.{Reopened, KeptFrozen, Backwards};
 
 /// Small runs with freezes, computed by the definitions: a month from its quotes to its table, the same month
@@ -6,6 +6,7 @@ ghost use Rattle.cpi_office.specs.FreezeExamples.{Reopened, KeptFrozen, Backward
 pub fn worked_freezes()
     ensures one_month { OneMonth }
     ensures freeze_refusals { FreezeRefusals }
+    ensures without_reference { WithoutReference }
     ensures without_rows { WithoutRows }
     ensures frozen_rows { FrozenRows }
     ensures reopened { Reopened }

@@ -1,4 +1,5 @@
 ghost use Rattle.cpi_office.specs.PlanExamples.{EachFault, FaultsChangeNothing, FirstFault, PlanStands, PlansAreSeen, PlansByYear, ItemsFirst, PlansOfTheDesk};
+ghost use Rattle.cpi_office.specs.PlanExamples.{ReferenceStands, NoFirstReference};
 
 /// Small runs with plans, computed by the definitions: each fault of what is sent for a year, what stands already,
 /// and what is replaced.
@@ -7,6 +8,8 @@ pub fn worked_plans()
     ensures faults_change_nothing { FaultsChangeNothing }
     ensures first_fault { FirstFault }
     ensures plan_stands { PlanStands }
+    ensures reference_stands { ReferenceStands }
+    ensures no_first_reference { NoFirstReference }
     ensures plans_are_seen { PlansAreSeen }
     ensures plans_by_year { PlansByYear }
     ensures items_first { ItemsFirst }

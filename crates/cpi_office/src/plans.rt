@@ -67,7 +67,16 @@ fn build(
     let titles = body.titles.into_vec();
     let weights = body.weights.into_vec();
     let places = body.places.into_vec();
-    match YearPlan::build(alloc, year.number(), known, titles, weights, places) {
+    let references = body.references.into_vec();
+    match YearPlan::build(
+        alloc,
+        year.number(),
+        known,
+        titles,
+        weights,
+        places,
+        references,
+    ) {
         Ok(plan) => Ok(Ok(plan)),
         Err(PlanFault::NoMemory) => Err(AllocError),
         Err(fault) => Ok(Err(fault)),

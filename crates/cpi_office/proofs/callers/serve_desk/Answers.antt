@@ -1,9 +1,10 @@
 use Rattle.std.proofs.Common.{sym, ap, ◌∙◌}
 use Rattle.std.proofs.lemmas.Bool.{false≢true}
 use Rattle.cpi_office.specs.Turned.{is_turned_away}
-use Rattle.cpi_office.proofs.Failures.{frozen_judges}
+use Rattle.cpi_office.proofs.Failures.{plan_judges, frozen_judges}
 use Rattle.cpi_office.specs.Assigning.{assigned_in}
-use Rattle.cpi_office.specs.Replacing.{planned_in, scheduled_in}
+use Rattle.cpi_office.specs.Replacing.{planned_in, scheduled_in, body_judged}
+use Rattle.cpi_release.specs.FrozenMonths.{frozen_months}
 use Rattle.cpi_store.specs.Sound.{IsSound}
 use Rattle.cpi_office.proofs.Calls.{serves_where}
 use Rattle.cpi_office.proofs.callers.serve_desk.Goals as goal
@@ -14,6 +15,17 @@ returns-in-PutPlan-clause-serves g c =
     rw c.in-PutPlan.is
     (serves_where (IsSound o) (g.B.Book.state c.args.book.now) (g.B.Book.state c.put_plan.new.book) c.put_plan.result
     (planned_in c.in-PutPlan.year c.in-PutPlan.body o) c.put_plan.ensures)
+
+pub returns-in-PutPlan-clause-turns : goal.returns-in-PutPlan-clause-turns
+returns-in-PutPlan-clause-turns g c =
+    let o = (g.B.Book.state c.args.book.now).held in
+    let told = (plan_judges (frozen_months o.releases) (body_judged c.in-PutPlan.year c.in-PutPlan.body o)).1 in
+    rw c.in-PutPlan.is
+    (record {
+      keyless = λ _ turned. absurd (false≢true (sym told ∙ turned));
+      keyed = λ _ turned. absurd (false≢true (sym told ∙ turned));
+      unavailable = λ not_mine _. absurd (false≢true (sym told ∙ ap is_turned_away not_mine));
+    })
 
 pub returns-in-PutCalendar-clause-serves : goal.returns-in-PutCalendar-clause-serves
 returns-in-PutCalendar-clause-serves g c =

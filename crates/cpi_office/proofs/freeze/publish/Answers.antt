@@ -1,7 +1,6 @@
-use Rattle.std.proofs.Common.{rules, ◌≡◌, None, Ok, sym, ap, subst, ◌∙◌}
+use Rattle.std.proofs.Common.{rules, ◌≡◌, None, sym, ap, subst, ◌∙◌}
 use Rattle.cpi_rows.specs.Keyed.{row_at, IsInOrder}
-use Rattle.cpi_release.specs.FrozenMonths.{ReleaseKey, release_cmp, release_key, frozen_months, next_revision}
-use Rattle.cpi_release.specs.declared.release.Release.{Release}
+use Rattle.cpi_release.specs.FrozenMonths.{release_cmp, release_key, frozen_months, next_revision}
 use Rattle.cpi_store.specs.Office.{Office}
 use Rattle.cpi_store.proofs.Published.{none_follows}
 use Rattle.cpi_office.proofs.freeze.publish.Goals as goal

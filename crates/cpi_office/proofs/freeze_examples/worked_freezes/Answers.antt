@@ -9,6 +9,10 @@ returns-clause-one_month c = refl
 pub returns-clause-freeze_refusals : goal.returns-clause-freeze_refusals
 returns-clause-freeze_refusals c = refl
 
+pub returns-clause-without_reference : goal.returns-clause-without_reference
+unfolding digits
+returns-clause-without_reference c = refl
+
 pub returns-clause-without_rows : goal.returns-clause-without_rows
 returns-clause-without_rows c = refl
 

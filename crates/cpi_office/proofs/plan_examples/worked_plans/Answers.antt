@@ -13,6 +13,12 @@ returns-clause-first_fault c = refl
 pub returns-clause-plan_stands : goal.returns-clause-plan_stands
 returns-clause-plan_stands c = (refl, refl, refl)
 
+pub returns-clause-reference_stands : goal.returns-clause-reference_stands
+returns-clause-reference_stands c = (refl, refl)
+
+pub returns-clause-no_first_reference : goal.returns-clause-no_first_reference
+returns-clause-no_first_reference c = refl
+
 pub returns-clause-plans_are_seen : goal.returns-clause-plans_are_seen
 returns-clause-plans_are_seen c = refl
 

@@ -1,4 +1,4 @@
-use Rattle.std.proofs.Common.{subst, ◌≡◌, ◌++◌, List, [], ◌∷◌, ℕ, length, ◌+◌, ap, sym, ◌∙◌, append_assoc, Result, Ok, Err, OnErr}
+use Rattle.std.proofs.Common.{subst, ◌≡◌, ◌++◌, List, [], ◌∷◌, length, ◌+◌, ap, sym, ◌∙◌, append_assoc, Result, Ok, Err, OnErr}
 use Rattle.std.proofs.lemmas.List.{length-append, append-nil, nil_from_length}
 use Rattle.std.specs.Vec.Iter.{into_iter_items}
 use Rattle.cpi_release.specs.State.{State}
