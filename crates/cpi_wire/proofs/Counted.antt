@@ -1,6 +1,6 @@
 -- How many arguments a list of fields has.
 use Rattle.std.proofs.Common.{◌≡◌, ◌≢◌, refl, true, false, List, [], ◌∷◌, length, get_or, map, None, Some, Bor, arith}
-use Rattle.cpi_wire.specs.Arguments.{Text, none, one, two, two_or_three, three, four, four_and_confirm, is_confirm, five, six}
+use Rattle.cpi_wire.specs.Arguments.{Text, none, one, two, two_or_three, four, four_and_confirm, is_confirm, five, six}
 
 abbrev pub texts : List (Bor Text) → List Text
 texts xs = map (λ a. a.now) xs
@@ -140,22 +140,6 @@ six-not (a ∷ b ∷ c ∷ d ∷ []) h = refl
 six-not (a ∷ b ∷ c ∷ d ∷ e ∷ []) h = refl
 six-not (a ∷ b ∷ c ∷ d ∷ e ∷ f ∷ []) h = absurd (h refl)
 six-not (a ∷ b ∷ c ∷ d ∷ e ∷ f ∷ z ∷ xs) h = refl
-
-pub three-is : (xs : List (Bor Text)) (o : Bor Text) → length xs ≡ 3 → Some ((get_or xs 0 o).now, (get_or xs 1 o).now, (get_or xs 2 o).now) ≡ three (texts xs)
-unfolding three
-three-is [] o h = absurd (omega arith)
-three-is (a ∷ []) o h = absurd (omega arith)
-three-is (a ∷ b ∷ []) o h = absurd (omega arith)
-three-is (a ∷ b ∷ c ∷ []) o h = refl
-three-is (a ∷ b ∷ c ∷ z ∷ xs) o h = absurd (omega arith)
-
-pub three-not : (xs : List (Bor Text)) → length xs ≢ 3 → None ≡ three (texts xs)
-unfolding three
-three-not [] h = refl
-three-not (a ∷ []) h = refl
-three-not (a ∷ b ∷ []) h = refl
-three-not (a ∷ b ∷ c ∷ []) h = absurd (h refl)
-three-not (a ∷ b ∷ c ∷ z ∷ xs) h = refl
 
 pub third-none : (xs : List (Bor Text)) (o : Bor Text) → length xs ≡ 2 → Some ((get_or xs 0 o).now, (get_or xs 1 o).now, None) ≡ two_or_three (texts xs)
 unfolding two_or_three

@@ -55,12 +55,14 @@ fault-none (plan.TitleMissing code) = refl
 fault-none plan.UnknownItem = refl
 fault-none plan.ItemTwice = refl
 fault-none plan.UnknownAggregate = refl
+fault-none plan.Reference = refl
 fault-none plan.NoMemory = refl
 
 index-none : (f : IndexFault) → has_float (index_fault_data f) ≡ false
 index-none (index.NoSample code) = refl
 index-none (index.NoMatch code) = refl
 index-none (index.OutOfRange code) = refl
+index-none (index.NoReference code) = refl
 index-none index.NoMemory = refl
 
 refusal-none : (why : Refusal) → has_float (refusal_data why) ≡ false

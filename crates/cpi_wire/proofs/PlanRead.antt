@@ -8,39 +8,52 @@ use Rattle.cpi_plan.specs.declared.plan_rows.Place.{Place}
 use Rattle.cpi_wire.specs.declared.plan_rows.PlanRow.{PlanRow}
 use Rattle.cpi_wire.specs.declared.plan_rows.PlanRow.TheVariants as row
 use Rattle.cpi_wire.specs.Input.{Record, AreFirst, records_of}
-use Rattle.cpi_wire.specs.PlanBody.{titles_of, weights_of, places_of, told_by, plan_rows, body_of}
+use Rattle.cpi_wire.specs.PlanBody.{titles_of, weights_of, places_of, references_of, told_by, plan_rows, body_of}
 use Rattle.cpi_wire.specs.PlanRows.{plan_row}
 use Rattle.cpi_codes.specs.Following.{◌>>=◌}
 
 -- ---- one row more
 
-title-more : (rows : List PlanRow) (t : Title) → told_by (rows ++ row.Title t ∷ []) ≡ record { titles = titles_of rows ++ t ∷ []; weights = weights_of rows; places = places_of rows }
+title-more : (rows : List PlanRow) (t : Title) → told_by (rows ++ row.Title t ∷ []) ≡ record { titles = titles_of rows ++ t ∷ []; weights = weights_of rows; places = places_of rows; references = references_of rows }
 title-more [] t = refl
-title-more (row.Title u ∷ rows) t = ap (λ (b : PlanBody). record { titles = u ∷ b.titles; weights = b.weights; places = b.places }) (title-more rows t)
-title-more (row.Weight w ∷ rows) t = ap (λ (b : PlanBody). record { titles = b.titles; weights = w ∷ b.weights; places = b.places }) (title-more rows t)
-title-more (row.Place p ∷ rows) t = ap (λ (b : PlanBody). record { titles = b.titles; weights = b.weights; places = p ∷ b.places }) (title-more rows t)
+title-more (row.Title u ∷ rows) t = ap (λ (b : PlanBody). record { titles = u ∷ b.titles; weights = b.weights; places = b.places; references = b.references }) (title-more rows t)
+title-more (row.Weight w ∷ rows) t = ap (λ (b : PlanBody). record { titles = b.titles; weights = w ∷ b.weights; places = b.places; references = b.references }) (title-more rows t)
+title-more (row.Place p ∷ rows) t = ap (λ (b : PlanBody). record { titles = b.titles; weights = b.weights; places = p ∷ b.places; references = b.references }) (title-more rows t)
+title-more (row.Reference m ∷ rows) t = ap (λ (b : PlanBody). record { titles = b.titles; weights = b.weights; places = b.places; references = m ∷ b.references }) (title-more rows t)
 
-weight-more : (rows : List PlanRow) (v : Weight) → told_by (rows ++ row.Weight v ∷ []) ≡ record { titles = titles_of rows; weights = weights_of rows ++ v ∷ []; places = places_of rows }
+weight-more : (rows : List PlanRow) (v : Weight) → told_by (rows ++ row.Weight v ∷ []) ≡ record { titles = titles_of rows; weights = weights_of rows ++ v ∷ []; places = places_of rows; references = references_of rows }
 weight-more [] v = refl
-weight-more (row.Title u ∷ rows) v = ap (λ (b : PlanBody). record { titles = u ∷ b.titles; weights = b.weights; places = b.places }) (weight-more rows v)
-weight-more (row.Weight w ∷ rows) v = ap (λ (b : PlanBody). record { titles = b.titles; weights = w ∷ b.weights; places = b.places }) (weight-more rows v)
-weight-more (row.Place p ∷ rows) v = ap (λ (b : PlanBody). record { titles = b.titles; weights = b.weights; places = p ∷ b.places }) (weight-more rows v)
+weight-more (row.Title u ∷ rows) v = ap (λ (b : PlanBody). record { titles = u ∷ b.titles; weights = b.weights; places = b.places; references = b.references }) (weight-more rows v)
+weight-more (row.Weight w ∷ rows) v = ap (λ (b : PlanBody). record { titles = b.titles; weights = w ∷ b.weights; places = b.places; references = b.references }) (weight-more rows v)
+weight-more (row.Place p ∷ rows) v = ap (λ (b : PlanBody). record { titles = b.titles; weights = b.weights; places = p ∷ b.places; references = b.references }) (weight-more rows v)
+weight-more (row.Reference m ∷ rows) v = ap (λ (b : PlanBody). record { titles = b.titles; weights = b.weights; places = b.places; references = m ∷ b.references }) (weight-more rows v)
 
-place-more : (rows : List PlanRow) (q : Place) → told_by (rows ++ row.Place q ∷ []) ≡ record { titles = titles_of rows; weights = weights_of rows; places = places_of rows ++ q ∷ [] }
+place-more : (rows : List PlanRow) (q : Place) → told_by (rows ++ row.Place q ∷ []) ≡ record { titles = titles_of rows; weights = weights_of rows; places = places_of rows ++ q ∷ []; references = references_of rows }
 place-more [] q = refl
-place-more (row.Title u ∷ rows) q = ap (λ (b : PlanBody). record { titles = u ∷ b.titles; weights = b.weights; places = b.places }) (place-more rows q)
-place-more (row.Weight w ∷ rows) q = ap (λ (b : PlanBody). record { titles = b.titles; weights = w ∷ b.weights; places = b.places }) (place-more rows q)
-place-more (row.Place p ∷ rows) q = ap (λ (b : PlanBody). record { titles = b.titles; weights = b.weights; places = p ∷ b.places }) (place-more rows q)
+place-more (row.Title u ∷ rows) q = ap (λ (b : PlanBody). record { titles = u ∷ b.titles; weights = b.weights; places = b.places; references = b.references }) (place-more rows q)
+place-more (row.Weight w ∷ rows) q = ap (λ (b : PlanBody). record { titles = b.titles; weights = w ∷ b.weights; places = b.places; references = b.references }) (place-more rows q)
+place-more (row.Place p ∷ rows) q = ap (λ (b : PlanBody). record { titles = b.titles; weights = b.weights; places = p ∷ b.places; references = b.references }) (place-more rows q)
+place-more (row.Reference m ∷ rows) q = ap (λ (b : PlanBody). record { titles = b.titles; weights = b.weights; places = b.places; references = m ∷ b.references }) (place-more rows q)
+
+reference-more : (rows : List PlanRow) (n : ℕ) → told_by (rows ++ row.Reference n ∷ []) ≡ record { titles = titles_of rows; weights = weights_of rows; places = places_of rows; references = references_of rows ++ n ∷ [] }
+reference-more [] n = refl
+reference-more (row.Title u ∷ rows) n = ap (λ (b : PlanBody). record { titles = u ∷ b.titles; weights = b.weights; places = b.places; references = b.references }) (reference-more rows n)
+reference-more (row.Weight w ∷ rows) n = ap (λ (b : PlanBody). record { titles = b.titles; weights = w ∷ b.weights; places = b.places; references = b.references }) (reference-more rows n)
+reference-more (row.Place p ∷ rows) n = ap (λ (b : PlanBody). record { titles = b.titles; weights = b.weights; places = p ∷ b.places; references = b.references }) (reference-more rows n)
+reference-more (row.Reference m ∷ rows) n = ap (λ (b : PlanBody). record { titles = b.titles; weights = b.weights; places = b.places; references = m ∷ b.references }) (reference-more rows n)
 
 -- a body with one row more
-pub with-title : (b : PlanBody) (rows : List PlanRow) (t : Title) → b ≡ told_by rows → record { titles = b.titles ++ t ∷ []; weights = b.weights; places = b.places } ≡ told_by (rows ++ row.Title t ∷ [])
-with-title b rows t e = ap (λ (b : PlanBody). record { titles = b.titles ++ t ∷ []; weights = b.weights; places = b.places }) e ∙ sym (title-more rows t)
+pub with-title : (b : PlanBody) (rows : List PlanRow) (t : Title) → b ≡ told_by rows → record { titles = b.titles ++ t ∷ []; weights = b.weights; places = b.places; references = b.references } ≡ told_by (rows ++ row.Title t ∷ [])
+with-title b rows t e = ap (λ (b : PlanBody). record { titles = b.titles ++ t ∷ []; weights = b.weights; places = b.places; references = b.references }) e ∙ sym (title-more rows t)
 
-pub with-weight : (b : PlanBody) (rows : List PlanRow) (w : Weight) → b ≡ told_by rows → record { titles = b.titles; weights = b.weights ++ w ∷ []; places = b.places } ≡ told_by (rows ++ row.Weight w ∷ [])
-with-weight b rows w e = ap (λ (b : PlanBody). record { titles = b.titles; weights = b.weights ++ w ∷ []; places = b.places }) e ∙ sym (weight-more rows w)
+pub with-weight : (b : PlanBody) (rows : List PlanRow) (v : Weight) → b ≡ told_by rows → record { titles = b.titles; weights = b.weights ++ v ∷ []; places = b.places; references = b.references } ≡ told_by (rows ++ row.Weight v ∷ [])
+with-weight b rows v e = ap (λ (b : PlanBody). record { titles = b.titles; weights = b.weights ++ v ∷ []; places = b.places; references = b.references }) e ∙ sym (weight-more rows v)
 
-pub with-place : (b : PlanBody) (rows : List PlanRow) (p : Place) → b ≡ told_by rows → record { titles = b.titles; weights = b.weights; places = b.places ++ p ∷ [] } ≡ told_by (rows ++ row.Place p ∷ [])
-with-place b rows p e = ap (λ (b : PlanBody). record { titles = b.titles; weights = b.weights; places = b.places ++ p ∷ [] }) e ∙ sym (place-more rows p)
+pub with-place : (b : PlanBody) (rows : List PlanRow) (q : Place) → b ≡ told_by rows → record { titles = b.titles; weights = b.weights; places = b.places ++ q ∷ []; references = b.references } ≡ told_by (rows ++ row.Place q ∷ [])
+with-place b rows q e = ap (λ (b : PlanBody). record { titles = b.titles; weights = b.weights; places = b.places ++ q ∷ []; references = b.references }) e ∙ sym (place-more rows q)
+
+pub with-reference : (b : PlanBody) (rows : List PlanRow) (n : ℕ) → b ≡ told_by rows → record { titles = b.titles; weights = b.weights; places = b.places; references = b.references ++ n ∷ [] } ≡ told_by (rows ++ row.Reference n ∷ [])
+with-reference b rows n e = ap (λ (b : PlanBody). record { titles = b.titles; weights = b.weights; places = b.places; references = b.references ++ n ∷ [] }) e ∙ sym (reference-more rows n)
 
 -- ---- the rows of records
 

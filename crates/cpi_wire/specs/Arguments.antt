@@ -17,10 +17,6 @@ unfoldable pub one : List Text → Option Text
 one (a ∷ []) = Some a
 one _ = None
 
-unfoldable pub three : List Text → Option (Text × Text × Text)
-three (a ∷ b ∷ c ∷ []) = Some (a, b, c)
-three _ = None
-
 unfoldable pub four : List Text → Option (Text × Text × Text × Text)
 four (a ∷ b ∷ c ∷ d ∷ []) = Some (a, b, c, d)
 four _ = None

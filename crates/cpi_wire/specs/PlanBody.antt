@@ -1,5 +1,5 @@
 -- The body of a plan: its rows, in any order.
-use Rattle.std.specs.Prelude.{◌≡◌, List, [], ◌∷◌, ◌++◌, if◌then◌else◌, nat_lt, length, Bool, true, false, Option, Some, None}
+use Rattle.std.specs.Prelude.{◌≡◌, ℕ, List, [], ◌∷◌, ◌++◌, if◌then◌else◌, nat_lt, length, Bool, true, false, Option, Some, None}
 use Rattle.cpi_plan.specs.declared.plan_bodies.PlanBody.{PlanBody}
 use Rattle.cpi_plan.specs.declared.plan_rows.Title.{Title}
 use Rattle.cpi_plan.specs.declared.plan_rows.Weight.{Weight}
@@ -16,22 +16,33 @@ titles_of [] = []
 titles_of (row.Title t ∷ rows) = t ∷ titles_of rows
 titles_of (row.Weight w ∷ rows) = titles_of rows
 titles_of (row.Place p ∷ rows) = titles_of rows
+titles_of (row.Reference m ∷ rows) = titles_of rows
 
 abbrev pub weights_of : List PlanRow → List Weight
 weights_of [] = []
 weights_of (row.Title t ∷ rows) = weights_of rows
 weights_of (row.Weight w ∷ rows) = w ∷ weights_of rows
 weights_of (row.Place p ∷ rows) = weights_of rows
+weights_of (row.Reference m ∷ rows) = weights_of rows
 
 abbrev pub places_of : List PlanRow → List Place
 places_of [] = []
 places_of (row.Title t ∷ rows) = places_of rows
 places_of (row.Weight w ∷ rows) = places_of rows
 places_of (row.Place p ∷ rows) = p ∷ places_of rows
+places_of (row.Reference m ∷ rows) = places_of rows
+
+-- the reference months: a plan has one at most, which isn't judged here
+abbrev pub references_of : List PlanRow → List ℕ
+references_of [] = []
+references_of (row.Title t ∷ rows) = references_of rows
+references_of (row.Weight w ∷ rows) = references_of rows
+references_of (row.Place p ∷ rows) = references_of rows
+references_of (row.Reference m ∷ rows) = m ∷ references_of rows
 
 -- what the rows say, each kind in the order in which it stands
 abbrev pub told_by : List PlanRow → PlanBody
-told_by rows = record { titles = titles_of rows; weights = weights_of rows; places = places_of rows }
+told_by rows = record { titles = titles_of rows; weights = weights_of rows; places = places_of rows; references = references_of rows }
 
 -- all rows, where each is of a form
 abbrev pub plan_rows : List Record → Option (List PlanRow)

@@ -1,12 +1,12 @@
--- The rows of a plan's body: a letter, and two fields.
+-- The rows of a plan's body: a letter, and one field or two.
 use Rattle.std.specs.Prelude.{List, if◌then◌else◌, Option, Some, None, bytes_eq, codes}
 use Rattle.cpi_codes.specs.CodeOf.{code_of}
 use Rattle.cpi_codes.specs.ItemCode.{item_code_of}
 use Rattle.cpi_wire.specs.declared.plan_rows.PlanRow.{PlanRow}
 use Rattle.cpi_wire.specs.declared.plan_rows.PlanRow.TheVariants as row
-use Rattle.cpi_wire.specs.Arguments.{Text, three}
+use Rattle.cpi_wire.specs.Arguments.{Text, two_or_three}
 use Rattle.cpi_codes.specs.Following.{◌>>=◌}
-use Rattle.cpi_wire.specs.Values.{name, weight}
+use Rattle.cpi_wire.specs.Values.{name, weight, month}
 
 -- the title of a code
 abbrev pub title_row : Text → Text → Option PlanRow
@@ -29,12 +29,25 @@ place_row a b = do
   c ← code_of b
   Some (row.Place (record { item = i; aggregate = c }))
 
-abbrev pub lettered_row : Text → Text → Text → Option PlanRow
-lettered_row letter a b =
+-- a month that the weights refer to
+abbrev pub reference_row : Text → Option PlanRow
+reference_row a = month a >>= λ m. Some (row.Reference m)
+
+-- a letter with one field
+abbrev pub month_row : Text → Text → Option PlanRow
+month_row letter a = if bytes_eq letter (codes "R") then reference_row a else None
+
+-- a letter with two fields
+abbrev pub code_row : Text → Text → Text → Option PlanRow
+code_row letter a b =
     if bytes_eq letter (codes "T") then title_row a b
     else if bytes_eq letter (codes "W") then weight_row a b
     else if bytes_eq letter (codes "I") then place_row a b
     else None
 
+abbrev pub lettered_row : Text → Text → Option Text → Option PlanRow
+lettered_row letter a None = month_row letter a
+lettered_row letter a (Some b) = code_row letter a b
+
 abbrev pub plan_row : List Text → Option PlanRow
-plan_row fields = three fields >>= λ f. lettered_row f.0 f.1 f.2
+plan_row fields = two_or_three fields >>= λ f. lettered_row f.0 f.1 f.2

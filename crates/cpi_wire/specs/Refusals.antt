@@ -22,6 +22,7 @@ plan_fault_number plan.UnknownItem = 6
 plan_fault_number plan.ItemTwice = 7
 plan_fault_number plan.UnknownAggregate = 8
 plan_fault_number plan.NoMemory = 9
+plan_fault_number plan.Reference = 10
 
 -- a sum of weights, as far as 64 bits tell it: no record sends more
 abbrev pub told_sum : ℕ → ℕ
@@ -51,6 +52,7 @@ index_fault_data (index.NoSample code) = numbered_at code 1 49
 index_fault_data (index.NoMatch code) = numbered_at code 2 49
 index_fault_data (index.OutOfRange code) = numbered_at code 3 49
 index_fault_data index.NoMemory = numbered 4 49
+index_fault_data (index.NoReference code) = numbered_at code 5 49
 
 -- a refusal is told by its number; a price outside its bounds also with these and the last price, and a fault of a plan
 -- or of an index by what it is

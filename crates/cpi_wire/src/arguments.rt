@@ -1,6 +1,6 @@
 //! So many arguments, and no more.
 ghost use Rattle.std.specs.Prelude.{◌≡◌, map, option_map};
-ghost use Rattle.cpi_wire.specs.Arguments.{none, one as exactly_one, two as exactly_two, three as exactly_three};
+ghost use Rattle.cpi_wire.specs.Arguments.{none, one as exactly_one, two as exactly_two};
 ghost use Rattle.cpi_wire.specs.Arguments.{two_or_three as exactly_two_or_three, four as exactly_four};
 ghost use Rattle.cpi_wire.specs.Arguments.{four_and_confirm as exactly_four_and_confirm, is_confirm};
 ghost use Rattle.cpi_wire.specs.Arguments.{five as exactly_five, six as exactly_six};
@@ -26,16 +26,6 @@ pub(crate) fn two<'a>(arguments: &[&'a [u8]]) -> Option<(&'a [u8], &'a [u8])>
 {
     if arguments.len() == 2 {
         Some((arguments[0], arguments[1]))
-    } else {
-        None
-    }
-}
-
-pub(crate) fn three<'a>(arguments: &[&'a [u8]]) -> Option<(&'a [u8], &'a [u8], &'a [u8])>
-    ensures { option_map (λ a. (a.0.now, a.1.now, a.2.now)) result ≡ exactly_three (map (λ a. a.now) arguments.now) }
-{
-    if arguments.len() == 3 {
-        Some((arguments[0], arguments[1], arguments[2]))
     } else {
         None
     }

@@ -4,6 +4,7 @@
 mod answers;
 mod arguments;
 mod asks;
+mod examples;
 mod fault;
 mod fields;
 mod import;
@@ -25,6 +26,7 @@ mod write;
 
 pub use answers::{RowsTold, answer_rows, is_failure};
 pub use asks::Ask;
+pub use examples::worked_bodies;
 pub use fault::WireFault;
 pub use fields::field_list;
 pub use import::import_rows;

@@ -23,6 +23,7 @@ fn add(body: &mut PlanBody, row: PlanRow) -> Result<(), AllocError>
         PlanRow::Title(title) => body.titles.push(title)?,
         PlanRow::Weight(weight) => body.weights.push(weight)?,
         PlanRow::Place(place) => body.places.push(place)?,
+        PlanRow::Reference(month) => body.references.push(month)?,
     }
     Ok(())
 }
@@ -50,6 +51,7 @@ pub(crate) fn plan_body(alloc: Global, text: &[u8]) -> Result<Option<PlanBody>, 
         titles: Rows::new(alloc),
         weights: Rows::new(alloc),
         places: Rows::new(alloc),
+        references: Rows::new(alloc),
     };
     for _ in 0..MAX_ROWS {
         if !next_row(&mut reader, &mut row)? {

@@ -1,10 +1,12 @@
 //! The rows of a plan's body.
 ghost use Rattle.std.specs.Prelude.{◌≡◌, map, IfOk};
-ghost use Rattle.cpi_wire.specs.PlanRows.{title_row, weight_row, place_row, lettered_row, plan_row as spelled_row};
+ghost use Rattle.cpi_wire.specs.PlanRows.{title_row, weight_row, place_row, reference_row};
+ghost use Rattle.cpi_wire.specs.PlanRows.{month_row as spelled_month_row, code_row as spelled_code_row};
+ghost use Rattle.cpi_wire.specs.PlanRows.{plan_row as spelled_row};
 
-use crate::arguments::three;
-use crate::values::{code_of, name_of, weight_of};
-use cpi_codes::ItemCode;
+use crate::arguments::two_or_three;
+use crate::values::{code_of, month_of, name_of, weight_of};
+use cpi_codes::{ItemCode, Month};
 use cpi_plan::{Place, Title, Weight};
 use std::alloc::{AllocError, Global};
 
@@ -14,6 +16,7 @@ pub(crate) enum PlanRow {
     Title(Title),
     Weight(Weight),
     Place(Place),
+    Reference(Month),
 }
 
 fn title_of(alloc: Global, code: &[u8], title: &[u8]) -> Result<Option<PlanRow>, AllocError>
@@ -44,14 +47,32 @@ fn place_of(item: &[u8], code: &[u8]) -> Option<PlanRow>
     Some(PlanRow::Place(Place { item, aggregate }))
 }
 
-// The row of a letter with its two fields.
-fn lettered(
+fn reference_of(month: &[u8]) -> Option<PlanRow>
+    ensures { result ≡ reference_row month.now }
+{
+    let month = month_of(month)?;
+    Some(PlanRow::Reference(month))
+}
+
+// The row of a letter with one field.
+fn month_row(letter: &[u8], month: &[u8]) -> Option<PlanRow>
+    ensures { result ≡ spelled_month_row letter.now month.now }
+{
+    if letter == b"R".as_slice() {
+        reference_of(month)
+    } else {
+        None
+    }
+}
+
+// The row of a letter with two fields.
+fn code_row(
     alloc: Global,
     letter: &[u8],
     first: &[u8],
     second: &[u8],
 ) -> Result<Option<PlanRow>, AllocError>
-    ensures { IfOk result (λ row. row ≡ lettered_row letter.now first.now second.now) }
+    ensures { IfOk result (λ row. row ≡ spelled_code_row letter.now first.now second.now) }
 {
     if letter == b"T".as_slice() {
         title_of(alloc, first, second)
@@ -64,13 +85,14 @@ fn lettered(
     }
 }
 
-/// The row that the fields write: `T`, a code and its title; `W`, a code and its weight up to 1,000,000; or `I`, an
-/// item and the code where it is placed. None where they are of no such form.
+/// The row that the fields write: `T`, a code and its title; `W`, a code and its weight up to 1,000,000; `I`, an item
+/// and the code where it is placed; or `R` and a month that the weights refer to. None where they are of no such form.
 pub(crate) fn plan_row(alloc: Global, fields: &[&[u8]]) -> Result<Option<PlanRow>, AllocError>
     ensures { IfOk result (λ row. row ≡ spelled_row (map (λ f. f.now) fields.now)) }
 {
-    match three(fields) {
-        Some((letter, first, second)) => lettered(alloc, letter, first, second),
+    match two_or_three(fields) {
+        Some((letter, first, Some(second))) => code_row(alloc, letter, first, second),
+        Some((letter, month, None)) => Ok(month_row(letter, month)),
         None => Ok(None),
     }
 }

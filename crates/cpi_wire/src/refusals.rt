@@ -25,6 +25,7 @@ fn plan_fault_number(fault: PlanFault) -> u8
         PlanFault::ItemTwice => 7,
         PlanFault::UnknownAggregate => 8,
         PlanFault::NoMemory => 9,
+        PlanFault::Reference => 10,
     }
 }
 
@@ -68,6 +69,7 @@ fn index_fault_value(alloc: Global, fault: IndexFault) -> Result<Value, AllocErr
         IndexFault::NoMatch(code) => located_value(alloc, code, 2, 49),
         IndexFault::OutOfRange(code) => located_value(alloc, code, 3, 49),
         IndexFault::NoMemory => json!(in alloc; {"fault": 4, "refused": 49}),
+        IndexFault::NoReference(code) => located_value(alloc, code, 5, 49),
     }
 }
 

@@ -1,4 +1,4 @@
-use Rattle.std.proofs.Common.{◌≡◌, ◌∙◌, sym, ap, rules, refl, ℕ, List, [], ◌∷◌, ◌++◌, Option, Some, None, true, false}
+use Rattle.std.proofs.Common.{◌≡◌, sym, ap, rules, ℕ, List, [], ◌∷◌, Some, None, true, false}
 use Rattle.csv.specs.Records.{fields_of}
 use Rattle.cpi_wire.specs.Input.{Record, AreFirst, records_of}
 use Rattle.cpi_wire.specs.OnlyRows.{only, only_row}

@@ -1,4 +1,4 @@
-use Rattle.cpi_wire.proofs.PlanRead.{with-title, with-weight, with-place}
+use Rattle.cpi_wire.proofs.PlanRead.{with-title, with-weight, with-place, with-reference}
 use Rattle.cpi_wire.proofs.plan_body.add.Goals as goal
 
 pub returns-in_ok-push-in-Title : goal.returns-in_ok-push-in-Title
@@ -12,3 +12,7 @@ returns-in_ok-push-in-Weight c = λ rows e.
 pub returns-in_ok-push-in-Place : goal.returns-in_ok-push-in-Place
 returns-in_ok-push-in-Place c = λ rows e.
     rw (c.in_ok-push-in-Place.ensures.ok, c.in-Place.is) (with-place c.args.body.now rows c.in-Place.place e)
+
+pub returns-in_ok-push-in-Reference : goal.returns-in_ok-push-in-Reference
+returns-in_ok-push-in-Reference c = λ rows e.
+    rw (c.in_ok-push-in-Reference.ensures.ok, c.in-Reference.is) (with-reference c.args.body.now rows c.in-Reference.month e)

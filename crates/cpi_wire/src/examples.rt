@@ -1,0 +1,9 @@
+ghost use Rattle.cpi_wire.specs.Examples.{AnyOrder, TwoReferences, NoReferences, ReferenceFaults};
+
+/// The bodies of plans with a reference month, computed by the definitions, and what is told of its faults.
+pub fn worked_bodies()
+    ensures any_order { AnyOrder }
+    ensures two_references { TwoReferences }
+    ensures no_references { NoReferences }
+    ensures reference_faults { ReferenceFaults }
+{}
