@@ -1,6 +1,7 @@
 //! Files that other programs changed, so that they are no office.
 use crate::files::{ENOUGH, End, Held, changed, fault_of, run};
 use crate::first::first_tables;
+use crate::script::{answers, questions, script};
 use cpi_sql::OpenFault;
 use std::alloc::Global;
 use std::test::Fail;
@@ -66,12 +67,13 @@ fn each_table_is_there(rt: HostRuntime) -> Result<(), Fail> {
 }
 
 // Tables that no office has, one too many or of another form.
-const OTHERS: [&str; 5] = [
+const OTHERS: [&str; 6] = [
     "CREATE TABLE note (text TEXT) STRICT",
     "CREATE INDEX by_receipt ON quote (receipt)",
     "CREATE VIEW prices AS SELECT value FROM quote",
     "DROP TABLE level; CREATE TABLE level (month INTEGER NOT NULL, code TEXT NOT NULL) STRICT",
     "DROP TABLE plan_ref; CREATE TABLE plan_ref (year INTEGER PRIMARY KEY, at INTEGER NOT NULL) STRICT",
+    "DROP TABLE plan_ref; CREATE TABLE plan_ref (year INTEGER PRIMARY KEY, month TEXT NOT NULL) STRICT; INSERT INTO plan_ref VALUES (2026, '2025-12')",
 ];
 
 #[test]
@@ -82,7 +84,7 @@ fn other_tables_are_no_office(rt: HostRuntime) -> Result<(), Fail> {
         let fault = fault_after(alloc, &second, statements)?;
         assert_eq!(rt; fault, Some(OpenFault::Store), "{}", statements);
     }
-    // (schema 1 has no table of the last's name)
+    // (schema 1 has no table of the last ones' name)
     for statements in OTHERS.iter().take(4) {
         let fault = fault_after(alloc, &first, statements)?;
         assert_eq!(rt; fault, Some(OpenFault::Store), "{}", statements);
@@ -133,5 +135,66 @@ fn the_number_of_the_other_schema_is_no_office(rt: HostRuntime) -> Result<(), Fa
         "UPDATE version SET number = 1",
     )?;
     assert_eq!(rt; [first, second], [Some(OpenFault::Store); 2]);
+    Ok(())
+}
+
+// The files of the office that the script leaves.
+fn scripted(alloc: Global) -> Result<Held, Fail> {
+    let records = script().concat(alloc)?;
+    let nothing = Held::nothing(alloc);
+    let left = run(alloc, &nothing, ENOUGH, End::Closed, records.as_str())?.ok_or("no office")?;
+    Ok(left.files)
+}
+
+// What is told of records in the office of the files once the statements changed them, and whether each has its line.
+fn told_after(
+    alloc: Global,
+    held: &Held,
+    statements: &str,
+    records: &str,
+) -> Result<(Vec<u8>, bool), Fail> {
+    let held = changed(alloc, held, statements)?;
+    let left = run(alloc, &held, ENOUGH, End::Process, records)?.ok_or("no office")?;
+    Ok((left.told.lines, left.told.is_whole))
+}
+
+// Reference months that no plan of 2026 has: after its link month, and no months.
+const REFERENCES: [&str; 4] = [
+    "INSERT INTO plan_ref VALUES (2026, 202601)",
+    "INSERT INTO plan_ref VALUES (2026, 202513)",
+    "INSERT INTO plan_ref VALUES (2026, 199912)",
+    "INSERT INTO plan_ref VALUES (2026, 0)",
+];
+
+// Whether the files are opened once the statements changed them, and nothing that takes a plan is told.
+fn is_unread(alloc: Global, held: &Held, statements: &str) -> Result<bool, Fail> {
+    if fault_after(alloc, held, statements)?.is_some() {
+        return Ok(false);
+    }
+    let (lines, is_whole) = told_after(alloc, held, statements, "3000,public,items\n")?;
+    let (_, has_tables) = told_after(alloc, held, statements, "3000,public,tables\n")?;
+    Ok(lines.is_empty() && !is_whole && has_tables)
+}
+
+#[test]
+fn a_plan_with_another_reference_month_is_unread(rt: HostRuntime) -> Result<(), Fail> {
+    let alloc = rt.alloc();
+    let held = scripted(alloc)?;
+    for statements in REFERENCES {
+        assert!(rt; is_unread(alloc, &held, statements)?, "{}", statements);
+    }
+    Ok(())
+}
+
+// A month of a year without a plan stands for nothing.
+#[test]
+fn a_reference_month_has_a_plan(rt: HostRuntime) -> Result<(), Fail> {
+    let alloc = rt.alloc();
+    let held = scripted(alloc)?;
+    let statement = "INSERT INTO plan_ref VALUES (2027, 202612)";
+    assert!(rt; fault_after(alloc, &held, statement)?.is_none());
+    let (lines, is_whole) = told_after(alloc, &held, statement, questions())?;
+    assert!(rt; is_whole);
+    assert_eq!(rt; lines.as_slice(), answers());
     Ok(())
 }

@@ -30,3 +30,5 @@ mod release;
 mod streams;
 #[cfg(test)]
 mod survey;
+#[cfg(test)]
+mod weights;

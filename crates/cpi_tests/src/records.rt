@@ -34,6 +34,21 @@ I,RICE,01.1.1.1-01
 I,FLOUR,01.1.1.2-01",
 ];
 
+// The plan of 2026 with a reference month.
+const REFERRED: &str = "0|desk|plan|2026|T,00,All items
+T,01,Food and drink
+T,01.1,Food
+T,01.1.1,Cereals
+T,01.1.1.1,Rice
+T,01.1.1.1-01,\"Rice, packed\"
+T,01.1.1.2,Flour
+T,01.1.1.2-01,\"Flour, wheat\"
+W,01.1.1.1-01,600000
+W,01.1.1.2-01,400000
+I,RICE,01.1.1.1-01
+I,FLOUR,01.1.1.2-01
+R,2025-06";
+
 // The prices of two months, the first of which is frozen.
 const PRICES: [&str; 9] = [
     "100|aaaaaaaaaaaaaaaaaaaaaaaaaaaaaaaa|quote|1|2025-12|price|200",
@@ -77,8 +92,12 @@ pub(crate) fn answer<B: Book>(office: &mut Office<B>, ask: Ask) -> Reply {
     office.handle(ask.now, ask.caller, ask.request)
 }
 
-// Sends records, each of which is accepted.
-fn send<B: Book>(alloc: Global, office: &mut Office<B>, records: &[&str]) -> Result<(), Fail> {
+/// Sends records, each of which is accepted.
+pub(crate) fn send<B: Book>(
+    alloc: Global,
+    office: &mut Office<B>,
+    records: &[&str],
+) -> Result<(), Fail> {
     for ask in asks(alloc, records)? {
         if let Reply::Refused(refusal) = answer(office, ask) {
             return Err(Fail::new(refusal.number()));
@@ -131,6 +150,13 @@ fn year_of<B: Book>(alloc: Global, book: &mut B) -> Result<WorkedYear, Fail> {
 
 pub(crate) fn two_months(alloc: Global) -> Result<WorkedYear, Fail> {
     year_of(alloc, &mut priced(alloc)?)
+}
+
+/// The plan of 2026 with a reference month.
+pub(crate) fn referred_plan(alloc: Global) -> Result<YearPlan, Fail> {
+    let mut office = Office::new(alloc, priced(alloc)?);
+    send(alloc, &mut office, &[REFERRED])?;
+    plan_of(alloc, &mut office.into_book())
 }
 
 pub(crate) fn january() -> Result<Month, Fail> {

@@ -4,7 +4,7 @@ ghost use Rattle.std.specs.Ordering.{nat_cmp};
 ghost use Rattle.cpi_rows.specs.Keyed.{IsInOrder};
 
 use crate::records::{at, january, rice};
-use cpi_codes::{Code, CollectorId, ItemCode, Name, OutletId, Price, SeriesId, Slot};
+use cpi_codes::{Code, CollectorId, ItemCode, Month, Name, OutletId, Price, SeriesId, Slot};
 use cpi_plan::{CalendarRow, HighTolerance, Item, LowTolerance, Place, Title, Weight, YearPlan};
 use cpi_rows::{RowsByKey, put_row};
 use cpi_survey::{Assigned, Assignment, Mark, Own, Public, Quote};
@@ -60,8 +60,19 @@ fn a_plan_is_made_of_rows(rt: HostRuntime) -> Result<(), Fail> {
     })?;
     let mut places = Vec::new(alloc);
     places.push(Place { item, aggregate })?;
-    let plan = YearPlan::build(alloc, 2026, &items(alloc)?, titles(alloc)?, weights, places)?;
+    let mut references = Vec::new(alloc);
+    references.push(Month::new(2025, 12)?)?;
+    let plan = YearPlan::build(
+        alloc,
+        2026,
+        &items(alloc)?,
+        titles(alloc)?,
+        weights,
+        places,
+        references,
+    )?;
     assert_eq!(rt; plan.nodes().len(), 6);
+    assert_eq!(rt; plan.reference(), Some(Month::new(2025, 12)?));
     assert_eq!(rt; plan.weight(&Code::parse(b"01.1")?), Some(1_000_000));
     assert_eq!(rt; plan.aggregate_of(&item), Some(aggregate));
     Ok(())
