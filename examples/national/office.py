@@ -38,6 +38,7 @@ class Office:
         self.items = {row["item"]: row for row in rows_of("items")}
         self.calendar = {row["month"]: row for row in rows_of("calendar")}
         self.months = sorted(self.calendar)
+        self.references = {row["year"]: row["reference"] for row in rows_of("plans")}
         self.keys = {int(row["collector"]): row["key"] for row in rows_of("collectors")}
         self.series = list(self.assigned())
 
@@ -71,7 +72,9 @@ class Office:
         weights = self.weights(year)
         titles = [("T", row["code"], row["title"]) for row in self.basket]
         placed = [(item, row["aggregate"]) for item, row in self.items.items() if row["aggregate"] in weights]
-        return text_of([*titles, *(("W", *pair) for pair in weights.items()), *(("I", *pair) for pair in placed)])
+        rows = [*titles, *(("W", *pair) for pair in weights.items()), *(("I", *pair) for pair in placed)]
+        reference = self.references[year]
+        return text_of([*rows, ("R", reference)] if reference else rows)
 
     def window(self, month):
         row = self.calendar[month]

@@ -169,7 +169,7 @@ def divisions(tables):
         yield figure(f"{title}: {own[-1]:.1f}", pictures.lines(f"d{code}", title, says, tables.months, pair, unit, 210))
 
 
-HEADS = ["Code", "Title", "Weight in parts per million", "Index, December before = 100", "Level, first December = 100"]
+HEADS = ["Code", "Title", "Weight in use", "Index, December before = 100", "Level, first December = 100"]
 HEADS += ["Change on the month, percent", "Change on the year, percent", "Imputed prices"]
 
 

@@ -6,6 +6,7 @@ levels in millionths. Division is of whole numbers alone.
 
 HUNDRED = 100_000_000
 MOST_TICKS = 10**15
+MOST_WEIGHT = 10**9  # of an aggregate, once prices have moved it
 MOST_INDEX = 10**13
 MOST_LEVEL = 10**15
 
@@ -25,6 +26,11 @@ def before(month):
 
 def is_below(code, node):
     return code != node and (node == "00" or code.startswith(node))
+
+
+def sum_at(node, weights):
+    """The sum of the weights at and below a node."""
+    return sum(weights[code] for code in weights if code == node or is_below(code, node))
 
 
 def change(before, now):
@@ -51,8 +57,8 @@ class FrozenQuote:
 
 
 class Index:
-    """The index over the plans of the years (of each the titles of its nodes, its weights, its places) and the frozen
-    months (of each the quotes and the carry list of its latest revision)."""
+    """The index over the plans of the years (of each the titles of its nodes, its weights, its places, and its reference
+    month or None) and the frozen months (of each the quotes and the carry list of its latest revision)."""
 
     def __init__(self, plans, frozen, known):
         self.plans, self.frozen, self.known = plans, frozen, known
@@ -72,8 +78,29 @@ class Index:
         return sorted(self.weights(year))
 
     def weight(self, year, node):
-        weights = self.weights(year)
-        return sum(weights[code] for code in weights if code == node or is_below(code, node))
+        return sum_at(node, self.weights(year))
+
+    # ---- the weights in use
+
+    def reference_months(self, year):
+        """The link month and the reference month, where the plan has one."""
+        reference = self.plans[year][3]
+        return [december_before(year), reference] if reference else []
+
+    def lacks_reference(self, year, code):
+        return any(self.level(month, code) is None for month in self.reference_months(year))
+
+    @kept
+    def moved(self, year):
+        """By aggregate: the weight of the plan, moved by the prices from the reference month to the link month."""
+        months, weights = self.reference_months(year), self.weights(year)
+        if not months:
+            return weights
+        levels = {code: [self.level(month, code) for month in months] for code in weights}
+        return {code: rounded(weights[code] * now, then) for code, (now, then) in levels.items()}
+
+    def weight_in_use(self, year, node):
+        return sum_at(node, self.moved(year))
 
     # ---- the quotes of a month
 
@@ -155,9 +182,9 @@ class Index:
             sample = self.sample(year, node)
             now = sum(self.carried(year, month, series)[0] for series in sample)
             return rounded(HUNDRED * now, sum(self.base(year, series)[0] for series in sample))
-        weights = {code: weight for code, weight in self.weights(year).items() if is_below(code, node)}
+        weights = {code: weight for code, weight in self.moved(year).items() if is_below(code, node)}
         summed = sum(weight * self.within(month, code) for code, weight in weights.items())
-        return rounded(summed, self.weight(year, node))
+        return rounded(summed, self.weight_in_use(year, node))
 
     # ---- the table of a month
 
@@ -199,7 +226,7 @@ class Index:
             (
                 node,
                 self.plans[month[0]][0][node],
-                self.weight(month[0], node),
+                self.weight_in_use(month[0], node),
                 self.within(month, node),
                 self.chained(month, node),
                 self.month_change(month, node),
@@ -224,6 +251,8 @@ class Index:
         """The first fault of a month after the first, with its code: each is looked for everywhere before the next."""
         aggregates, nodes = self.aggregates(month[0]), self.nodes(month)
         faults = [
+            (5, aggregates, lambda code: self.lacks_reference(month[0], code)),
+            (3, aggregates, lambda code: not 1 <= self.moved(month[0])[code] <= MOST_WEIGHT),
             (1, aggregates, lambda code: not self.sample(month[0], code)),
             (2, aggregates, lambda code: self.needs_match(month, code)),
             (3, aggregates, lambda code: self.is_carried_outside(month, code)),

@@ -3,7 +3,7 @@
 import json
 
 from . import tables, values
-from .index import FrozenQuote, Index, before
+from .index import FrozenQuote, Index, before, december_before
 from .requests import MOST_ROWS, caller_of, request_of, rows_of
 
 DONE = {"done": True}
@@ -133,12 +133,13 @@ class Office:
         return DONE
 
     def put_plan(self, year, body):
-        fault = self.plan_fault(*body)
+        fault = self.plan_fault(year, *body)
         if fault is not None:
             return refused(44, **fault)
-        titles, weights, places = body
+        titles, weights, places, references = body
         nodes = {node for code, _ in weights for node in values.path(code)}
-        plan = {code: title for code, title in titles if code in nodes}, dict(weights), dict(places)
+        reference = references[0] if references else None
+        plan = {code: title for code, title in titles if code in nodes}, dict(weights), dict(places), reference
         if self.plans.get(year) == plan:
             return DONE
         if any(frozen[0] == year for frozen in self.tables):
@@ -146,23 +147,24 @@ class Office:
         self.plans[year] = plan
         return DONE
 
-    def plan_fault(self, titles, weights, places):
+    def plan_fault(self, year, titles, weights, places, references):
         """The first fault of a plan, over all of what was sent."""
         codes, sum_found = [code for code, _ in weights], sum(weight for _, weight in weights)
         titled, nodes = [code for code, _ in titles], {node for code in codes for node in values.path(code)}
         untitled = sorted(nodes - set(titled))
         items = [item for item, _ in places]
         faults = [
-            (len(set(titled)) < len(titled) or len(set(codes)) < len(codes), {}),
-            (not all(values.is_elementary(code) for code in codes + [code for _, code in places]), {}),
-            (any(weight == 0 for _, weight in weights), {}),
-            (sum_found != 1_000_000, {"found": sum_found}),
-            (untitled != [], {"code": untitled[0] if untitled else None}),
-            (not set(items) <= set(self.items), {}),
-            (len(set(items)) < len(items), {}),
-            (not {code for _, code in places} <= set(codes), {}),
+            (1, len(set(titled)) < len(titled) or len(set(codes)) < len(codes), {}),
+            (2, not all(values.is_elementary(code) for code in codes + [code for _, code in places]), {}),
+            (3, any(weight == 0 for _, weight in weights), {}),
+            (4, sum_found != 1_000_000, {"found": sum_found}),
+            (5, untitled != [], {"code": untitled[0] if untitled else None}),
+            (6, not set(items) <= set(self.items), {}),
+            (7, len(set(items)) < len(items), {}),
+            (8, not {code for _, code in places} <= set(codes), {}),
+            (10, len(references) > 1 or any(month > december_before(year) for month in references), {}),
         ]
-        return next(({"fault": at + 1, **found} for at, (is_so, found) in enumerate(faults) if is_so), None)
+        return next(({"fault": number, **found} for number, is_so, found in faults if is_so), None)
 
     # ---- freezing
 

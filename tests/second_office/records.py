@@ -44,6 +44,8 @@ PLAN = [
     ["I", "RICE", "01.1.1.1-01"],
     ["I", "FLOUR", "01.1.1.2-01"],
 ]
+REFERENCES = ["2025-12", "2025-12", "2025-06", "2000-01", "2026-01", "2199-12"]
+OTHER_REFERENCES = ["", "1999-12", "2025-13", "2025-6", "2200-01", "01.1"]
 WORDS = ["quote"] * 12 + ["quotes", "work", "work", "items", "item", "outlet", "collector", "assign", "assign"]
 WORDS += ["calendar", "plan", "plan", "import", "freeze", "table", "tables", "Quote", ""]
 OF_THE_DESK = ("item", "outlet", "collector", "assign", "calendar", "plan", "freeze")
@@ -82,12 +84,17 @@ class Records:
         rows.append(self.one(rows)[:])
 
     def change(self, rows):
-        texts = [self.code(), self.item(), self.one(TEXTS), self.one(NUMBERS)]
-        self.one(rows)[self.drawn.randrange(1, 3)] = self.one(texts)
+        row, texts = self.one(rows), [self.code(), self.item(), self.one(TEXTS), self.one(NUMBERS)]
+        row[self.drawn.randrange(1, len(row))] = self.one(texts)
 
     def add(self, rows):
         weight = self.one(["0", "1", "400000", "1000000", "1000001"])
         rows.append(self.one([["W", self.code(), weight], ["I", self.mostly(OTHER_ITEMS, ITEMS), self.code()]]))
+
+    def refer(self, rows):
+        """A reference month, now and then of another form, or a second one."""
+        for _ in range(self.one([1, 1, 1, 2])):
+            rows.append(["R", self.mostly(REFERENCES, OTHER_REFERENCES), *self.one([[]] * 9 + [["x"]])])
 
     def unweigh(self, rows):
         for row in rows:
@@ -104,7 +111,7 @@ class Records:
         """The plan, with up to two changes."""
         rows = [row[:] for row in PLAN]
         changes = [self.drop, self.double, self.drawn.shuffle, self.change, self.add, self.unweigh, self.displace]
-        for change in self.drawn.choices(changes, k=self.one([0, 0, 1, 1, 1, 2])):
+        for change in self.drawn.choices([*changes, self.refer, self.refer], k=self.one([0, 0, 1, 1, 1, 2])):
             change(rows)
         return text_of(rows, self.one(["\n", "\r\n"]))
 

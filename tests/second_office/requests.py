@@ -13,11 +13,11 @@ def rows_of(body):
 
 
 def plan_body(body):
-    """Titles, weights and places; None where a row is of no form, or where there are too many."""
+    """Titles, weights, places and reference months; None where a row is of no form, or where there are too many."""
     rows = rows_of(body)
-    titles, weights, places = [], [], []
+    titles, weights, places, references = [], [], [], []
     for row in rows:
-        kind, first, second = row if len(row) == 3 else ("", "", "")
+        kind, first, second = {2: [*row, ""], 3: row}.get(len(row), ("", "", ""))
         weight = values.number(second, 0, 1_000_000)
         if kind == "T" and values.code(first) and values.name(second):
             titles.append((first, second))
@@ -25,9 +25,11 @@ def plan_body(body):
             weights.append((first, weight))
         elif kind == "I" and values.item_code(first) and values.code(second):
             places.append((first, second))
+        elif kind == "R" and len(row) == 2 and values.month(first):
+            references.append(values.month(first))
         else:
             return None
-    return (titles, weights, places) if len(rows) <= MOST_ROWS else None
+    return (titles, weights, places, references) if len(rows) <= MOST_ROWS else None
 
 
 def number_within(least, most):

@@ -101,7 +101,7 @@ def levels(office, month):
 def node_rows(office):
     return [
         (year, code, title, office.index.weight(year, code))
-        for year, (titles, _, _) in office.plans.items()
+        for year, (titles, *_) in office.plans.items()
         for code, title in titles.items()
     ]
 
@@ -124,7 +124,7 @@ ROWS = {
         for (collector, slot, month), (mark, receipt) in office.quotes.items()
     ],
     **{f"{name}_2": lambda office, name=name: office.of_releases[f"{name}_2"] for name in OF_A_MONTH},
-    "plan_ref": lambda office: [],
+    "plan_ref": lambda office: [(year, number(plan[3])) for year, plan in office.plans.items() if plan[3]],
 }
 
 
@@ -137,7 +137,7 @@ def rows_of(office, names=tuple(TABLES)):
 
 
 def first_of(rows):
-    """The rows of schema 1 for those of an office without a further revision."""
+    """The rows of schema 1 for those of an office without a further revision and without a reference month."""
     releases = {name: [(month, *row) for month, _, *row in rows[f"{name}_2"]] for name in OF_A_MONTH}
     own = {"assignment": [row[:6] for row in rows["assignment_2"]], "quote": rows["quote_2"]}
     return {**{name: rows[name] for name in KEPT}, "version": [(1,)], **own, **releases}

@@ -1,7 +1,8 @@
 """The life of a small office through one to three years, drawn at random: what its desk and its collectors send.
 
 A life is a generator of records, and is sent the reply to each. The desk goes by the replies, as a desk does: where a
-freeze is refused for want of a match, it carries the aggregate; where a sample is empty, it sends a plan without it.
+freeze is refused for want of a match, it carries the aggregate; where a sample is empty, it sends a plan without it;
+where prices can't move a weight from the reference month, it sends a plan with another one, or without any.
 Now and then the last frozen month is reopened, quoted and frozen again, in one life of a few up to its last revision.
 """
 
@@ -122,6 +123,25 @@ class Years:
         rows += [["W", code, str(weight)] for code, weight in zip(self.codes, self.weights())]
         return rows + [["I", item, code] for item, code in self.places.items()]
 
+    def reference(self, at):
+        """A month that prices may move the weights of that year from: mostly one of the year before, and seldom one before
+        the first that has rows. Where prices are steep, one by which a weight can pass its limits."""
+        link = at - 1 - (at - 1) % 12
+        if link > 0 and self.kind == "steep" and self.is_so(0.5):
+            return month(self.one([1, 2]))
+        first = min(link, 0 if self.is_so(0.1) else 1)
+        return month(self.one([link, self.drawn.randrange(first, link + 1), self.drawn.randrange(link - 11, link + 1)]))
+
+    def with_reference(self, at):
+        """The rows of the plan, with or without a reference month. In the first year no month before it has rows."""
+        rows = [row for row in self.body if row[0] != "R"]
+        return rows + [["R", self.reference(at)]] if self.is_so(0.6 if at > 1 else 0.1) else rows
+
+    def with_bad_reference(self, at):
+        """The rows of the plan, with a reference month after the link month, or with two."""
+        own = [["R", self.reference(at)] for _ in range(self.one([0, 1, 2]))]
+        return [row for row in self.body if row[0] != "R"] + self.one([[["R", month(at)], *own], [["R", month(at - 1)]] * 2])
+
     def plan(self, now, at):
         year = month(at)[:4]
         self.drawn.shuffle(self.body)
@@ -130,6 +150,10 @@ class Years:
     def new_plan(self, now, at):
         self.changed_plan()
         self.body = self.new_body()
+        if self.is_so(0.2):
+            self.body = self.with_bad_reference(at)
+            yield from self.plan(now, at)
+        self.body = self.with_reference(at)
         yield from self.plan(now, at)
 
     # ---- a month
@@ -248,13 +272,25 @@ class Years:
         if fault == 1:
             self.codes.remove(code)
             self.replaced()
-            self.body = self.new_body()
+            self.body = self.new_body() + [row for row in self.body if row[0] == "R"]
             yield from self.plan(self.closes(at), at)
             carry[:] = [code for code in carry if code in self.codes]
         elif fault == 2:
             carry.append(code)
+        elif fault == 5 or (self.is_referred() and self.is_so(0.5)):
+            yield from self.referred_otherwise(at)
         else:
             yield from self.taken_back(at)
+
+    def is_referred(self):
+        return any(row[0] == "R" for row in self.body)
+
+    def referred_otherwise(self, at):
+        """The plan with another reference month, or without one; it stays as it is where the year is frozen."""
+        before = self.body
+        self.body = self.with_reference(at) if self.is_so(0.3) else [row for row in before if row[0] != "R"]
+        if "refused" in (yield from self.plan(self.closes(at), at)):
+            self.body = before
 
     def taken_back(self, at):
         """Wild prices are taken back: the series was missing."""
@@ -293,18 +329,23 @@ class Years:
                 yield from self.frozen(of, longer)
 
     def plan_again(self, at):
-        """The year's plan as it stands, with a title that doesn't count, with one that does, or with a fault."""
+        """The year's plan as it stands, with a title that doesn't count, with one that does, with a reference month that
+        stands or doesn't, or with a fault."""
         if not self.body:
             return
         body, self.body = self.body, [row[:] for row in self.body]
         titles, weights = ([row for row in self.body if row[0] == kind] for kind in "TW")
-        change = self.one(["none", "a title of no node", "another title", "another weight"])
+        change = self.one(["none", "a title of no node", "another title", "another weight", "a reference", "two references"])
         if change == "a title of no node":
             self.body.append(["T", "12.9.9.9", "Aside"])
         elif change == "another title":
             self.one(titles)[2] = "Another title"
         elif change == "another weight":
             self.one(weights)[2] = "7"
+        elif change == "a reference":
+            self.body = self.with_reference(at)
+        elif change == "two references":
+            self.body = self.with_bad_reference(at)
         yield from self.plan(self.closes(at) + 60, self.one([0, at, at]))
         self.body = body
 
