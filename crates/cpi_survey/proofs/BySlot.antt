@@ -16,9 +16,10 @@ use Rattle.cpi_rows.specs.Held.{held_cmp, held_key}
 use Rattle.cpi_rows.specs.Gathered.{gathered, rows_in}
 use Rattle.cpi_rows.proofs.Gathered.{held_gathered, put_gathered}
 use Rattle.cpi_rows.proofs.Places.{none_in_order, put_at_gap, put_at_row, put_in_order, row_found}
+use Rattle.cpi_survey.specs.declared.assignment.Assignment.{Assignment}
 use Rattle.cpi_survey.specs.declared.slot_quotes.SlotQuotes.{SlotQuotes}
 use Rattle.cpi_survey.specs.Quote.{QuoteRow, quote_cmp, quote_key}
-use Rattle.cpi_survey.specs.LastPrice.{is_earlier, last_price, price_in}
+use Rattle.cpi_survey.specs.LastPrice.{is_earlier, last_price, observed_before, or_copied, price_in}
 use Rattle.cpi_survey.specs.Slots.{AreBySlot, AreOfSlot, all_quotes, is_in_slot}
 use Rattle.cpi_survey.proofs.Latest.{latest_filter}
 
@@ -125,8 +126,13 @@ not_earlier : (slot month : ℕ) (q : QuoteRow) → is_in_slot slot q ≡ false 
 not_earlier slot month q e = rw e refl
 
 -- the last price is that among the quotes of the slot
-pub price_of_slot : (slot month : ℕ) (qs : List QuoteRow) → last_price slot month (filter (is_in_slot slot) qs) ≡ last_price slot month qs
+pub price_of_slot : (slot month : ℕ) (qs : List QuoteRow) → observed_before slot month (filter (is_in_slot slot) qs) ≡ observed_before slot month qs
 price_of_slot slot month qs = sym (ap price_in (latest_filter (is_earlier slot month) (is_in_slot slot) (not_earlier slot month) qs))
+
+-- and so is that of an assignment, with the price that was copied where none was found
+pub last_of_slot : (a : Assignment) (month : ℕ) (found : Option ℕ) (own qs : List QuoteRow) → own ≡ filter (is_in_slot a.slot) qs → found ≡ observed_before a.slot month own → or_copied found a.copied ≡ last_price a month qs
+last_of_slot a month found own qs is_own is_found =
+    ap (λ price. or_copied price a.copied) (is_found ∙ ap (observed_before a.slot month) is_own ∙ price_of_slot a.slot month qs)
 
 -- ---- a quote that is put among those of its slot
 

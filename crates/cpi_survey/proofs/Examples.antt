@@ -3,6 +3,7 @@
 use Rattle.std.proofs.Common.{◌≡◌, ℕ, true, false, List, [], ◌∷◌, Some, None, Ok, Err, refl}
 use Rattle.std.specs.Prelude.{Result}
 use Rattle.cpi_survey.specs.declared.assignment.Assigned.{Assigned}
+use Rattle.cpi_survey.specs.declared.assignment.Assignment.{Assignment}
 use Rattle.cpi_survey.specs.declared.mark.Mark.{Mark}
 use Rattle.cpi_survey.specs.declared.mark.Mark.TheVariants.{Price, Missing, Comparable, Other}
 use Rattle.cpi_survey.specs.declared.mark.Reason.TheVariants.{Stock, Closed as OutletClosed}
@@ -14,7 +15,7 @@ use Rattle.cpi_survey.specs.Quote.{QuoteRow}
 use Rattle.cpi_survey.specs.Public.{PublicPart}
 use Rattle.cpi_survey.specs.Own.{OwnPart}
 use Rattle.cpi_survey.specs.Decision.{decided}
-use Rattle.cpi_survey.specs.LastPrice.{last_price}
+use Rattle.cpi_survey.specs.LastPrice.{last_price, observed_before}
 use Rattle.cpi_survey.specs.Within.{quotes_within}
 use Rattle.cpi_survey.specs.WorkPart.{WorkPart}
 use Rattle.cpi_survey.specs.Work.{work}
@@ -30,7 +31,7 @@ public = record {
 
 abbrev assigned : Assigned
 assigned = record {
-  assignment = record { slot = 1; outlet = 10; item = 1; first_month = 311; last_month = 323; series = record { collector = 7; slot = 1 } };
+  assignment = record { slot = 1; outlet = 10; item = 1; first_month = 311; last_month = 323; copied = None };
   outlet_name = [];
 }
 
@@ -98,20 +99,20 @@ window_before_the_receipts = refl
 abbrev quotes : List QuoteRow
 quotes = priced 1 310 100 1 ∷ priced 1 311 110 3 ∷ priced 1 312 120 6 ∷ priced 2 311 300 4 ∷ priced 3 310 500 2 ∷ priced 3 312 510 5 ∷ []
 
--- the last price: of the greatest earlier month, of the slot alone
-last_of_the_month_before : last_price 1 312 quotes ≡ Some 110
+-- the price observed last: of the greatest earlier month, of the slot alone
+last_of_the_month_before : observed_before 1 312 quotes ≡ Some 110
 last_of_the_month_before = refl
 
-last_over_a_gap : last_price 3 312 quotes ≡ Some 500
+last_over_a_gap : observed_before 3 312 quotes ≡ Some 500
 last_over_a_gap = refl
 
-last_of_no_earlier_month : last_price 2 311 quotes ≡ None
+last_of_no_earlier_month : observed_before 2 311 quotes ≡ None
 last_of_no_earlier_month = refl
 
-last_of_no_such_slot : last_price 4 400 quotes ≡ None
+last_of_no_such_slot : observed_before 4 400 quotes ≡ None
 last_of_no_such_slot = refl
 
-last_after_all : last_price 1 2399 quotes ≡ Some 120
+last_after_all : observed_before 1 2399 quotes ≡ Some 120
 last_after_all = refl
 
 -- quotes by month, and then by slot
@@ -199,12 +200,30 @@ another_reason = refl
 another_kind : marks (Other 1000) (marked 311 (Price 1000) 1 ∷ marked 312 (Price 1000) 2 ∷ []) ≡ Ok (Put (marked 312 (Other 1000) 3))
 another_kind = refl
 
--- the last price passes over missing ones, and is that of a replacement too
-last_over_missing : last_price 1 313 (marked 310 (Price 900) 1 ∷ marked 311 (Other 400) 2 ∷ marked 312 (Missing Stock) 3 ∷ []) ≡ Some 400
+-- the price observed last passes over missing ones, and is that of a replacement too
+last_over_missing : observed_before 1 313 (marked 310 (Price 900) 1 ∷ marked 311 (Other 400) 2 ∷ marked 312 (Missing Stock) 3 ∷ []) ≡ Some 400
 last_over_missing = refl
 
-last_of_none_observed : last_price 1 313 (marked 312 (Missing Stock) 1 ∷ []) ≡ None
+last_of_none_observed : observed_before 1 313 (marked 312 (Missing Stock) 1 ∷ []) ≡ None
 last_of_none_observed = refl
+
+-- an assignment that took its series over with the price 490
+abbrev taken_over : Assignment
+taken_over = record assigned.assignment { first_month = 312; copied = Some 490 }
+
+-- the copied price is the last one until a price is observed in the slot itself
+last_is_copied : last_price taken_over 312 [] ≡ Some 490
+last_is_copied = refl
+
+last_is_copied_over_missing : last_price taken_over 313 (marked 312 (Missing Stock) 1 ∷ []) ≡ Some 490
+last_is_copied_over_missing = refl
+
+last_is_observed : last_price taken_over 313 (marked 312 (Price 495) 1 ∷ []) ≡ Some 495
+last_is_observed = refl
+
+-- without a price to copy there is none
+last_of_nothing_copied : last_price assigned.assignment 312 [] ≡ None
+last_of_nothing_copied = refl
 
 -- a row of slot 1 in the month 312
 abbrev working : WorkPart

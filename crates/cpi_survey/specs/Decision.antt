@@ -66,9 +66,9 @@ over_quote now entry row a None check greatest = in_month now entry row a check 
 over_quote now entry row a (Some quote) check greatest =
     if is_same_mark quote.mark entry.mark then Ok (Again quote.receipt) else in_month now entry row a check greatest
 
--- what speaks against the price of an entry: the item is that of the assignment, the last price that of the slot before the month
+-- what speaks against the price of an entry: the item is that of the assignment, the last price that of the assignment before the month
 abbrev pub check_of : EntryRow → PublicPart → OwnPart → Assignment → Result (Unit {0}) Refusal
-check_of entry public own a = checked entry (item_of a.item public) (last_price entry.slot entry.month own.quotes)
+check_of entry public own a = checked entry (item_of a.item public) (last_price a entry.month own.quotes)
 
 abbrev pub in_slot : ℕ → EntryRow → PublicPart → Option Assigned → OwnPart → Result Decision Refusal
 in_slot now entry public None own = Err UnknownSlot

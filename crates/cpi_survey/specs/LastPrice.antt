@@ -1,5 +1,6 @@
 -- The last price of a slot before a month.
 use Rattle.std.specs.Prelude.{ℕ, Bool, ◌&&◌, ◌==◌, nat_lt, List, [], ◌∷◌, Option, Some, None, if◌then◌else◌, option_and_then, is_some}
+use Rattle.cpi_survey.specs.declared.assignment.Assignment.{Assignment}
 use Rattle.cpi_survey.specs.Mark.{observed_price}
 use Rattle.cpi_survey.specs.Quote.{QuoteRow}
 
@@ -20,6 +21,15 @@ latest passes (q ∷ qs) = if passes q then later_of (latest passes qs) q else l
 abbrev pub price_in : Option QuoteRow → Option ℕ
 price_in found = option_and_then (λ q. observed_price q.mark) found
 
--- the last price of a slot before a month: the observed price of the greatest earlier month among the quotes of the slot
-abbrev pub last_price : ℕ → ℕ → List QuoteRow → Option ℕ
-last_price slot month quotes = price_in (latest (is_earlier slot month) quotes)
+-- the price that was observed last: that of the greatest earlier month among the quotes of the slot
+abbrev pub observed_before : ℕ → ℕ → List QuoteRow → Option ℕ
+observed_before slot month quotes = price_in (latest (is_earlier slot month) quotes)
+
+abbrev pub or_copied : Option ℕ → Option ℕ → Option ℕ
+or_copied None copied = copied
+or_copied (Some price) copied = Some price
+
+-- the last price before a month: the one that was observed last in the slot, and without one the price that was copied
+-- when the series was handed over
+abbrev pub last_price : Assignment → ℕ → List QuoteRow → Option ℕ
+last_price a month quotes = or_copied (observed_before a.slot month quotes) a.copied

@@ -1,11 +1,18 @@
 -- The quotes of some months.
 use Rattle.std.specs.Prelude.{ℕ, ◌+◌, ◌-◌, Bool, ◌&&◌, ◌==◌, nat_le, List, filter}
-use Rattle.std.specs.List.{flat_map, range_with_len}
+use Rattle.std.specs.List.{flat_map, list_any, range_with_len}
 use Rattle.cpi_survey.specs.Quote.{QuoteRow}
 
 -- the quotes of a month
 abbrev pub is_of : ℕ → QuoteRow → Bool
 is_of month q = q.month == month
+
+-- a quote of the slot, of the month or of a later one
+abbrev pub stands_since : ℕ → ℕ → QuoteRow → Bool
+stands_since slot month q = q.slot == slot && nat_le month q.month
+
+abbrev pub has_quotes_since : ℕ → ℕ → List QuoteRow → Bool
+has_quotes_since slot month quotes = list_any (stands_since slot month) quotes
 
 -- a month from the first to the last
 abbrev pub is_within : ℕ → ℕ → QuoteRow → Bool

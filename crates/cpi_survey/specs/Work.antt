@@ -20,7 +20,7 @@ work_row month own a item = record {
   item = a.assignment.item;
   text = item.text;
   unit = item.unit;
-  last = last_price a.assignment.slot month own.quotes;
+  last = last_price a.assignment month own.quotes;
   quote = quote_of a.assignment.slot month own;
 }
 

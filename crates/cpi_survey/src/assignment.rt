@@ -1,7 +1,7 @@
 ghost use Rattle.std.specs.Prelude.{◌≡◌};
 ghost use Rattle.cpi_survey.specs.Assignment.{is_active, same_assignment};
 
-use cpi_codes::{ItemCode, Month, Name, OutletId, SeriesId, Slot};
+use cpi_codes::{ItemCode, Month, Name, OutletId, Price, Slot};
 use cpi_rows::Keyed;
 
 /// What a slot of a collector is for: an item to be priced in an outlet, from the first month to the last.
@@ -17,8 +17,9 @@ pub struct Assignment {
     pub first_month: Month,
     /// The last month in which the slot is active.
     pub last_month: Month,
-    /// The series that is priced, named by the collector and the slot that it was first given to.
-    pub series: SeriesId,
+    /// The last price that was handed over with the series, in minor units; none where the series is the slot's own,
+    /// or where there was none to hand over.
+    pub copied: Option<Price>,
 }
 
 impl Assignment {
@@ -31,8 +32,7 @@ impl Assignment {
             && self.item == other.item
             && self.first_month == other.first_month
             && self.last_month == other.last_month
-            && self.series.collector == other.series.collector
-            && self.series.slot == other.series.slot
+            && self.copied == other.copied
     }
 
     /// Whether the slot is active in the month: from the first month to the last, both included.

@@ -2,18 +2,19 @@ ghost use Rattle.std.specs.Prelude.{◌≡◌, ◌<◌, [], IfOk, OnOk, OnErr, I
 ghost use Rattle.std.specs.Ordering.{nat_cmp};
 ghost use Rattle.std.specs.Option.{option_copied};
 ghost use Rattle.cpi_rows.specs.Keyed.{IsInOrder, put, row_at, at};
+ghost use Rattle.cpi_survey.specs.Assignment.{ended};
 ghost use Rattle.cpi_survey.specs.LastPrice.{last_price};
 ghost use Rattle.cpi_survey.specs.Quote.{greatest_receipt, quote_cmp, quote_key};
-ghost use Rattle.cpi_survey.specs.Within.{quotes_within};
+ghost use Rattle.cpi_survey.specs.Within.{has_quotes_since, quotes_within};
 
-use crate::assignment::Assigned;
-use crate::last_price::last_price;
+use crate::assignment::{Assigned, Assignment};
+use crate::last_price::observed_before;
 use crate::quote::Quote;
 use crate::slot_quotes::SlotQuotes;
 use crate::slots::{by_slot, put_quote, quotes_of};
 use crate::within::quotes_within;
 use cpi_codes::{Month, Price, Slot};
-use cpi_rows::{find_row, put_row};
+use cpi_rows::{find_row, place_of, put_row};
 use std::alloc::{AllocError, Global};
 use std::marker::Model;
 
@@ -108,6 +109,15 @@ impl Own {
         put_row(&mut self.assignments, assigned)
     }
 
+    /// Gives the assignment of the slot another last month. It takes no memory; a slot that wasn't given stays so.
+    pub fn end_assignment(&mut self, slot: Slot, last_month: Month)
+        ensures { self.new ≡ record self.old { assignments = ended slot last_month self.old.assignments } }
+    {
+        if let Ok(at) = place_of(&self.assignments, &slot) {
+            self.assignments[at].assignment.last_month = last_month;
+        }
+    }
+
     /// All assignments with their outlets' names, by slot.
     pub fn assignments(&self) -> &[Assigned]
         ensures { result.now ≡ self.now.assignments }
@@ -129,12 +139,27 @@ impl Own {
         find_row(quotes_of(&self.slots, slot), &(slot, month))
     }
 
-    /// The last price of the slot before the month, in minor units: the price that was observed in the greatest
-    /// earlier month of which the collector has a quote of the slot with a price.
-    pub fn last_price(&self, slot: Slot, month: Month) -> Option<Price>
-        ensures { result ≡ last_price slot month self.now.quotes }
+    /// The last price of an assignment of the collector before the month, in minor units: the price that was observed
+    /// in the greatest earlier month of which the collector has a quote of the slot with a price, and without one the
+    /// price that was copied when the series was handed over.
+    pub fn last_price(&self, assignment: &Assignment, month: Month) -> Option<Price>
+        ensures { result ≡ last_price assignment.now month self.now.quotes }
     {
-        last_price(quotes_of(&self.slots, slot), slot, month)
+        let slot = assignment.slot;
+        match observed_before(quotes_of(&self.slots, slot), slot, month) {
+            Some(price) => Some(price),
+            None => assignment.copied,
+        }
+    }
+
+    /// Whether the collector has a quote of the slot of the month or of a later one.
+    pub fn has_quotes_since(&self, slot: Slot, month: Month) -> bool
+        ensures { result ≡ has_quotes_since slot month self.now.quotes }
+    {
+        match quotes_of(&self.slots, slot).last() {
+            None => false,
+            Some(quote) => month <= quote.month,
+        }
     }
 
     /// The quotes of the months from the first to the last, both included, by month and then by slot: none where the

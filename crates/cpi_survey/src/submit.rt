@@ -85,7 +85,8 @@ impl Own {
         }
     }
 
-    /// Checks the price of an entry against the last price of its slot, which is looked up only where there is a price.
+    /// Checks the price of an entry against the last price of its assignment, which is looked up only where there is a
+    /// price.
     fn check_price(
         &self,
         public: &Public,
@@ -94,14 +95,12 @@ impl Own {
     ) -> Result<(), Refusal>
         ensures { result ≡ check_of entry public.now self.now assignment.now }
     {
-        let slot = entry.slot;
-        let month = entry.month;
         match entry.mark {
             Mark::Missing(_) => Ok(()),
             _ => checked(
                 entry,
                 public.item(assignment.item),
-                self.last_price(slot, month),
+                self.last_price(assignment, entry.month),
             ),
         }
     }

@@ -87,7 +87,7 @@ impl Own {
             item: assignment.item,
             text: item.text.copy(alloc)?,
             unit: item.unit.copy(alloc)?,
-            last: self.last_price(assignment.slot, month),
+            last: self.last_price(&assignment, month),
             quote: self.quote(assignment.slot, month).copied(),
         })
     }

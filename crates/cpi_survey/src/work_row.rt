@@ -17,7 +17,7 @@ pub struct WorkRow {
     pub text: Name,
     /// The unit that is priced.
     pub unit: Name,
-    /// The last price of the slot before the month, in minor units, if there is one.
+    /// The last price of the assignment before the month, in minor units, if there is one.
     pub last: Option<Price>,
     /// The stored quote of the slot and the month, if there is one.
     pub quote: Option<Quote>,

@@ -4,7 +4,7 @@ use Rattle.std.specs.Prelude.{is_some}
 use Rattle.cpi_survey.specs.Mark.{observed_price}
 use Rattle.cpi_survey.specs.LastPrice.{latest, is_earlier, price_in}
 use Rattle.cpi_survey.proofs.Latest.{before_gap, before_row, front_below, front_in_order, latest_other, latest_own, starts, without_last}
-use Rattle.cpi_survey.proofs.last_price.last_price.Goals as goal
+use Rattle.cpi_survey.proofs.last_price.observed_before.Goals as goal
 
 pub loop-quote-init : goal.loop-quote-init
 loop-quote-init c =

@@ -4,7 +4,7 @@ use Rattle.std.specs.declared.cmp.Ordering.TheVariants.{Less}
 use Rattle.cpi_rows.specs.Keyed.{IsInOrder}
 use Rattle.cpi_survey.specs.Quote.{quote_cmp, quote_key}
 use Rattle.cpi_survey.specs.LastPrice.{latest, is_earlier}
-use Rattle.cpi_survey.proofs.last_price.last_price.Given as goal
+use Rattle.cpi_survey.proofs.last_price.observed_before.Given as goal
 
 abbrev pub invariant-loop-quote : goal.invariant-loop-quote
 invariant-loop-quote l = record {
