@@ -14,6 +14,7 @@ use Rattle.cpi_survey.specs.declared.assignment.Assigned.{Assigned}
 use Rattle.cpi_store.specs.declared.bearer.Bearer.{Bearer}
 use Rattle.cpi_store.specs.declared.outlet.Outlet.{Outlet}
 use Rattle.cpi_store.specs.declared.holder.Holder.{Holder}
+use Rattle.cpi_store.specs.declared.taken_over.TakenOver.{TakenOver}
 use Rattle.cpi_release.specs.declared.release.Release.{Release}
 use Rattle.cpi_store.specs.Bearer.{bearer_of}
 use Rattle.cpi_store.specs.Holders.{collectors_of, collector_of_holder, all_assignments, all_quotes, assignments_of, quotes_of, named_by, ArePlaced, office_of}
@@ -131,5 +132,5 @@ module _ (h : Holder) (hs : List Holder) (sorted : IsInOrder nat_cmp (λ h. h.nu
   pub quotes_added : h.own.quotes ≡ [] → all_quotes after ≡ all_quotes hs
   quotes_added no_quotes = passed_over (λ (g : Holder). map (λ x. (g.number, x)) (quotes_of g)) h below above (ap (λ ws. map (λ x. (h.number, x)) ws) no_quotes) ∙ ap all_quotes others
 
-  pub office_added : h.own ≡ record { assignments = []; quotes = [] } → (public : PublicPart) (us : List Outlet) (rs : List Release) → office_of public us rs after ≡ changed (Registers (collector_of_holder h)) (office_of public us rs hs)
-  office_added nothing public us rs = rw (collectors_added, assignments_added (ap (λ (o : OwnPart). o.assignments) nothing), quotes_added (ap (λ (o : OwnPart). o.quotes) nothing)) refl
+  pub office_added : h.own ≡ record { assignments = []; quotes = [] } → (public : PublicPart) (us : List Outlet) (rs : List Release) (taken : List TakenOver) → office_of public us rs taken after ≡ changed (Registers (collector_of_holder h)) (office_of public us rs taken hs)
+  office_added nothing public us rs taken = rw (collectors_added, assignments_added (ap (λ (o : OwnPart). o.assignments) nothing), quotes_added (ap (λ (o : OwnPart). o.quotes) nothing)) refl

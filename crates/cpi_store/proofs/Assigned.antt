@@ -15,7 +15,7 @@ use Rattle.cpi_store.specs.Holders.{named_by, HasOutlet, ArePlaced}
 abbrev slot : Assigned → ℕ
 slot a = a.assignment.slot
 
-all_filtered : {X : Type 0} (P : X → Type 0) (p : X → Bool) (xs : List X) → AllByRecursion P xs → AllByRecursion P (filter p xs)
+pub all_filtered : {X : Type 0} (P : X → Type 0) (p : X → Bool) (xs : List X) → AllByRecursion P xs → AllByRecursion P (filter p xs)
 all_filtered P p [] all = tt
 all_filtered P p (x ∷ xs) all = by (p x) refl (all_filtered P p xs all.1)
   where
@@ -23,17 +23,17 @@ all_filtered P p (x ∷ xs) all = by (p x) refl (all_filtered P p xs all.1)
     by true e rest = rw e (all.0, rest)
     by false e rest = rw e rest
 
-all_joined : {X : Type 0} (P : X → Type 0) (xs ys : List X) → AllByRecursion P xs → AllByRecursion P ys → AllByRecursion P (xs ++ ys)
+pub all_joined : {X : Type 0} (P : X → Type 0) (xs ys : List X) → AllByRecursion P xs → AllByRecursion P ys → AllByRecursion P (xs ++ ys)
 all_joined P [] ys front back = back
 all_joined P (x ∷ xs) ys front back = (front.0, all_joined P xs ys front.1 back)
 
-all_set : {X Y : Type 0} (P : Y → Type 0) (f : X → Y) (xs : List X) (i : ℕ) (y d : X) → (P (f (get_or xs i d)) → P (f y)) → AllByRecursion P (map f xs) → AllByRecursion P (map f (set xs i y))
+pub all_set : {X Y : Type 0} (P : Y → Type 0) (f : X → Y) (xs : List X) (i : ℕ) (y d : X) → (P (f (get_or xs i d)) → P (f y)) → AllByRecursion P (map f xs) → AllByRecursion P (map f (set xs i y))
 all_set P f [] i y d then all = tt
 all_set P f (x ∷ xs) zero y d then all = (then all.0, all.1)
 all_set P f (x ∷ xs) (suc i) y d then all = (all.0, all_set P f xs i y d then all.1)
 
 -- a map that changes no row of a list, changes none after one was replaced by another that it doesn't change
-fixed_set : {X Y : Type 0} (g : Y → Y) (f : X → Y) (xs : List X) (i : ℕ) (y d : X) → (g (f (get_or xs i d)) ≡ f (get_or xs i d) → g (f y) ≡ f y) → map g (map f xs) ≡ map f xs → map g (map f (set xs i y)) ≡ map f (set xs i y)
+pub fixed_set : {X Y : Type 0} (g : Y → Y) (f : X → Y) (xs : List X) (i : ℕ) (y d : X) → (g (f (get_or xs i d)) ≡ f (get_or xs i d) → g (f y) ≡ f y) → map g (map f xs) ≡ map f xs → map g (map f (set xs i y)) ≡ map f (set xs i y)
 fixed_set g f [] i y d then fixed = refl
 fixed_set g f (x ∷ xs) zero y d then fixed =
     let here : g (f x) ≡ f x = cc in

@@ -19,7 +19,9 @@ use Rattle.cpi_survey.specs.Own.{OwnPart}
 use Rattle.cpi_store.specs.declared.outlet.Outlet.{Outlet}
 use Rattle.cpi_survey.specs.declared.assignment.Assignment.{Assignment}
 use Rattle.cpi_store.specs.declared.holder.Holder.{Holder}
-use Rattle.cpi_store.specs.Holders.{collectors_of, collector_of_holder, all_assignments, all_quotes, assignments_of, quotes_of, named_by}
+use Rattle.cpi_store.specs.declared.taken_over.TakenOver.{TakenOver}
+use Rattle.cpi_store.specs.Holders.{collectors_of, collector_of_holder, all_assignments, all_given, all_quotes, assignments_of, quotes_of, named_by}
+use Rattle.cpi_store.proofs.OwnGiven.{assignments_held}
 
 map_set_same : {X Y : Type 0} (f : X → Y) (xs : List X) (i : ℕ) (y d : X) → f y ≡ f (get_or xs i d) → map f (set xs i y) ≡ map f xs
 map_set_same f [] i y d same = refl
@@ -96,21 +98,26 @@ found_names : (outlets : List Outlet) (c : ℕ) (h : Holder) (hs : List Holder) 
 found_names outlets c h [] names found = let e : None ≡ Some h = found in cc
 found_names outlets c h (g ∷ hs) names found = found_more outlets c h g hs (nat_cmp g.number c) refl names found (λ n f. found_names outlets c h hs n f)
 
+abbrev part : List Assigned → List QuoteRow → OwnPart
+part assignments quotes = record { assignments = assignments; quotes = quotes }
+
 -- what a found holder has is what its rows among all say
-pub own_found : (outlets : List Outlet) (c : ℕ) (h : Holder) (hs : List Holder) → IsInOrder nat_cmp (λ x. x.number) hs → named_by outlets (map (λ (x : Holder). x.own.assignments) hs) ≡ map (λ (x : Holder). x.own.assignments) hs → row_at nat_cmp (λ (x : Holder). x.number) c hs ≡ Some h →
-    h.own ≡ record { assignments = map (with_name outlets) (held_by c (all_assignments hs)); quotes = held_by c (all_quotes hs) }
-own_found outlets c h hs sorted names found =
+pub own_found : (outlets : List Outlet) (taken : List TakenOver) (c : ℕ) (h : Holder) (hs : List Holder) → IsInOrder nat_cmp (λ x. x.number) hs → named_by outlets (map (λ (x : Holder). x.own.assignments) hs) ≡ map (λ (x : Holder). x.own.assignments) hs → row_at nat_cmp (λ (x : Holder). x.number) c hs ≡ Some h →
+    h.own ≡ record { assignments = map (with_name outlets) (map (λ g. g.assignment) (held_by c (all_given taken hs))); quotes = held_by c (all_quotes hs) }
+own_found outlets taken c h hs sorted names found =
     let quotes : held_by c (all_quotes hs) ≡ h.own.quotes = held_gathered quote_cmp quote_key (λ g. g.number) quotes_of c hs sorted ∙ ap (rows_in quotes_of) found in
     let rows : held_by c (all_assignments hs) ≡ assignments_of h = held_gathered nat_cmp (λ (a : Assignment). a.slot) (λ g. g.number) assignments_of c hs sorted ∙ ap (rows_in assignments_of) found in
-    rw (quotes, rows, found_names outlets c h hs names found) refl
+    let named : map (with_name outlets) (map (λ g. g.assignment) (held_by c (all_given taken hs))) ≡ h.own.assignments = ap (map (with_name outlets)) (assignments_held taken c (all_assignments hs) ∙ rows) ∙ found_names outlets c h hs names found in
+    ap (λ mine. part mine h.own.quotes) (sym named) ∙ ap (part (map (with_name outlets) (map (λ g. g.assignment) (held_by c (all_given taken hs))))) (sym quotes)
 
 abbrev nothing : OwnPart
 nothing = record { assignments = []; quotes = [] }
 
 -- a number that no holder has, has nothing
-pub own_missing : (outlets : List Outlet) (c : ℕ) (hs : List Holder) → IsInOrder nat_cmp (λ x. x.number) hs → row_at nat_cmp (λ (x : Holder). x.number) c hs ≡ None →
-    nothing ≡ record { assignments = map (with_name outlets) (held_by c (all_assignments hs)); quotes = held_by c (all_quotes hs) }
-own_missing outlets c hs sorted none =
+pub own_missing : (outlets : List Outlet) (taken : List TakenOver) (c : ℕ) (hs : List Holder) → IsInOrder nat_cmp (λ x. x.number) hs → row_at nat_cmp (λ (x : Holder). x.number) c hs ≡ None →
+    nothing ≡ record { assignments = map (with_name outlets) (map (λ g. g.assignment) (held_by c (all_given taken hs))); quotes = held_by c (all_quotes hs) }
+own_missing outlets taken c hs sorted none =
     let quotes : held_by c (all_quotes hs) ≡ [] = held_gathered quote_cmp quote_key (λ g. g.number) quotes_of c hs sorted ∙ ap (rows_in quotes_of) none in
     let rows : held_by c (all_assignments hs) ≡ [] = held_gathered nat_cmp (λ (a : Assignment). a.slot) (λ g. g.number) assignments_of c hs sorted ∙ ap (rows_in assignments_of) none in
-    rw (quotes, rows) refl
+    let named : map (with_name outlets) (map (λ g. g.assignment) (held_by c (all_given taken hs))) ≡ [] = ap (map (with_name outlets)) (assignments_held taken c (all_assignments hs) ∙ rows) in
+    ap (λ mine. part mine []) (sym named) ∙ ap (part (map (with_name outlets) (map (λ g. g.assignment) (held_by c (all_given taken hs))))) (sym quotes)

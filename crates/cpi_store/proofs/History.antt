@@ -31,7 +31,7 @@ use Rattle.cpi_release.specs.declared.release.Release.{Release}
 use Rattle.cpi_store.specs.PublishedReleases.{IsPublished, ArePublished}
 use Rattle.cpi_store.specs.Sound.{IsSound, HasNodesInOrder}
 use Rattle.cpi_store.proofs.Series.{frozen_by_serial, consistent, by_serial, all_series}
-use Rattle.cpi_store.proofs.Published.{month_in_order, month_assigned, each_found}
+use Rattle.cpi_store.proofs.Published.{month_in_order, month_of_series}
 use Rattle.cpi_store.specs.Office.{Office, month_rows}
 use Rattle.cpi_store.specs.History.{ReleasesAreComputed, ReleasesAreSound, SourcesAreFit}
 
@@ -207,9 +207,7 @@ releases_sound o s = let frozen = frozen_by_serial o.assignments s.made o.releas
 
 pub quotes_by_series : (o : Office) → IsSound o → (month : ℕ) → is_by_series frozen_serial (month_rows month o) ≡ true
 quotes_by_series o s month =
-    by_serial (month_rows month o)
-    (all_series o.assignments s.made (month_rows month o) (month_assigned month o.quotes o.assignments o.assignments s.made (each_found (λ a. a.slot) o.assignments s.assignments)))
-    (month_in_order month o.quotes o.assignments s.made s.assignments)
+    by_serial (month_rows month o) (all_series o.assignments s.made (month_rows month o) (month_of_series o s month)) (month_in_order o s month)
 
 pub releases_computed : ReleasesAreComputed
 releases_computed o s = (releases_sound o s).computed

@@ -1,95 +1,102 @@
 -- What is frozen of a month, and the releases one after the other.
 use Rattle.std.proofs.Common.{◌≡◌, ◌≢◌, ℕ, ◌+◌, true, false, eqb, List, [], ◌∷◌, ◌++◌, Some, None, Option, refl, sym, ap, ◌∙◌, subst, arith, inl, inr, append_assoc}
-use Rattle.std.specs.Prelude.{◌⊎◌, ◌==◌, is_none, ◌&&◌, if◌then◌else◌}
+use Rattle.std.specs.Prelude.{◌⊎◌, is_none, ◌&&◌, if◌then◌else◌}
 use Rattle.std.specs.declared.cmp.Ordering.TheVariants.{Less, Equal}
-use Rattle.std.specs.Ordering.{nat_cmp, ordering_then, is_eq}
+use Rattle.std.specs.Ordering.{nat_cmp, is_eq}
 use Rattle.std.specs.List.{AllByRecursion, filter_map}
-use Rattle.std.specs.List.Sorted.{IsStrictlySortedBy}
 use Rattle.std.proofs.lemmas.Bool.{eqb-true, lt-ltb}
 use Rattle.std.proofs.lemmas.Bool.Decides.{eqb_tells}
 use Rattle.std.proofs.lemmas.Cmp.{nat_cmp_total, tied_itself, then_total, on_total}
 use Rattle.std.specs.Cmp.{IsTotalOrder}
 use Rattle.std.proofs.lemmas.Map.Keys.{sorted_head, sorted_tail}
 use Rattle.std.proofs.lemmas.List.{append-nil}
+use Rattle.std.proofs.lemmas.Map.Lookups.{exact_pairs, exact_unsigned}
 use Rattle.cpi_rows.specs.Keyed.{IsInOrder, at, row_at, put_by}
-use Rattle.cpi_rows.specs.Held.{held_by, held_cmp, held_key}
+use Rattle.cpi_rows.specs.Held.{held_by}
+use Rattle.cpi_rows.proofs.Found.{row_key}
 use Rattle.cpi_rows.proofs.Puts.{put_last, row_at-put_apart, different}
 use Rattle.cpi_codes.specs.Month.{year_of}
-use Rattle.cpi_codes.specs.declared.series.SeriesId.{SeriesId}
+use Rattle.cpi_survey.specs.Assignment.{is_active}
 use Rattle.cpi_survey.specs.Quote.{QuoteRow, quote_cmp, quote_key}
-use Rattle.cpi_survey.specs.declared.assignment.Assignment.{Assignment}
 use Rattle.cpi_plan.specs.Plan.{Plan}
-use Rattle.cpi_index.specs.Frozen.{Frozen}
 use Rattle.cpi_release.specs.FrozenMonths.{ReleaseKey, release_cmp, release_key, frozen_month, frozen_months, follows, revision_after, is_next, next_revision, is_year_frozen, is_after_first, plan_for}
 use Rattle.cpi_release.specs.Publishing.{published, fault_of, freeze_of}
 use Rattle.cpi_release.specs.declared.release.Release.{Release}
-use Rattle.cpi_store.specs.Office.{Office, frozen_row, month_rows, put_release}
-use Rattle.cpi_store.specs.FrozenLists.{series_cmp, IsOfAssignment, HasFrozenList}
+use Rattle.cpi_store.specs.declared.given.Given.{Given}
+use Rattle.cpi_store.specs.Office.{Office, frozen_row, stored_rows, month_rows, put_release}
+use Rattle.cpi_store.specs.Series.{series_cmp}
+use Rattle.cpi_store.specs.FrozenLists.{IsOfSeries, HasFrozenList}
 use Rattle.cpi_store.specs.PublishedReleases.{IsPublished, ArePublished}
-use Rattle.cpi_store.specs.Sound.{IsSound, IsWellMade}
-
--- ---- each assignment is the one in its slot
-
-module _ {X : Type 0} (key : X → ℕ) where
-  later_found : (r : ℕ × X) (rows all : List (ℕ × X)) → AllByRecursion (λ s. held_cmp nat_cmp (held_key key r) (held_key key s) ≡ Less) rows →
-      AllByRecursion (λ (s : ℕ × X). at key (key s.1) (held_by s.0 all) ≡ Some s.1) rows → AllByRecursion (λ (s : ℕ × X). at key (key s.1) (held_by s.0 (r ∷ all)) ≡ Some s.1) rows
-  later_found r [] all below found = tt
-  later_found r (s ∷ rows) all below found = (by (eqb_tells r.0 s.0), later_found r rows all below.1 found.1)
-    where
-      by : ((eqb r.0 s.0 ≡ true) × (r.0 ≡ s.0)) ⊎ ((eqb r.0 s.0 ≡ false) × (r.0 ≢ s.0)) → at key (key s.1) (held_by s.0 (r ∷ all)) ≡ Some s.1
-      by (inl same) =
-          let less : nat_cmp (key r.1) (key s.1) ≡ Less = sym (ap (λ w. ordering_then w (nat_cmp (key r.1) (key s.1))) (ap (λ n. nat_cmp r.0 n) (sym same.1) ∙ tied_itself nat_cmp_total r.0)) ∙ below.0 in
-          rw (same.0, ap is_eq less) found.0
-      by (inr apart) = rw apart.0 found.0
-
-  pub each_found : (rows : List (ℕ × X)) → IsInOrder (held_cmp nat_cmp) (held_key key) rows → AllByRecursion (λ (s : ℕ × X). at key (key s.1) (held_by s.0 rows) ≡ Some s.1) rows
-  unfolding IsStrictlySortedBy
-  each_found [] sorted = tt
-  each_found (r ∷ rows) sorted = (here, later_found r rows rows sorted.0 (each_found rows sorted.1))
-    where
-      here : at key (key r.1) (held_by r.0 (r ∷ rows)) ≡ Some r.1
-      here = by (eqb_tells r.0 r.0)
-        where
-          by : ((eqb r.0 r.0 ≡ true) × (r.0 ≡ r.0)) ⊎ ((eqb r.0 r.0 ≡ false) × (r.0 ≢ r.0)) → at key (key r.1) (held_by r.0 (r ∷ rows)) ≡ Some r.1
-          by (inl same) = rw (same.0, ap is_eq (tied_itself nat_cmp_total (key r.1))) refl
-          by (inr apart) = absurd (apart.1 refl)
+use Rattle.cpi_store.specs.Sound.{IsSound, HasItsAssignment, HasItsSeries, AreApart, AllPairs}
+use Rattle.cpi_store.proofs.Slots.{all_of_held, each_found}
+use Rattle.cpi_store.proofs.Placed.{all_by_series, by_series_in_order}
 
 -- ---- the quotes of a month
 
-module _ (month : ℕ) (quotes : List (ℕ × QuoteRow)) where
-  abbrev row : ℕ × Assignment → Option Frozen
-  row = frozen_row month quotes
+one_given : (g h : Given) → Some g ≡ Some h → h ≡ g
+one_given g h e = cc
 
-  rows_above : (r : ℕ × Assignment) (rows : List (ℕ × Assignment)) → IsWellMade r → AllByRecursion IsWellMade rows → AllByRecursion (λ s. held_cmp nat_cmp (held_key (λ a. a.slot) r) (held_key (λ a. a.slot) s) ≡ Less) rows →
-      AllByRecursion (λ f. series_cmp r.1.series f.series ≡ Less) (filter_map row rows)
-  rows_above r [] made all below = tt
-  rows_above r (s ∷ rows) made all below = by (row_at quote_cmp quote_key (s.1.slot, month) (held_by s.0 quotes)) refl (rows_above r rows made all.1 below.1)
-    where
-      by : (w : Option QuoteRow) → row_at quote_cmp quote_key (s.1.slot, month) (held_by s.0 quotes) ≡ w → AllByRecursion (λ f. series_cmp r.1.series f.series ≡ Less) (filter_map row rows) → AllByRecursion (λ f. series_cmp r.1.series f.series ≡ Less) (filter_map row (s ∷ rows))
-      by None e rest = rw e rest
-      by (Some q) e rest = rw e (ap (λ x. series_cmp x s.1.series) made.series ∙ ap (λ x. series_cmp (record { collector = r.0; slot = r.1.slot }) x) all.0.series ∙ below.0, rest)
+module _ (month : ℕ) (quotes : List (ℕ × QuoteRow)) (given : List (ℕ × Given)) where
+  -- the quote that is stored of the month for what a slot was given
+  abbrev pub stored : ℕ × Given → Option QuoteRow
+  stored r = row_at quote_cmp quote_key (r.1.assignment.slot, month) (held_by r.0 quotes)
 
-  pub month_in_order : (rows : List (ℕ × Assignment)) → AllByRecursion IsWellMade rows → IsInOrder (held_cmp nat_cmp) (held_key (λ a. a.slot)) rows → IsInOrder series_cmp (λ f. f.series) (filter_map row rows)
-  unfolding IsStrictlySortedBy
-  month_in_order [] all sorted = tt
-  month_in_order (r ∷ rows) all sorted = by (row_at quote_cmp quote_key (r.1.slot, month) (held_by r.0 quotes)) refl (month_in_order rows all.1 sorted.1)
-    where
-      by : (w : Option QuoteRow) → row_at quote_cmp quote_key (r.1.slot, month) (held_by r.0 quotes) ≡ w → IsInOrder series_cmp (λ f. f.series) (filter_map row rows) → IsInOrder series_cmp (λ f. f.series) (filter_map row (r ∷ rows))
-      by None e rest = rw e rest
-      by (Some q) e rest = rw e (rows_above r rows all.0 all.1 sorted.0, rest)
+  -- what has a quote of the month is active in it
+  abbrev pub IsActiveIfQuoted : ℕ × Given → Type 0
+  IsActiveIfQuoted r = (q : QuoteRow) → stored r ≡ Some q → is_active month r.1.assignment ≡ true
 
-  pub month_assigned : (assignments rows : List (ℕ × Assignment)) → AllByRecursion IsWellMade rows → AllByRecursion (λ (s : ℕ × Assignment). at (λ a. a.slot) s.1.slot (held_by s.0 assignments) ≡ Some s.1) rows → AllByRecursion (IsOfAssignment assignments) (filter_map row rows)
-  month_assigned assignments [] made all = tt
-  month_assigned assignments (r ∷ rows) made all = by (row_at quote_cmp quote_key (r.1.slot, month) (held_by r.0 quotes)) refl (month_assigned assignments rows made.1 all.1)
+  active_if_quoted : AllByRecursion (HasItsAssignment given) quotes → (r : ℕ × Given) → at (λ g. g.assignment.slot) r.1.assignment.slot (held_by r.0 given) ≡ Some r.1 → IsActiveIfQuoted r
+  active_if_quoted quoted r found q e =
+      let has = all_of_held quote_cmp quote_key (HasItsAssignment given) r.0 (r.1.assignment.slot, month) q quotes quoted e in
+      let keys : (q.slot, q.month) ≡ (r.1.assignment.slot, month) = exact_pairs nat_cmp nat_cmp exact_unsigned exact_unsigned (q.slot, q.month) (r.1.assignment.slot, month) (row_key quote_cmp quote_key (r.1.assignment.slot, month) q (held_by r.0 quotes) e) in
+      let both : Some r.1 ≡ Some has.0 = sym found ∙ ap (λ (k : ℕ × ℕ). at (λ (g : Given). g.assignment.slot) k.0 (held_by r.0 given)) (sym keys) ∙ has.1 in
+      let is : has.0 ≡ r.1 = one_given r.1 has.0 both in
+      ap (λ (k : ℕ × ℕ). is_active k.1 r.1.assignment) (sym keys) ∙ ap (λ (g : Given). is_active q.month g.assignment) (sym is) ∙ has.2
+
+  pub all_active : AllByRecursion (HasItsAssignment given) quotes → (rows : List (ℕ × Given)) → AllByRecursion (λ (r : ℕ × Given). at (λ g. g.assignment.slot) r.1.assignment.slot (held_by r.0 given) ≡ Some r.1) rows → AllByRecursion IsActiveIfQuoted rows
+  all_active quoted [] each = tt
+  all_active quoted (r ∷ rows) each = (active_if_quoted quoted r each.0, all_active quoted rows each.1)
+
+  -- no other assignment of a series has a quote of a month in which the series has this one
+  others_apart : (r : ℕ × Given) (rows : List (ℕ × Given)) → is_active month r.1.assignment ≡ true → AllByRecursion (AreApart r) rows → AllByRecursion IsActiveIfQuoted rows →
+      AllByRecursion (λ f. r.1.series ≢ f.series) (filter_map (frozen_row month quotes given) rows)
+  others_apart r [] active apart quoted = tt
+  others_apart r (s ∷ rows) active apart quoted = by (stored s) refl (others_apart r rows active apart.1 quoted.1)
     where
-      by : (w : Option QuoteRow) → row_at quote_cmp quote_key (r.1.slot, month) (held_by r.0 quotes) ≡ w → AllByRecursion (IsOfAssignment assignments) (filter_map row rows) → AllByRecursion (IsOfAssignment assignments) (filter_map row (r ∷ rows))
+      by : (w : Option QuoteRow) → stored s ≡ w → AllByRecursion (λ f. r.1.series ≢ f.series) (filter_map (frozen_row month quotes given) rows) → AllByRecursion (λ f. r.1.series ≢ f.series) (filter_map (frozen_row month quotes given) (s ∷ rows))
       by None e rest = rw e rest
-      by (Some q) e rest = rw e ((r.1, ap (λ (x : SeriesId). at (λ (a : Assignment). a.slot) x.slot (held_by x.collector assignments)) made.0.series ∙ all.0, refl, refl), rest)
+      by (Some q) e rest = rw e (λ same. apart.0 same month active (quoted.0 q e), rest)
+
+  stored_apart : (rows : List (ℕ × Given)) → AllPairs AreApart rows → AllByRecursion IsActiveIfQuoted rows → AllPairs (λ f g. f.series ≢ g.series) (filter_map (frozen_row month quotes given) rows)
+  stored_apart [] apart quoted = tt
+  stored_apart (r ∷ rows) apart quoted = by (stored r) refl (stored_apart rows apart.1 quoted.1)
+    where
+      by : (w : Option QuoteRow) → stored r ≡ w → AllPairs (λ f g. f.series ≢ g.series) (filter_map (frozen_row month quotes given) rows) → AllPairs (λ f g. f.series ≢ g.series) (filter_map (frozen_row month quotes given) (r ∷ rows))
+      by None e rest = rw e rest
+      by (Some q) e rest = rw e (others_apart r rows (quoted.0 q e) apart.0 quoted.1, rest)
+
+  stored_of_series : (rows : List (ℕ × Given)) → AllByRecursion (HasItsSeries given) rows → AllByRecursion (IsOfSeries given) (filter_map (frozen_row month quotes given) rows)
+  stored_of_series [] series = tt
+  stored_of_series (r ∷ rows) series = by (stored r) refl (stored_of_series rows series.1)
+    where
+      by : (w : Option QuoteRow) → stored r ≡ w → AllByRecursion (IsOfSeries given) (filter_map (frozen_row month quotes given) rows) → AllByRecursion (IsOfSeries given) (filter_map (frozen_row month quotes given) (r ∷ rows))
+      by None e rest = rw e rest
+      by (Some q) e rest = rw e ((series.0.0, series.0.1, sym series.0.3, refl), rest)
+
+module _ (o : Office) (s : IsSound o) (month : ℕ) where
+  pub month_active : AllByRecursion (IsActiveIfQuoted month o.quotes o.assignments) o.assignments
+  month_active = all_active month o.quotes o.assignments s.quoted o.assignments (each_found (λ g. g.assignment.slot) o.assignments s.assignments)
+
+  pub month_in_order : IsInOrder series_cmp (λ f. f.series) (month_rows month o)
+  month_in_order = by_series_in_order (stored_rows month o.quotes o.assignments) (stored_apart month o.quotes o.assignments o.assignments s.apart month_active)
+
+  pub month_of_series : AllByRecursion (IsOfSeries o.assignments) (month_rows month o)
+  month_of_series = all_by_series (IsOfSeries o.assignments) (stored_rows month o.quotes o.assignments) (stored_of_series month o.quotes o.assignments o.assignments s.series)
 
 pub newly_frozen : (o : Office) → IsSound o → (r : Release) → r.frozen ≡ month_rows r.month o → HasFrozenList o.assignments r
 newly_frozen o s r is = record {
-  in_order = subst (IsInOrder series_cmp (λ f. f.series)) (sym is) (month_in_order r.month o.quotes o.assignments s.made s.assignments);
-  of_assignments = subst (AllByRecursion (IsOfAssignment o.assignments)) (sym is) (month_assigned r.month o.quotes o.assignments o.assignments s.made (each_found (λ a. a.slot) o.assignments s.assignments));
+  in_order = subst (IsInOrder series_cmp (λ f. f.series)) (sym is) (month_in_order o s r.month);
+  of_series = subst (AllByRecursion (IsOfSeries o.assignments)) (sym is) (month_of_series o s r.month);
 }
 
 -- ---- what follows is put at the end

@@ -1,127 +1,89 @@
 -- What is frozen of a month is what is stored of it.
-use Rattle.std.proofs.Common.{◌≡◌, ◌≢◌, ℕ, Bool, true, false, eqb, List, [], ◌∷◌, Some, None, Option, refl, sym, ap, ◌∙◌, subst, inl, inr}
-use Rattle.std.specs.Prelude.{◌⊎◌, option_map, IsSome}
+use Rattle.std.proofs.Common.{◌≡◌, ◌≢◌, ℕ, Bool, true, false, List, [], ◌∷◌, Some, None, Option, refl, sym, ap, ◌∙◌, inl, inr}
+use Rattle.std.specs.Prelude.{◌⊎◌, option_map, option_and_then}
 use Rattle.std.specs.declared.cmp.Ordering.{Ordering}
 use Rattle.std.specs.declared.cmp.Ordering.TheVariants.{Less, Equal, Greater}
-use Rattle.std.specs.Ordering.{nat_cmp, is_eq, ordering_then}
+use Rattle.std.specs.Ordering.{is_eq}
 use Rattle.std.specs.List.{AllByRecursion, filter_map}
 use Rattle.std.proofs.lemmas.Bool.{false≢true}
-use Rattle.std.proofs.lemmas.Bool.Decides.{eqb_tells}
-use Rattle.std.proofs.lemmas.Cmp.{nat_cmp_total, ranked, tied_itself}
-use Rattle.std.proofs.lemmas.Map.Lookups.{exact_pairs, exact_unsigned}
-use Rattle.cpi_rows.specs.Keyed.{at, row_at}
-use Rattle.cpi_rows.specs.Held.{held_by}
-use Rattle.cpi_rows.proofs.Found.{row_key}
+use Rattle.std.proofs.lemmas.Cmp.{tied_itself}
+use Rattle.cpi_rows.specs.Keyed.{row_at}
 use Rattle.cpi_codes.specs.declared.series.SeriesId.{SeriesId}
-use Rattle.cpi_survey.specs.Quote.{QuoteRow, quote_cmp, quote_key}
-use Rattle.cpi_survey.specs.declared.assignment.Assignment.{Assignment}
+use Rattle.cpi_survey.specs.declared.mark.Mark.{Mark}
+use Rattle.cpi_survey.specs.Assignment.{is_active}
+use Rattle.cpi_survey.specs.Quote.{QuoteRow}
 use Rattle.cpi_index.specs.Frozen.{Frozen}
-use Rattle.cpi_store.specs.Office.{frozen_quote, frozen_row, month_rows}
-use Rattle.cpi_store.specs.FrozenLists.{series_cmp}
-use Rattle.cpi_store.specs.Sound.{IsWellMade, HasItsAssignment}
-use Rattle.cpi_store.specs.Stored.{FrozenAreStored}
+use Rattle.cpi_store.specs.declared.given.Given.{Given}
+use Rattle.cpi_store.specs.Office.{Office, frozen_row, stored_rows}
+use Rattle.cpi_store.specs.Series.{same_series, series_cmp}
+use Rattle.cpi_store.specs.Sound.{AreApart, AllPairs}
+use Rattle.cpi_store.specs.Stored.{assignment_in, stored_mark, FrozenAreStored}
+use Rattle.cpi_store.proofs.Changes.{same_series_tells}
+use Rattle.cpi_store.proofs.Placed.{series_total, series_equal, first_by_series}
+use Rattle.cpi_store.proofs.Published.{stored, IsActiveIfQuoted, month_active}
 
--- series that compare equal
-series_equal : (s t : SeriesId) → series_cmp s t ≡ Equal → (s.collector ≡ t.collector) × (s.slot ≡ t.slot)
-series_equal s t e = by (nat_cmp s.collector t.collector) refl e
+-- another series compares as another
+series_differ : (s t : SeriesId) → s ≢ t → is_eq (series_cmp s t) ≡ false
+series_differ s t apart = by (series_cmp s t) refl
   where
-    by : (w : Ordering) → nat_cmp s.collector t.collector ≡ w → ordering_then w (nat_cmp s.slot t.slot) ≡ Equal → (s.collector ≡ t.collector) × (s.slot ≡ t.slot)
-    by Less f e = let no : Less ≡ Equal = e in cc
-    by Equal f e = (ranked s.collector t.collector Equal (sym f), ranked s.slot t.slot Equal (sym e))
-    by Greater f e = let no : Greater ≡ Equal = e in cc
+    by : (w : Ordering) → series_cmp s t ≡ w → is_eq (series_cmp s t) ≡ false
+    by Less e = ap is_eq e
+    by Equal e = absurd (apart (series_equal s t e))
+    by Greater e = ap is_eq e
 
-module _ (month : ℕ) (quotes : List (ℕ × QuoteRow)) (c slot : ℕ) where
-  abbrev wanted : SeriesId
-  wanted = record { collector = c; slot = slot }
+module _ (month : ℕ) (series : SeriesId) (o : Office) where
+  abbrev of_month : ℕ × Given → Option QuoteRow
+  of_month r = stored month o.quotes o.assignments r
 
-  abbrev stored : Option QuoteRow
-  stored = row_at quote_cmp quote_key (slot, month) (held_by c quotes)
+  -- the mark of the series among the quotes that are stored for some of the assignments
+  abbrev frozen_among : List (ℕ × Given) → Option Mark
+  frozen_among rows = option_map (λ (f : Frozen). f.mark) (row_at series_cmp (λ (f : Frozen). f.series) series (filter_map (frozen_row month o.quotes o.assignments) rows))
 
-  abbrev of_row : ℕ × Assignment → Option QuoteRow
-  of_row r = row_at quote_cmp quote_key (r.1.slot, month) (held_by r.0 quotes)
+  -- the mark of the quote of the assignment that the series has among them
+  abbrev stored_among : List (ℕ × Given) → Option Mark
+  stored_among rows = option_and_then (stored_mark month o) (assignment_in month series rows)
 
-  abbrev among : List (ℕ × Assignment) → Option Frozen
-  among rows = row_at series_cmp (λ (f : Frozen). f.series) wanted (filter_map (frozen_row month quotes) rows)
+  unquoted_over : (r : ℕ × Given) (rows : List (ℕ × Given)) → of_month r ≡ None → frozen_among (r ∷ rows) ≡ frozen_among rows
+  unquoted_over r rows e = rw e refl
 
-  -- a row of another series is passed over
-  passed_over : (r : ℕ × Assignment) (rows : List (ℕ × Assignment)) → is_eq (series_cmp r.1.series wanted) ≡ false → among (r ∷ rows) ≡ among rows
-  passed_over r rows other = by (of_row r) refl
+  -- an assignment of another series is passed over
+  passed_over : (r : ℕ × Given) (rows : List (ℕ × Given)) → r.1.series ≢ series → frozen_among (r ∷ rows) ≡ frozen_among rows
+  passed_over r rows other = by (of_month r) refl
     where
-      by : (w : Option QuoteRow) → of_row r ≡ w → among (r ∷ rows) ≡ among rows
+      by : (w : Option QuoteRow) → of_month r ≡ w → frozen_among (r ∷ rows) ≡ frozen_among rows
       by None e = rw e refl
-      by (Some q) e = rw (e, other) refl
+      by (Some q) e = rw (e, series_differ r.1.series series other) refl
 
-  -- of the series itself, what is stored
-  same_stored : (r : ℕ × Assignment) → IsWellMade r → series_cmp r.1.series wanted ≡ Equal → of_row r ≡ stored
-  same_stored r made e =
-      let same = series_equal r.1.series wanted e in
-      let collector : r.0 ≡ c = sym (ap (λ (s : SeriesId). s.collector) made.series) ∙ same.0 in
-      let place : r.1.slot ≡ slot = sym (ap (λ (s : SeriesId). s.slot) made.series) ∙ same.1 in
-      ap (λ n. row_at quote_cmp quote_key (r.1.slot, month) (held_by n quotes)) collector ∙ ap (λ n. row_at quote_cmp quote_key (n, month) (held_by c quotes)) place
-
-  none_frozen : stored ≡ None → (rows : List (ℕ × Assignment)) → AllByRecursion IsWellMade rows → among rows ≡ None
-  none_frozen none [] all = refl
-  none_frozen none (r ∷ rows) all = by (series_cmp r.1.series wanted) refl (none_frozen none rows all.1)
+  -- where the series has its assignment, it has no other
+  no_other : (r : ℕ × Given) (rows : List (ℕ × Given)) → r.1.series ≡ series → is_active month r.1.assignment ≡ true → AllByRecursion (AreApart r) rows → assignment_in month series rows ≡ None
+  no_other r [] same active apart = refl
+  no_other r (s ∷ rows) same active apart = by (same_series_tells s.1.series series) (is_active month s.1.assignment) refl (no_other r rows same active apart.1)
     where
-      by : (w : Ordering) → series_cmp r.1.series wanted ≡ w → among rows ≡ None → among (r ∷ rows) ≡ None
-      by Less e rest = passed_over r rows (ap is_eq e) ∙ rest
-      by Equal e rest = rw (same_stored r all.0 e ∙ none) rest
-      by Greater e rest = passed_over r rows (ap is_eq e) ∙ rest
+      by : ((same_series s.1.series series ≡ true) × (s.1.series ≡ series)) ⊎ ((same_series s.1.series series ≡ false) × (s.1.series ≢ series)) → (w : Bool) → is_active month s.1.assignment ≡ w →
+          assignment_in month series rows ≡ None → assignment_in month series (s ∷ rows) ≡ None
+      by (inl here) true e rest = absurd (apart.0 (same ∙ sym here.1) month active e)
+      by (inl here) false e rest = rw (here.0, e) rest
+      by (inr there) w e rest = rw there.0 rest
 
-  some_frozen : (q : QuoteRow) → stored ≡ Some q → (rows : List (ℕ × Assignment)) → AllByRecursion IsWellMade rows → among rows ≡ option_map (λ a. frozen_quote a q) (at (λ (a : Assignment). a.slot) slot (held_by c rows))
-  some_frozen q some [] all = refl
-  some_frozen q some (r ∷ rows) all = by (eqb_tells r.0 c) (some_frozen q some rows all.1)
+  among : (rows : List (ℕ × Given)) → AllPairs AreApart rows → AllByRecursion (IsActiveIfQuoted month o.quotes o.assignments) rows → frozen_among rows ≡ stored_among rows
+  among [] apart quoted = refl
+  among (r ∷ rows) apart quoted = by (same_series_tells r.1.series series) (is_active month r.1.assignment) refl (of_month r) refl (among rows apart.1 quoted.1)
     where
-      order : series_cmp r.1.series wanted ≡ ordering_then (nat_cmp r.0 c) (nat_cmp r.1.slot slot)
-      order = ap (λ s. series_cmp s wanted) all.0.series
-
-      mine : r.0 ≡ c → eqb r.0 c ≡ true → (w : Ordering) → nat_cmp r.1.slot slot ≡ w → among rows ≡ option_map (λ a. frozen_quote a q) (at (λ (a : Assignment). a.slot) slot (held_by c rows)) →
-          among (r ∷ rows) ≡ option_map (λ a. frozen_quote a q) (at (λ (a : Assignment). a.slot) slot (held_by c (r ∷ rows)))
-      mine same t Less e rest = passed_over r rows (ap is_eq (order ∙ ap (λ w. ordering_then w (nat_cmp r.1.slot slot)) (ap (λ n. nat_cmp n c) same ∙ tied_itself nat_cmp_total c) ∙ e)) ∙ rest ∙ sym (rw (t, ap is_eq e) refl)
-      mine same t Greater e rest = passed_over r rows (ap is_eq (order ∙ ap (λ w. ordering_then w (nat_cmp r.1.slot slot)) (ap (λ n. nat_cmp n c) same ∙ tied_itself nat_cmp_total c) ∙ e)) ∙ rest ∙ sym (rw (t, ap is_eq e) refl)
-      mine same t Equal e rest =
-          let level : series_cmp r.1.series wanted ≡ Equal = order ∙ ap (λ w. ordering_then w (nat_cmp r.1.slot slot)) (ap (λ n. nat_cmp n c) same ∙ tied_itself nat_cmp_total c) ∙ e in
-          rw (same_stored r all.0 level ∙ some, ap is_eq level, t, ap is_eq e) refl
-
-      theirs : r.0 ≢ c → (w : Ordering) → nat_cmp r.0 c ≡ w → is_eq (ordering_then w (nat_cmp r.1.slot slot)) ≡ false
-      theirs apart Less e = refl
-      theirs apart Equal e = absurd (apart (ranked r.0 c Equal (sym e)))
-      theirs apart Greater e = refl
-
-      by : ((eqb r.0 c ≡ true) × (r.0 ≡ c)) ⊎ ((eqb r.0 c ≡ false) × (r.0 ≢ c)) → among rows ≡ option_map (λ a. frozen_quote a q) (at (λ (a : Assignment). a.slot) slot (held_by c rows)) →
-          among (r ∷ rows) ≡ option_map (λ a. frozen_quote a q) (at (λ (a : Assignment). a.slot) slot (held_by c (r ∷ rows)))
-      by (inl same) rest = mine same.1 same.0 (nat_cmp r.1.slot slot) refl rest
-      by (inr apart) rest = passed_over r rows (ap is_eq order ∙ theirs apart.1 (nat_cmp r.0 c) refl) ∙ rest ∙ sym (rw apart.0 refl)
-
--- a stored quote has its assignment
-has_assignment : (assignments : List (ℕ × Assignment)) (c : ℕ) (k : ℕ × ℕ) (q : QuoteRow) (rows : List (ℕ × QuoteRow)) → AllByRecursion (HasItsAssignment assignments) rows → row_at quote_cmp quote_key k (held_by c rows) ≡ Some q → IsSome (at (λ a. a.slot) q.slot (held_by c assignments))
-has_assignment assignments c k q [] all found = let no : None ≡ Some q = found in cc
-has_assignment assignments c k q (r ∷ rows) all found = by (eqb_tells r.0 c) (has_assignment assignments c k q rows all.1)
-  where
-    mine : r.0 ≡ c → (w : Bool) → is_eq (quote_cmp (quote_key r.1) k) ≡ w → row_at quote_cmp quote_key k (r.1 ∷ held_by c rows) ≡ Some q → (row_at quote_cmp quote_key k (held_by c rows) ≡ Some q → IsSome (at (λ (a : Assignment). a.slot) q.slot (held_by c assignments))) → IsSome (at (λ (a : Assignment). a.slot) q.slot (held_by c assignments))
-    mine same true e here rest =
-        let some : Some r.1 ≡ Some q = rw e at here in
-        let is : r.1 ≡ q = cc in
-        subst (λ n. IsSome (at (λ (a : Assignment). a.slot) q.slot (held_by n assignments))) same (subst (λ (x : QuoteRow). IsSome (at (λ (a : Assignment). a.slot) x.slot (held_by r.0 assignments))) is all.0)
-    mine same false e here rest = rest (rw e at here)
-
-    by : ((eqb r.0 c ≡ true) × (r.0 ≡ c)) ⊎ ((eqb r.0 c ≡ false) × (r.0 ≢ c)) → (row_at quote_cmp quote_key k (held_by c rows) ≡ Some q → IsSome (at (λ (a : Assignment). a.slot) q.slot (held_by c assignments))) → IsSome (at (λ (a : Assignment). a.slot) q.slot (held_by c assignments))
-    by (inl same) rest = mine same.1 (is_eq (quote_cmp (quote_key r.1) k)) refl (rw same.0 at found) rest
-    by (inr apart) rest = rest (rw apart.0 at found)
+      by : ((same_series r.1.series series ≡ true) × (r.1.series ≡ series)) ⊎ ((same_series r.1.series series ≡ false) × (r.1.series ≢ series)) → (w : Bool) → is_active month r.1.assignment ≡ w →
+          (v : Option QuoteRow) → of_month r ≡ v → frozen_among rows ≡ stored_among rows → frozen_among (r ∷ rows) ≡ stored_among (r ∷ rows)
+      by (inr there) w e v f rest = passed_over r rows there.1 ∙ rest ∙ rw there.0 refl
+      by (inl here) true e (Some q) f rest =
+          let level : is_eq (series_cmp r.1.series series) ≡ true = ap (λ (t : SeriesId). is_eq (series_cmp t series)) here.1 ∙ ap is_eq (tied_itself series_total series) in
+          let frozen : frozen_among (r ∷ rows) ≡ Some q.mark = rw (f, level) refl in
+          let kept : stored_among (r ∷ rows) ≡ Some q.mark = rw (here.0, e, f) refl in
+          frozen ∙ sym kept
+      by (inl here) true e None f rest =
+          let kept : stored_among (r ∷ rows) ≡ None = rw (here.0, e, f) refl in
+          unquoted_over r rows f ∙ rest ∙ ap (option_and_then (stored_mark month o)) (no_other r rows here.1 e apart.0) ∙ sym kept
+      by (inl here) false e (Some q) f rest = absurd (false≢true (sym e ∙ quoted.0 q f))
+      by (inl here) false e None f rest = unquoted_over r rows f ∙ rest ∙ rw (here.0, e) refl
 
 pub frozen_are_stored : FrozenAreStored
-frozen_are_stored o month c slot s = by (row_at quote_cmp quote_key (slot, month) (held_by c o.quotes)) refl
-  where
-    assigned : (q : QuoteRow) (w : Option Assignment) → IsSome w → option_map (λ (f : Frozen). f.mark) (option_map (λ a. frozen_quote a q) w) ≡ Some q.mark
-    assigned q None some = absurd (false≢true some)
-    assigned q (Some a) some = refl
-
-    by : (w : Option QuoteRow) → row_at quote_cmp quote_key (slot, month) (held_by c o.quotes) ≡ w →
-        option_map (λ (f : Frozen). f.mark) (row_at series_cmp (λ (f : Frozen). f.series) (record { collector = c; slot = slot }) (month_rows month o)) ≡ option_map (λ (q : QuoteRow). q.mark) (row_at quote_cmp quote_key (slot, month) (held_by c o.quotes))
-    by None e = ap (option_map (λ (f : Frozen). f.mark)) (none_frozen month o.quotes c slot e o.assignments s.made) ∙ sym (ap (option_map (λ (q : QuoteRow). q.mark)) e)
-    by (Some q) e =
-        let keys : (q.slot, q.month) ≡ (slot, month) = exact_pairs nat_cmp nat_cmp exact_unsigned exact_unsigned (q.slot, q.month) (slot, month) (row_key quote_cmp quote_key (slot, month) q (held_by c o.quotes) e) in
-        let has : IsSome (at (λ (a : Assignment). a.slot) slot (held_by c o.assignments)) = subst (λ (k : ℕ × ℕ). IsSome (at (λ (a : Assignment). a.slot) k.0 (held_by c o.assignments))) keys (has_assignment o.assignments c (slot, month) q o.quotes s.quoted e) in
-        ap (option_map (λ (f : Frozen). f.mark)) (some_frozen month o.quotes c slot q e o.assignments s.made)
-        ∙ assigned q (at (λ (a : Assignment). a.slot) slot (held_by c o.assignments)) has
-        ∙ sym (ap (option_map (λ (q : QuoteRow). q.mark)) e)
+frozen_are_stored o month series s =
+    ap (option_map (λ (f : Frozen). f.mark)) (first_by_series series (stored_rows month o.quotes o.assignments))
+    ∙ among month series o o.assignments s.apart (month_active o s month)

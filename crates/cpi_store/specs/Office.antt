@@ -1,5 +1,5 @@
 -- The office as lists, each in the order of what it is listed by, and what an accepted request puts into them.
-use Rattle.std.specs.Prelude.{ℕ, List, [], map, Option, option_map}
+use Rattle.std.specs.Prelude.{ℕ, ◌==◌, ◌&&◌, List, [], map, Option, option_map, if◌then◌else◌}
 use Rattle.std.specs.List.{filter_map}
 use Rattle.std.specs.Ordering.{nat_cmp}
 use Rattle.cpi_rows.specs.Keyed.{put, put_by, row_at}
@@ -10,7 +10,11 @@ use Rattle.cpi_plan.specs.Plan.{Plan}
 use Rattle.cpi_plan.specs.Calendar.{CalendarPart}
 use Rattle.cpi_survey.specs.declared.assignment.Assignment.{Assignment}
 use Rattle.cpi_survey.specs.declared.assignment.Assigned.{Assigned}
+use Rattle.cpi_survey.specs.Assignment.{until}
 use Rattle.cpi_store.specs.declared.bearer.Bearer.{Bearer}
+use Rattle.cpi_store.specs.declared.given.Given.{Given}
+use Rattle.cpi_store.specs.declared.handover.Handover.{Handover}
+use Rattle.cpi_store.specs.Series.{by_series, first_of_series, last_of_series}
 use Rattle.cpi_survey.specs.Quote.{QuoteRow, quote_cmp, quote_key}
 use Rattle.cpi_survey.specs.Public.{PublicPart}
 use Rattle.cpi_survey.specs.Own.{OwnPart}
@@ -26,7 +30,7 @@ pub record Office : Type 0 where
   pub calendar : List CalendarPart  -- by month
   pub collectors : List Bearer  -- by number
   pub outlets : List Outlet  -- by number
-  pub assignments : List (ℕ × Assignment)  -- by collector and slot
+  pub assignments : List (ℕ × Given)  -- by collector and slot
   pub quotes : List (ℕ × QuoteRow)  -- by collector, slot and month
   pub releases : List Release  -- by month and revision
 
@@ -46,13 +50,16 @@ empty_office = record {
 abbrev pub public_part : Office → PublicPart
 public_part o = record { items = o.items; plans = o.plans; calendar = o.calendar }
 
--- what a collector has
+-- what a collector has: of a series that was handed over, nobody else's number
+abbrev pub assignments_by : ℕ → Office → List Assignment
+assignments_by c o = map (λ g. g.assignment) (held_by c o.assignments)
+
 abbrev pub own_part : ℕ → Office → OwnPart
-own_part c o = record { assignments = map (with_name o.outlets) (held_by c o.assignments); quotes = held_by c o.quotes }
+own_part c o = record { assignments = map (with_name o.outlets) (assignments_by c o); quotes = held_by c o.quotes }
 
 -- the assignments and quotes of all collectors, each with its collector's number
-abbrev pub put_assignment : ℕ → Assignment → List (ℕ × Assignment) → List (ℕ × Assignment)
-put_assignment number a rows = put (held_cmp nat_cmp) (held_key (λ a. a.slot)) (number, a) rows
+abbrev pub put_given : ℕ → Given → List (ℕ × Given) → List (ℕ × Given)
+put_given number g rows = put (held_cmp nat_cmp) (held_key (λ g. g.assignment.slot)) (number, g) rows
 
 abbrev pub put_quote : ℕ → QuoteRow → List (ℕ × QuoteRow) → List (ℕ × QuoteRow)
 put_quote number q rows = put (held_cmp quote_cmp) (held_key quote_key) (number, q) rows
@@ -60,18 +67,54 @@ put_quote number q rows = put (held_cmp quote_cmp) (held_key quote_key) (number,
 abbrev pub put_release : Release → List Release → List Release
 put_release r releases = put release_cmp release_key r releases
 
--- a stored quote, with what its assignment says of its series
-abbrev pub frozen_quote : Assignment → QuoteRow → Frozen
-frozen_quote a q = record { series = a.series; item = a.item; last_month = a.last_month; mark = q.mark }
+-- ---- a series that is handed over
+
+-- what a slot was given, with this last month
+abbrev pub given_until : ℕ → Given → Given
+given_until last_month g = record g { assignment = until last_month g.assignment }
+
+abbrev pub row_until : ℕ → ℕ → ℕ → ℕ × Given → ℕ × Given
+row_until number slot last_month row =
+    if row.0 == number && row.1.assignment.slot == slot then (row.0, given_until last_month row.1) else row
+
+-- the assignments, of which that of a collector's slot has this last month
+abbrev pub end_given : ℕ → ℕ → ℕ → List (ℕ × Given) → List (ℕ × Given)
+end_given number slot last_month rows = map (row_until number slot last_month) rows
+
+-- what the new slot is given: the same series
+abbrev pub given_over : Handover → Given
+given_over h = record { assignment = h.assigned.assignment; series = h.ended.series }
+
+-- the former assignment ends, and the new one is put
+abbrev pub hand_over : Handover → List (ℕ × Given) → List (ℕ × Given)
+hand_over h rows =
+    put_given h.taker.number (given_over h)
+    (end_given h.former.number h.ended.assignment.slot h.ended.assignment.last_month rows)
+
+-- ---- the quotes of a month
+
+-- a stored quote, with what is said of its series: it lasts as long as the last of its assignments
+abbrev pub frozen_quote : List (ℕ × Given) → Given → QuoteRow → Frozen
+frozen_quote given g q = record {
+  series = g.series;
+  item = g.assignment.item;
+  last_month = last_of_series g.series given;
+  mark = q.mark;
+}
 
 -- the quote that an assignment has of the month, if it has one
-abbrev pub frozen_row : ℕ → List (ℕ × QuoteRow) → ℕ × Assignment → Option Frozen
-frozen_row month quotes row =
-    option_map (frozen_quote row.1) (row_at quote_cmp quote_key (row.1.slot, month) (held_by row.0 quotes))
+abbrev pub frozen_row : ℕ → List (ℕ × QuoteRow) → List (ℕ × Given) → ℕ × Given → Option Frozen
+frozen_row month quotes given row =
+    option_map (frozen_quote given row.1)
+    (row_at quote_cmp quote_key (row.1.assignment.slot, month) (held_by row.0 quotes))
+
+-- the stored quotes of a month, by collector and slot
+abbrev pub stored_rows : ℕ → List (ℕ × QuoteRow) → List (ℕ × Given) → List Frozen
+stored_rows month quotes given = filter_map (frozen_row month quotes given) given
 
 -- the stored quotes of a month, by series
 abbrev pub month_rows : ℕ → Office → List Frozen
-month_rows month o = filter_map (frozen_row month o.quotes) o.assignments
+month_rows month o = by_series (stored_rows month o.quotes o.assignments)
 
 -- A row that an accepted request puts.
 pub data Change : Type 0 where
@@ -80,8 +123,10 @@ pub data Change : Type 0 where
   PutsCalendar : CalendarPart → Change
   Registers : Bearer → Change
   PutsOutlet : Outlet → Change
-  -- for this collector; with the outlet's name of that moment
+  -- for this collector, as a series of its own; with the outlet's name of that moment
   Assigns : Bearer → Assigned → Change
+  -- from one collector to another; with the outlet's name of that moment
+  HandsOver : Handover → Change
   -- of this collector
   Quotes : Bearer → QuoteRow → Change
   Freezes : Release → Change
@@ -93,6 +138,8 @@ changed (PutsPlan p) o = record o { plans = put_by (λ y. y.year) p o.plans }
 changed (PutsCalendar r) o = record o { calendar = put_by (λ r. r.month) r o.calendar }
 changed (Registers b) o = record o { collectors = put_by (λ b. b.number) b o.collectors }
 changed (PutsOutlet u) o = record o { outlets = put_by (λ u. u.number) u o.outlets }
-changed (Assigns b a) o = record o { assignments = put_assignment b.number a.assignment o.assignments }
+changed (Assigns b a) o =
+    record o { assignments = put_given b.number (first_of_series b.number a.assignment) o.assignments }
+changed (HandsOver h) o = record o { assignments = hand_over h o.assignments }
 changed (Quotes b q) o = record o { quotes = put_quote b.number q o.quotes }
 changed (Freezes r) o = record o { releases = put_release r o.releases }

@@ -1,6 +1,6 @@
 -- What holds of an office at all times: its lists are in order, what a row names is there, and its releases are
 -- published one after the other.
-use Rattle.std.specs.Prelude.{◌≡◌, ℕ, ◌≤◌, List, [], Some, IsSome}
+use Rattle.std.specs.Prelude.{◌≡◌, ℕ, ◌≤◌, true, List, [], ◌∷◌, Some, IsSome, ⊤}
 use Rattle.std.specs.List.{AllByRecursion}
 use Rattle.std.specs.Ordering.{nat_cmp}
 use Rattle.cpi_rows.specs.Keyed.{IsInOrder, at}
@@ -9,8 +9,10 @@ use Rattle.cpi_codes.specs.CodeOrder.{code_cmp}
 use Rattle.cpi_plan.specs.Plan.{Plan}
 use Rattle.cpi_survey.specs.Quote.{QuoteRow, quote_cmp, quote_key}
 use Rattle.cpi_survey.specs.declared.assignment.Assignment.{Assignment}
+use Rattle.cpi_survey.specs.Assignment.{is_active}
 use Rattle.cpi_release.specs.FrozenMonths.{release_cmp, release_key}
 use Rattle.cpi_store.specs.declared.bearer.Bearer.{Bearer}
+use Rattle.cpi_store.specs.declared.given.Given.{Given}
 use Rattle.cpi_store.specs.Bearer.{bearer_of}
 use Rattle.cpi_store.specs.Office.{Office}
 use Rattle.cpi_store.specs.FrozenLists.{HasFrozenList}
@@ -22,23 +24,43 @@ BearOwnKeys bearers =
     (number : ℕ) (b : Bearer) → at (λ b. b.number) number bearers ≡ Some b → bearer_of b.key bearers ≡ Some b
 
 -- the collector, the outlet and the item of an assignment are there
-abbrev pub HasItsRows : Office → ℕ × Assignment → Type 0
+abbrev pub HasItsRows : Office → ℕ × Given → Type 0
 HasItsRows o row =
     IsSome (at (λ b. b.number) row.0 o.collectors)
-    × IsSome (at (λ u. u.number) row.1.outlet o.outlets)
-    × IsSome (at (λ i. i.code) row.1.item o.items)
+    × IsSome (at (λ u. u.number) row.1.assignment.outlet o.outlets)
+    × IsSome (at (λ i. i.code) row.1.assignment.item o.items)
 
--- the quote's slot is one that its collector has
-abbrev pub HasItsAssignment : List (ℕ × Assignment) → ℕ × QuoteRow → Type 0
-HasItsAssignment assignments row = IsSome (at (λ a. a.slot) row.1.slot (held_by row.0 assignments))
+-- the quote's slot is one that its collector has, and its month one in which the slot is active
+abbrev pub HasItsAssignment : List (ℕ × Given) → ℕ × QuoteRow → Type 0
+HasItsAssignment given row =
+    (g : Given)
+    × (at (λ g. g.assignment.slot) row.1.slot (held_by row.0 given) ≡ Some g)
+    × (is_active row.1.month g.assignment ≡ true)
 
--- an assignment's series is named by its collector and slot, which are within their limits, and its first month isn't
--- after its last
+-- an assignment's collector and slot are within their limits, and its first month isn't after its last
 pub record IsWellMade (row : ℕ × Assignment) : Type 0 where
-  pub series : row.1.series ≡ record { collector = row.0; slot = row.1.slot }
   pub months : row.1.first_month ≤ row.1.last_month
   pub collector : 1 ≤ row.0
   pub slot : (1 ≤ row.1.slot) × (row.1.slot ≤ 400)
+
+-- the slot that names an assignment's series is there, names its own series, and prices the same item
+abbrev pub HasItsSeries : List (ℕ × Given) → ℕ × Given → Type 0
+HasItsSeries given row =
+    (g : Given)
+    × (at (λ g. g.assignment.slot) row.1.series.slot (held_by row.1.series.collector given) ≡ Some g)
+    × (g.series ≡ row.1.series)
+    × (g.assignment.item ≡ row.1.assignment.item)
+
+-- two assignments of one series have no month in common
+abbrev pub AreApart : ℕ × Given → ℕ × Given → Type 0
+AreApart a b =
+    a.1.series ≡ b.1.series → (month : ℕ) → is_active month a.1.assignment ≡ true →
+    is_active month b.1.assignment ≡ true → ⊥
+
+-- it is so of whatever two rows
+abbrev pub AllPairs : {X : Type 0} → (X → X → Type 0) → List X → Type 0
+AllPairs P [] = ⊤
+AllPairs P (x ∷ xs) = AllByRecursion (P x) xs × AllPairs P xs
 
 -- a plan has its nodes in the order of codes
 abbrev pub HasNodesInOrder : Plan → Type 0
@@ -51,15 +73,18 @@ pub record IsSound (o : Office) : Type 0 where
   pub calendar : IsInOrder nat_cmp (λ r. r.month) o.calendar
   pub collectors : IsInOrder nat_cmp (λ b. b.number) o.collectors
   pub outlets : IsInOrder nat_cmp (λ u. u.number) o.outlets
-  pub assignments : IsInOrder (held_cmp nat_cmp) (held_key (λ a. a.slot)) o.assignments
+  pub assignments : IsInOrder (held_cmp nat_cmp) (held_key (λ g. g.assignment.slot)) o.assignments
   pub quotes : IsInOrder (held_cmp quote_cmp) (held_key quote_key) o.quotes
   pub releases : IsInOrder release_cmp release_key o.releases
   pub keys : BearOwnKeys o.collectors
-  -- each assignment has its collector, outlet and item, each quote its assignment
+  -- each assignment has its collector, outlet and item, each quote its assignment, in whose months it is
   pub assigned : AllByRecursion (HasItsRows o) o.assignments
   pub quoted : AllByRecursion (HasItsAssignment o.assignments) o.quotes
-  -- each series is named by its slot
-  pub made : AllByRecursion IsWellMade o.assignments
+  -- each assignment is one that there can be
+  pub made : AllByRecursion (λ row. IsWellMade (row.0, row.1.assignment)) o.assignments
+  -- each series is named by its first slot, and has one assignment a month
+  pub series : AllByRecursion (HasItsSeries o.assignments) o.assignments
+  pub apart : AllPairs AreApart o.assignments
   -- the nodes of each plan are by code
   pub nodes : AllByRecursion HasNodesInOrder o.plans
   -- each release has the frozen quotes of the office's series, and is what is published after those before it

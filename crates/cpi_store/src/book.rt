@@ -2,8 +2,10 @@ ghost use Rattle.std.specs.Prelude.{◌≡◌, ◌<◌, ◌≤◌, IsOk, IsSome,
 ghost use Rattle.std.specs.Option.{option_copied};
 
 use crate::bearer::Bearer;
+use crate::given::Given;
+use crate::handover::Handover;
 use crate::outlet::Outlet;
-use cpi_codes::{CollectorId, Key, Moment, Month, OutletId};
+use cpi_codes::{CollectorId, Key, Moment, Month, OutletId, Slot};
 use cpi_index::FrozenQuote;
 use cpi_plan::{CalendarRow, Item, YearPlan};
 use cpi_release::{FrozenMonth, Groups, Level, Release, Revision};
@@ -37,8 +39,8 @@ pub trait Book: Groups {
     ghost use Rattle.cpi_survey.specs.Quote.{greatest_receipt};
     ghost use Rattle.cpi_store.specs.Outlet.{with_name};
     ghost use Rattle.cpi_store.specs.Office.{Office, public_part, own_part, changed, PutsItem, PutsPlan};
-    ghost use Rattle.cpi_store.specs.Office.{PutsCalendar, Registers, PutsOutlet, Assigns, Quotes, Freezes};
-    ghost use Rattle.cpi_store.specs.Office.{month_rows};
+    ghost use Rattle.cpi_store.specs.Office.{PutsCalendar, Registers, PutsOutlet, Assigns, HandsOver, Quotes, Freezes};
+    ghost use Rattle.cpi_store.specs.Office.{month_rows, given_until};
     ghost use Rattle.cpi_store.specs.Bearer.{bearer_of, collector_of, collector_key};
     ghost use Rattle.cpi_release.specs.State.{State, Keeps, Reads};
     ghost use Rattle.cpi_store.specs.Calls.{Writes, IsOffice, EndsAs};
@@ -111,15 +113,23 @@ pub trait Book: Groups {
             × (parts.own.now ≡ own_part collector (state self.old).held)))) }
         ensures always { finds_always → IsOk result };
 
+    /// What the collector's slot was given, with its series; none where the collector has no such slot.
+    fn given(&mut self, collector: CollectorId, slot: Slot) -> Result<Option<Given>, StoreFault>
+        ensures reads { Reads (state self.old) (state self.new) result (λ found.
+            found ≡ at (λ g. g.assignment.slot) slot (held_by collector (state self.old).held.assignments)) }
+        ensures always { finds_always → IsOk result };
+
     /// The frozen months in each of their revisions, with the moment at which its table is published, by month and
     /// revision.
     fn frozen_months(&mut self) -> Result<Vec<FrozenMonth>, StoreFault>
         ensures reads { Reads (state self.old) (state self.new) result (λ found.
             found.items ≡ frozen_months (state self.old).held.releases) };
 
-    /// The stored quotes of the month by series, each with the item and the last month of its assignment.
+    /// The stored quotes of the month by series, each with the item and the last month of its series, where no series
+    /// has two in the month.
     fn month_rows(&mut self, month: Month) -> Result<Vec<FrozenQuote>, StoreFault>
         ensures reads { Reads (state self.old) (state self.new) result (λ found.
+            IsFit (office_sources (state self.old).held) →
             found.items ≡ month_rows month (state self.old).held) };
 
     /// The months and revisions whose tables are published by the moment, each with its moment of publishing, by month
@@ -185,16 +195,15 @@ pub trait Book: Groups {
         ensures writes { Writes (state self.old) (state self.new) result
             (changed (PutsOutlet outlet) (state self.old).held) };
 
-    /// Puts a new assignment of the collector, with the name of its outlet. The caller owes that the collector is
-    /// registered with this key, that the collector's slot is free, that the series is named by this slot, that the
-    /// first month isn't after the last, that item and outlet are there, and that the name is the outlet's.
+    /// Puts a new assignment of the collector, as a series of its own, with the name of its outlet. The caller owes that the collector is
+    /// registered with this key, that the collector's slot is free, that the first month isn't after the last, that
+    /// item and outlet are there, and that the name is the outlet's.
     fn put_assignment(&mut self, bearer: Bearer, assigned: Assigned) -> Result<(), StoreFault>
         requires known { (state self.old).is_clean →
             at (λ b. b.number) bearer.number (state self.old).held.collectors ≡ Some bearer }
         requires new { (state self.old).is_clean →
-            at (λ a. a.slot) assigned.assignment.slot (held_by bearer.number (state self.old).held.assignments) ≡ None }
-        requires series { (state self.old).is_clean →
-            assigned.assignment.series ≡ record { collector = bearer.number; slot = assigned.assignment.slot } }
+            at (λ g. g.assignment.slot) assigned.assignment.slot (held_by bearer.number (state self.old).held.assignments)
+            ≡ None }
         requires months { (state self.old).is_clean → assigned.assignment.first_month ≤ assigned.assignment.last_month }
         requires item { (state self.old).is_clean →
             IsSome (at (λ i. i.code) assigned.assignment.item (state self.old).held.items) }
@@ -204,6 +213,28 @@ pub trait Book: Groups {
             assigned ≡ with_name (state self.old).held.outlets assigned.assignment }
         ensures writes { Writes (state self.old) (state self.new) result
             (changed (Assigns bearer assigned) (state self.old).held) };
+
+    /// Ends an assignment of one collector, and gives its series to a new slot of another, who may be the same: both or
+    /// neither. The caller owes that both collectors are registered with these keys, that the former assignment stands
+    /// as it is said but for its last month, that the new slot is free, that the outlet is there, and that the name is
+    /// its own.
+    fn put_handover(&mut self, handover: Handover) -> Result<(), StoreFault>
+        requires former { (state self.old).is_clean →
+            at (λ b. b.number) handover.former.number (state self.old).held.collectors ≡ Some handover.former }
+        requires taker { (state self.old).is_clean →
+            at (λ b. b.number) handover.taker.number (state self.old).held.collectors ≡ Some handover.taker }
+        requires stands { (state self.old).is_clean →
+            option_map (given_until handover.ended.assignment.last_month) (at (λ g. g.assignment.slot)
+            handover.ended.assignment.slot (held_by handover.former.number (state self.old).held.assignments))
+            ≡ Some handover.ended }
+        requires new { (state self.old).is_clean → at (λ g. g.assignment.slot) handover.assigned.assignment.slot
+            (held_by handover.taker.number (state self.old).held.assignments) ≡ None }
+        requires outlet { (state self.old).is_clean →
+            IsSome (at (λ u. u.number) handover.assigned.assignment.outlet (state self.old).held.outlets) }
+        requires name { (state self.old).is_clean →
+            handover.assigned ≡ with_name (state self.old).held.outlets handover.assigned.assignment }
+        ensures writes { Writes (state self.old) (state self.new) result
+            (changed (HandsOver handover) (state self.old).held) };
 
     /// Puts a quote of the collector, over the one of its slot and month if there is one. The caller owes that the
     /// collector is registered and has the slot, and that the receipt is above all others of the collector.

@@ -1,7 +1,9 @@
 use crate::bearer::Bearer;
 use crate::book::{Book, Parts, StoreFault};
+use crate::given::Given;
+use crate::handover::Handover;
 use crate::outlet::Outlet;
-use cpi_codes::{Code, CollectorId, Key, Moment, Month, OutletId};
+use cpi_codes::{Code, CollectorId, Key, Moment, Month, OutletId, Slot};
 use cpi_index::{ChainedLevel, FrozenQuote, GroupRow};
 use cpi_plan::{CalendarRow, Item, YearPlan};
 use cpi_release::{Failures, FrozenMonth, GroupFault, Groups, Level, Release, Revision};
@@ -167,6 +169,11 @@ impl<B: Book> Book for FailBook<B> {
         self.inner.parts(collector)
     }
 
+    fn given(&mut self, collector: CollectorId, slot: Slot) -> Result<Option<Given>, StoreFault> {
+        self.count()?;
+        self.inner.given(collector, slot)
+    }
+
     fn frozen_months(&mut self) -> Result<Vec<FrozenMonth>, StoreFault> {
         self.count()?;
         self.inner.frozen_months()
@@ -229,6 +236,11 @@ impl<B: Book> Book for FailBook<B> {
     fn put_assignment(&mut self, bearer: Bearer, assigned: Assigned) -> Result<(), StoreFault> {
         self.count()?;
         self.inner.put_assignment(bearer, assigned)
+    }
+
+    fn put_handover(&mut self, handover: Handover) -> Result<(), StoreFault> {
+        self.count()?;
+        self.inner.put_handover(handover)
     }
 
     fn put_quote(&mut self, bearer: Bearer, quote: Quote) -> Result<(), StoreFault> {

@@ -1,53 +1,128 @@
-ghost use Rattle.std.specs.Prelude.{◌≡◌, ◌++◌, IfOk, OnOk, option_map};
+ghost use Rattle.std.specs.Prelude.{◌≡◌, ◌++◌, true, IfOk, OnOk, max, option_map};
 ghost use Rattle.std.specs.Option.{option_copied};
-ghost use Rattle.cpi_store.specs.Office.{frozen_quote};
-ghost use Rattle.cpi_store.specs.Holders.{own_rows, rows_of_holders};
+ghost use Rattle.cpi_codes.specs.declared.series.SeriesId.{SeriesId};
+ghost use Rattle.cpi_rows.specs.Held.{held_cmp};
+ghost use Rattle.cpi_rows.specs.Keyed.{IsInOrder};
+ghost use Rattle.std.specs.Ordering.{nat_cmp};
+ghost use Rattle.cpi_index.specs.Series.{is_by_series, frozen_serial};
+ghost use Rattle.cpi_store.specs.Office.{stored_rows};
+ghost use Rattle.cpi_store.specs.Series.{by_series, last_known, last_of_series};
+ghost use Rattle.cpi_store.specs.Holders.{all_given, all_quotes, own_given, own_rows, quote_of_series};
+ghost use Rattle.cpi_store.specs.Holders.{rows_of_holders};
 
 use crate::holder::Holder;
-use cpi_codes::Month;
+use crate::series_ends::SeriesEnds;
+use crate::sorting::sort_by_series;
+use crate::taken_over::{TakenOver, series_in};
+use cpi_codes::{Month, SeriesId};
 use cpi_index::FrozenQuote;
-use cpi_survey::{Assignment, Own, Quote};
+use cpi_survey::{Assignment, Quote};
 use std::alloc::{AllocError, Global};
 
-/// The stored quotes of the month, by series: holder by holder, and slot by slot.
+/// The stored quotes of the month, by series, where no series has two in the month.
 pub fn month_rows(
     alloc: Global,
     month: Month,
+    taken: &[TakenOver],
     holders: &[Holder],
 ) -> Result<Vec<FrozenQuote>, AllocError>
-    ensures { IfOk result (λ found. found.items ≡ rows_of_holders month holders.now) }
+    requires order { IsInOrder nat_cmp (λ h. h.number) holders.now }
+    requires by_slot { IsInOrder (held_cmp nat_cmp) (λ t. (t.collector, t.slot)) taken.now }
+    ensures { let given = all_given taken.now holders.now in
+        let rows = by_series (stored_rows month (all_quotes holders.now) given) in
+        IfOk result (λ found. is_by_series frozen_serial rows ≡ true → found.items ≡ rows) }
+{
+    let ends = series_ends(alloc, taken, holders)?;
+    let mut found = rows_of(alloc, month, taken, holders, &ends)?;
+    sort_by_series(&mut found)?;
+    Ok(found)
+}
+
+/// The last month of each series: holder by holder, and slot by slot.
+fn series_ends(
+    alloc: Global,
+    taken: &[TakenOver],
+    holders: &[Holder],
+) -> Result<SeriesEnds, AllocError>
+    requires { IsInOrder (held_cmp nat_cmp) (λ t. (t.collector, t.slot)) taken.now }
+    ensures { IfOk result (λ ends. (s : SeriesId) →
+        last_known ends s ≡ last_of_series s (all_given taken.now holders.now)) }
+{
+    let mut ends = SeriesEnds::new(alloc);
+    for holder in holders {
+        put_ends(&mut ends, taken, holder)?;
+    }
+    Ok(ends)
+}
+
+/// Puts the last months of a collector's assignments.
+fn put_ends(ends: &mut SeriesEnds, taken: &[TakenOver], holder: &Holder) -> Result<(), AllocError>
+    requires { IsInOrder (held_cmp nat_cmp) (λ t. (t.collector, t.slot)) taken.now }
+    ensures { OnOk result ((s : SeriesId) → last_known ends.new s ≡
+        max (last_known ends.old s) (last_of_series s (own_given taken.now holder.now))) }
+{
+    for assigned in holder.own.assignments() {
+        let series = series_in(taken, holder.number, assigned.assignment.slot);
+        ends.put(series, assigned.assignment.last_month)?;
+    }
+    Ok(())
+}
+
+/// The stored quotes of the month: holder by holder, and slot by slot.
+fn rows_of(
+    alloc: Global,
+    month: Month,
+    taken: &[TakenOver],
+    holders: &[Holder],
+    ends: &SeriesEnds,
+) -> Result<Vec<FrozenQuote>, AllocError>
+    requires { IsInOrder (held_cmp nat_cmp) (λ t. (t.collector, t.slot)) taken.now }
+    ensures { IfOk result (λ found. found.items ≡ rows_of_holders month ends.now taken.now holders.now) }
 {
     let mut found = Vec::new(alloc);
     for holder in holders {
-        push_rows(&mut found, month, &holder.own)?;
+        push_rows(&mut found, month, taken, holder, ends)?;
     }
     Ok(found)
 }
 
 /// Puts a collector's stored quotes of the month behind those that were found, by slot.
-fn push_rows(found: &mut Vec<FrozenQuote>, month: Month, own: &Own) -> Result<(), AllocError>
-    ensures { OnOk result (found.new.items ≡ found.old.items ++ own_rows month own.now) }
+fn push_rows(
+    found: &mut Vec<FrozenQuote>,
+    month: Month,
+    taken: &[TakenOver],
+    holder: &Holder,
+    ends: &SeriesEnds,
+) -> Result<(), AllocError>
+    requires { IsInOrder (held_cmp nat_cmp) (λ t. (t.collector, t.slot)) taken.now }
+    ensures { OnOk result (found.new.items ≡ found.old.items ++ own_rows month ends.now taken.now holder.now) }
 {
-    for assigned in own.assignments() {
-        let quote = own.quote(assigned.assignment.slot, month);
-        if let Some(row) = row_of(&assigned.assignment, quote) {
+    for assigned in holder.own.assignments() {
+        let slot = assigned.assignment.slot;
+        let series = series_in(taken, holder.number, slot);
+        let quote = holder.own.quote(slot, month);
+        if let Some(row) = row_of(&assigned.assignment, series, quote, ends) {
             found.push(row)?;
         }
     }
     Ok(())
 }
 
-/// A stored quote with what its assignment says of its series.
-fn row_of(assignment: &Assignment, quote: Option<&Quote>) -> Option<FrozenQuote>
-    ensures { result ≡ option_map (frozen_quote assignment.now) (option_copied quote.entry) }
+/// A stored quote with what is said of its series.
+fn row_of(
+    assignment: &Assignment,
+    series: SeriesId,
+    quote: Option<&Quote>,
+    ends: &SeriesEnds,
+) -> Option<FrozenQuote>
+    ensures { result ≡ option_map (quote_of_series ends.now assignment.now series) (option_copied quote.entry) }
 {
-    match quote {
-        Some(quote) => Some(FrozenQuote {
-            series: assignment.series,
-            item: assignment.item,
-            last_month: assignment.last_month,
-            mark: quote.mark,
-        }),
-        None => None,
-    }
+    let mark = quote?.mark;
+    let last_month = ends.latest(series, assignment.last_month);
+    Some(FrozenQuote {
+        series,
+        item: assignment.item,
+        last_month,
+        mark,
+    })
 }

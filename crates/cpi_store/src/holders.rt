@@ -1,18 +1,22 @@
 ghost use Rattle.std.specs.Prelude.{◌≡◌, ◌<◌, List, map, OnOk, OnErr, IsOk, IsSome, None, Some};
 ghost use Rattle.std.specs.BTreeMap.{IsUnchanged, Updates};
 ghost use Rattle.std.specs.Ordering.{nat_cmp};
-ghost use Rattle.cpi_rows.specs.Keyed.{row_at, at, put_by, IsInOrder};
-ghost use Rattle.cpi_rows.specs.Held.{held_by};
+ghost use Rattle.cpi_rows.specs.Keyed.{row_at, at, put, put_by, IsInOrder};
+ghost use Rattle.cpi_rows.specs.Held.{held_by, held_cmp, held_key};
 ghost use Rattle.cpi_survey.specs.Quote.{greatest_receipt, quote_cmp, quote_key};
-ghost use Rattle.cpi_store.specs.Office.{put_quote, put_assignment};
+ghost use Rattle.cpi_store.specs.Office.{put_quote, hand_over};
 ghost use Rattle.cpi_store.specs.Outlet.{with_name};
 ghost use Rattle.cpi_store.specs.declared.outlet.Outlet.{Outlet};
-ghost use Rattle.cpi_store.specs.Holders.{collectors_of, all_assignments, all_quotes, named_by, ArePlaced};
+ghost use Rattle.cpi_store.specs.Holders.{collectors_of, all_assignments, all_given, all_quotes, assignment_until};
+ghost use Rattle.cpi_store.specs.Holders.{named_by, ArePlaced, IsGiven};
+ghost use Rattle.std.specs.List.{AllByRecursion};
 
 use crate::bearer::Bearer;
+use crate::handover::Handover;
 use crate::holder::Holder;
-use cpi_codes::{CollectorId, Key};
-use cpi_rows::place_of;
+use crate::taken_over::TakenOver;
+use cpi_codes::{CollectorId, Key, Month, Slot};
+use cpi_rows::{Keyed, place_of};
 use cpi_survey::{Assigned, Quote};
 use std::alloc::AllocError;
 use std::collections::BTreeMap;
@@ -55,7 +59,7 @@ pub fn put_assignment_of(
     requires order { IsInOrder nat_cmp (λ h. h.number) holders.old.items }
     requires known { IsSome (row_at nat_cmp (λ h. h.number) collector holders.old.items) }
     ensures ok { OnOk result (all_assignments holders.new.items ≡
-        put_assignment collector assigned.assignment (all_assignments holders.old.items)) }
+        put (held_cmp nat_cmp) (held_key (λ a. a.slot)) (collector, assigned.assignment) (all_assignments holders.old.items)) }
     ensures err { OnErr result (holders.new.items ≡ holders.old.items) }
     ensures collectors { collectors_of holders.new.items ≡ collectors_of holders.old.items }
     ensures quotes { all_quotes holders.new.items ≡ all_quotes holders.old.items }
@@ -76,6 +80,107 @@ pub fn put_assignment_of(
         }
         Err(_) => unreachable!(),
     }
+}
+
+/// Ends the assignment of a collector's slot with this month.
+fn end_assignment_of(
+    holders: &mut Vec<Holder>,
+    collector: CollectorId,
+    slot: Slot,
+    last_month: Month,
+)
+    requires order { IsInOrder nat_cmp (λ h. h.number) holders.old.items }
+    ensures assignments { all_assignments holders.new.items ≡
+        map (assignment_until collector slot last_month) (all_assignments holders.old.items) }
+    ensures collectors { collectors_of holders.new.items ≡ collectors_of holders.old.items }
+    ensures quotes { all_quotes holders.new.items ≡ all_quotes holders.old.items }
+    ensures order { IsInOrder nat_cmp (λ h. h.number) holders.new.items }
+    ensures placed { (outlets : List Outlet) →
+        ArePlaced outlets (map (λ h. h.own.assignments) holders.old.items) →
+        ArePlaced outlets (map (λ h. h.own.assignments) holders.new.items) }
+    ensures names { (outlets : List Outlet) →
+        named_by outlets (map (λ h. h.own.assignments) holders.old.items)
+        ≡ map (λ h. h.own.assignments) holders.old.items →
+        named_by outlets (map (λ h. h.own.assignments) holders.new.items)
+        ≡ map (λ h. h.own.assignments) holders.new.items }
+{
+    if let Ok(at) = place_of(holders, &collector) {
+        let holder = &mut holders[at];
+        holder.own.end_assignment(slot, last_month);
+    }
+}
+
+/// Hands a series over: the new assignment is put with the series that it takes over, and the former one ends. Where
+/// memory is refused, all is as before.
+pub fn hand_over_in(
+    holders: &mut Vec<Holder>,
+    taken: &mut Vec<TakenOver>,
+    handover: Handover,
+) -> Result<(), AllocError>
+    requires order { IsInOrder nat_cmp (λ h. h.number) holders.old.items }
+    requires by_slot { IsInOrder (held_cmp nat_cmp) (λ t. (t.collector, t.slot)) taken.old.items }
+    requires given { AllByRecursion (IsGiven (all_assignments holders.old.items)) taken.old.items }
+    requires known { IsSome (row_at nat_cmp (λ h. h.number) handover.taker.number holders.old.items) }
+    requires stands { IsSome (at (λ a. a.slot) handover.ended.assignment.slot
+        (held_by handover.former.number (all_assignments holders.old.items))) }
+    requires new { at (λ a. a.slot) handover.assigned.assignment.slot
+        (held_by handover.taker.number (all_assignments holders.old.items)) ≡ None }
+    ensures ok { OnOk result (all_given taken.new.items holders.new.items ≡
+        hand_over handover (all_given taken.old.items holders.old.items)) }
+    ensures err_holders { OnErr result (holders.new.items ≡ holders.old.items) }
+    ensures err_taken { OnErr result (taken.new.items ≡ taken.old.items) }
+    ensures collectors { collectors_of holders.new.items ≡ collectors_of holders.old.items }
+    ensures quotes { all_quotes holders.new.items ≡ all_quotes holders.old.items }
+    ensures order { IsInOrder nat_cmp (λ h. h.number) holders.new.items }
+    ensures by_slot { IsInOrder (held_cmp nat_cmp) (λ t. (t.collector, t.slot)) taken.new.items }
+    ensures given { AllByRecursion (IsGiven (all_assignments holders.new.items)) taken.new.items }
+    ensures placed { (outlets : List Outlet) → IsSome (at (λ u. u.number) handover.assigned.assignment.outlet outlets) →
+        ArePlaced outlets (map (λ h. h.own.assignments) holders.old.items) →
+        ArePlaced outlets (map (λ h. h.own.assignments) holders.new.items) }
+    ensures names { (outlets : List Outlet) → handover.assigned ≡ with_name outlets handover.assigned.assignment →
+        named_by outlets (map (λ h. h.own.assignments) holders.old.items)
+        ≡ map (λ h. h.own.assignments) holders.old.items →
+        named_by outlets (map (λ h. h.own.assignments) holders.new.items)
+        ≡ map (λ h. h.own.assignments) holders.new.items }
+{
+    let over = TakenOver::of(&handover);
+    match place_of(taken, &over.key()) {
+        Ok(_) => unreachable!(),
+        Err(at) => {
+            taken.reserve(1)?;
+            pass_on(holders, handover)?;
+            Ok(taken.insert(at, over)?)
+        }
+    }
+}
+
+/// Puts the new assignment, and ends the former one. Where memory is refused, all is as before.
+fn pass_on(holders: &mut Vec<Holder>, handover: Handover) -> Result<(), AllocError>
+    requires order { IsInOrder nat_cmp (λ h. h.number) holders.old.items }
+    requires known { IsSome (row_at nat_cmp (λ h. h.number) handover.taker.number holders.old.items) }
+    ensures ok { OnOk result (all_assignments holders.new.items ≡
+        map (assignment_until handover.former.number handover.ended.assignment.slot handover.ended.assignment.last_month)
+        (put (held_cmp nat_cmp) (held_key (λ a. a.slot)) (handover.taker.number, handover.assigned.assignment)
+        (all_assignments holders.old.items))) }
+    ensures err { OnErr result (holders.new.items ≡ holders.old.items) }
+    ensures collectors { collectors_of holders.new.items ≡ collectors_of holders.old.items }
+    ensures quotes { all_quotes holders.new.items ≡ all_quotes holders.old.items }
+    ensures order { IsInOrder nat_cmp (λ h. h.number) holders.new.items }
+    ensures placed { (outlets : List Outlet) → IsSome (at (λ u. u.number) handover.assigned.assignment.outlet outlets) →
+        ArePlaced outlets (map (λ h. h.own.assignments) holders.old.items) →
+        ArePlaced outlets (map (λ h. h.own.assignments) holders.new.items) }
+    ensures names { (outlets : List Outlet) → handover.assigned ≡ with_name outlets handover.assigned.assignment →
+        named_by outlets (map (λ h. h.own.assignments) holders.old.items)
+        ≡ map (λ h. h.own.assignments) holders.old.items →
+        named_by outlets (map (λ h. h.own.assignments) holders.new.items)
+        ≡ map (λ h. h.own.assignments) holders.new.items }
+{
+    let slot = handover.ended.assignment.slot;
+    let last_month = handover.ended.assignment.last_month;
+    let former = handover.former.number;
+    put_assignment_of(holders, handover.taker.number, handover.assigned)?;
+    end_assignment_of(holders, former, slot, last_month);
+    Ok(())
 }
 
 /// Puts a new holder among the holders, and beside the key that the holder bears. Where memory is refused, both are

@@ -1,11 +1,14 @@
 use crate::bearer::Bearer;
 use crate::book::{Book, Parts, StoreFault};
 use crate::frozen::month_rows;
+use crate::given::Given;
+use crate::handover::Handover;
 use crate::holder::Holder;
-use crate::holders::{put_assignment_of, put_holder, put_quote_of};
+use crate::holders::{hand_over_in, put_assignment_of, put_holder, put_quote_of};
 use crate::outlet::Outlet;
 use crate::releases::{frozen_months, published_months, revision_until, table_until};
-use cpi_codes::{Code, CollectorId, Key, Moment, Month, OutletId, Year};
+use crate::taken_over::{TakenOver, series_in};
+use cpi_codes::{Code, CollectorId, Key, Moment, Month, OutletId, Slot, Year};
 use cpi_index::{ChainedLevel, FrozenQuote, GroupRow};
 use cpi_plan::{CalendarRow, Item, YearPlan};
 use cpi_release::{
@@ -28,6 +31,8 @@ pub struct VecBook {
     public: Public,
     // by number
     holders: Vec<Holder>,
+    // by collector and slot
+    taken: Vec<TakenOver>,
     outlets: RowsByKey<Outlet>,
     // by month and revision
     releases: Vec<Release>,
@@ -48,14 +53,16 @@ impl Model for VecBook {
     ghost use Rattle.cpi_rows.specs.Keyed.{IsInOrder};
     ghost use Rattle.cpi_store.specs.Bearer.{bearer_of};
     ghost use Rattle.cpi_release.specs.FrozenMonths.{release_cmp, release_key};
-    ghost use Rattle.cpi_store.specs.Holders.{Kept, ArePlaced, collectors_of, named_by, office_of};
+    ghost use Rattle.std.specs.List.{AllByRecursion};
+    ghost use Rattle.cpi_rows.specs.Held.{held_cmp};
+    ghost use Rattle.cpi_store.specs.Holders.{Kept, ArePlaced, IsGiven, all_assignments, collectors_of, named_by, office_of};
     ghost use Rattle.cpi_store.specs.Sources.{office_sources};
     ghost use Rattle.cpi_release.specs.Cached.{AreKept};
 
     ghost Value = { Kept };
 
     ghost view = { λ b. record {
-      office = office_of b.public b.outlets b.releases.items b.holders.items;
+      office = office_of b.public b.outlets b.releases.items b.taken.items b.holders.items;
       failures = b.failed.count;
     } };
 
@@ -64,17 +71,20 @@ impl Model for VecBook {
       bearers : (key : ℕ) → get nat_cmp b.bearers key ≡ bearer_of key (collectors_of b.holders.items);
       outlets : IsInOrder nat_cmp (λ u. u.number) b.outlets;
       releases : IsInOrder release_cmp release_key b.releases.items;
+      taken : IsInOrder (held_cmp nat_cmp) (λ t. (t.collector, t.slot)) b.taken.items;
+      given : AllByRecursion (IsGiven (all_assignments b.holders.items)) b.taken.items;
       placed : ArePlaced b.outlets (map (λ h. h.own.assignments) b.holders.items);
       nobody : b.nobody ≡ record { assignments = []; quotes = [] };
       names : named_by b.outlets (map (λ h. h.own.assignments) b.holders.items)
           ≡ map (λ h. h.own.assignments) b.holders.items;
-      kept : AreKept (office_sources (office_of b.public b.outlets b.releases.items b.holders.items)) b.cached;
+      kept : AreKept (office_sources (office_of b.public b.outlets b.releases.items b.taken.items b.holders.items)) b.cached;
     } };
 }
 
 impl VecBook {
     ghost use Rattle.std.specs.Prelude.{◌≡◌};
     ghost use Rattle.cpi_rows.specs.Keyed.{at};
+    ghost use Rattle.cpi_rows.specs.Held.{held_by};
     ghost use Rattle.cpi_store.specs.Office.{empty_office, public_part, own_part};
 
     /// An empty office, which takes no memory yet. Its calls take their memory from this allocator.
@@ -84,6 +94,7 @@ impl VecBook {
         VecBook {
             public: Public::new(alloc),
             holders: Vec::new(alloc),
+            taken: Vec::new(alloc),
             outlets: RowsByKey::new(alloc),
             releases: Vec::new(alloc),
             bearers: BTreeMap::new(alloc),
@@ -112,6 +123,18 @@ impl VecBook {
         match find_row(&self.holders, &collector) {
             Some(holder) => &holder.own,
             None => &self.nobody,
+        }
+    }
+
+    fn given_of(&self, collector: CollectorId, slot: Slot) -> Option<Given>
+        ensures { result ≡ at (λ g. g.assignment.slot) slot (held_by collector self.now.office.assignments) }
+    {
+        match self.own_of(collector).assigned(slot) {
+            Some(assigned) => Some(Given {
+                assignment: assigned.assignment,
+                series: series_in(&self.taken, collector, slot),
+            }),
+            None => None,
         }
     }
 
@@ -167,7 +190,7 @@ impl VecBook {
         if let Some(rows) = self.kept_rows(month, code)? {
             return Ok(rows);
         }
-        let frozen = month_rows(self.alloc, month, &self.holders)?;
+        let frozen = month_rows(self.alloc, month, &self.taken, &self.holders)?;
         let plan = self.plan_of(month);
         let groups = month_groups(self.alloc, plan, &self.releases, month, &frozen)?;
         let rows = group_rows(self.alloc, plan, &groups, month, code)?;
@@ -275,6 +298,10 @@ impl Book for VecBook {
         Ok(self.parts_of(collector))
     }
 
+    fn given(&mut self, collector: CollectorId, slot: Slot) -> Result<Option<Given>, StoreFault> {
+        Ok(self.given_of(collector, slot))
+    }
+
     fn frozen_months(&mut self) -> Result<Vec<FrozenMonth>, StoreFault> {
         match frozen_months(self.alloc, &self.releases) {
             Ok(found) => Ok(found),
@@ -283,7 +310,7 @@ impl Book for VecBook {
     }
 
     fn month_rows(&mut self, month: Month) -> Result<Vec<FrozenQuote>, StoreFault> {
-        match month_rows(self.alloc, month, &self.holders) {
+        match month_rows(self.alloc, month, &self.taken, &self.holders) {
             Ok(found) => Ok(found),
             Err(_) => Err(self.failed.counted(StoreFault)),
         }
@@ -365,6 +392,14 @@ impl Book for VecBook {
     fn put_assignment(&mut self, bearer: Bearer, assigned: Assigned) -> Result<(), StoreFault> {
         self.cached = None;
         match put_assignment_of(&mut self.holders, bearer.number, assigned) {
+            Ok(()) => Ok(()),
+            Err(_) => Err(self.failed.counted(StoreFault)),
+        }
+    }
+
+    fn put_handover(&mut self, handover: Handover) -> Result<(), StoreFault> {
+        self.cached = None;
+        match hand_over_in(&mut self.holders, &mut self.taken, handover) {
             Ok(()) => Ok(()),
             Err(_) => Err(self.failed.counted(StoreFault)),
         }

@@ -3,8 +3,10 @@ use Rattle.std.specs.Prelude.{option_map}
 use Rattle.std.specs.List.{cons_option, filter_map}
 use Rattle.std.proofs.lemmas.List.{append-nil, take_more}
 use Rattle.std.proofs.lemmas.List.Elements.{filter_map-append}
-use Rattle.cpi_store.specs.Office.{frozen_quote}
-use Rattle.cpi_store.specs.Holders.{own_row}
+use Rattle.cpi_codes.specs.declared.series.SeriesId.{SeriesId}
+use Rattle.cpi_rows.specs.Keyed.{row_at}
+use Rattle.cpi_survey.specs.Quote.{quote_cmp, quote_key}
+use Rattle.cpi_store.specs.Holders.{own_row, quote_of_series}
 use Rattle.cpi_store.proofs.frozen.push_rows.Goals.{in-Some+in_ok-push, in_default}
 use Rattle.cpi_store.proofs.frozen.push_rows.Goals as goal
 
@@ -15,15 +17,20 @@ one_more h xs i x y lt at is =
 
 pub loop-assigned-preserved : goal.loop-assigned-preserved
 loop-assigned-preserved c =
-    let h = own_row c.args.month c.args.own.now.quotes in
+    let ends = c.args.ends.now in
+    let holder = c.args.holder.now in
+    let h = own_row c.args.month ends c.args.taken.now holder in
     let i = c.loop-assigned.assigned-index in
     let start = c.args.found.now.items in
+    let a = c.assigned-item.result in
     let rows = c.assignments-assigned-items.result.now in
-    let same : rows ≡ c.args.own.now.assignments = c.assignments-assigned-items.ensures in
-    let before = filter_map h (take i c.args.own.now.assignments) in
-    let one : c.row_of.result ≡ h c.assigned-item.result = c.row_of.ensures ∙ ap (option_map (frozen_quote c.assigned-item.result.assignment)) c.quote-quote.ensures in
-    let added : filter_map h (take (i + 1) rows) ≡ filter_map h (take i rows) ++ cons_option c.row_of.result [] = one_more h rows i c.assigned-item.result c.row_of.result (omega arith) c.assigned-item.is one in
-    let grown : before ++ cons_option c.row_of.result [] ≡ filter_map h (take (i + 1) c.args.own.now.assignments) = ap (λ xs. filter_map h (take i xs) ++ cons_option c.row_of.result []) (sym same) ∙ sym added ∙ ap (λ xs. filter_map h (take (i + 1) xs)) same in
+    let same : rows ≡ holder.own.assignments = c.assignments-assigned-items.ensures in
+    let before = filter_map h (take i holder.own.assignments) in
+    let one : c.row_of.result ≡ h a =
+    c.row_of.ensures ∙ ap (option_map (quote_of_series ends a.assignment c.series_in-series.result)) c.quote-quote.ensures
+    ∙ ap (λ (s : SeriesId). option_map (quote_of_series ends a.assignment s) (row_at quote_cmp quote_key (a.assignment.slot, c.args.month) holder.own.quotes)) c.series_in-series.ensures in
+    let added : filter_map h (take (i + 1) rows) ≡ filter_map h (take i rows) ++ cons_option c.row_of.result [] = one_more h rows i a c.row_of.result (omega arith) c.assigned-item.is one in
+    let grown : before ++ cons_option c.row_of.result [] ≡ filter_map h (take (i + 1) holder.own.assignments) = ap (λ xs. filter_map h (take i xs) ++ cons_option c.row_of.result []) (sym same) ∙ sym added ∙ ap (λ xs. filter_map h (take (i + 1) xs)) same in
     elim c.match-row_of.branch [
       | in-Some+in_ok-push w ↦ ap (λ v. v.items) w.found-is ∙ w.in_ok-push.ensures.items ∙ ap (λ xs. xs ++ w.in-Some.row ∷ []) c.loop-assigned.invariant ∙ append_assoc start before (w.in-Some.row ∷ [])
           ∙ ap (λ y. start ++ (before ++ cons_option y [])) (sym w.in-Some.is) ∙ ap (λ ys. start ++ ys) grown

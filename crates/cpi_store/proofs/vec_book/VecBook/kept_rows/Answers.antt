@@ -13,7 +13,7 @@ use Rattle.cpi_store.proofs.vec_book.VecBook.kept_rows.Goals as goal
 pub returns : goal.returns
 returns c = λ fit late.
     let i = c.self.inside in
-    let o : Office = office_of i.public i.outlets i.releases.items i.holders.items in
+    let o : Office = office_of i.public i.outlets i.releases.items i.taken.items i.holders.items in
     let same : o ≡ c.args.self.now.office = ap (λ (k : Kept). k.office) c.self.view_is in
     let month : c.in-Some.cached.month ≡ c.args.month = search rules in
     let held : AreGroupsOf (office_sources o) c.in-Some.cached.month c.in-Some.cached.groups.items = rw c.in-Some.is at c.self.invariant.kept in

@@ -9,7 +9,7 @@ use Rattle.cpi_store.specs.Bearer.{bearer_of}
 use Rattle.cpi_store.specs.declared.bearer.Bearer.{Bearer}
 use Rattle.cpi_store.specs.declared.holder.Holder.{Holder}
 use Rattle.cpi_store.specs.Holders.{Kept, collectors_of, collector_of_holder, office_of}
-use Rattle.cpi_store.proofs.Added.{no_holder, office_added, bearer_added, collectors_added, collectors_in_order, placed_added, names_added}
+use Rattle.cpi_store.proofs.Added.{no_holder, assignments_added, office_added, bearer_added, collectors_added, collectors_in_order, placed_added, names_added}
 use Rattle.cpi_store.proofs.vec_book.VecBookBook.put_collector.Goals as goal
 
 pub put_holder-requires-clause-new : goal.put_holder-requires-clause-new
@@ -31,6 +31,8 @@ invariant_of-self c =
       bearers = λ key. bearer_added c.args.bearer (collectors_of hs) (collectors_in_order hs c.self.invariant.holders) missing free key _ _ (c.self.invariant.bearers key) (updates.0 key ∙ ap (λ (g : Holder). cond (is_eq (nat_cmp g.key key)) (Some (collector_of_holder g)) (get nat_cmp c.self.inside.bearers key)) c.new-holder.ensures) ∙ ap (bearer_of key) (sym (collectors_added h hs c.self.invariant.holders none) ∙ ap collectors_of (sym after));
       outlets = c.self.invariant.outlets;
       releases = c.self.invariant.releases;
+      taken = c.self.invariant.taken;
+      given = rw (after, assignments_added h hs c.self.invariant.holders none refl) c.self.invariant.given;
       placed = rw after (placed_added h hs c.self.invariant.holders none refl us c.self.invariant.placed);
       nobody = c.self.invariant.nobody;
       names = rw after (names_added h hs c.self.invariant.holders none refl us c.self.invariant.names);
@@ -50,7 +52,7 @@ returns-in-Ok c =
         was_kept = λ k. tt;
         was_clean = λ k. tt;
         stays = λ _ _. tt;
-        done = λ k. ap (office_of c.self.inside.public us c.self.inside.releases.items) after ∙ office_added h hs c.self.invariant.holders (no_holder c.args.bearer.number hs missing) refl c.self.inside.public us c.self.inside.releases.items;
+        done = λ k. ap (office_of c.self.inside.public us c.self.inside.releases.items c.self.inside.taken.items) after ∙ office_added h hs c.self.invariant.holders (no_holder c.args.bearer.number hs missing) refl c.self.inside.public us c.self.inside.releases.items c.self.inside.taken.items;
         kept = λ k. tt;
         count = omega arith;
         fault = tt;

@@ -3,7 +3,7 @@ use Rattle.std.specs.Prelude.{map}
 use Rattle.cpi_rows.specs.Keyed.{at, put_by}
 use Rattle.cpi_store.specs.declared.outlet.Outlet.{Outlet}
 use Rattle.cpi_store.specs.declared.holder.Holder.{Holder}
-use Rattle.cpi_store.specs.Holders.{Kept, named_by, collectors_of, all_assignments, all_quotes}
+use Rattle.cpi_store.specs.Holders.{Kept, named_by, collectors_of, all_given, all_quotes}
 use Rattle.cpi_store.proofs.Outlets.{names_stay, still_placed}
 use Rattle.cpi_store.proofs.vec_book.VecBookBook.put_outlet.Goals as goal
 
@@ -18,6 +18,8 @@ invariant_of-self c =
       bearers = c.self.invariant.bearers;
       outlets = c.put.ensures.order;
       releases = c.self.invariant.releases;
+      taken = c.self.invariant.taken;
+      given = c.self.invariant.given;
       placed = rw after (still_placed c.args.outlet us c.self.invariant.outlets new lists c.self.invariant.placed);
       nobody = c.self.invariant.nobody;
       names = ap (λ vs. named_by vs lists) after ∙ names_stay c.args.outlet us c.self.invariant.outlets new lists c.self.invariant.placed ∙ c.self.invariant.names;
@@ -32,6 +34,8 @@ invariant_of-self-in-Err c =
       bearers = c.self.invariant.bearers;
       outlets = c.put.ensures.order;
       releases = c.self.invariant.releases;
+      taken = c.self.invariant.taken;
+      given = c.self.invariant.given;
       placed = rw same c.self.invariant.placed;
       nobody = c.self.invariant.nobody;
       names = rw same c.self.invariant.names;
@@ -48,7 +52,7 @@ returns-in-Ok c =
         was_kept = λ k. tt;
         was_clean = λ k. tt;
         stays = λ _ _. tt;
-        done = λ k. ap (λ us. record { items = c.self.inside.public.items; plans = c.self.inside.public.plans; calendar = c.self.inside.public.calendar; collectors = collectors_of hs; outlets = us; assignments = all_assignments hs; quotes = all_quotes hs; releases = c.self.inside.releases.items }) after;
+        done = λ k. ap (λ us. record { items = c.self.inside.public.items; plans = c.self.inside.public.plans; calendar = c.self.inside.public.calendar; collectors = collectors_of hs; outlets = us; assignments = all_given c.self.inside.taken.items hs; quotes = all_quotes hs; releases = c.self.inside.releases.items }) after;
         kept = λ k. tt;
         count = omega arith;
         fault = tt;

@@ -11,6 +11,8 @@ pub invariant_of-self : goal.invariant_of-self
 invariant_of-self c = record {
   outlets = c.self.invariant.outlets;
   releases = c.self.invariant.releases;
+  taken = c.self.invariant.taken;
+  given = rw c.put_quote_of.ensures.assignments c.self.invariant.given;
   placed = rw c.put_quote_of.ensures.own_assignments c.self.invariant.placed;
   nobody = c.self.invariant.nobody;
   holders = c.put_quote_of.ensures.order;

@@ -1,0 +1,96 @@
+-- What a collector's slots were given, among the assignments of all and with their series.
+use Rattle.std.proofs.Common.{◌≡◌, ◌≢◌, ℕ, true, false, eqb, List, [], ◌∷◌, map, Some, None, Option, refl, sym, ap, ◌∙◌, inl, inr}
+use Rattle.std.specs.Prelude.{◌⊎◌, IsSome, option_map}
+use Rattle.std.proofs.lemmas.Bool.Decides.{eqb_tells}
+use Rattle.cpi_rows.specs.Keyed.{at}
+use Rattle.cpi_rows.specs.Held.{held_by}
+use Rattle.cpi_rows.proofs.Found.{at-map, at_key}
+use Rattle.cpi_survey.specs.declared.assignment.Assignment.{Assignment}
+use Rattle.cpi_survey.specs.declared.assignment.Assigned.{Assigned}
+use Rattle.cpi_store.specs.Outlet.{with_name}
+use Rattle.cpi_store.specs.declared.given.Given.{Given}
+use Rattle.cpi_store.specs.declared.outlet.Outlet.{Outlet}
+use Rattle.cpi_store.specs.declared.taken_over.TakenOver.{TakenOver}
+use Rattle.cpi_store.specs.Series.{given_in, series_in}
+
+abbrev slot_of : Given → ℕ
+slot_of g = g.assignment.slot
+
+abbrev own_slot : Assignment → ℕ
+own_slot a = a.slot
+
+-- where no assignment of a slot is found, nothing was given to it
+pub nothing_found : (us : List Outlet) (slot : ℕ) (gs : List Given) → None ≡ at (λ a. a.assignment.slot) slot (map (with_name us) (map (λ g. g.assignment) gs)) → None ≡ at (λ g. g.assignment.slot) slot gs
+nothing_found us slot gs is =
+    by (at slot_of slot gs) (is ∙ at-map (with_name us) (λ (a : Assigned). a.assignment.slot) slot (map (λ g. g.assignment) gs) ∙ ap (option_map (with_name us)) (at-map (λ (g : Given). g.assignment) own_slot slot gs))
+  where
+    by : (w : Option Given) → None ≡ option_map (with_name us) (option_map (λ g. g.assignment) w) → None ≡ w
+    by None e = refl
+    by (Some g) e = let no : None ≡ Some (with_name us g.assignment) = e in cc
+
+module _ (taken : List TakenOver) (c : ℕ) where
+  abbrev named : Assignment → Given
+  named a = record { assignment = a; series = series_in taken c a.slot }
+
+  -- a collector's rows among all, each beside its series, are the collector's
+  held_given : (rows : List (ℕ × Assignment)) → held_by c (map (given_in taken) rows) ≡ map named (held_by c rows)
+  held_given [] = refl
+  held_given (r ∷ rows) = by (eqb_tells r.0 c) (held_given rows)
+    where
+      by : ((eqb r.0 c ≡ true) × (r.0 ≡ c)) ⊎ ((eqb r.0 c ≡ false) × (r.0 ≢ c)) → held_by c (map (given_in taken) rows) ≡ map named (held_by c rows) → held_by c (map (given_in taken) (r ∷ rows)) ≡ map named (held_by c (r ∷ rows))
+      by (inl same) rest = rw (same.0, same.1) (ap (λ ys. named r.1 ∷ ys) rest)
+      by (inr apart) rest = rw apart.0 rest
+
+  bare : (xs : List Assignment) → map (λ g. g.assignment) (map named xs) ≡ xs
+  bare [] = refl
+  bare (a ∷ xs) = ap (λ ys. a ∷ ys) (bare xs)
+
+  pub assignments_held : (rows : List (ℕ × Assignment)) → map (λ g. g.assignment) (held_by c (map (given_in taken) rows)) ≡ held_by c rows
+  assignments_held rows = ap (map (λ (g : Given). g.assignment)) (held_given rows) ∙ bare (held_by c rows)
+
+  -- what a slot was given is its assignment, beside its series
+  pub at_given : (slot : ℕ) (rows : List (ℕ × Assignment)) → at (λ g. g.assignment.slot) slot (held_by c (map (given_in taken) rows)) ≡ option_map (λ a. record { assignment = a; series = series_in taken c slot }) (at (λ a. a.slot) slot (held_by c rows))
+  at_given slot rows = ap (at slot_of slot) (held_given rows) ∙ at-map named slot_of slot (held_by c rows) ∙ by (at own_slot slot (held_by c rows)) refl
+    where
+      beside : ℕ → Assignment → Given
+      beside s a = record { assignment = a; series = series_in taken c s }
+
+      by : (w : Option Assignment) → at own_slot slot (held_by c rows) ≡ w → option_map named (at own_slot slot (held_by c rows)) ≡ option_map (beside slot) (at own_slot slot (held_by c rows))
+      by None e = rw e refl
+      by (Some a) e = rw e (ap (λ s. Some (beside s a)) (at_key own_slot slot a (held_by c rows) e))
+
+  -- the same from the assignments with their outlets' names
+  pub given_found : (us : List Outlet) (slot : ℕ) (rows : List (ℕ × Assignment)) (found : Option Assigned) → found ≡ at (λ a. a.assignment.slot) slot (map (with_name us) (map (λ g. g.assignment) (held_by c (map (given_in taken) rows)))) →
+      option_map (λ a. record { assignment = a.assignment; series = series_in taken c slot }) found ≡ at (λ g. g.assignment.slot) slot (held_by c (map (given_in taken) rows))
+  given_found us slot rows found is =
+      ap (option_map beside)
+      (is ∙ ap (λ mine. at (λ (a : Assigned). a.assignment.slot) slot (map (with_name us) mine)) (assignments_held rows) ∙ at-map (with_name us) (λ (a : Assigned). a.assignment.slot) slot (held_by c rows))
+      ∙ by (at own_slot slot (held_by c rows)) ∙ sym (at_given slot rows)
+    where
+      beside : Assigned → Given
+      beside a = record { assignment = a.assignment; series = series_in taken c slot }
+
+      by : (w : Option Assignment) → option_map beside (option_map (with_name us) w) ≡ option_map (λ a. record { assignment = a; series = series_in taken c slot }) w
+      by None = refl
+      by (Some a) = refl
+
+  -- a slot that was given nothing has no assignment, and one that was given something has one
+  pub nothing_given : (slot : ℕ) (rows : List (ℕ × Assignment)) → at (λ g. g.assignment.slot) slot (held_by c (map (given_in taken) rows)) ≡ None → at (λ a. a.slot) slot (held_by c rows) ≡ None
+  nothing_given slot rows none = by (at own_slot slot (held_by c rows)) refl (sym (at_given slot rows) ∙ none)
+    where
+      beside : Assignment → Given
+      beside a = record { assignment = a; series = series_in taken c slot }
+
+      by : (w : Option Assignment) → at own_slot slot (held_by c rows) ≡ w → option_map beside (at own_slot slot (held_by c rows)) ≡ None → at own_slot slot (held_by c rows) ≡ None
+      by None e h = e
+      by (Some a) e h = let no : Some (beside a) ≡ None = rw e at h in cc
+
+  pub something_given : {X : Type 0} (f : Given → X) (x : X) (slot : ℕ) (rows : List (ℕ × Assignment)) → option_map f (at (λ g. g.assignment.slot) slot (held_by c (map (given_in taken) rows))) ≡ Some x → IsSome (at (λ a. a.slot) slot (held_by c rows))
+  something_given f x slot rows some = by (at own_slot slot (held_by c rows)) refl (ap (option_map f) (sym (at_given slot rows)) ∙ some)
+    where
+      beside : Assignment → Given
+      beside a = record { assignment = a; series = series_in taken c slot }
+
+      by : (w : Option Assignment) → at own_slot slot (held_by c rows) ≡ w → option_map f (option_map beside (at own_slot slot (held_by c rows))) ≡ Some x → IsSome (at own_slot slot (held_by c rows))
+      by None e h = let no : None ≡ Some x = rw e at h in cc
+      by (Some a) e h = rw e refl

@@ -1,0 +1,8 @@
+use Rattle.std.proofs.Common.{◌≡◌, take}
+use Rattle.cpi_codes.specs.declared.series.SeriesId.{SeriesId}
+use Rattle.cpi_store.specs.Series.{last_known, last_of_series}
+use Rattle.cpi_store.specs.Holders.{all_given}
+use Rattle.cpi_store.proofs.frozen.series_ends.Given as goal
+
+abbrev pub invariant-loop-holder : goal.invariant-loop-holder
+invariant-loop-holder l = (s : SeriesId) → last_known l.ends s ≡ last_of_series s (all_given l.taken (take l.holder-index l.holders))
