@@ -7,7 +7,7 @@ use Rattle.std.proofs.lemmas.Cmp.{nat_cmp_total, ranked}
 use Rattle.sqlite_rules.specs.Lists.{Has}
 use Rattle.cpi_rows.specs.Keyed.{at}
 use Rattle.cpi_rows.specs.Held.{held_cmp, held_key, held_by}
-use Rattle.cpi_survey.specs.declared.assignment.Assignment.{Assignment}
+use Rattle.cpi_store.specs.declared.given.Given.{Given}
 use Rattle.cpi_sql.proofs.Inserting.{none_apart}
 use Rattle.cpi_sql.proofs.Lists.{has_held}
 
@@ -21,10 +21,11 @@ second_tied Less b e = cc
 second_tied Equal b e = e
 second_tied Greater b e = cc
 
-pub slot_apart : (c s : ℕ) (rows : List (ℕ × Assignment)) → at (λ (a : Assignment). a.slot) s (held_by c rows) ≡ None
-    → (y : ℕ × Assignment) → Has rows y → held_cmp nat_cmp (held_key (λ (a : Assignment). a.slot) y) (c, s) ≢ Equal
+pub slot_apart : (c s : ℕ) (rows : List (ℕ × Given)) → at (λ (g : Given). g.assignment.slot) s (held_by c rows) ≡ None
+    → (y : ℕ × Given) → Has rows y
+    → held_cmp nat_cmp (held_key (λ (g : Given). g.assignment.slot) y) (c, s) ≢ Equal
 slot_apart c s rows none y h e =
     let mine : y.0 ≡ c = ranked y.0 c Equal (sym (first_tied _ _ e)) in
     let there : Has rows (c, y.1) = subst (λ n. Has rows (n, y.1)) mine h in
-    none_apart nat_cmp (λ (a : Assignment). a.slot) s (held_by c rows) y.1 none (has_held nat_cmp_total
-    (λ (a : Assignment). a.slot) c y.1 rows there) (second_tied _ _ e)
+    none_apart nat_cmp (λ (g : Given). g.assignment.slot) s (held_by c rows) y.1 none (has_held nat_cmp_total
+    (λ (g : Given). g.assignment.slot) c y.1 rows there) (second_tied _ _ e)

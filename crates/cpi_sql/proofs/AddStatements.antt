@@ -12,26 +12,21 @@ use Rattle.sqlite_rules.specs.Lists.{Has}
 use Rattle.sqlite.proofs.StateLemmas.{survives_weaker}
 use Rattle.sqlite.proofs.Callers.{statement_of}
 use Rattle.cpi_rows.specs.Keyed.{at}
-use Rattle.cpi_rows.specs.Held.{held_cmp, held_key, held_by}
 use Rattle.cpi_store.specs.declared.bearer.Bearer.{Bearer}
 use Rattle.cpi_store.specs.declared.outlet.Outlet.{Outlet}
 use Rattle.cpi_plan.specs.declared.items.Item.{Item}
-use Rattle.cpi_survey.specs.declared.assignment.Assignment.{Assignment}
-use Rattle.cpi_survey.specs.declared.assignment.Assigned.{Assigned}
-use Rattle.cpi_store.specs.Office.{changed, Registers, PutsOutlet, PutsItem, Assigns}
+use Rattle.cpi_store.specs.Office.{changed, Registers, PutsOutlet, PutsItem}
 use Rattle.cpi_sql.specs.Tables.{office_schema}
 use Rattle.cpi_sql.specs.Texts.{put_collector_text, put_collector_command, put_outlet_text, put_outlet_command}
-use Rattle.cpi_sql.specs.Texts.{put_item_text, put_item_command, put_assignment_text, put_assignment_command}
-use Rattle.cpi_sql.specs.Lists.{office_in, bearer_from, outlet_from, item_of, assignment_from}
+use Rattle.cpi_sql.specs.Texts.{put_item_text, put_item_command}
+use Rattle.cpi_sql.specs.Lists.{office_in, bearer_from, outlet_from, item_of}
 use Rattle.cpi_sql.specs.Shelf.{HasTables, IsDone}
-use Rattle.cpi_sql.proofs.Texts.{put_collector_is, put_outlet_is, put_item_is, put_assignment_is}
+use Rattle.cpi_sql.proofs.Texts.{put_collector_is, put_outlet_is, put_item_is}
 use Rattle.cpi_sql.proofs.Change.{change_done, change_commits}
 use Rattle.cpi_sql.proofs.Inserting.{none_apart}
-use Rattle.cpi_sql.proofs.AddPremises.{slot_apart}
-use Rattle.cpi_sql.proofs.Adds.{AddsRow, collector_added, outlet_added, item_added, assignment_added}
-use Rattle.cpi_sql.proofs.Adds.{assignment_columns, assignment_row}
+use Rattle.cpi_sql.proofs.Adds.{AddsRow, collector_added, outlet_added, item_added}
 use Rattle.cpi_sql.proofs.Adds.{collector_done, collector_office, outlet_done, outlet_office, item_done}
-use Rattle.cpi_sql.proofs.Adds.{item_office, assignment_done, assignment_office}
+use Rattle.cpi_sql.proofs.Adds.{item_office}
 
 module _ (old new : State) (b : Bearer) (n : ℕ) (k : List ℕ) (is : bearer_from (Int (pos n)) (Text k) ≡ Some b) where
   pub collector_ran : (count : ℕ) → HasTables old
@@ -124,42 +119,3 @@ module _ (old new : State) (i : Item) (c t u : List ℕ) (l h : ℕ)
       ap office_in it.2 ∙ item_office i (Int (next_rowid (old.now.trees 4)) ∷ Text c ∷ Text t ∷ Text u ∷ Int (pos l)
       ∷ Int (pos h) ∷ []) (is) old it.0 has
       (λ y h. none_apart nat_cmp (λ (i : Item). i.code) i.code _ y free h) it.1) ran
-
-module _ (old new : State) (b : Bearer) (a : Assigned) (c s o : ℕ) (i : List ℕ) (f l n t : ℕ) (P : Type 0)
-    (is : P → assignment_from (Int (pos c)) (Int (pos s)) (Int (pos o)) (Text i) (Int (pos f)) (Int (pos l))
-    (Int (pos n)) (Int (pos t)) Null ≡ Some a.assignment)
-    (series : P → a.assignment.series.collector ≡ b.number) where
-  pub assignment_ran : (count : ℕ) → HasTables old → P
-      → at (λ (a : Assignment). a.slot) a.assignment.slot (held_by b.number (office_in old.now.trees).assignments) ≡
-      None → Executes put_assignment_text (assignment_columns c s o i f l n t) old new (Ok count)
-      → IsDone (Assigns b a) old new
-  assignment_ran count has named free ran =
-      let it = change_done put_assignment_text put_assignment_command put_assignment_is
-      (assignment_columns c s o i f l n t) (λ o m t c w. w)
-      (λ e. elim e [ inl commit ↦ absurd cc | inr release ↦ absurd (let f = release.1 in cc) ])
-      (λ db. AddsRow 22 (assignment_row (Int (next_rowid (db 22))) c s o i f l n t) db)
-      (λ limit s₀ db tally after d.
-      assignment_added c s o i f l n t limit s₀ db
-      (statement_of put_assignment_text (understood office_schema put_assignment_text)) tally after d) old new
-      count has.schema ran in
-      assignment_done b a (assignment_row (Int (next_rowid (old.now.trees 22))) c s o i f l n t)
-      (rw (is named, series named) refl) old new.now has
-      (slot_apart b.number a.assignment.slot (office_in old.now.trees).assignments free) it.0 new refl (it.1
-      ∙ has.alone)
-
-  pub assignment_survives : Survives old new (CommitsBy put_assignment_text (assignment_columns c s o i f l n t) old)
-      → Survives old new (λ db. HasTables old → P
-      → at (λ (a : Assignment). a.slot) a.assignment.slot (held_by b.number (office_in old.now.trees).assignments)
-      ≡ None → office_in db ≡ changed (Assigns b a) (office_in old.now.trees))
-  assignment_survives ran = survives_weaker old new _ _ (λ _ db may has named free.
-      let it = change_commits put_assignment_text put_assignment_command put_assignment_is
-      (assignment_columns c s o i f l n t) (λ o m t c w. w)
-      (λ e. elim e [ inl commit ↦ absurd cc | inr release ↦ absurd (let f = release.1 in cc) ])
-      (λ db. AddsRow 22 (assignment_row (Int (next_rowid (db 22))) c s o i f l n t) db)
-      (λ limit s₀ db tally after d.
-      assignment_added c s o i f l n t limit s₀ db
-      (statement_of put_assignment_text (understood office_schema put_assignment_text)) tally after d) old db
-      has.schema may in
-      ap office_in it.2 ∙ assignment_office b a (assignment_row (Int (next_rowid (old.now.trees 22))) c s o i f l n t)
-      (rw (is named, series named) refl) old it.0 has
-      (slot_apart b.number a.assignment.slot (office_in old.now.trees).assignments free) it.1) ran

@@ -18,24 +18,20 @@ use Rattle.sqlite.specs.State.{State, mode_of}
 use Rattle.sqlite_rules.specs.Lists.{Has}
 use Rattle.sqlite_rules.proofs.TableLemmas.{put_all_keeps}
 use Rattle.cpi_rows.specs.Keyed.{at}
-use Rattle.cpi_rows.specs.Held.{held_cmp, held_key}
 use Rattle.cpi_store.specs.declared.bearer.Bearer.{Bearer}
 use Rattle.cpi_store.specs.declared.outlet.Outlet.{Outlet}
 use Rattle.cpi_plan.specs.declared.items.Item.{Item}
-use Rattle.cpi_survey.specs.declared.assignment.Assignment.{Assignment}
-use Rattle.cpi_survey.specs.declared.assignment.Assigned.{Assigned}
-use Rattle.cpi_store.specs.Office.{changed, Registers, PutsOutlet, PutsItem, Assigns}
-use Rattle.cpi_sql.specs.Tables.{office_schema, collector, outlet, item, assignment_2}
+use Rattle.cpi_store.specs.Office.{changed, Registers, PutsOutlet, PutsItem}
+use Rattle.cpi_sql.specs.Tables.{office_schema, collector, outlet, item}
 use Rattle.cpi_sql.specs.Texts.{put_collector_command, put_outlet_command, put_item_command}
-use Rattle.cpi_sql.specs.Texts.{put_assignment_command, given_pair}
+use Rattle.cpi_sql.specs.Texts.{given_pair}
 use Rattle.cpi_sql.specs.Lists.{listed, office_in, collectors_in, collector_in, bearer_from, outlets_in}
-use Rattle.cpi_sql.specs.Lists.{outlet_in, items_in, item_in, assignments_in, assignment_in}
+use Rattle.cpi_sql.specs.Lists.{outlet_in, items_in, item_in}
 use Rattle.cpi_sql.specs.Shelf.{HasTables, HasPlans, HasRowids, IsKeyed, IsDone}
 pub use Rattle.cpi_sql.specs.Steps.{SameBut}
 use Rattle.cpi_sql.proofs.Unchanged.{others_same, same_plans, releases_after, same_releases, releases_kept}
 use Rattle.cpi_sql.proofs.Listed.{PutsRow, listed_put, still_keyed}
 use Rattle.std.specs.declared.cmp.Ordering.TheVariants.{Equal}
-use Rattle.cpi_sql.proofs.Lists.{held_total}
 use Rattle.cpi_sql.proofs.Inserting.{inserted}
 use Rattle.cpi_sql.proofs.Writing as writing
 use Rattle.cpi_sql.proofs.Writing.{went, same_value, cast_int, cast_null}
@@ -112,6 +108,8 @@ module _ (b : Bearer) (row : Row) (is : collector_in row ≡ Some b) (old : Stat
           has.releases;
       rowids = subst HasRowids (sym (adds.others.quotes (λ e. absurd (omega (arith, e))))) has.rowids;
       days = subst HasRowids (sym (adds.others.calendar (λ e. absurd (omega (arith, e))))) has.days;
+      assignment_ids = subst HasRowids (sym (adds.others.assignments (λ e. absurd (omega (arith, e)))))
+          has.assignment_ids;
       collectors = still_keyed nat_cmp_total (λ (b : Bearer). b.number) collector_in b (old.now.trees 1)
           (after.trees 1) has.collectors collector_puts;
       outlets = rw (adds.others.outlets (λ e. absurd (omega (arith, e)))) has.outlets;
@@ -187,6 +185,8 @@ module _ (u : Outlet) (row : Row) (is : outlet_in row ≡ Some u) (old : State) 
           has.releases;
       rowids = subst HasRowids (sym (adds.others.quotes (λ e. absurd (omega (arith, e))))) has.rowids;
       days = subst HasRowids (sym (adds.others.calendar (λ e. absurd (omega (arith, e))))) has.days;
+      assignment_ids = subst HasRowids (sym (adds.others.assignments (λ e. absurd (omega (arith, e)))))
+          has.assignment_ids;
       collectors = rw (adds.others.collectors (λ e. absurd (omega (arith, e)))) has.collectors;
       outlets = still_keyed nat_cmp_total (λ (u : Outlet). u.number) outlet_in u (old.now.trees 3)
           (after.trees 3) has.outlets outlet_puts;
@@ -258,6 +258,8 @@ module _ (i : Item) (row : Row) (is : item_in row ≡ Some i) (old : State) (aft
           has.releases;
       rowids = subst HasRowids (sym (adds.others.quotes (λ e. absurd (omega (arith, e))))) has.rowids;
       days = subst HasRowids (sym (adds.others.calendar (λ e. absurd (omega (arith, e))))) has.days;
+      assignment_ids = subst HasRowids (sym (adds.others.assignments (λ e. absurd (omega (arith, e)))))
+          has.assignment_ids;
       collectors = rw (adds.others.collectors (λ e. absurd (omega (arith, e)))) has.collectors;
       outlets = rw (adds.others.outlets (λ e. absurd (omega (arith, e)))) has.outlets;
       items = still_keyed nat_cmp_total (λ (i : Item). i.code) item_in i (old.now.trees 4)
@@ -267,102 +269,4 @@ module _ (i : Item) (row : Row) (is : item_in row ≡ Some i) (old : State) (aft
       quotes = rw (adds.others.quotes (λ e. absurd (omega (arith, e)))) has.quotes;
     });
     office = rw now item_office;
-  }
-
--- the parameters of an assignment: its six columns, and the two numbers of its series
-abbrev pub assignment_columns : ℕ → ℕ → ℕ → List ℕ → ℕ → ℕ → ℕ → ℕ → Row
-assignment_columns c s o i f l n t =
-    Int (pos c) ∷ Int (pos s) ∷ Int (pos o) ∷ Text i ∷ Int (pos f) ∷ Int (pos l) ∷ Int (pos n) ∷ Int (pos t) ∷ []
-
--- the row, where no price is copied
-abbrev pub assignment_row : Value → ℕ → ℕ → ℕ → List ℕ → ℕ → ℕ → ℕ → ℕ → Row
-assignment_row id c s o i f l n t =
-    id ∷ Int (pos c) ∷ Int (pos s) ∷ Int (pos o) ∷ Text i ∷ Int (pos f) ∷ Int (pos l) ∷ Int (pos n) ∷ Int (pos t)
-    ∷ Null ∷ []
-
-pub assignment_added : (c s o : ℕ) (i : List ℕ) (f l n t : ℕ) (limit : Option ℕ) (s₀ : State) (db : Trees)
-    (text : List ℕ) (tally : Tally) (after : Database)
-    → Does limit (mode_of s₀) (assignment_columns c s o i f l n t)
-    (record { schema = office_schema; trees = db }) text None put_assignment_command (Ok (tally, after))
-    → AddsRow 22 (assignment_row (Int (next_rowid (db 22))) c s o i f l n t) db after
-assignment_added c s o i f l n t limit s₀ db text tally after does =
-    let params = assignment_columns c s o i f l n t in
-    let done = went does in
-    let now = ap (λ (p : Tally × Database). p.1) (same_value (went (went done.2).2).2) in
-    let source = assignment_row Null c s o i f l n t in
-    let it = assignment_2 in
-    let edit = edit_of db it [] Chosen 0 (source ∷ []) in
-    let applied = writing.insert_one limit (mode_of s₀).keys office_schema it.name it.tree it.columns it.key
-    it.primary it.uniques it.orders it.references params
-    (Values (lit Null ∷ col 0 0 ∷ col 0 1 ∷ col 0 2 ∷ col 0 3 ∷ col 0 4 ∷ col 0 5 ∷ col 0 6 ∷ col 0 7 ∷ lit Null ∷ [])
-    10) source db done.0
-    (λ rows h. h.1) done.1 in
-    let at : (tree : ℕ) → after.trees tree ≡ done.0.trees tree = λ tree. ap (λ (d : Database). d.trees tree) now in
-    let is : edited db edit ≡ put_row (assignment_row (Int (next_rowid (db 22))) c s o i f l n t) (db 22) = rw (
-      cast_null,
-      cast_int (pos c),
-      cast_int (pos s),
-      cast_int (pos o),
-      cast_int (pos f),
-      cast_int (pos l),
-      cast_int (pos n),
-      cast_int (pos t),
-    ) refl in
-    record {
-      schema = ap (λ (d : Database). d.schema) now;
-      rows = at 22 ∙ applied.rows ∙ is;
-      kept = λ r h. subst (λ l. Has l r) (sym (at 22
-          ∙ applied.rows)) (put_all_keeps edit.news (db 22) r applied.fresh h);
-      others = others_same 22 db done.0.trees after.trees at applied.tables;
-    }
-
-module _ (b : Bearer) (a : Assigned) (row : Row) (is : assignment_in row ≡ Some (b.number, a.assignment))
-    (old : State) (after : Database) (has : HasTables old)
-    (apart : (y : _) → Has (office_in old.now.trees).assignments y
-    → (held_cmp nat_cmp) ((held_key (λ (a : Assignment). a.slot)) y)
-    ((held_key (λ (a : Assignment). a.slot)) (b.number, a.assignment)) ≢ Equal)
-    (adds : AddsRow 22 row old.now.trees after) where
-  assignment_puts : PutsRow (held_total nat_cmp_total) (held_key (λ (a : Assignment). a.slot)) assignment_in
-      (b.number, a.assignment) (old.now.trees 22) (after.trees 22)
-  assignment_puts = inserted (held_total nat_cmp_total) (held_key (λ (a : Assignment). a.slot)) assignment_in
-      (b.number, a.assignment) (old.now.trees 22) (after.trees 22) row is adds.rows adds.kept has.assignments apart
-
-  pub assignment_office : office_in after.trees ≡ changed (Assigns b a) (office_in old.now.trees)
-  assignment_office = rw (
-    adds.others.collectors (λ e. absurd (omega (arith, e))),
-    adds.others.outlets (λ e. absurd (omega (arith, e))),
-    adds.others.items (λ e. absurd (omega (arith, e))),
-    adds.others.calendar (λ e. absurd (omega (arith, e))),
-    adds.others.quotes (λ e. absurd (omega (arith, e))),
-    adds.others.nodes (λ e. absurd (omega (arith, e))),
-    adds.others.places (λ e. absurd (omega (arith, e))),
-    adds.others.references (λ e. absurd (omega (arith, e))),
-    same_releases old.now.trees after.trees (releases_after 22 old.now.trees after.trees refl adds.others),
-    listed_put (held_total nat_cmp_total) (held_key (λ (a : Assignment). a.slot)) assignment_in (
-      b.number,
-      a.assignment,
-    ) (old.now.trees 22) (after.trees 22) has.assignments assignment_puts,
-  ) refl
-
-  pub assignment_done : (s : State) → s.now ≡ after → s.in_transaction ≡ false → IsDone (Assigns b a) old s
-  assignment_done s now alone = record {
-    tables = rw now (record {
-      schema = adds.schema;
-      alone = alone;
-      plans = same_plans old.now.trees after.trees (adds.others.nodes (λ e. absurd (omega (arith, e))))
-          (adds.others.places (λ e. absurd (omega (arith, e))))
-          (adds.others.references (λ e. absurd (omega (arith, e)))) has.plans;
-      releases = releases_kept old.now.trees after.trees
-          (releases_after 22 old.now.trees after.trees refl adds.others) has.releases;
-      rowids = subst HasRowids (sym (adds.others.quotes (λ e. absurd (omega (arith, e))))) has.rowids;
-      days = subst HasRowids (sym (adds.others.calendar (λ e. absurd (omega (arith, e))))) has.days;
-      collectors = rw (adds.others.collectors (λ e. absurd (omega (arith, e)))) has.collectors;
-      outlets = rw (adds.others.outlets (λ e. absurd (omega (arith, e)))) has.outlets;
-      items = rw (adds.others.items (λ e. absurd (omega (arith, e)))) has.items;
-      calendar = rw (adds.others.calendar (λ e. absurd (omega (arith, e)))) has.calendar;
-      assignments = still_keyed (held_total nat_cmp_total) (held_key (λ (a : Assignment). a.slot)) assignment_in
-          (b.number, a.assignment) (old.now.trees 22) (after.trees 22) has.assignments assignment_puts;
-      quotes = rw (adds.others.quotes (λ e. absurd (omega (arith, e)))) has.quotes;
-    });
-    office = rw now assignment_office;
   }

@@ -123,6 +123,8 @@ module _ (x : CalendarPart) (m o c p : ℕ) (month : month_at m ≡ Some x.month
             (releases_after 10 old.now.trees after.trees refl done.others) has.releases;
         rowids = subst HasRowids (sym (done.others.quotes (λ e. absurd (omega (arith, e))))) has.rowids;
         days = done.shaped;
+        assignment_ids = subst HasRowids (sym (done.others.assignments (λ e. absurd (omega (arith, e)))))
+            has.assignment_ids;
         collectors = rw (done.others.collectors (λ e. absurd (omega (arith, e)))) has.collectors;
         outlets = rw (done.others.outlets (λ e. absurd (omega (arith, e)))) has.outlets;
         items = rw (done.others.items (λ e. absurd (omega (arith, e)))) has.items;

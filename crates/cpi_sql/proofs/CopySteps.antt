@@ -12,7 +12,7 @@ use Rattle.cpi_index.specs.Series.{frozen_serial, carried_serial}
 use Rattle.cpi_release.specs.declared.level.Level.{Level}
 use Rattle.cpi_rows.specs.Held.{held_key}
 use Rattle.cpi_store.proofs.Published.{release_total}
-use Rattle.cpi_survey.specs.declared.assignment.Assignment.{Assignment}
+use Rattle.cpi_store.specs.declared.given.Given.{Given}
 use Rattle.cpi_survey.specs.Quote.{quote_key}
 use Rattle.cpi_sql.specs.Tables.{office_schema, assignment_2, quote_2, release_2, frozen_2, carried_2, level_2}
 use Rattle.cpi_sql.specs.Lists.{assignment_in, quote_in, header_in, header_key, frozen_in, carried_in, level_in}
@@ -246,7 +246,7 @@ module _ (a b c d e f g : State) (ready : IsReady a) (ran_1 : Ran copy_assignmen
       to_g.others 8 refl,
       to_g.others 10 refl,
       to_g.others 34 refl ∙ ready.empty.1.1.1.1.1.1.0,
-      same_list (held_total nat_cmp_total) (held_key (λ (x : Assignment). x.slot)) assignment_in
+      same_list (held_total nat_cmp_total) (held_key (λ (g : Given). g.assignment.slot)) assignment_in
           (λ r. assignment_in (assignment_copy r)) (a.now.trees 11) (g.now.trees 22) assignments
           (assignments_keyed g.now.trees sound survey.assignments),
       same_list (held_total quote_total) (held_key quote_key) quote_in quote_in (a.now.trees 13) (g.now.trees 24) quotes

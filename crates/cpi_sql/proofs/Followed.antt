@@ -18,7 +18,8 @@ use Rattle.cpi_survey.specs.declared.assignment.Assigned.{Assigned}
 use Rattle.cpi_survey.specs.Quote.{QuoteRow, quote_cmp, quote_key}
 use Rattle.cpi_store.specs.declared.bearer.Bearer.{Bearer}
 use Rattle.cpi_store.specs.declared.outlet.Outlet.{Outlet}
-use Rattle.cpi_store.specs.Office.{Office, Assigns, Freezes, PutsCalendar, PutsItem, PutsPlan, PutsOutlet}
+use Rattle.cpi_store.specs.declared.handover.Handover.{Handover}
+use Rattle.cpi_store.specs.Office.{Office, Assigns, Freezes, HandsOver, PutsCalendar, PutsItem, PutsPlan, PutsOutlet}
 use Rattle.cpi_store.specs.Office.{Quotes, Registers, public_part, own_part}
 use Rattle.cpi_sql.specs.Lists.{collectors_in, outlets_in, office_in}
 use Rattle.cpi_sql.specs.Shelf.{Caches, HasTables, IsCleanBook, IsDone, IsKept, IsLook, IsSound, KeptReleases}
@@ -151,6 +152,17 @@ outlet_stands u old new c has outlets done st follows = record {
 pub assignment_stands : (b : Bearer) (a : Assigned) (old new : State) (c : Caches) → IsDone (Assigns b a) old new
     → Stands old c → Stands new (record c { whose = None; releases = record c.releases { samples = None } })
 assignment_stands b a old new c done st = record {
+  tables = done.tables;
+  bearers = λ t. st.bearers t ∙ sym (ap (λ (o : Office). o.collectors) done.office);
+  outlets = λ t. st.outlets t ∙ sym (ap (λ (o : Office). o.outlets) done.office);
+  public = λ t. st.public t ∙ sym (ap public_part done.office);
+  own = λ n e. absurd (let no = e in cc);
+  releases = releases_stand old new c.releases (ap (λ (o : Office). o.releases) done.office) st.releases;
+}
+
+pub handover_stands : (h : Handover) (old new : State) (c : Caches) → IsDone (HandsOver h) old new → Stands old c
+    → Stands new (record c { whose = None; releases = record c.releases { samples = None } })
+handover_stands h old new c done st = record {
   tables = done.tables;
   bearers = λ t. st.bearers t ∙ sym (ap (λ (o : Office). o.collectors) done.office);
   outlets = λ t. st.outlets t ∙ sym (ap (λ (o : Office). o.outlets) done.office);

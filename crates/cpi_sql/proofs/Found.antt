@@ -25,20 +25,18 @@ use Rattle.sqlite_rules.specs.Lists.{Has}
 use Rattle.sqlite_rules.proofs.ListLemmas.{some_from}
 use Rattle.sqlite_rules.proofs.RuleLemmas.{keeps_at}
 use Rattle.sqlite_rules.proofs.TableLemmas.{int_is}
-use Rattle.cpi_codes.specs.declared.series.SeriesId.{SeriesId}
 use Rattle.cpi_rows.specs.Keyed.{IsInOrder}
 use Rattle.cpi_rows.specs.Held.{held_cmp, held_key}
-use Rattle.cpi_survey.specs.declared.assignment.Assignment.{Assignment}
 use Rattle.cpi_survey.specs.Quote.{quote_cmp, quote_key}
 use Rattle.sqlite.specs.Table.{Table}
 use Rattle.cpi_sql.specs.Making.{second_tables}
 use Rattle.cpi_sql.specs.Tables.{office_schema, assignment_2, quote_2}
 use Rattle.cpi_sql.specs.Read.{AreRead}
-use Rattle.cpi_sql.specs.Lists.{ranged, item_from, month_from, whole_or_none, own_series, assignment_from}
 use Rattle.cpi_sql.specs.Lists.{assignment_in, quote_in}
 use Rattle.cpi_sql.specs.Shelf.{IsKeyed, HasRowids, equals}
 use Rattle.cpi_sql.proofs.Listed.{head_in}
-use Rattle.cpi_sql.proofs.Lists.{Shows, has_read, bound_is, ranged_is, equal_number}
+use Rattle.cpi_sql.proofs.Lists.{Shows, has_read, equal_number}
+use Rattle.cpi_sql.proofs.GivenRows.{slot_in}
 use Rattle.cpi_sql.proofs.QuoteRows.{one_equal, differ_is, not_true}
 use Rattle.cpi_sql.proofs.QuoteOffice.{numbers_of, same_month, first_tied, second_tied}
 
@@ -130,18 +128,6 @@ pub four_agree : (r s : Row) → is_true (binary (Compare Eq Binary) (column r 1
 unfolding first_key
 four_agree r s a b d e = and_from _ _ a (and_from _ _ b (and_from _ _ d (and_from _ _ e refl)))
 
-taken : (b : Bool) (x y : SeriesId) → (if b then Some x else None) ≡ Some y → x ≡ y
-taken true x y e = some_is e
-taken false x y e = cc
-
--- the series of a slot has its collector
-own_number : (n s : ℕ) (v w z : Value) (own : SeriesId) → own_series n s v w z ≡ Some own → n ≡ own.collector
-own_number n s v w z own e =
-    let one = bound_is (ranged 1 9999 v) _ _ e in
-    let two = bound_is (ranged 1 400 w) _ _ one.2 in
-    let three = bound_is (whole_or_none z) _ _ two.2 in
-    ap (λ (x : SeriesId). x.collector) (taken _ (record { collector = n; slot = s }) own three.2)
-
 module _ (db : Trees) (sound : IsSound office_schema db) where
   no_pair : (r s : Row) → Has (db 22) r → Has (db 22) s → agree plain (1 ∷ 2 ∷ []) r (1 ∷ 2 ∷ []) s ≡ true
       → differ (rowid r) (rowid s) ≡ true → ⊥
@@ -165,42 +151,17 @@ module _ (db : Trees) (sound : IsSound office_schema db) where
       && differ (rowid other) (rowid s)) (db 24) r hr (and_from _ _ level apart) in
       let no : true ≡ false = sym clash ∙ none in cc
 
-  record HasPlace (r : Row) (x : ℕ × Assignment) : Type 0 where
-    pub collector : column r 1 ≡ Int (pos x.0)
-    pub slot : column r 2 ≡ Int (pos x.1.slot)
-
-  place_of : (r : Row) (x : ℕ × Assignment) → assignment_in r ≡ Some x → HasPlace r x
-  place_of r x e =
-      let it = bound_is (assignment_from (column r 1) (column r 2) (column r 3) (column r 4) (column r 5)
-      (column r 6) (column r 7) (column r 8) (column r 9)) _ _ e in
-      let pair : ◌≡◌ {A = ℕ × Assignment} (it.0.series.collector, it.0) x = some_is it.2 in
-      let one = bound_is (ranged 1 9999 (column r 1)) _ _ it.1 in
-      let two = bound_is (ranged 1 400 (column r 2)) _ _ one.2 in
-      let three = bound_is (ranged 1 999999 (column r 3)) _ _ two.2 in
-      let four = bound_is (item_from (column r 4)) _ _ three.2 in
-      let five = bound_is (month_from (column r 5)) _ _ four.2 in
-      let six = bound_is (month_from (column r 6)) _ _ five.2 in
-      let seven = bound_is (own_series one.0 two.0 (column r 7) (column r 8) (column r 9)) _ _ six.2 in
-      let mine : one.0 ≡ it.0.series.collector =
-      own_number one.0 two.0 (column r 7) (column r 8) (column r 9) seven.0 seven.1
-      ∙ ap (λ (b : Assignment). b.series.collector) (some_is seven.2) in
-      record {
-        collector = ranged_is 1 9999 (column r 1) x.0 (one.1
-            ∙ ap (λ (n : ℕ). Some n) (mine ∙ ap (λ (p : ℕ × Assignment). p.0) pair));
-        slot = ranged_is 1 400 (column r 2) x.1.slot (two.1 ∙ ap (λ (b : Assignment). Some b.slot) (some_is seven.2)
-            ∙ ap (λ (p : ℕ × Assignment). Some p.1.slot) pair);
-      }
-
-  pub assignments_keyed : HasRowids (db 22) → IsKeyed (held_cmp nat_cmp) (held_key (λ a. a.slot)) assignment_in (db 22)
+  pub assignments_keyed : HasRowids (db 22) → IsKeyed (held_cmp nat_cmp) (held_key (λ g. g.assignment.slot)) assignment_in (db 22)
   unfolding IsKeyed
   assignments_keyed h r s x y hr hs er es tie =
-      let a = place_of r x er in
-      let b = place_of s y es in
+      let a = slot_in r x.0 x.1 er in
+      let b = slot_in s y.0 y.1 es in
       let mine : x.0 ≡ y.0 = ranked x.0 y.0 Equal (sym (first_tied _ _ tie)) in
-      let slot : x.1.slot ≡ y.1.slot = ranked x.1.slot y.1.slot Equal (sym (second_tied _ _ tie)) in
+      let slot : x.1.assignment.slot ≡ y.1.assignment.slot =
+      ranked x.1.assignment.slot y.1.assignment.slot Equal (sym (second_tied _ _ tie)) in
       let level = pair_agrees r s
       (agree_same (column r 1) (column s 1) y.0 (a.collector ∙ ap (λ n. Int (pos n)) mine) b.collector)
-      (agree_same (column r 2) (column s 2) y.1.slot (a.slot ∙ ap (λ n. Int (pos n)) slot) b.slot) in
+      (agree_same (column r 2) (column s 2) y.1.assignment.slot (a.slot ∙ ap (λ n. Int (pos n)) slot) b.slot) in
       let same : r ≡ s = apart_or (db 22) r s h hr hs (no_pair r s hr hs level) in
       some_is (sym er ∙ ap assignment_in same ∙ es)
 

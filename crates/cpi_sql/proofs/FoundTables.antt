@@ -144,6 +144,7 @@ found_tables s alone has is_open live keyed rise =
       alone = alone;
       rowids = rise.survey.quotes;
       days = rise.plans.calendar;
+      assignment_ids = rise.survey.assignments;
       collectors = keyed.collectors;
       outlets = keyed.outlets;
       items = keyed.items;

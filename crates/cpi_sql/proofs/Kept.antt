@@ -14,12 +14,13 @@ kept_tables old new k h = record {
   alone = k.alone;
   rowids = subst (λ (d : Database). HasRowids (d.trees 24)) (sym k.now) h.rowids;
   days = subst (λ (d : Database). HasRowids (d.trees 10)) (sym k.now) h.days;
+  assignment_ids = subst (λ (d : Database). HasRowids (d.trees 22)) (sym k.now) h.assignment_ids;
   collectors = subst (λ (d : Database). IsKeyed nat_cmp (λ b. b.number) collector_in (d.trees 1))
       (sym k.now) h.collectors;
   outlets = subst (λ (d : Database). IsKeyed nat_cmp (λ u. u.number) outlet_in (d.trees 3)) (sym k.now) h.outlets;
   items = subst (λ (d : Database). IsKeyed nat_cmp (λ i. i.code) item_in (d.trees 4)) (sym k.now) h.items;
   calendar = subst (λ (d : Database). IsKeyed nat_cmp (λ r. r.month) calendar_in (d.trees 10)) (sym k.now) h.calendar;
-  assignments = subst (λ (d : Database). IsKeyed (held_cmp nat_cmp) (held_key (λ a. a.slot)) assignment_in
+  assignments = subst (λ (d : Database). IsKeyed (held_cmp nat_cmp) (held_key (λ g. g.assignment.slot)) assignment_in
       (d.trees 22)) (sym k.now) h.assignments;
   quotes = subst (λ (d : Database). IsKeyed (held_cmp quote_cmp) (held_key quote_key) quote_in (d.trees 24))
       (sym k.now) h.quotes;

@@ -14,7 +14,7 @@ pub mod Unchanged
 pub mod Adds
 pub mod AddStatements
 pub mod AddPremises
-pub mod OwnSeries
+pub mod GivenRows
 pub mod QuoteRows
 pub mod QuoteOffice
 pub mod Owning
@@ -32,8 +32,11 @@ pub mod YearLemmas
 pub mod StoredPlans
 pub mod AddedRows
 pub mod PlanChanges
+pub mod SlotRows
+pub mod SlotOffice
 pub mod PlanSteps
 pub mod PlanOffice
+pub mod HandoverOffice
 pub mod Found
 pub mod FoundPlans
 pub mod FoundWhole
@@ -45,6 +48,8 @@ pub mod MonthRowLemmas
 pub mod ReleaseLists
 pub mod NumberedLemmas
 pub mod ReleaseRows
+pub mod GivenReads
+pub mod SeriesRows
 pub mod ReadReleases
 pub mod ReleaseChanges
 pub mod ReleaseSteps

@@ -414,6 +414,7 @@ blank_tables s b alone = record {
   alone = alone;
   rowids = subst HasRowids (sym b.quotes) no_rowids;
   days = subst HasRowids (sym b.calendar) no_rowids;
+  assignment_ids = subst HasRowids (sym b.assignments) no_rowids;
   collectors = rw b.collectors (λ r t x y hr ht er et same. absurd hr);
   outlets = rw b.outlets (λ r t x y hr ht er et same. absurd hr);
   items = rw b.items (λ r t x y hr ht er et same. absurd hr);

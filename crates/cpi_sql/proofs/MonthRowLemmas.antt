@@ -25,20 +25,18 @@ use Rattle.sqlite_tied.specs.Compute.{everything}
 use Rattle.sqlite.proofs.Callers.{IsPlain}
 use Rattle.sqlite_rules.specs.Lists.{Has}
 use Rattle.sqlite_rules.proofs.ListLemmas.{all_from}
-use Rattle.cpi_codes.specs.declared.series.SeriesId.{SeriesId}
 use Rattle.cpi_rows.specs.Keyed.{IsInOrder, row_at}
 use Rattle.cpi_rows.specs.Held.{held_by, held_cmp, held_key}
 use Rattle.cpi_rows.proofs.Found.{row_key}
-use Rattle.cpi_survey.specs.declared.assignment.Assignment.{Assignment}
 use Rattle.cpi_survey.specs.Quote.{QuoteRow, quote_cmp, quote_key}
-use Rattle.cpi_index.specs.Frozen.{Frozen}
-use Rattle.cpi_store.specs.Office.{frozen_quote, frozen_row, month_rows}
+use Rattle.cpi_store.specs.declared.given.Given.{Given}
+use Rattle.cpi_sql.specs.declared.month_rows.MonthQuote.{MonthQuote}
 use Rattle.cpi_sql.specs.Read.{AreRead}
 use Rattle.cpi_sql.specs.MonthRows.{month_rows_text, month_rows_command, of_month, both_shown, quote_behind}
-use Rattle.cpi_sql.specs.MonthRows.{shown_month_quote, series_key}
+use Rattle.cpi_sql.specs.MonthRows.{beside, month_quote, month_quotes, shown_month_quote, slot_key}
 use Rattle.cpi_sql.specs.Texts.{by_columns}
 use Rattle.cpi_sql.specs.Lists.{and_then, ranged, month_at, assignment_in}
-use Rattle.cpi_sql.specs.Lists.{assignments_in, shown_assignment, quote_from, quote_in, quotes_in, office_in}
+use Rattle.cpi_sql.specs.Lists.{assignments_in, shown_given, quote_from, quote_in, quotes_in, office_in}
 use Rattle.cpi_sql.specs.Shelf.{HasTables, equals}
 use Rattle.cpi_sql.proofs.Texts.{Asks}
 use Rattle.cpi_sql.proofs.Reading.{equality}
@@ -46,7 +44,7 @@ use Rattle.cpi_sql.proofs.Joined.{Pairs, joined}
 use Rattle.cpi_sql.proofs.Listed.{head_in, same_in_order, listed_in_order, listed_stands, stands_listed}
 use Rattle.cpi_sql.proofs.Lists.{held_total, quote_total, read_has, has_read, has_held, held_has, held_in_order}
 use Rattle.cpi_sql.proofs.Lists.{bound_is, same_number, equal_number}
-use Rattle.cpi_sql.proofs.OwnSeries.{IsNamed, assignment_shape, slot_of, slot_in}
+use Rattle.cpi_sql.proofs.GivenRows.{assignment_shape, slot_of, slot_in}
 use Rattle.cpi_sql.proofs.QuoteOffice.{numbers_of, same_month, first_tied, second_tied}
 
 some_is : {X : Type 0} {x y : X} → ◌≡◌ {A = Option X} (Some x) (Some y) → x ≡ y
@@ -103,37 +101,37 @@ has_row R key k (y ∷ ys) x e = at (is_eq (R (key y) k)) e (has_row R key k ys 
     at true f rest = inl (sym (some_is f))
     at false f rest = inr (rest f)
 
--- ---- the order of what is frozen
+-- ---- the order of the quotes
 
 module _ (month : ℕ) (quotes : List (ℕ × QuoteRow)) where
-  abbrev row : ℕ × Assignment → Option Frozen
-  row = frozen_row month quotes
+  abbrev row : ℕ × Given → Option MonthQuote
+  row = month_quote month quotes
 
-  key_of : (y : ℕ × Assignment) (f : Frozen) → IsNamed y → row y ≡ Some f → series_key f ≡ (y.0, y.1.slot)
-  key_of y f named e = at (row_at quote_cmp quote_key (y.1.slot, month) (held_by y.0 quotes)) e
+  key_of : (y : ℕ × Given) (m : MonthQuote) → row y ≡ Some m → slot_key m ≡ (y.0, y.1.assignment.slot)
+  key_of y m e = at (row_at quote_cmp quote_key (y.1.assignment.slot, month) (held_by y.0 quotes)) e
     where
-      at : (o : Option QuoteRow) → option_map (frozen_quote y.1) o ≡ Some f → series_key f ≡ (y.0, y.1.slot)
+      at : (o : Option QuoteRow) → option_map (beside y) o ≡ Some m → slot_key m ≡ (y.0, y.1.assignment.slot)
       at None g = cc
-      at (Some q) g = ap series_key (sym (some_is g)) ∙ ap (λ (s : SeriesId). (s.collector, s.slot)) named
+      at (Some q) g = ap slot_key (sym (some_is g))
 
-  frozen_in_order : (rows : List (ℕ × Assignment)) → ((y : ℕ × Assignment) → Has rows y → IsNamed y)
-      → IsInOrder (held_cmp nat_cmp) (held_key (λ a. a.slot)) rows
-      → IsInOrder quote_cmp series_key (filter_map row rows)
+  quotes_in_order : (rows : List (ℕ × Given))
+      → IsInOrder (held_cmp nat_cmp) (held_key (λ g. g.assignment.slot)) rows
+      → IsInOrder quote_cmp slot_key (filter_map row rows)
   unfolding IsStrictlySortedBy
-  frozen_in_order [] named sorted = tt
-  frozen_in_order (y ∷ ys) named sorted = at (row y) refl (frozen_in_order ys (λ z h. named z (inr h)) sorted.1)
+  quotes_in_order [] sorted = tt
+  quotes_in_order (y ∷ ys) sorted = at (row y) refl (quotes_in_order ys sorted.1)
     where
-      at : (o : Option Frozen) → row y ≡ o → IsInOrder quote_cmp series_key (filter_map row ys)
-          → IsInOrder quote_cmp series_key (cons_option o (filter_map row ys))
+      at : (o : Option MonthQuote) → row y ≡ o → IsInOrder quote_cmp slot_key (filter_map row ys)
+          → IsInOrder quote_cmp slot_key (cons_option o (filter_map row ys))
       at None e rest = rest
-      at (Some f) e rest = (
-        all_from (λ z. quote_cmp (series_key f) (series_key z) ≡ Less) (filter_map row ys)
+      at (Some m) e rest = (
+        all_from (λ z. quote_cmp (slot_key m) (slot_key z) ≡ Less) (filter_map row ys)
             (λ z h.
             let it = has_given row ys z h in
-            let less : quote_cmp (y.0, y.1.slot) (it.0.0, it.0.1.slot) ≡ Less =
-            head_in (held_total nat_cmp_total) (held_key (λ (a : Assignment). a.slot)) y ys it.0 sorted it.1 in
-            ap (λ k. quote_cmp k (series_key z)) (key_of y f (named y (inl refl)) e)
-            ∙ ap (quote_cmp (y.0, y.1.slot)) (key_of it.0 z (named it.0 (inr it.1)) it.2) ∙ less),
+            let less : quote_cmp (y.0, y.1.assignment.slot) (it.0.0, it.0.1.assignment.slot) ≡ Less =
+            head_in (held_total nat_cmp_total) (held_key (λ (g : Given). g.assignment.slot)) y ys it.0 sorted it.1 in
+            ap (λ k. quote_cmp k (slot_key z)) (key_of y m e)
+            ∙ ap (quote_cmp (y.0, y.1.assignment.slot)) (key_of it.0 z it.2) ∙ less),
         rest,
       )
 
@@ -212,120 +210,109 @@ quote_shown_in q c w e =
     ∙ two.1 ∙ ap (λ (p : ℕ × QuoteRow). Some p.1) pair
 
 module _ (old : State) (has : HasTables old) (month n : ℕ) (number : month_at n ≡ Some month) where
-  assignments_named : (y : ℕ × Assignment) → Has (assignments_in (old.now.trees 22)) y → IsNamed y
-  assignments_named y h =
-      let it = listed_stands (held_total nat_cmp_total) (held_key (λ (a : Assignment). a.slot)) assignment_in
-      (old.now.trees 22) y h in
-      (slot_in it.0 y.0 y.1 it.2).named
-
   own_in_order : (c : ℕ) → IsInOrder quote_cmp quote_key (held_by c (quotes_in (old.now.trees 24)))
   own_in_order c = held_in_order quote_total quote_key c (quotes_in (old.now.trees 24))
       (listed_in_order (held_total quote_total) (held_key quote_key) quote_in (old.now.trees 24))
 
   -- a pair of rows that pass stands for a quote of the month
-  pair_frozen : (r q : Row) (a : Assignment) (w : QuoteRow) → Has (old.now.trees 22) r → Has (old.now.trees 24) q
-      → shown_assignment (assignment_shape r) ≡ Some a
-      → (c : ℕ) → quote_in q ≡ Some (c, w) → IsOfSlot q a.series.collector a.slot n
-      → Has (month_rows month (office_in old.now.trees)) (frozen_quote a w)
-  pair_frozen r q a w hr hq ea c eq passes =
-      let nums = numbers_of q c w eq in
-      let holder : c ≡ a.series.collector =
-      same_number (column q 1) c a.series.collector nums.collector passes.collector in
-      let slot : w.slot ≡ a.slot = same_number (column q 2) w.slot a.slot nums.slot passes.slot in
+  pair_quoted : (r q : Row) (c : ℕ) (g : Given) (w : QuoteRow) → Has (old.now.trees 22) r → Has (old.now.trees 24) q
+      → shown_given (assignment_shape r) ≡ Some (c, g) → (d : ℕ) → quote_in q ≡ Some (d, w)
+      → IsOfSlot q c g.assignment.slot n → Has (month_quotes month (office_in old.now.trees)) (beside (c, g) w)
+  pair_quoted r q c g w hr hq er d eq passes =
+      let nums = numbers_of q d w eq in
+      let holder : d ≡ c = same_number (column q 1) d c nums.collector passes.collector in
+      let slot : w.slot ≡ g.assignment.slot =
+      same_number (column q 2) w.slot g.assignment.slot nums.slot passes.slot in
       let numbered : nums.number ≡ n = same_number (column q 3) nums.number n nums.month passes.month in
       let of_month : w.month ≡ month = some_is (sym nums.is ∙ ap month_at numbered ∙ number) in
-      let entered : assignment_in r ≡ Some (a.series.collector, a) = ap
-      (λ o. and_then o (λ (b : Assignment). Some (b.series.collector, b))) ea in
-      let assigned = stands_listed (held_total nat_cmp_total) (held_key (λ (b : Assignment). b.slot)) assignment_in
-      (old.now.trees 22) (a.series.collector, a) r has.assignments hr entered in
+      let assigned = stands_listed (held_total nat_cmp_total) (held_key (λ (x : Given). x.assignment.slot))
+      assignment_in (old.now.trees 22) (c, g) r has.assignments hr er in
       let quoted = stands_listed (held_total quote_total) (held_key quote_key) quote_in (old.now.trees 24)
-      (a.series.collector, w) q has.quotes hq (eq ∙ ap (λ m. Some (m, w)) holder) in
-      let held = has_held quote_total quote_key a.series.collector w (quotes_in (old.now.trees 24)) quoted in
-      let found : row_at quote_cmp quote_key (
-        w.slot,
-        w.month,
-      ) (held_by a.series.collector (quotes_in (old.now.trees 24))) ≡ Some w =
-      row_of quote_total quote_key _ w (own_in_order a.series.collector) held in
+      (c, w) q has.quotes hq (eq ∙ ap (λ m. Some (m, w)) holder) in
+      let held = has_held quote_total quote_key c w (quotes_in (old.now.trees 24)) quoted in
+      let found : row_at quote_cmp quote_key (w.slot, w.month) (held_by c (quotes_in (old.now.trees 24))) ≡ Some w =
+      row_of quote_total quote_key _ w (own_in_order c) held in
       let asked : row_at quote_cmp quote_key (
-        a.slot,
+        g.assignment.slot,
         month,
-      ) (held_by a.series.collector (quotes_in (old.now.trees 24))) ≡ Some w =
-      ap (λ s. row_at quote_cmp quote_key (s, month) (held_by a.series.collector (quotes_in (old.now.trees 24))))
-      (sym slot)
-      ∙ ap (λ m. row_at quote_cmp quote_key (w.slot, m) (held_by a.series.collector (quotes_in (old.now.trees 24))))
-      (sym of_month) ∙ found in
-      given_has (frozen_row month (quotes_in (old.now.trees 24))) (assignments_in (old.now.trees 22))
-      (a.series.collector, a) (frozen_quote a w) assigned (ap (option_map (frozen_quote a)) asked)
+      ) (held_by c (quotes_in (old.now.trees 24))) ≡ Some w =
+      ap (λ s. row_at quote_cmp quote_key (s, month) (held_by c (quotes_in (old.now.trees 24)))) (sym slot)
+      ∙ ap (λ m. row_at quote_cmp quote_key (w.slot, m) (held_by c (quotes_in (old.now.trees 24)))) (sym of_month)
+      ∙ found in
+      given_has (month_quote month (quotes_in (old.now.trees 24))) (assignments_in (old.now.trees 22))
+      (c, g) (beside (c, g) w) assigned (ap (option_map (beside (c, g))) asked)
 
-  module _ (new : State) (rows : List Row) (xs : List Frozen)
+  module _ (new : State) (rows : List Row) (xs : List MonthQuote)
       (shown : Shown month_rows_text (Int (pos n) ∷ []) old new rows) (read : AreRead shown_month_quote rows xs) where
     both : Pairs of_month both_shown (old.now.trees 22) (old.now.trees 24) (Int (pos n) ∷ []) rows
     both = joined month_rows_text 22 24 of_month both_shown (by_columns (1 ∷ 2 ∷ [])) _ month_rows_is old new
         (Int (pos n) ∷ []) has.schema rows shown
 
-    read_frozen : (f : Frozen) → Has xs f → Has (month_rows month (office_in old.now.trees)) f
-    read_frozen f h =
-        let s = read_has shown_month_quote rows xs f read h in
+    read_quoted : (m : MonthQuote) → Has xs m → Has (month_quotes month (office_in old.now.trees)) m
+    read_quoted m h =
+        let s = read_has shown_month_quote rows xs m read h in
         let p = both.sound s.0 s.1 in
         let r = p.0 in
         let q = p.2 in
-        let shape_is : shown_month_quote (shape r q) ≡ Some f = ap shown_month_quote (sym p.5) ∙ s.2 in
-        let one = bound_is (shown_assignment (assignment_shape r)) _ _ shape_is in
+        let shape_is : shown_month_quote (shape r q) ≡ Some m = ap shown_month_quote (sym p.5) ∙ s.2 in
+        let one = bound_is (shown_given (assignment_shape r)) _ _ shape_is in
         let two = bound_is (quote_behind (shape r q)) _ _ one.2 in
-        let is : frozen_quote one.0 two.0 ≡ f = some_is two.2 in
-        let slot = slot_of r one.0 one.1 in
+        let is : beside one.0 two.0 ≡ m = some_is two.2 in
+        let slot = slot_of r one.0.0 one.0.1 one.1 in
         let quoted = shown_quote_in q two.0 two.1 in
-        let passes = of_slot q one.0.series.collector one.0.slot n
-        (sym (tests_are r q one.0.series.collector one.0.slot n slot.collector slot.slot) ∙ p.4) in
-        subst (Has (month_rows month (office_in old.now.trees))) is
-        (pair_frozen r q one.0 two.0 p.1 p.3 one.1 quoted.0 quoted.1 passes)
+        let passes = of_slot q one.0.0 one.0.1.assignment.slot n
+        (sym (tests_are r q one.0.0 one.0.1.assignment.slot n slot.collector slot.slot) ∙ p.4) in
+        subst (Has (month_quotes month (office_in old.now.trees))) is
+        (pair_quoted r q one.0.0 one.0.1 two.0 p.1 p.3 one.1 quoted.0 quoted.1 passes)
 
-    frozen_read : (f : Frozen) → Has (month_rows month (office_in old.now.trees)) f → Has xs f
-    frozen_read f h =
-        let it = has_given (frozen_row month (quotes_in (old.now.trees 24))) (assignments_in (old.now.trees 22)) f h in
+    quoted_read : (m : MonthQuote) → Has (month_quotes month (office_in old.now.trees)) m → Has xs m
+    quoted_read m h =
+        let it = has_given (month_quote month (quotes_in (old.now.trees 24))) (assignments_in (old.now.trees 22)) m h in
         at it.0.0 it.0.1 it.1 (row_at quote_cmp quote_key (
-          it.0.1.slot,
+          it.0.1.assignment.slot,
           month,
         ) (held_by it.0.0 (quotes_in (old.now.trees 24)))) refl it.2
       where
-        at : (c : ℕ) (a : Assignment) → Has (assignments_in (old.now.trees 22)) (c, a) → (o : Option QuoteRow)
-            → row_at quote_cmp quote_key (a.slot, month) (held_by c (quotes_in (old.now.trees 24))) ≡ o
-            → option_map (frozen_quote a) o ≡ Some f → Has xs f
-        at c a k None e g = cc
-        at c a k (Some w) e g =
+        at : (c : ℕ) (g : Given) → Has (assignments_in (old.now.trees 22)) (c, g) → (o : Option QuoteRow)
+            → row_at quote_cmp quote_key (g.assignment.slot, month) (held_by c (quotes_in (old.now.trees 24))) ≡ o
+            → option_map (beside (c, g)) o ≡ Some m → Has xs m
+        at c g k None e f = cc
+        at c g k (Some w) e f =
             let assigned = listed_stands (held_total nat_cmp_total) (held_key
-            (λ (b : Assignment). b.slot)) assignment_in (old.now.trees 22) (c, a) k in
-            let slot = slot_in assigned.0 c a assigned.2 in
+            (λ (x : Given). x.assignment.slot)) assignment_in (old.now.trees 22) (c, g) k in
+            let slot = slot_in assigned.0 c g assigned.2 in
             let held = held_has quote_total quote_key c w (quotes_in (old.now.trees 24))
-            (has_row quote_cmp quote_key (a.slot, month) _ w e) in
+            (has_row quote_cmp quote_key (g.assignment.slot, month) _ w e) in
             let quoted = listed_stands (held_total quote_total) (held_key quote_key) quote_in (old.now.trees 24) (
               c,
               w,
             ) held in
             let nums = numbers_of quoted.0 c w quoted.2 in
-            let tie = row_key quote_cmp quote_key (a.slot, month) w (held_by c (quotes_in (old.now.trees 24))) e in
-            let same_slot : w.slot ≡ a.slot = ranked w.slot a.slot Equal (sym (first_tied _ _ tie)) in
+            let tie =
+            row_key quote_cmp quote_key (g.assignment.slot, month) w (held_by c (quotes_in (old.now.trees 24))) e in
+            let same_slot : w.slot ≡ g.assignment.slot =
+            ranked w.slot g.assignment.slot Equal (sym (first_tied _ _ tie)) in
             let of_the_month : w.month ≡ month = ranked w.month month Equal (sym (second_tied _ _ tie)) in
             let numbered : nums.number ≡ n = same_month nums.number n month (nums.is ∙ ap Some of_the_month) number in
             let r = assigned.0 in
             let q = quoted.0 in
-            let passes = tests_are r q c a.slot n slot.collector slot.slot
+            let passes = tests_are r q c g.assignment.slot n slot.collector slot.slot
             ∙ and_from _ _ (equal_number (column q 1) c nums.collector)
-            (and_from _ _ (equal_number (column q 2) a.slot (nums.slot ∙ ap (λ m. Int (pos m)) same_slot))
+            (and_from _ _ (equal_number (column q 2) g.assignment.slot (nums.slot ∙ ap (λ m. Int (pos m)) same_slot))
             (and_from _ _ (equal_number (column q 3) n (nums.month ∙ ap (λ m. Int (pos m)) numbered)) refl)) in
             let there = both.complete r q assigned.1 quoted.1 passes in
-            let stands : shown_month_quote (shape r q) ≡ Some f =
-            ap (λ o. and_then o (λ b. and_then (quote_behind (shape r q)) (λ z. Some (frozen_quote b z)))) slot.shown
-            ∙ ap (λ o. and_then o (λ z. Some (frozen_quote a z))) (quote_shown_in q c w quoted.2) ∙ g in
-            has_read shown_month_quote rows xs (shape r q) f read there stands
+            let stands : shown_month_quote (shape r q) ≡ Some m =
+            ap (λ o. and_then o (λ y. and_then (quote_behind (shape r q)) (λ z. Some (beside y z)))) slot.shown
+            ∙ ap (λ o. and_then o (λ z. Some (beside (c, g) z))) (quote_shown_in q c w quoted.2) ∙ f in
+            has_read shown_month_quote rows xs (shape r q) m read there stands
 
-    pub month_read : IsInOrder quote_cmp series_key xs → xs ≡ month_rows month (office_in old.now.trees)
+    pub month_read : IsInOrder quote_cmp slot_key xs → xs ≡ month_quotes month (office_in old.now.trees)
     month_read order =
-        same_in_order quote_total series_key xs (month_rows month (office_in old.now.trees)) order
-        (frozen_in_order month (quotes_in (old.now.trees 24)) (assignments_in (old.now.trees 22)) assignments_named
-        (listed_in_order (held_total nat_cmp_total) (held_key (λ (a : Assignment). a.slot)) assignment_in
+        same_in_order quote_total slot_key xs (month_quotes month (office_in old.now.trees)) order
+        (quotes_in_order month (quotes_in (old.now.trees 24)) (assignments_in (old.now.trees 22))
+        (listed_in_order (held_total nat_cmp_total) (held_key (λ (g : Given). g.assignment.slot)) assignment_in
         (old.now.trees 22)))
-        read_frozen frozen_read
+        read_quoted quoted_read
 
 pub month_plain : (s : State) → HasTables s → IsPlain (understood s.now.schema month_rows_text)
 month_plain s has = subst (λ x. IsPlain (understood x month_rows_text)) (sym has.schema) month_rows_is.2

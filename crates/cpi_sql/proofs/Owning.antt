@@ -10,17 +10,17 @@ use Rattle.sqlite.specs.State.{State, Shown}
 use Rattle.sqlite.proofs.Callers.{IsPlain}
 use Rattle.cpi_rows.specs.Keyed.{IsInOrder}
 use Rattle.cpi_rows.specs.Held.{held_by}
-use Rattle.cpi_survey.specs.declared.assignment.Assignment.{Assignment}
 use Rattle.cpi_survey.specs.Quote.{QuoteRow, quote_cmp, quote_key}
+use Rattle.cpi_store.specs.declared.given.Given.{Given}
 use Rattle.cpi_sql.specs.Texts.{is_first, assignments_text, quotes_text}
 use Rattle.cpi_sql.specs.Read.{AreRead}
-use Rattle.cpi_sql.specs.Lists.{and_then, ranged, assignment_in, assignments_in, shown_assignment, quote_from}
+use Rattle.cpi_sql.specs.Lists.{and_then, ranged, assignment_in, assignments_in, shown_given, shown_own, quote_from}
 use Rattle.cpi_sql.specs.Lists.{quote_in, quotes_in, shown_quote}
 use Rattle.cpi_sql.specs.Shelf.{HasTables, equals}
 use Rattle.cpi_sql.proofs.Texts.{assignments_is, quotes_is}
 use Rattle.cpi_sql.proofs.Reading.{equality}
 use Rattle.cpi_sql.proofs.Lists.{Shows, held_read, quote_total, bound_is, ranged_is, same_number, equal_number}
-use Rattle.cpi_sql.proofs.OwnSeries.{assignment_shape, slot_of}
+use Rattle.cpi_sql.proofs.GivenRows.{assignment_shape, slot_of}
 use Rattle.cpi_sql.proofs.Whole.{asked}
 
 some_is : {X : Type 0} {x y : X} → ◌≡◌ {A = Option X} (Some x) (Some y) → x ≡ y
@@ -32,39 +32,37 @@ shape r = column r 1 ∷ column r 2 ∷ column r 3 ∷ column r 4 ∷ column r 5
 abbrev mine : ℕ → Row → Bool
 mine c r = equals (column r 1) (Int (pos c))
 
--- the number in an assignment's series is that in the row's first column
-pub series_of : (r : Row) (a : Assignment) → shown_assignment (assignment_shape r) ≡ Some a
-    → column r 1 ≡ Int (pos a.series.collector)
-series_of r a e = (slot_of r a e).collector
+own_same : (c : ℕ) (r : Row) (g : Given) → mine c r ≡ true → shown_own (assignment_shape r) ≡ Some g
+    → assignment_in r ≡ Some (c, g)
+own_same c r g test e =
+    let it = bound_is (shown_given (assignment_shape r)) _ _ e in
+    let slot = slot_of r it.0.0 it.0.1 it.1 in
+    let holder : it.0.0 ≡ c = same_number (column r 1) it.0.0 c slot.collector test in
+    let shown : shown_given (assignment_shape r) ≡ Some (it.0.0, it.0.1) = it.1 in
+    shown ∙ ap (λ n. Some (n, it.0.1)) holder ∙ ap (λ x. Some (c, x)) (some_is it.2)
 
-assignment_same : (c : ℕ) (r : Row) (a : Assignment) → mine c r ≡ true → shown_assignment (assignment_shape r) ≡ Some a
-    → assignment_in r ≡ Some (c, a)
-assignment_same c r a test e =
-    rw e (ap (λ n. Some (n, a)) (same_number (column r 1) a.series.collector c (series_of r a e) test))
+own_back : (c : ℕ) (r : Row) (g : Given) → assignment_in r ≡ Some (c, g) → (mine c r ≡ true)
+    × (shown_own (assignment_shape r) ≡ Some g)
+own_back c r g e = (
+  equal_number (column r 1) c (slot_of r c g e).collector,
+  ap (λ (o : Option (ℕ × Given)). and_then o (λ y. Some y.1)) e,
+)
 
-assignment_back : (c : ℕ) (r : Row) (a : Assignment) → assignment_in r ≡ Some (c, a) → (mine c r ≡ true)
-    × (shown_assignment (assignment_shape r) ≡ Some a)
-assignment_back c r a e =
-    let it = bound_is (shown_assignment (assignment_shape r)) _ _ e in
-    let pair : ◌≡◌ {A = ℕ × Assignment} (it.0.series.collector, it.0) (c, a) = some_is it.2 in
-    let shown : shown_assignment (assignment_shape r) ≡ Some a = it.1 ∙ ap (λ (p : ℕ × Assignment). Some p.1) pair in
-    (equal_number (column r 1) c (series_of r it.0 it.1 ∙ ap (λ (p : ℕ × Assignment). Int (pos p.0)) pair), shown)
-
-pub assignments_read : (old new : State) (c : ℕ) (rows : List Row) (xs : List Assignment) → HasTables old
-    → Shown assignments_text (Int (pos c) ∷ []) old new rows → AreRead shown_assignment rows xs
-    → IsInOrder nat_cmp (λ a. a.slot) xs → xs ≡ held_by c (assignments_in (old.now.trees 22))
-assignments_read old new c rows xs has h read order =
+pub given_read : (old new : State) (c : ℕ) (rows : List Row) (xs : List Given) → HasTables old
+    → Shown assignments_text (Int (pos c) ∷ []) old new rows → AreRead shown_own rows xs
+    → IsInOrder nat_cmp (λ g. g.assignment.slot) xs → xs ≡ held_by c (assignments_in (old.now.trees 22))
+given_read old new c rows xs has h read order =
     let m = asked assignments_text 22 (is_first 1) (1 ∷ 2 ∷ 3 ∷ 4 ∷ 5 ∷ 6 ∷ 7 ∷ 8 ∷ 9 ∷ []) (1 ∷ 2 ∷ []) _
     assignments_is old new (Int (pos c) ∷ []) has.schema rows h in
     let shows : Shows (mine c) assignment_shape (old.now.trees 22) rows = record {
       sound = λ x k. let it = m.sound x k in (it.0, it.1, sym (equality (column it.0 1) (pos c)) ∙ it.2, it.3);
       complete = λ r k is. m.complete r k (equality (column r 1) (pos c) ∙ is);
     } in
-    held_read nat_cmp_total (λ (a : Assignment). a.slot) assignment_in shown_assignment assignment_shape (mine c) c
-    (assignment_same c) (assignment_back c) (old.now.trees 22) rows xs has.assignments shows read order
+    held_read nat_cmp_total (λ (g : Given). g.assignment.slot) assignment_in shown_own assignment_shape (mine c) c
+    (own_same c) (own_back c) (old.now.trees 22) rows xs has.assignments shows read order
 
-pub assignments_plain : (s : State) → HasTables s → IsPlain (understood s.now.schema assignments_text)
-assignments_plain s has = subst (λ x. IsPlain (understood x assignments_text)) (sym has.schema) assignments_is.2
+pub given_plain : (s : State) → HasTables s → IsPlain (understood s.now.schema assignments_text)
+given_plain s has = subst (λ x. IsPlain (understood x assignments_text)) (sym has.schema) assignments_is.2
 
 quote_same : (c : ℕ) (r : Row) (q : QuoteRow) → mine c r ≡ true → shown_quote (shape r) ≡ Some q
     → quote_in r ≡ Some (c, q)

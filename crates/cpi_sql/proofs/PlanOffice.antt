@@ -75,6 +75,7 @@ module _ (p : Plan) (v : IsPlan p) (old new : State) (has : HasTables (outside o
       alone = refl;
       rowids = subst HasRowids (sym same.quotes) has.rowids;
       days = subst HasRowids (sym same.calendar) has.days;
+      assignment_ids = subst HasRowids (sym same.assignments) has.assignment_ids;
       collectors = rw same.collectors has.collectors;
       outlets = rw same.outlets has.outlets;
       items = rw same.items has.items;

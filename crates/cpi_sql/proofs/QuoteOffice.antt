@@ -199,6 +199,8 @@ module _ (b : Bearer) (q : QuoteRow) (m : ℕ) (mark : List ℕ) (v : ℕ) (mont
                 (releases_after 24 old.now.trees after.trees refl others) has.releases;
             rowids = done.1.1;
             days = subst HasRowids (sym (others.calendar (λ e. absurd (omega (arith, e))))) has.days;
+            assignment_ids = subst HasRowids (sym (others.assignments (λ e. absurd (omega (arith, e)))))
+                has.assignment_ids;
             collectors = rw (others.collectors (λ e. absurd (omega (arith, e)))) has.collectors;
             outlets = rw (others.outlets (λ e. absurd (omega (arith, e)))) has.outlets;
             items = rw (others.items (λ e. absurd (omega (arith, e)))) has.items;

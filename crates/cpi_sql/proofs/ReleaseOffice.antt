@@ -167,6 +167,7 @@ written_done r fits old new has none w = record {
     alone = refl;
     rowids = subst HasRowids (sym w.others.quotes) has.rowids;
     days = subst HasRowids (sym w.others.calendar) has.days;
+    assignment_ids = subst HasRowids (sym w.others.assignments) has.assignment_ids;
     collectors = rw w.others.collectors has.collectors;
     outlets = rw w.others.outlets has.outlets;
     items = rw w.others.items has.items;

@@ -10,7 +10,9 @@ use Rattle.cpi_sql.specs.Texts.{put_collector_text, put_collector_command, outle
 use Rattle.cpi_sql.specs.Texts.{put_outlet_text, put_outlet_command, items_text, items_command, put_item_text}
 use Rattle.cpi_sql.specs.Texts.{put_item_command, calendar_text, calendar_command, put_calendar_text}
 use Rattle.cpi_sql.specs.Texts.{put_calendar_command, assignments_text, assignments_command}
-use Rattle.cpi_sql.specs.Texts.{put_assignment_text, put_assignment_command, quotes_text, quotes_command}
+use Rattle.cpi_sql.specs.Texts.{all_assignments_text, all_assignments_command, slot_text, slot_command}
+use Rattle.cpi_sql.specs.Texts.{put_assignment_text, put_assignment_command, replace_given_text}
+use Rattle.cpi_sql.specs.Texts.{replace_given_command, quotes_text, quotes_command}
 use Rattle.cpi_sql.specs.Texts.{put_quote_text, put_quote_command, nodes_text, nodes_command, places_text}
 use Rattle.cpi_sql.specs.Texts.{places_command, add_node_text, add_node_command, add_place_text}
 use Rattle.cpi_sql.specs.Texts.{add_place_command, drop_nodes_text, drop_nodes_command, drop_places_text}
@@ -52,6 +54,14 @@ pub assignments_is : Asks assignments_text assignments_command
 unfolding understood everything
 assignments_is = (refl, refl, (refl, refl))
 
+pub all_assignments_is : Asks all_assignments_text all_assignments_command
+unfolding understood everything
+all_assignments_is = (refl, refl, (refl, refl))
+
+pub slot_is : Asks slot_text slot_command
+unfolding understood everything
+slot_is = (refl, refl, (refl, refl))
+
 pub quotes_is : Asks quotes_text quotes_command
 unfolding understood everything
 quotes_is = (refl, refl, (refl, refl))
@@ -75,6 +85,10 @@ put_calendar_is = (refl, (refl, refl))
 pub put_assignment_is : Makes put_assignment_text put_assignment_command
 unfolding understood everything
 put_assignment_is = (refl, (refl, refl))
+
+pub replace_given_is : Makes replace_given_text replace_given_command
+unfolding understood everything
+replace_given_is = (refl, (refl, refl))
 
 pub put_quote_is : Makes put_quote_text put_quote_command
 unfolding understood everything

@@ -54,7 +54,8 @@ first_releases_in trees =
 -- the lists of the tables that stay are read as ever
 abbrev pub first_office_in : Trees → Office
 first_office_in trees = record (office_in trees) {
-  assignments = listed (held_cmp nat_cmp) (held_key (λ a. a.slot)) (λ r. assignment_in (assignment_copy r)) (trees 11);
+  assignments =
+      listed (held_cmp nat_cmp) (held_key (λ g. g.assignment.slot)) (λ r. assignment_in (assignment_copy r)) (trees 11);
   quotes = quotes_in (trees 13);
   releases = first_releases_in trees;
   plans = plans_of (years 200) (nodes_in (trees 6)) (places_in (trees 8)) [];

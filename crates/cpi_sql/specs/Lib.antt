@@ -8,6 +8,7 @@ pub mod Numbered
 pub mod Said
 pub mod Making
 pub mod Steps
+pub mod GivenColumns
 pub mod Finding
 pub mod CopyTexts
 pub mod Copies

@@ -1,7 +1,7 @@
 -- The lists of the office that the rows of the tables of schema 2 stand for.
 use Rattle.std.specs.Prelude.{◌≡◌, ℕ, zero, suc, ◌+◌, ◌*◌, ◌/◌, ◌%◌, ◌&&◌, ◌==◌, ℤ, map, filter_map, pos, negsuc}
 use Rattle.std.specs.Prelude.{Bool, true, false, if◌then◌else◌, nat_le, nat_lt, bytes_eq, List, [], ◌∷◌, codes}
-use Rattle.std.specs.Prelude.{Option, Some, None, is_none, Result, Ok, Err}
+use Rattle.std.specs.Prelude.{Option, Some, None, Result, Ok, Err}
 use Rattle.std.specs.declared.cmp.Ordering.{Ordering}
 use Rattle.std.specs.Ordering.{nat_cmp}
 use Rattle.sqlite.specs.declared.types.Value.{Value}
@@ -31,6 +31,7 @@ use Rattle.cpi_survey.specs.declared.mark.Mark.TheVariants.{Price, Missing, Comp
 use Rattle.cpi_survey.specs.declared.assignment.Assignment.{Assignment}
 use Rattle.cpi_survey.specs.Quote.{QuoteRow, quote_cmp, quote_key}
 use Rattle.cpi_store.specs.declared.bearer.Bearer.{Bearer}
+use Rattle.cpi_store.specs.declared.given.Given.{Given}
 use Rattle.cpi_store.specs.declared.outlet.Outlet.{Outlet}
 use Rattle.cpi_store.specs.Office.{Office}
 use Rattle.cpi_index.specs.Frozen.{Frozen}
@@ -139,31 +140,33 @@ calendar_from month opens closes publishes =
 abbrev pub calendar_in : Row → Option CalendarPart
 calendar_in r = calendar_from (column r 0) (column r 2) (column r 3) (column r 4)
 
--- the series of a slot that took none over: its own, with no price copied. A slot that continues another's series
--- stands for nothing yet
-abbrev pub own_series : ℕ → ℕ → Value → Value → Value → Option SeriesId
-own_series number slot series_collector series_slot copied =
-    and_then (ranged 1 9999 series_collector) (λ c. and_then (ranged 1 400 series_slot) (λ s.
-    and_then (whole_or_none copied) (λ p.
-    if c == number && (s == slot && is_none p) then Some (record { collector = number; slot = slot }) else None)))
+-- a price, or NULL where there is none
+abbrev pub price_or_none : Value → Option (Option ℕ)
+price_or_none Null = Some None
+price_or_none (Int z) = and_then (ranged 1 100000000 (Int z)) (λ p. Some (Some p))
+price_or_none (Real x) = None
+price_or_none (Text t) = None
+price_or_none (Blob b) = None
 
-abbrev pub assignment_from : Value → Value → Value → Value → Value → Value → Value → Value → Value → Option Assignment
-assignment_from number slot outlet item first last series_collector series_slot copied =
-    and_then (ranged 1 9999 number)
-    (λ n. and_then (ranged 1 400 slot) (λ s. and_then (ranged 1 999999 outlet) (λ o. and_then (item_from item) (λ i.
-    and_then (month_from first) (λ f. and_then (month_from last) (λ l.
-    and_then (own_series n s series_collector series_slot copied) (λ own. Some (record {
-      slot = s;
-      outlet = o;
-      item = i;
-      first_month = f;
-      last_month = l;
-      series = own;
-    }))))))))
+abbrev pub series_from : Value → Value → Option SeriesId
+series_from collector slot = and_then (ranged 1 9999 collector)
+    (λ c. and_then (ranged 1 400 slot) (λ s. Some (record { collector = c; slot = s })))
 
-abbrev pub assignment_in : Row → Option (ℕ × Assignment)
-assignment_in r = and_then (assignment_from (column r 1) (column r 2) (column r 3) (column r 4) (column r 5)
-    (column r 6) (column r 7) (column r 8) (column r 9)) (λ a. Some (a.series.collector, a))
+abbrev pub assignment_from : Value → Value → Value → Value → Value → Value → Option Assignment
+assignment_from slot outlet item first last copied =
+    and_then (ranged 1 400 slot) (λ s. and_then (ranged 1 999999 outlet) (λ o. and_then (item_from item) (λ i.
+    and_then (month_from first) (λ f. and_then (month_from last) (λ l. and_then (price_or_none copied) (λ p.
+    Some (record { slot = s; outlet = o; item = i; first_month = f; last_month = l; copied = p })))))))
+
+-- what a slot of a collector was given, beside the collector's number
+abbrev pub given_from : Value → Value → Value → Value → Value → Value → Value → Value → Value → Option (ℕ × Given)
+given_from number slot outlet item first last series_collector series_slot copied =
+    and_then (ranged 1 9999 number) (λ n. and_then (assignment_from slot outlet item first last copied) (λ a.
+    and_then (series_from series_collector series_slot) (λ s. Some (n, record { assignment = a; series = s }))))
+
+abbrev pub assignment_in : Row → Option (ℕ × Given)
+assignment_in r = given_from (column r 1) (column r 2) (column r 3) (column r 4) (column r 5)
+    (column r 6) (column r 7) (column r 8) (column r 9)
 
 -- a mark by its word and its value
 abbrev pub mark_from : List ℕ → ℕ → Option Mark
@@ -199,9 +202,13 @@ abbrev pub shown_quote : Row → Option QuoteRow
 shown_quote x = and_then (ranged 1 9999 (column x 0))
     (λ _. quote_from (column x 1) (column x 2) (column x 3) (column x 4) (column x 5))
 
-abbrev pub shown_assignment : Row → Option Assignment
-shown_assignment x = assignment_from (column x 0) (column x 1) (column x 2) (column x 3) (column x 4) (column x 5)
+abbrev pub shown_given : Row → Option (ℕ × Given)
+shown_given x = given_from (column x 0) (column x 1) (column x 2) (column x 3) (column x 4) (column x 5)
     (column x 6) (column x 7) (column x 8)
+
+-- without the collector's number
+abbrev pub shown_own : Row → Option Given
+shown_own x = and_then (shown_given x) (λ y. Some y.1)
 
 abbrev pub quote_in : Row → Option (ℕ × QuoteRow)
 quote_in r = and_then (ranged 1 9999 (column r 1))
@@ -230,8 +237,8 @@ items_in rows = listed nat_cmp (λ i. i.code) item_in rows
 abbrev pub calendar_rows_in : List Row → List CalendarPart
 calendar_rows_in rows = listed nat_cmp (λ r. r.month) calendar_in rows
 
-abbrev pub assignments_in : List Row → List (ℕ × Assignment)
-assignments_in rows = listed (held_cmp nat_cmp) (held_key (λ a. a.slot)) assignment_in rows
+abbrev pub assignments_in : List Row → List (ℕ × Given)
+assignments_in rows = listed (held_cmp nat_cmp) (held_key (λ g. g.assignment.slot)) assignment_in rows
 
 abbrev pub quotes_in : List Row → List (ℕ × QuoteRow)
 quotes_in rows = listed (held_cmp quote_cmp) (held_key quote_key) quote_in rows

@@ -1,5 +1,6 @@
--- The stored quotes of a month, each read beside its assignment.
-use Rattle.std.specs.Prelude.{ℕ, pos, negsuc, false, List, [], ◌∷◌, ◌++◌, Option, Some, None, codes}
+-- The stored quotes of a month, each read beside what its slot was given.
+use Rattle.std.specs.Prelude.{ℕ, pos, negsuc, false, max, option_map, List, [], ◌∷◌, ◌++◌, Option, Some, None, codes}
+use Rattle.std.specs.List.{filter_map}
 use Rattle.sqlite.specs.Collation.TheVariants.{Binary}
 use Rattle.sqlite_value.specs.declared.keys.Key.{Key}
 use Rattle.sqlite.specs.declared.types.Value.TheVariants.{Int}
@@ -10,10 +11,16 @@ use Rattle.sqlite_sql.specs.declared.ops.CompareOp.TheVariants.{Eq}
 use Rattle.sqlite.specs.Query.{Query, inner, end}
 use Rattle.sqlite.specs.Command.{Command}
 use Rattle.sqlite.specs.Command.TheVariants.{Select}
-use Rattle.cpi_survey.specs.Quote.{QuoteRow}
+use Rattle.cpi_rows.specs.Keyed.{row_at}
+use Rattle.cpi_rows.specs.Held.{held_by}
+use Rattle.cpi_survey.specs.Quote.{QuoteRow, quote_cmp, quote_key}
 use Rattle.cpi_index.specs.Frozen.{Frozen}
-use Rattle.cpi_store.specs.Office.{frozen_quote}
-use Rattle.cpi_sql.specs.Lists.{and_then, ranged, quote_from, shown_assignment}
+use Rattle.cpi_store.specs.declared.given.Given.{Given}
+use Rattle.cpi_store.specs.declared.series_ends.SeriesEnds.{SeriesEnds}
+use Rattle.cpi_store.specs.Office.{Office}
+use Rattle.cpi_store.specs.Series.{last_known}
+use Rattle.cpi_sql.specs.declared.month_rows.MonthQuote.{MonthQuote}
+use Rattle.cpi_sql.specs.Lists.{and_then, ranged, quote_from, shown_given}
 use Rattle.cpi_sql.specs.Texts.{by_columns}
 
 -- a query on two tables with no limit
@@ -63,10 +70,31 @@ quote_behind x =
     and_then (ranged 1 9999 (column x 9))
     (λ _. quote_from (column x 10) (column x 11) (column x 12) (column x 13) (column x 14))
 
--- both together, as they are frozen
-abbrev pub shown_month_quote : Row → Option Frozen
-shown_month_quote x = and_then (shown_assignment x) (λ a. and_then (quote_behind x) (λ q. Some (frozen_quote a q)))
+-- a quote beside what its slot was given, as the row of both stands for them
+abbrev pub beside : ℕ × Given → QuoteRow → MonthQuote
+beside row q = record { collector = row.0; given = row.1; quote = q }
+
+abbrev pub shown_month_quote : Row → Option MonthQuote
+shown_month_quote x = and_then (shown_given x) (λ row. and_then (quote_behind x) (λ q. Some (beside row q)))
 
 -- what they are listed by
-abbrev pub series_key : Frozen → ℕ × ℕ
-series_key f = (f.series.collector, f.series.slot)
+abbrev pub slot_key : MonthQuote → ℕ × ℕ
+slot_key m = (m.collector, m.given.assignment.slot)
+
+-- the quote that a slot has of the month, if it has one
+abbrev pub month_quote : ℕ → List (ℕ × QuoteRow) → ℕ × Given → Option MonthQuote
+month_quote month quotes row = option_map (beside row)
+    (row_at quote_cmp quote_key (row.1.assignment.slot, month) (held_by row.0 quotes))
+
+-- the stored quotes of a month, by collector and slot
+abbrev pub month_quotes : ℕ → Office → List MonthQuote
+month_quotes month o = filter_map (month_quote month o.quotes) o.assignments
+
+-- as it is frozen, by what is known of its series
+abbrev pub frozen_by : SeriesEnds → MonthQuote → Frozen
+frozen_by ends m = record {
+  series = m.given.series;
+  item = m.given.assignment.item;
+  last_month = max m.given.assignment.last_month (last_known ends m.given.series);
+  mark = m.quote.mark;
+}

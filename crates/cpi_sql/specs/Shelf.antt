@@ -81,11 +81,12 @@ pub record HasTables (s : State) : Type 0 where
   pub alone : s.in_transaction ≡ false
   pub rowids : HasRowids (s.now.trees 24)
   pub days : HasRowids (s.now.trees 10)
+  pub assignment_ids : HasRowids (s.now.trees 22)
   pub collectors : IsKeyed nat_cmp (λ b. b.number) collector_in (s.now.trees 1)
   pub outlets : IsKeyed nat_cmp (λ u. u.number) outlet_in (s.now.trees 3)
   pub items : IsKeyed nat_cmp (λ i. i.code) item_in (s.now.trees 4)
   pub calendar : IsKeyed nat_cmp (λ r. r.month) calendar_in (s.now.trees 10)
-  pub assignments : IsKeyed (held_cmp nat_cmp) (held_key (λ a. a.slot)) assignment_in (s.now.trees 22)
+  pub assignments : IsKeyed (held_cmp nat_cmp) (held_key (λ g. g.assignment.slot)) assignment_in (s.now.trees 22)
   pub quotes : IsKeyed (held_cmp quote_cmp) (held_key quote_key) quote_in (s.now.trees 24)
   pub plans : HasPlans s.now.trees
   pub releases : HasReleases s.now.trees

@@ -140,13 +140,53 @@ assignments_command = select 22 (is_first 1) (1 ∷ 2 ∷ 3 ∷ 4 ∷ 5 ∷ 6 �
     (codes "collector" ∷ codes "slot" ∷ codes "outlet" ∷ codes "item" ∷ codes "first_month" ∷ codes "last_month"
     ∷ codes "series_collector" ∷ codes "series_slot" ∷ codes "copied" ∷ [])
 
+abbrev pub all_assignments_text : List ℕ
+all_assignments_text = codes
+    "SELECT collector, slot, outlet, item, first_month, last_month, series_collector, series_slot, copied FROM assignment_2 ORDER BY collector, slot"
+
+abbrev pub all_assignments_command : Command
+all_assignments_command = select 22 [] (1 ∷ 2 ∷ 3 ∷ 4 ∷ 5 ∷ 6 ∷ 7 ∷ 8 ∷ 9 ∷ []) (1 ∷ 2 ∷ [])
+    (codes "collector" ∷ codes "slot" ∷ codes "outlet" ∷ codes "item" ∷ codes "first_month" ∷ codes "last_month"
+    ∷ codes "series_collector" ∷ codes "series_slot" ∷ codes "copied" ∷ [])
+
+-- the collector and the slot are the first two parameters
+abbrev pub is_slot : List Term
+is_slot = op2 (Compare Eq Binary) (col 1 1) (col 0 0) ∷ op2 (Compare Eq Binary) (col 1 2) (col 0 1) ∷ []
+
+abbrev pub slot_text : List ℕ
+slot_text = codes
+    "SELECT collector, slot, outlet, item, first_month, last_month, series_collector, series_slot, copied FROM assignment_2 WHERE collector = ?1 AND slot = ?2 ORDER BY collector, slot"
+
+abbrev pub slot_command : Command
+slot_command = select 22 is_slot (1 ∷ 2 ∷ 3 ∷ 4 ∷ 5 ∷ 6 ∷ 7 ∷ 8 ∷ 9 ∷ []) (1 ∷ 2 ∷ [])
+    (codes "collector" ∷ codes "slot" ∷ codes "outlet" ∷ codes "item" ∷ codes "first_month" ∷ codes "last_month"
+    ∷ codes "series_collector" ∷ codes "series_slot" ∷ codes "copied" ∷ [])
+
 abbrev pub put_assignment_text : List ℕ
 put_assignment_text = codes
-    "INSERT INTO assignment_2 (collector, slot, outlet, item, first_month, last_month, series_collector, series_slot, copied) VALUES (?1, ?2, ?3, ?4, ?5, ?6, ?7, ?8, NULL)"
+    "INSERT INTO assignment_2 (collector, slot, outlet, item, first_month, last_month, series_collector, series_slot, copied) VALUES (?1, ?2, ?3, ?4, ?5, ?6, ?7, ?8, ?9)"
+
+abbrev pub given_assignment : List Term
+given_assignment =
+    lit Null ∷ col 0 0 ∷ col 0 1 ∷ col 0 2 ∷ col 0 3 ∷ col 0 4 ∷ col 0 5 ∷ col 0 6 ∷ col 0 7 ∷ col 0 8 ∷ []
 
 abbrev pub put_assignment_command : Command
-put_assignment_command = Insert 13 (Values (lit Null ∷ col 0 0 ∷ col 0 1 ∷ col 0 2 ∷ col 0 3 ∷ col 0 4 ∷ col 0 5
-    ∷ col 0 6 ∷ col 0 7 ∷ lit Null ∷ []) 10)
+put_assignment_command = Insert 13 (Values given_assignment 10)
+
+abbrev pub replace_given_text : List ℕ
+replace_given_text = codes
+    "INSERT INTO assignment_2 (collector, slot, outlet, item, first_month, last_month, series_collector, series_slot, copied) VALUES (?1, ?2, ?3, ?4, ?5, ?6, ?7, ?8, ?9) ON CONFLICT (collector, slot) DO UPDATE SET collector = excluded.collector, slot = excluded.slot, outlet = excluded.outlet, item = excluded.item, first_month = excluded.first_month, last_month = excluded.last_month, series_collector = excluded.series_collector, series_slot = excluded.series_slot, copied = excluded.copied"
+
+-- nine parameters, the rowid that is there, and then the new row's rowid and columns
+abbrev pub update_given : Query
+update_given = whole_query 22 (op2 (Compare Eq Binary) (col 1 0) (col 0 9) ∷ []) (col 1 0 ∷ col 1 0 ∷ col 0 11
+    ∷ col 0 12 ∷ col 0 13 ∷ col 0 14 ∷ col 0 15 ∷ col 0 16 ∷ col 0 17 ∷ col 0 18 ∷ col 0 19 ∷ []) []
+
+abbrev pub replace_given_command : Command
+replace_given_command = InsertOr 13 Abort (Values given_assignment 10) (record {
+  target = Some (1 ∷ 2 ∷ []);
+  update = Some (record { lets = []; body = update_given });
+} ∷ [])
 
 -- ---- quotes
 

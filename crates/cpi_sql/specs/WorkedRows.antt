@@ -4,8 +4,10 @@ use Rattle.sqlite.specs.declared.types.Value.{Value}
 use Rattle.sqlite.specs.declared.types.Value.TheVariants.{Null, Int, Text}
 use Rattle.sqlite.specs.Order.{Row}
 use Rattle.cpi_codes.specs.declared.codes.Code.{Code}
+use Rattle.cpi_codes.specs.declared.series.SeriesId.{SeriesId}
 use Rattle.cpi_survey.specs.declared.mark.Mark.TheVariants.{Price, Missing}
 use Rattle.cpi_survey.specs.declared.mark.Reason.TheVariants.{Stock}
+use Rattle.cpi_store.specs.declared.given.Given.{Given}
 use Rattle.cpi_index.specs.Carried.{Carried}
 use Rattle.cpi_release.specs.declared.level.Level.{Level}
 use Rattle.cpi_sql.specs.Lists.{item_in, calendar_in, assignment_in, quote_in, node_in, header_in}
@@ -80,29 +82,40 @@ Quotes =
     × (quote_in (quote_row (codes "price") 0) ≡ None)
     × (quote_in (quote_row (codes "prices") 200) ≡ None)
 
--- ---- assignments: December 2026 is month 323
+-- ---- assignments of collector 7: December 2026 is month 323
 
-abbrev pub assignment_row : ℕ → ℕ → Value → Row
-assignment_row slot series_slot copied =
+abbrev pub assignment_row : ℕ → ℕ → ℕ → Value → Row
+assignment_row slot series_collector series_slot copied =
     number 5 ∷ number 7 ∷ number slot ∷ number 10 ∷ word (codes "RICE") ∷ number 202512 ∷ number 202612
-    ∷ number 7 ∷ number series_slot ∷ copied ∷ []
+    ∷ number series_collector ∷ number series_slot ∷ copied ∷ []
 
+abbrev pub given_with : SeriesId → Option ℕ → Given
+given_with series copied = record {
+  assignment = record {
+    slot = 400;
+    outlet = 10;
+    item = rice_code;
+    first_month = 311;
+    last_month = 323;
+    copied = copied;
+  };
+  series = series;
+}
+
+-- a slot with its own series, and one that took over slot 2 of collector 9 with and without a price
 abbrev pub Assignments : Type 0
 Assignments =
-    (assignment_in (assignment_row 400 400 Null) ≡ Some (
-      7,
-      record {
-        slot = 400;
-        outlet = 10;
-        item = rice_code;
-        first_month = 311;
-        last_month = 323;
-        series = record { collector = 7; slot = 400 };
-      },
-    ))
-    × (assignment_in (assignment_row 401 401 Null) ≡ None)
-    × (assignment_in (assignment_row 400 399 Null) ≡ None)
-    × (assignment_in (assignment_row 400 400 (number 3040000)) ≡ None)
+    (assignment_in (assignment_row 400 7 400 Null)
+    ≡ Some (7, given_with (record { collector = 7; slot = 400 }) None))
+    × (assignment_in (assignment_row 400 9 2 Null) ≡ Some (7, given_with (record { collector = 9; slot = 2 }) None))
+    × (assignment_in (assignment_row 400 9 2 (number 1250))
+    ≡ Some (7, given_with (record { collector = 9; slot = 2 }) (Some 1250)))
+    × (assignment_in (assignment_row 401 7 401 Null) ≡ None)
+    × (assignment_in (assignment_row 400 10000 2 Null) ≡ None)
+    × (assignment_in (assignment_row 400 9 401 Null) ≡ None)
+    × (assignment_in (assignment_row 400 9 2 (number 0)) ≡ None)
+    × (assignment_in (assignment_row 400 9 2 (number 100000001)) ≡ None)
+    × (assignment_in (assignment_row 400 9 2 (word (codes "1250"))) ≡ None)
 
 -- ---- nodes
 

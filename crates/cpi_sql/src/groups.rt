@@ -81,7 +81,8 @@ fn month_lists<S: Alter>(
     ensures read { IsCleanBook (state S.Store conn.new) → HasTables (state S.Store conn.old) →
         headers.now ≡ headers_in ((state S.Store conn.old).now.trees 26) → IfOk result (λ x.
         let office = office_in (state S.Store conn.old).now.trees in
-        (x.carried.items ≡ carried_in office.releases last) × (x.quotes.items ≡ rows_of_month month office)) }
+        (x.carried.items ≡ carried_in office.releases last)
+        × (IsFit (office_sources office) → x.quotes.items ≡ rows_of_month month office)) }
 {
     let carried = earlier_carried(conn, alloc, headers, last)?;
     let quotes = month_rows(conn, alloc, month)?;

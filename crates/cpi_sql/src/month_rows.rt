@@ -1,22 +1,25 @@
-//! The stored quotes of a month, each with what its assignment says of its series.
-ghost use Rattle.std.specs.Prelude.{◌≡◌, IfOk, IfSome, IsTrue, OnOk};
+//! The stored quotes of a month, each with what is said of its series.
+ghost use Rattle.std.specs.Prelude.{◌≡◌, IfOk, IfSome, IsTrue, OnOk, map, true};
 ghost use Rattle.sqlite.specs.Held.{state};
 ghost use Rattle.sqlite.specs.State.{HasCleanDisk, Survives};
+ghost use Rattle.cpi_index.specs.Series.{frozen_serial, is_by_series};
 ghost use Rattle.cpi_store.specs.Office.{month_rows as rows_of_month};
+ghost use Rattle.cpi_store.specs.Series.{by_series as in_order};
 ghost use Rattle.cpi_sql.specs.Shelf.{IsCleanBook, IsKept, HasTables};
 ghost use Rattle.cpi_sql.specs.Lists.{office_in};
-ghost use Rattle.cpi_sql.specs.MonthRows.{quote_behind};
+ghost use Rattle.cpi_sql.specs.MonthRows.{frozen_by, month_quotes as quotes_of_month, quote_behind};
 
+use crate::given_rows::{GivenRow, series_ends};
 use crate::rows::{read_collector, read_mark, read_month, read_slot};
 use crate::stored::{Stored, Unread, list};
 use crate::writes::month_number;
 use cpi_codes::{CollectorId, Month, Slot};
 use cpi_index::FrozenQuote;
 use cpi_rows::Keyed;
-use cpi_survey::{Assignment, Quote};
+use cpi_store::{Given, SeriesEnds, sort_by_series};
+use cpi_survey::Quote;
 use sqlite::{Alter, Connection, Row, params};
 use std::alloc::Global;
-use std::marker::Model;
 
 const MONTH_ROWS: &str =
     "SELECT a.collector, a.slot, a.outlet, a.item, a.first_month, a.last_month, \
@@ -24,31 +27,23 @@ const MONTH_ROWS: &str =
     q.collector, q.slot, q.month, q.mark, q.value, q.receipt FROM assignment_2 AS a JOIN quote_2 AS q \
     ON q.collector = a.collector AND q.slot = a.slot AND q.month = ?1 ORDER BY a.collector, a.slot";
 
-/// A stored quote with what its assignment says of its series, as the answer shows both.
-#[derive(Drop)]
+/// A stored quote beside what its slot was given, as the answer shows both.
+#[derive(Clone, Copy, Debug)]
 pub struct MonthQuote {
-    frozen: FrozenQuote,
-}
-
-impl Model for MonthQuote {
-    ghost use Rattle.cpi_index.specs.Frozen.{Frozen};
-
-    ghost Value = { Frozen };
-
-    ghost view = { λ m. m.frozen };
-
-    ghost inverse = { λ f. record { frozen = f } };
+    pub collector: CollectorId,
+    pub given: Given,
+    pub quote: Quote,
 }
 
 impl Keyed for MonthQuote {
-    ghost use Rattle.cpi_sql.specs.MonthRows.{series_key};
+    ghost use Rattle.cpi_sql.specs.MonthRows.{slot_key};
 
     type Key = (CollectorId, Slot);
 
-    ghost key = { series_key };
+    ghost key = { slot_key };
 
     fn key(&self) -> (CollectorId, Slot) {
-        (self.frozen.series.collector, self.frozen.series.slot)
+        (self.collector, self.given.assignment.slot)
     }
 }
 
@@ -75,20 +70,17 @@ impl Stored for MonthQuote {
     ghost stands_for = { shown_month_quote };
 
     fn read(alloc: Global, row: &Row) -> Option<MonthQuote> {
-        let assignment = Assignment::read(alloc, row)?;
+        let slot = GivenRow::read(alloc, row)?;
         let quote = read_quote(row)?;
         Some(MonthQuote {
-            frozen: FrozenQuote {
-                series: assignment.series,
-                item: assignment.item,
-                last_month: assignment.last_month,
-                mark: quote.mark,
-            },
+            collector: slot.collector,
+            given: slot.given,
+            quote,
         })
     }
 }
 
-// The stored quotes of the month, as the answer shows them.
+// The stored quotes of the month, by collector and slot.
 fn month_quotes<S: Alter>(
     conn: &mut Connection<S>,
     alloc: Global,
@@ -98,7 +90,7 @@ fn month_quotes<S: Alter>(
     ensures kept { IsCleanBook (state S.Store conn.new) → HasTables (state S.Store conn.old) →
         IsKept (state S.Store conn.old) (state S.Store conn.new) }
     ensures read { IsCleanBook (state S.Store conn.new) → HasTables (state S.Store conn.old) →
-        IfOk result (λ xs. xs.items ≡ rows_of_month month (office_in (state S.Store conn.old).now.trees)) }
+        IfOk result (λ xs. xs.items ≡ quotes_of_month month (office_in (state S.Store conn.old).now.trees)) }
     ensures open { HasCleanDisk (state S.Store conn.new) → OnOk result (IsTrue (state S.Store conn.new).is_open) }
     ensures crash { Survives (state S.Store conn.old) (state S.Store conn.new)
         (λ _. HasTables (state S.Store conn.old) → ⊥) }
@@ -107,18 +99,50 @@ fn month_quotes<S: Alter>(
     list(conn, alloc, MONTH_ROWS, params![number])
 }
 
-// The quotes alone.
-fn quotes_alone(alloc: Global, rows: &[MonthQuote]) -> Result<Vec<FrozenQuote>, Unread>
-    ensures { IfOk result (λ xs. xs.items ≡ rows.now) }
+// The quote with the last month that is known of its series.
+fn frozen(ends: &SeriesEnds, row: &MonthQuote) -> FrozenQuote
+    ensures { result ≡ frozen_by ends.now row.now }
+{
+    let last_month = ends.latest(row.given.series, row.given.assignment.last_month);
+    FrozenQuote {
+        series: row.given.series,
+        item: row.given.assignment.item,
+        last_month,
+        mark: row.quote.mark,
+    }
+}
+
+// The quotes as they are frozen, in the order in which they are given.
+fn all_frozen(
+    alloc: Global,
+    ends: &SeriesEnds,
+    rows: &[MonthQuote],
+) -> Result<Vec<FrozenQuote>, Unread>
+    ensures { IfOk result (λ xs. xs.items ≡ map (frozen_by ends.now) rows.now) }
 {
     let mut found = Vec::new(alloc);
     'rows: for row in rows {
-        found.push(row.frozen).map_err(|_| Unread)?;
+        found.push(frozen(ends, row)).map_err(|_| Unread)?;
     }
     Ok(found)
 }
 
-/// The stored quotes of a month, by series. O(n log m) for n assignments and m quotes.
+// The quotes as they are frozen, by series, where no series comes twice.
+fn by_series(
+    alloc: Global,
+    ends: &SeriesEnds,
+    rows: &[MonthQuote],
+) -> Result<Vec<FrozenQuote>, Unread>
+    ensures { let quotes = in_order (map (frozen_by ends.now) rows.now) in
+        IfOk result (λ xs. is_by_series frozen_serial quotes ≡ true → xs.items ≡ quotes) }
+{
+    let mut found = all_frozen(alloc, ends, rows)?;
+    sort_by_series(&mut found).map_err(|_| Unread)?;
+    Ok(found)
+}
+
+/// The stored quotes of a month, by series, where no series has two in the month. O(n log n + n log m) for n
+/// assignments and m quotes.
 pub fn month_rows<S: Alter>(
     conn: &mut Connection<S>,
     alloc: Global,
@@ -128,11 +152,13 @@ pub fn month_rows<S: Alter>(
     ensures kept { IsCleanBook (state S.Store conn.new) → HasTables (state S.Store conn.old) →
         IsKept (state S.Store conn.old) (state S.Store conn.new) }
     ensures read { IsCleanBook (state S.Store conn.new) → HasTables (state S.Store conn.old) →
-        IfOk result (λ xs. xs.items ≡ rows_of_month month (office_in (state S.Store conn.old).now.trees)) }
+        let rows = rows_of_month month (office_in (state S.Store conn.old).now.trees) in
+        IfOk result (λ xs. is_by_series frozen_serial rows ≡ true → xs.items ≡ rows) }
     ensures open { HasCleanDisk (state S.Store conn.new) → OnOk result (IsTrue (state S.Store conn.new).is_open) }
     ensures crash { Survives (state S.Store conn.old) (state S.Store conn.new)
         (λ _. HasTables (state S.Store conn.old) → ⊥) }
 {
+    let ends = series_ends(conn, alloc)?;
     let rows = month_quotes(conn, alloc, month)?;
-    quotes_alone(alloc, &rows)
+    by_series(alloc, &ends, &rows)
 }

@@ -15,7 +15,7 @@ use crate::ready::{ready_outlets, ready_public};
 use crate::stored::{Unread, list};
 use cpi_codes::CollectorId;
 use cpi_rows::{RowsByKey, are_in_order};
-use cpi_store::Outlet;
+use cpi_store::{Given, Outlet};
 use cpi_survey::{Assigned, Assignment, Own, Public, Quote};
 use sqlite::{Alter, Connection, params};
 use std::alloc::Global;
@@ -24,18 +24,18 @@ const ASSIGNMENTS: &str =
     "SELECT collector, slot, outlet, item, first_month, last_month, series_collector, series_slot, copied \
      FROM assignment_2 WHERE collector = ?1 ORDER BY collector, slot";
 
-/// The assignments of a collector.
-pub fn assignments_of<S: Alter>(
+/// What the slots of a collector were given.
+pub fn given_of<S: Alter>(
     conn: &mut Connection<S>,
     alloc: Global,
     collector: CollectorId,
-) -> Result<Vec<Assignment>, Unread>
+) -> Result<Vec<Given>, Unread>
     ensures clean { IsCleanBook (state S.Store conn.new) → IsCleanBook (state S.Store conn.old) }
     ensures kept { IsCleanBook (state S.Store conn.new) → HasTables (state S.Store conn.old)
         → IsKept (state S.Store conn.old) (state S.Store conn.new) }
     ensures read { IsCleanBook (state S.Store conn.new) → HasTables (state S.Store conn.old) → IfOk result (λ xs.
         xs.items ≡ held_by collector (assignments_in ((state S.Store conn.old).now.trees 22))) }
-    ensures order { IfOk result (λ xs. IsInOrder nat_cmp (λ a. a.slot) xs.items) }
+    ensures order { IfOk result (λ xs. IsInOrder nat_cmp (λ g. g.assignment.slot) xs.items) }
     ensures open { HasCleanDisk (state S.Store conn.new) → OnOk result (IsTrue (state S.Store conn.new).is_open) }
     ensures crash { Survives (state S.Store conn.old) (state S.Store conn.new)
         (λ _. HasTables (state S.Store conn.old) → ⊥) }
@@ -84,17 +84,13 @@ fn name_one(alloc: Global, outlets: &RowsByKey<Outlet>, assignment: &Assignment)
 }
 
 // The assignments with the names of their outlets.
-fn name_all(
-    alloc: Global,
-    outlets: &RowsByKey<Outlet>,
-    assignments: &[Assignment],
-) -> Option<Vec<Assigned>>
-    ensures named { IfSome result (λ xs. xs.items ≡ map (with_name outlets.now) assignments.now) }
+fn name_all(alloc: Global, outlets: &RowsByKey<Outlet>, given: &[Given]) -> Option<Vec<Assigned>>
+    ensures named { IfSome result (λ xs. xs.items ≡ map (with_name outlets.now) (map (λ g. g.assignment) given.now)) }
     ensures order { IfSome result (λ xs. IsInOrder nat_cmp (λ a. a.assignment.slot) xs.items) }
 {
     let mut named = Vec::new(alloc);
-    'all: for assignment in assignments {
-        let one = name_one(alloc, outlets, assignment)?;
+    'all: for row in given {
+        let one = name_one(alloc, outlets, &row.assignment)?;
         named.push(one).ok()?;
     }
     if are_in_order(&named) {
@@ -121,14 +117,16 @@ fn greatest(quotes: &[Quote]) -> u32
 fn own_of(
     alloc: Global,
     outlets: &RowsByKey<Outlet>,
-    assignments: &[Assignment],
+    given: &[Given],
     quotes: Vec<Quote>,
 ) -> Option<Own>
     requires quotes { IsInOrder quote_cmp quote_key quotes.items }
-    ensures { IfSome result (λ own. own
-        ≡ record { assignments = map (with_name outlets.now) assignments.now; quotes = quotes.items }) }
+    ensures { IfSome result (λ own. own ≡ record {
+      assignments = map (with_name outlets.now) (map (λ g. g.assignment) given.now);
+      quotes = quotes.items;
+    }) }
 {
-    let named = name_all(alloc, outlets, assignments)?;
+    let named = name_all(alloc, outlets, given)?;
     let most = greatest(&quotes);
     Own::from_parts(alloc, named, quotes, most).ok()
 }
@@ -146,9 +144,9 @@ pub fn read_own<S: Alter>(
         → outlets.now ≡ outlets_in ((state S.Store conn.old).now.trees 3)
         → IfOk result (λ own. own ≡ own_part collector (office_in (state S.Store conn.old).now.trees)) }
 {
-    let assignments = assignments_of(conn, alloc, collector)?;
+    let given = given_of(conn, alloc, collector)?;
     let quotes = quotes_of(conn, alloc, collector)?;
-    own_of(alloc, outlets, &assignments, quotes).ok_or(Unread)
+    own_of(alloc, outlets, &given, quotes).ok_or(Unread)
 }
 
 /// Reads the outlets and what the collector has, unless they are read.

@@ -3,7 +3,7 @@ ghost use Rattle.std.specs.Prelude.{◌≡◌, IfSome, IfOk};
 ghost use Rattle.sqlite.specs.Order.{column};
 ghost use Rattle.cpi_codes.specs.CodeOf.{code_of as spelled};
 ghost use Rattle.cpi_sql.specs.Lists.{code_from, month_at, mark_from, mark_in, month_from, name_from};
-ghost use Rattle.cpi_sql.specs.Lists.{item_from, own_series, ranged, whole_or_none};
+ghost use Rattle.cpi_sql.specs.Lists.{assignment_from, item_from, price_or_none, ranged, series_from};
 
 use crate::reference_months::ReferenceMonth;
 use crate::stored::Stored;
@@ -149,51 +149,45 @@ impl Stored for CalendarRow {
     }
 }
 
-// The price that was copied at a handover, if there is one.
-fn read_copied(row: &Row, at: usize) -> Option<Option<i64>>
-    ensures { IfSome result (λ p. whole_or_none (column row.now at) ≡ Some p) }
+// The price that was copied when the series was handed over, if there is one.
+fn read_copied(row: &Row, at: usize) -> Option<Option<Price>>
+    ensures { IfSome result (λ p. price_or_none (column row.now at) ≡ Some p) }
 {
-    row.get(at).ok()
+    let number: Option<u32> = row.get(at).ok()?;
+    match number {
+        None => Some(None),
+        Some(number) => Some(Some(Price::new(u64::from(number))?)),
+    }
 }
 
-// The slot's own series; none where another series stands there, or where a price was copied.
-fn read_own_series(row: &Row, collector: CollectorId, slot: Slot) -> Option<SeriesId>
-    ensures { IfSome result (λ s. own_series collector slot (column row.now 6) (column row.now 7) (column row.now 8)
-        ≡ Some s) }
+/// The series that a slot was given.
+pub fn read_series(row: &Row, collector: usize, slot: usize) -> Option<SeriesId>
+    ensures { IfSome result (λ s. series_from (column row.now collector) (column row.now slot) ≡ Some s) }
 {
-    let series_collector = read_collector(row, 6)?;
-    let series_slot = read_slot(row, 7)?;
+    let collector = read_collector(row, collector)?;
+    let slot = read_slot(row, slot)?;
+    Some(SeriesId { collector, slot })
+}
+
+/// What a slot is for.
+pub fn read_assignment(row: &Row) -> Option<Assignment>
+    ensures { IfSome result (λ a. assignment_from (column row.now 1) (column row.now 2) (column row.now 3)
+        (column row.now 4) (column row.now 5) (column row.now 8) ≡ Some a) }
+{
+    let slot = read_slot(row, 1)?;
+    let outlet = read_outlet(row, 2)?;
+    let item = read_item_code(row, 3)?;
+    let first_month = read_month(row, 4)?;
+    let last_month = read_month(row, 5)?;
     let copied = read_copied(row, 8)?;
-    if series_collector == collector && (series_slot == slot && copied.is_none()) {
-        Some(SeriesId { collector, slot })
-    } else {
-        None
-    }
-}
-
-impl Stored for Assignment {
-    ghost use Rattle.cpi_sql.specs.Lists.{assignment_from};
-
-    ghost stands_for = { λ x. assignment_from (column x 0) (column x 1) (column x 2) (column x 3) (column x 4)
-        (column x 5) (column x 6) (column x 7) (column x 8) };
-
-    fn read(alloc: Global, row: &Row) -> Option<Assignment> {
-        let collector = read_collector(row, 0)?;
-        let slot = read_slot(row, 1)?;
-        let outlet = read_outlet(row, 2)?;
-        let item = read_item_code(row, 3)?;
-        let first_month = read_month(row, 4)?;
-        let last_month = read_month(row, 5)?;
-        let series = read_own_series(row, collector, slot)?;
-        Some(Assignment {
-            slot,
-            outlet,
-            item,
-            first_month,
-            last_month,
-            series,
-        })
-    }
+    Some(Assignment {
+        slot,
+        outlet,
+        item,
+        first_month,
+        last_month,
+        copied,
+    })
 }
 
 pub fn read_mark(row: &Row, mark: usize, value: usize) -> Option<Mark>

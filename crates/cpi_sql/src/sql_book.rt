@@ -2,6 +2,8 @@ use crate::ask::settle;
 use crate::follow::{
     follow_calendar, follow_collector, follow_item, follow_outlet, follow_plan, follow_quote,
 };
+use crate::given_rows::given_to;
+use crate::handovers::put_handover;
 use crate::history::{
     all_months, find_revision, find_table, level_of, months_published, sample_rows,
 };
@@ -14,12 +16,12 @@ use crate::put_release::put_release;
 use crate::ready::{find_key, ready_bearers, ready_outlets, ready_public};
 use crate::release_rows::Header;
 use crate::writes::{put_assignment, put_calendar, put_collector, put_item, put_outlet, put_quote};
-use cpi_codes::{Code, CollectorId, Key, Moment, Month, OutletId};
+use cpi_codes::{Code, CollectorId, Key, Moment, Month, OutletId, Slot};
 use cpi_index::{ChainedLevel, FrozenQuote, GroupRow};
 use cpi_plan::{CalendarRow, Item, YearPlan};
 use cpi_release::{Cached, Failures, FrozenMonth, GroupFault, Groups, Level, Release, Revision};
 use cpi_rows::{Rows, RowsByKey, find_row};
-use cpi_store::{Bearer, Book, Outlet, Parts, StoreFault};
+use cpi_store::{Bearer, Book, Given, Handover, Outlet, Parts, StoreFault};
 use cpi_survey::{Assigned, Own, Public, Quote};
 use sqlite::{Alter, Connection};
 use std::alloc::Global;
@@ -321,6 +323,13 @@ impl<S: Alter> Book for SqlBook<S> {
         }
     }
 
+    fn given(&mut self, collector: CollectorId, slot: Slot) -> Result<Option<Given>, StoreFault> {
+        match given_to(&mut self.conn, self.alloc, collector, slot) {
+            Ok(found) => Ok(found),
+            Err(_) => Err(self.failed.counted(StoreFault)),
+        }
+    }
+
     fn frozen_months(&mut self) -> Result<Vec<FrozenMonth>, StoreFault> {
         match all_months(
             &mut self.conn,
@@ -463,6 +472,19 @@ impl<S: Alter> Book for SqlBook<S> {
             Ok(()) => {
                 settle(&self.conn);
                 self.cached = None;
+                self.whose = None;
+                Ok(())
+            }
+            Err(_) => Err(self.failed.counted(StoreFault)),
+        }
+    }
+
+    fn put_handover(&mut self, handover: Handover) -> Result<(), StoreFault> {
+        match put_handover(&mut self.conn, self.alloc, &handover) {
+            Ok(()) => {
+                settle(&self.conn);
+                self.cached = None;
+                // the collector who was last asked for may be the former one, or the taker
                 self.whose = None;
                 Ok(())
             }

@@ -16,8 +16,9 @@ ghost use Rattle.cpi_survey.specs.declared.mark.Mark.TheVariants.{Missing};
 ghost use Rattle.cpi_sql.specs.Shelf.{IsCleanBook, IsKept, IsDone, HasTables};
 
 use crate::ask::run;
+use crate::given_columns::given_columns;
 use crate::stored::Unread;
-use cpi_codes::{Code, CollectorId, ItemCode, Key, Moment, Month, Name, OutletId, Slot};
+use cpi_codes::{Code, CollectorId, ItemCode, Key, Moment, Month, Name, OutletId, SeriesId, Slot};
 use cpi_plan::{CalendarRow, HighTolerance, Item, LowTolerance};
 use cpi_store::{Bearer, Outlet};
 use cpi_survey::{Assigned, Mark, Quote, Reason};
@@ -84,7 +85,7 @@ pub fn collector_number(collector: CollectorId) -> u32
     u32::from(collector.number())
 }
 
-fn outlet_number(outlet: OutletId) -> u32
+pub fn outlet_number(outlet: OutletId) -> u32
     ensures { ranged 1 999999 (Int (pos result)) ≡ Some outlet }
 {
     outlet.number()
@@ -186,9 +187,9 @@ pub fn put_item<S: Alter>(
 
 const PUT_ASSIGNMENT: &str =
     "INSERT INTO assignment_2 (collector, slot, outlet, item, first_month, last_month, series_collector, series_slot, \
-     copied) VALUES (?1, ?2, ?3, ?4, ?5, ?6, ?7, ?8, NULL)";
+     copied) VALUES (?1, ?2, ?3, ?4, ?5, ?6, ?7, ?8, ?9)";
 
-/// Puts a new assignment of the collector.
+/// Puts a new assignment of the collector, which names its own series.
 pub fn put_assignment<S: Alter>(
     conn: &mut Connection<S>,
     alloc: Global,
@@ -199,39 +200,34 @@ pub fn put_assignment<S: Alter>(
     ensures open { HasCleanDisk (state S.Store conn.new) → (state S.Store conn.old).in_transaction ≡ false
         → OnOk result (IsTrue (state S.Store conn.new).is_open) }
     ensures done { IsCleanBook (state S.Store conn.new) → HasTables (state S.Store conn.old)
-        → assigned.now.assignment.series ≡ record { collector = bearer.number; slot = assigned.now.assignment.slot }
-        → at (λ a. a.slot) assigned.now.assignment.slot
+        → at (λ g. g.assignment.slot) assigned.now.assignment.slot
         (held_by bearer.number (office_in (state S.Store conn.old).now.trees).assignments) ≡ None
         → OnOk result (IsDone (Assigns bearer assigned.now) (state S.Store conn.old) (state S.Store conn.new)) }
     ensures kept { IsCleanBook (state S.Store conn.new) → HasTables (state S.Store conn.old)
         → OnErr result (IsKept (state S.Store conn.old) (state S.Store conn.new)) }
     ensures crash { Survives (state S.Store conn.old) (state S.Store conn.new) (λ db. HasTables (state S.Store conn.old)
-        → assigned.now.assignment.series ≡ record { collector = bearer.number; slot = assigned.now.assignment.slot }
-        → at (λ a. a.slot) assigned.now.assignment.slot
+        → at (λ g. g.assignment.slot) assigned.now.assignment.slot
         (held_by bearer.number (office_in (state S.Store conn.old).now.trees).assignments) ≡ None
         → office_in db ≡ changed (Assigns bearer assigned.now) (office_in (state S.Store conn.old).now.trees)) }
 {
-    let a = &assigned.assignment;
-    let item = item_text(alloc, a.item)?;
-    let collector = collector_number(bearer.number);
-    let slot = slot_number(a.slot);
-    let outlet = outlet_number(a.outlet);
-    let first = month_number(a.first_month);
-    let last = month_number(a.last_month);
-    let series_collector = collector_number(a.series.collector);
-    let series_slot = slot_number(a.series.slot);
+    let series = SeriesId {
+        collector: bearer.number,
+        slot: assigned.assignment.slot,
+    };
+    let columns = given_columns(alloc, bearer.number, &assigned.assignment, series)?;
     let _count = run(
         conn,
         PUT_ASSIGNMENT,
         params![
-            collector,
-            slot,
-            outlet,
-            item.as_str(),
-            first,
-            last,
-            series_collector,
-            series_slot
+            columns.collector,
+            columns.slot,
+            columns.outlet,
+            columns.item.as_str(),
+            columns.first_month,
+            columns.last_month,
+            columns.series_collector,
+            columns.series_slot,
+            columns.copied
         ],
     )?;
     Ok(())

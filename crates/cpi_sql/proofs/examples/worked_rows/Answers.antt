@@ -18,7 +18,7 @@ returns-clause-quotes c = (refl, refl, refl, refl)
 
 pub returns-clause-assignments : goal.returns-clause-assignments
 unfolding item_code_of
-returns-clause-assignments c = (refl, refl, refl, refl)
+returns-clause-assignments c = (refl, refl, refl, refl, refl, refl, refl, refl, refl)
 
 pub returns-clause-nodes : goal.returns-clause-nodes
 unfolding code_of is_name is_utf8 chars encode

@@ -1,6 +1,7 @@
-use Rattle.std.proofs.Common.{ap, ◌∙◌}
+use Rattle.std.proofs.Common.{◌≡◌, true, ap, ◌∙◌}
 use Rattle.sqlite.specs.Effect.{Database}
 use Rattle.sqlite.specs.Held.{state}
+use Rattle.cpi_index.specs.Series.{frozen_serial, is_by_series}
 use Rattle.cpi_store.specs.Office.{month_rows}
 use Rattle.cpi_sql.specs.Lists.{office_in}
 use Rattle.cpi_sql.proofs.Kept.{kept_tables}
@@ -37,6 +38,9 @@ returns-clause-read g c = λ clean has is.
     let before = c.in_ok-quotes.ensures.clean clean in
     let kept = c.in_ok-carried.ensures.look.kept before has in (
       c.in_ok-carried.ensures.read before has is,
-      c.in_ok-quotes.ensures.read clean (kept_tables a b kept has)
-          ∙ ap (λ (d : Database). month_rows c.args.month (office_in d.trees)) kept.now,
+      λ fit.
+          let same = ap (λ (d : Database). month_rows c.args.month (office_in d.trees)) kept.now in
+          let sorted : is_by_series frozen_serial (month_rows c.args.month (office_in b.now.trees)) ≡ true =
+          ap (is_by_series frozen_serial) same ∙ fit.1 c.args.month in
+          c.in_ok-quotes.ensures.read clean (kept_tables a b kept has) sorted ∙ same,
     )

@@ -1,6 +1,7 @@
-use Rattle.std.proofs.Common.{◌≡◌, ◌-◌, sym, ap, ◌∙◌}
+use Rattle.std.proofs.Common.{◌≡◌, ◌-◌, sym, ap, subst, ◌∙◌}
 use Rattle.sqlite.specs.Effect.{Database}
 use Rattle.sqlite.specs.Held.{state}
+use Rattle.cpi_release.specs.Cached.{IsFit}
 use Rattle.cpi_release.specs.GroupCalls.{Sources}
 use Rattle.cpi_release.specs.Releases.{carried_of, frozen_of, link_month}
 use Rattle.cpi_store.specs.Office.{month_rows}
@@ -53,6 +54,8 @@ returns-in-Ok-clause-read g c = λ clean has is plan link last.
     c.deref-3.ensures.value ∙ own.0
     ∙ ap (λ (d : Database). carried_of (office_in d.trees).releases c.args.earlier.last) kept.now
     ∙ ap (carried_of s.releases) last in
-    let quotes_are : c.deref-4.result.now ≡ s.quotes month = c.deref-4.ensures.value ∙ own.1
+    λ p fit.
+    let quotes_are : c.deref-4.result.now ≡ s.quotes month = c.deref-4.ensures.value
+    ∙ own.1 (subst (λ (d : Database). IsFit (office_sources (office_in d.trees))) (sym kept.now) fit)
     ∙ ap (λ (d : Database). month_rows month (office_in d.trees)) kept.now in
-    c.in-Ok.ensures s plan prev_is link_is last_is (sym quotes_are)
+    c.in-Ok.ensures s plan prev_is link_is last_is (sym quotes_are) p fit

@@ -43,7 +43,7 @@ returns-in-Ok g c =
           (state g.S.Store c.month_rows.new.conn) c.month_rows.ensures.clean c.month_rows.ensures.kept
           c.month_rows.ensures.crash) (λ disk _. c.in-Ok.ensures.open disk) (λ clean.
           let st = c.self.invariant.stands (c.month_rows.ensures.clean clean) in
-          c.in-Ok.ensures.read clean st.tables);
+          λ fit. c.in-Ok.ensures.read clean st.tables (fit.1 c.args.month));
     })
 
 pub returns-in-Err : goal.returns-in-Err

@@ -8,12 +8,11 @@ pub returns : goal.returns
 returns g c =
     let old = state g.S.Store c.self.inside.conn in
     let new = state g.S.Store c.put_assignment.new.conn in
-    let named = rw (← c.self.view_is) at c.requires.series in
     let owed = rw (← c.self.view_is) at c.requires.new in
     rw (← c.self.view_is) (record {
       writes = write_fails old new c.self.inside.failed.count
           (tables_of old _ c.self.invariant) _ _ c.put_assignment.ensures.crash c.put_assignment.ensures.clean
-          (λ clean db made. made (tables_of old _ c.self.invariant clean) (named clean) (owed clean)) _ _
+          (λ clean db made. made (tables_of old _ c.self.invariant clean) (owed clean)) _ _
           (omega (arith, c.counted.ensures.count)) c.in-Err.ensures.kept;
     })
 
@@ -21,15 +20,14 @@ pub returns-in-Ok : goal.returns-in-Ok
 returns-in-Ok g c =
     let old = state g.S.Store c.self.inside.conn in
     let new = state g.S.Store c.put_assignment.new.conn in
-    let named = rw (← c.self.view_is) at c.requires.series in
     let owed = rw (← c.self.view_is) at c.requires.new in
     rw (← c.self.view_is) (record {
       writes = writes old new c.self.inside.failed.count
           (tables_of old _ c.self.invariant) _ _ c.put_assignment.ensures.crash c.put_assignment.ensures.clean
-          (λ clean db made. made (tables_of old _ c.self.invariant clean) (named clean) (owed clean)) _
+          (λ clean db made. made (tables_of old _ c.self.invariant clean) (owed clean)) _
           c.in-Ok.ensures.open
           (λ clean. let was = c.put_assignment.ensures.clean clean in
-          let done = c.in-Ok.ensures.done clean (tables_of old _ c.self.invariant was) (named was) (owed was) in
+          let done = c.in-Ok.ensures.done clean (tables_of old _ c.self.invariant was) (owed was) in
           (done.tables, done.office)) c.settle.ensures;
     })
 
@@ -37,7 +35,6 @@ pub invariant_of-self : goal.invariant_of-self
 invariant_of-self g c =
     let old = state g.S.Store c.self.inside.conn in
     let new = state g.S.Store c.put_assignment.new.conn in
-    let named = rw (← c.self.view_is) at c.requires.series in
     let owed = rw (← c.self.view_is) at c.requires.new in
     record {
       order = c.self.invariant.order;
@@ -45,7 +42,7 @@ invariant_of-self g c =
           let was = c.put_assignment.ensures.clean clean in
           let before = c.self.invariant.stands was in
           assignment_stands c.args.bearer c.args.assigned old new _
-          (c.in-Ok.ensures.done clean before.tables (named was) (owed was)) before;
+          (c.in-Ok.ensures.done clean before.tables (owed was)) before;
     }
 
 pub invariant_of-self-in-Err : goal.invariant_of-self-in-Err

@@ -1,0 +1,59 @@
+use Rattle.std.proofs.Common.{◌≡◌, ◌∙◌, ap, arith}
+use Rattle.sqlite.specs.Held.{state}
+use Rattle.cpi_sql.proofs.Calls.{reads, read_fails}
+use Rattle.cpi_sql.proofs.Looking.{looks}
+use Rattle.cpi_sql.proofs.Followed.{look_sound, tables_of}
+use Rattle.cpi_sql.proofs.sql_book.SqlBookBook.given.Goals as goal
+
+pub invariant_of-self : goal.invariant_of-self
+invariant_of-self g c =
+    look_sound (state g.S.Store c.self.inside.conn) (state g.S.Store c.given_to.new.conn) _ _
+    (looks (state g.S.Store c.self.inside.conn) (state g.S.Store c.given_to.new.conn) c.given_to.ensures.clean
+    c.given_to.ensures.kept c.given_to.ensures.crash) c.self.invariant c.self.invariant.order
+    (λ clean st. record {
+      tables = st.tables;
+      bearers = st.bearers;
+      outlets = st.outlets;
+      public = st.public;
+      own = st.own;
+      releases = st.releases;
+    })
+
+pub invariant_of-self-in-Err : goal.invariant_of-self-in-Err
+invariant_of-self-in-Err g c =
+    look_sound (state g.S.Store c.self.inside.conn) (state g.S.Store c.given_to.new.conn) _ _
+    (looks (state g.S.Store c.self.inside.conn) (state g.S.Store c.given_to.new.conn) c.given_to.ensures.clean
+    c.given_to.ensures.kept c.given_to.ensures.crash) c.self.invariant c.self.invariant.order
+    (λ clean st. record {
+      tables = st.tables;
+      bearers = st.bearers;
+      outlets = st.outlets;
+      public = st.public;
+      own = st.own;
+      releases = st.releases;
+    })
+
+pub returns-in-Ok : goal.returns-in-Ok
+returns-in-Ok g c =
+    let old = state g.S.Store c.self.inside.conn in
+    let new = state g.S.Store c.given_to.new.conn in
+    rw (← c.self.view_is) (record {
+      reads = reads old new c.self.inside.failed.count (tables_of old _ c.self.invariant) _ _
+          (looks old new c.given_to.ensures.clean c.given_to.ensures.kept c.given_to.ensures.crash)
+          (λ disk _. c.in-Ok.ensures.open disk) (λ clean.
+          let st = c.self.invariant.stands (c.given_to.ensures.clean clean) in
+          c.in-Ok.ensures.read clean st.tables);
+      always = λ no. absurd no;
+    })
+
+pub returns-in-Err : goal.returns-in-Err
+returns-in-Err g c =
+    let old = state g.S.Store c.self.inside.conn in
+    let new = state g.S.Store c.given_to.new.conn in
+    rw (← c.self.view_is)
+    (record {
+      reads = read_fails old new c.self.inside.failed.count (tables_of old _ c.self.invariant) _ _ _
+          (looks old new c.given_to.ensures.clean c.given_to.ensures.kept c.given_to.ensures.crash)
+          (omega (arith, c.counted.ensures.count));
+      always = λ no. absurd no;
+    })
