@@ -7,7 +7,7 @@ use Rattle.cpi_survey.specs.Decision.{decided}
 use Rattle.cpi_survey.specs.declared.decision.Decision.{Decision}
 use Rattle.cpi_survey.specs.declared.decision.Decision.TheVariants.{Again, Put}
 use Rattle.cpi_survey.specs.declared.refusal.Refusal.{Refusal as EntryRefusal}
-use Rattle.cpi_store.specs.Office.{Office, Change, changed, PutsItem, PutsPlan, PutsCalendar, Registers, PutsOutlet, Assigns, Quotes, Freezes}
+use Rattle.cpi_store.specs.Office.{Office, Change, changed, PutsItem, PutsPlan, PutsCalendar, Registers, PutsOutlet, Assigns, HandsOver, Quotes, Freezes}
 use Rattle.cpi_office.specs.Views.{View, OwnView, view}
 use Rattle.cpi_office.specs.Verdicts.{Verdict, Refuses, Stands, Makes, after_verdict, accepted}
 use Rattle.cpi_office.specs.Desk.{commanded}
@@ -17,7 +17,7 @@ use Rattle.cpi_office.specs.Answers.{answer}
 use Rattle.cpi_office.specs.Sights.{seen, build}
 use Rattle.cpi_store.specs.Sound.{IsSound}
 use Rattle.std.proofs.lemmas.Bool.{false≢true}
-use Rattle.cpi_office.specs.Alone.{told_to, without_others, freezes, NoneFreezes, OthersDoNotMatter}
+use Rattle.cpi_office.specs.Alone.{told_to, without_others, passes_on, NonePassesOn, OthersDoNotMatter}
 use Rattle.cpi_office.specs.declared.request.Ask.{Ask}
 use Rattle.cpi_office.specs.declared.caller.Caller.{Caller}
 use Rattle.cpi_office.specs.declared.caller.Caller.TheVariants as caller
@@ -30,7 +30,7 @@ abbrev bare : Office → Office
 bare o = record o { quotes = [] }
 
 -- the desk's commands do not look at quotes, but for a freeze
-commanded_bare : (now : ℕ) (r : Request) (o : Office) → IsFalse (freezes r) → commanded now r (bare o) ≡ commanded now r o
+commanded_bare : (now : ℕ) (r : Request) (o : Office) → IsFalse (passes_on r) → commanded now r (bare o) ≡ commanded now r o
 commanded_bare now request.Items o h = refl
 commanded_bare now request.Tables o h = refl
 commanded_bare now (request.Table month form edition) o h = refl
@@ -44,6 +44,7 @@ commanded_bare now (request.Assign n a) o h = refl
 commanded_bare now (request.PutPlan year body) o h = refl
 commanded_bare now (request.PutCalendar row) o h = refl
 commanded_bare now (request.Freeze month carry) o h = absurd (false≢true (sym h))
+commanded_bare now (request.HandOver n) o h = absurd (false≢true (sym h))
 
 bare_changed : (c : Change) (o u : Office) → bare o ≡ bare u → bare (changed c o) ≡ bare (changed c u)
 bare_changed (PutsItem i) o u e = ap (changed (PutsItem i)) e
@@ -52,6 +53,7 @@ bare_changed (PutsCalendar r) o u e = ap (changed (PutsCalendar r)) e
 bare_changed (Registers b) o u e = ap (changed (Registers b)) e
 bare_changed (PutsOutlet w) o u e = ap (changed (PutsOutlet w)) e
 bare_changed (Assigns b a) o u e = ap (changed (Assigns b a)) e
+bare_changed (HandsOver h) o u e = ap (changed (HandsOver h)) e
 bare_changed (Quotes b q) o u e = e
 bare_changed (Freezes r) o u e = ap (changed (Freezes r)) e
 
@@ -115,6 +117,7 @@ module _ (key : ℕ) where
     other_unseen now (request.Register b) v = (λ t. refl, λ o. refl)
     other_unseen now (request.PutOutlet u) v = (λ t. refl, λ o. refl)
     other_unseen now (request.Assign n a) v = (λ t. refl, λ o. refl)
+    other_unseen now (request.HandOver n) v = (λ t. refl, λ o. refl)
     other_unseen now (request.PutPlan year body) v = (λ t. refl, λ o. refl)
     other_unseen now (request.PutCalendar row) v = (λ t. refl, λ o. refl)
 
@@ -132,7 +135,7 @@ module _ (key : ℕ) where
   -- ---- a list of requests
 
   abbrev Alike : List Ask → Type 0
-  Alike asks = NoneFreezes asks → (o u : Office) → Agrees o u → told_to key asks o ≡ told_to key (without_others key asks) u
+  Alike asks = NonePassesOn asks → (o u : Office) → Agrees o u → told_to key asks o ≡ told_to key (without_others key asks) u
 
   step : (now : ℕ) (c : Caller) (r : Request) (asks : List Ask) → Alike asks → Alike (record { now = now; caller = c; request = r } ∷ asks)
   step now caller.Public r asks rest none o u agrees = rest none.1 _ _ (both_go (record { now = now; caller = caller.Public; request = r }) o u agrees refl)

@@ -14,7 +14,7 @@ use Rattle.cpi_store.specs.Outlet.{with_name}
 use Rattle.cpi_store.specs.Sound.{BearOwnKeys, HasItsAssignment}
 use Rattle.cpi_store.specs.declared.bearer.Bearer.{Bearer}
 use Rattle.cpi_store.specs.declared.outlet.Outlet.{Outlet}
-use Rattle.cpi_survey.specs.declared.assignment.Assignment.{Assignment}
+use Rattle.cpi_store.specs.declared.given.Given.{Given}
 use Rattle.cpi_survey.specs.Quote.{QuoteRow}
 use Rattle.cpi_rows.proofs.Puts.{parted, first_apart, at-put_found, at-put_other, row_at-put_same}
 
@@ -101,24 +101,28 @@ none_held n bs (r ∷ rows) all none = by (eqb_tells r.0 n) (none_held n bs rows
     by (inr apart) rest = rw apart.0 rest
 
 -- who has no assignment has no quote
-pub none_quoted : (n : ℕ) (assignments : List (ℕ × Assignment)) (rows : List (ℕ × QuoteRow)) → held_by n assignments ≡ [] → AllByRecursion (HasItsAssignment assignments) rows → held_by n rows ≡ []
-none_quoted n assignments [] none all = refl
-none_quoted n assignments (r ∷ rows) none all = by (eqb_tells r.0 n) (none_quoted n assignments rows none all.1)
+pub none_quoted : (n : ℕ) (given : List (ℕ × Given)) (rows : List (ℕ × QuoteRow)) → held_by n given ≡ [] → AllByRecursion (HasItsAssignment given) rows → held_by n rows ≡ []
+none_quoted n given [] none all = refl
+none_quoted n given (r ∷ rows) none all = by (eqb_tells r.0 n) (none_quoted n given rows none all.1)
   where
     by : ((eqb r.0 n ≡ true) × (r.0 ≡ n)) ⊎ ((eqb r.0 n ≡ false) × (r.0 ≢ n)) → held_by n rows ≡ [] → held_by n (r ∷ rows) ≡ []
-    by (inl same) rest = absurd (false≢true (subst IsSome (ap (λ k. at (λ a. a.slot) r.1.slot (held_by k assignments)) same.1 ∙ ap (at (λ a. a.slot) r.1.slot) none) all.0))
+    by (inl same) rest =
+        let has = all.0 in
+        let no : None ≡ Some has.0 = sym (ap (λ k. at (λ g. g.assignment.slot) r.1.slot (held_by k given)) same.1 ∙ ap (at (λ g. g.assignment.slot) r.1.slot) none) ∙ has.1 in
+        cc
     by (inr apart) rest = rw apart.0 rest
 
 -- an outlet that is added gives no other name to an assignment whose outlet is known
-pub names_stay : (n : ℕ) (u : Outlet) (us : List Outlet) (rows : List (ℕ × Assignment)) → IsInOrder nat_cmp (λ u. u.number) us → at (λ u. u.number) u.number us ≡ None → AllByRecursion (λ row. IsSome (at (λ u. u.number) row.1.outlet us)) rows →
-    map (with_name (put_by (λ u. u.number) u us)) (held_by n rows) ≡ map (with_name us) (held_by n rows)
+pub names_stay : (n : ℕ) (u : Outlet) (us : List Outlet) (rows : List (ℕ × Given)) → IsInOrder nat_cmp (λ u. u.number) us → at (λ u. u.number) u.number us ≡ None → AllByRecursion (λ row. IsSome (at (λ u. u.number) row.1.assignment.outlet us)) rows →
+    map (with_name (put_by (λ u. u.number) u us)) (map (λ g. g.assignment) (held_by n rows)) ≡ map (with_name us) (map (λ g. g.assignment) (held_by n rows))
 names_stay n u us [] sorted none all = refl
 names_stay n u us (r ∷ rows) sorted none all = by (eqb r.0 n) refl (names_stay n u us rows sorted none all.1)
   where
-    named : (s : Option Outlet) → at (λ u. u.number) r.1.outlet us ≡ s → IsSome s → with_name (put_by (λ u. u.number) u us) r.1 ≡ with_name us r.1
+    named : (s : Option Outlet) → at (λ u. u.number) r.1.assignment.outlet us ≡ s → IsSome s → with_name (put_by (λ u. u.number) u us) r.1.assignment ≡ with_name us r.1.assignment
     named None e some = absurd (false≢true some)
-    named (Some x) e some = rw (at-put_found (λ u. u.number) u us sorted none r.1.outlet x e, e) refl
+    named (Some x) e some = rw (at-put_found (λ u. u.number) u us sorted none r.1.assignment.outlet x e, e) refl
 
-    by : (s : Bool) → eqb r.0 n ≡ s → map (with_name (put_by (λ u. u.number) u us)) (held_by n rows) ≡ map (with_name us) (held_by n rows) → map (with_name (put_by (λ u. u.number) u us)) (held_by n (r ∷ rows)) ≡ map (with_name us) (held_by n (r ∷ rows))
-    by true e rest = rw (e, rest) (ap (λ a. a ∷ map (with_name us) (held_by n rows)) (named (at (λ u. u.number) r.1.outlet us) refl all.0))
+    by : (s : Bool) → eqb r.0 n ≡ s → map (with_name (put_by (λ u. u.number) u us)) (map (λ g. g.assignment) (held_by n rows)) ≡ map (with_name us) (map (λ g. g.assignment) (held_by n rows)) →
+        map (with_name (put_by (λ u. u.number) u us)) (map (λ g. g.assignment) (held_by n (r ∷ rows))) ≡ map (with_name us) (map (λ g. g.assignment) (held_by n (r ∷ rows)))
+    by true e rest = rw (e, rest) (ap (λ a. a ∷ map (with_name us) (map (λ g. g.assignment) (held_by n rows))) (named (at (λ u. u.number) r.1.assignment.outlet us) refl all.0))
     by false e rest = rw e rest

@@ -2,18 +2,24 @@
 use Rattle.std.proofs.Common.{◌≡◌, ℕ, Bool, true, false, List, Some, None, Option, Result, Ok, Err, refl}
 use Rattle.std.specs.Prelude.{option_map, if◌then◌else◌, is_none, nat_lt, not}
 use Rattle.cpi_rows.specs.Keyed.{at}
+use Rattle.cpi_rows.specs.Held.{held_by}
 use Rattle.cpi_codes.specs.declared.codes.Code.{Code}
 use Rattle.cpi_index.specs.declared.fault.IndexFault.{IndexFault}
-use Rattle.cpi_release.specs.FrozenMonths.{frozen_months, stays_frozen, is_next, plan_for, lacks_plan}
+use Rattle.cpi_release.specs.FrozenMonths.{frozen_months, last_frozen, stays_frozen, is_next, plan_for, lacks_plan}
 use Rattle.cpi_release.specs.PublishedTables.{PublishedTable}
 use Rattle.cpi_release.specs.declared.frozen_month.FrozenMonth.{FrozenMonth}
 use Rattle.cpi_release.specs.declared.form.Form.{Form}
 use Rattle.cpi_release.specs.declared.release.Release.{Release}
 use Rattle.cpi_office.specs.Freezing.{has_weightless, row_judged, judged_release, release_verdict, freeze_verdict, frozen}
+use Rattle.cpi_office.specs.HandingOver.{handed_over, is_takeable, over_collectors, over_slots, over_free, over_judged, stands_over, is_handed_within, is_not_after}
+use Rattle.cpi_office.specs.declared.request.HandOver.{HandOver}
 use Rattle.cpi_office.specs.declared.request.NewAssignment.{NewAssignment}
 use Rattle.cpi_office.specs.declared.refusal.Refusal.{Refusal}
 use Rattle.cpi_office.specs.declared.refusal.Refusal.TheVariants.{PlanFrozen, MonthFrozen}
 use Rattle.cpi_survey.specs.Decision.{decided}
+use Rattle.cpi_survey.specs.Within.{has_quotes_since}
+use Rattle.cpi_survey.specs.declared.assignment.Assignment.{Assignment}
+use Rattle.cpi_store.specs.declared.given.Given.{Given}
 use Rattle.cpi_plan.specs.Plan.{Plan}
 use Rattle.cpi_plan.specs.Calendar.{CalendarPart}
 use Rattle.cpi_plan.specs.declared.plan_faults.PlanFault.{PlanFault}
@@ -142,6 +148,32 @@ assigned_judges a i u b Free =
 pub placed_judges : (n : ℕ) (p : NewAssignment) (v : Verdict) → Judges v → Judges (if_assignable n p v)
 placed_judges n p v own = if_holds Judges (is_assignable n p) _ _ (λ e. own) (λ e. (refl, refl))
 
+-- a hand-over
+module _ (h : HandOver) (o : Office) where
+  judged_judges : (b c : Bearer) (former : Given) → Judges (over_free h o b c former)
+  judged_judges b c former =
+      if_holds Fits (not (is_handed_within h former.assignment)) _ _ (λ e. (refl, refl)) (λ e.
+      if_holds Fits (is_not_after h.month (last_frozen (frozen_months o.releases))) _ _ (λ e. (refl, refl)) (λ e.
+      if_holds Fits (has_quotes_since h.slot h.month (held_by b.number o.quotes)) _ _ (λ e. (refl, refl)) (λ e. (refl, refl))))
+    where
+      Fits : Result Assignment Refusal → Type 0
+      Fits judged = Judges (over_judged h o b c former judged)
+
+  slots_judge : (b c : Bearer) (former new : Option Given) → Judges (over_slots h o b c former new)
+  slots_judge b c None new = (refl, refl)
+  slots_judge b c (Some former) None = judged_judges b c former
+  slots_judge b c (Some former) (Some new) = if_holds Judges (stands_over h former new) _ _ (λ e. (refl, refl)) (λ e. (refl, refl))
+
+  collectors_judge : (b c : Option Bearer) → Judges (over_collectors h o b c)
+  collectors_judge None c = (refl, refl)
+  collectors_judge (Some b) None = (refl, refl)
+  collectors_judge (Some b) (Some c) =
+      slots_judge b c (at (λ g. g.assignment.slot) h.slot (held_by b.number o.assignments)) (at (λ g. g.assignment.slot) h.new_slot (held_by c.number o.assignments))
+
+  pub handed_judges : Judges (handed_over h o)
+  handed_judges =
+      if_holds Judges (is_takeable h) _ _ (λ e. collectors_judge (at (λ b. b.number) h.from o.collectors) (at (λ b. b.number) h.to o.collectors)) (λ e. (refl, refl))
+
 pub table_own : (form : Form) (month : ℕ) (i : Option PublishedTable) → IsOwn (table_reply form month i)
 table_own form month None = (refl, refl)
 table_own form month (Some i) = (refl, refl)
@@ -159,6 +191,7 @@ known_told now (request.PutItem i) v (Some own) = refl
 known_told now (request.Register b) v (Some own) = refl
 known_told now (request.PutOutlet u) v (Some own) = refl
 known_told now (request.Assign n a) v (Some own) = refl
+known_told now (request.HandOver h) v (Some own) = refl
 known_told now (request.PutPlan year body) v (Some own) = refl
 known_told now (request.PutCalendar row) v (Some own) = refl
 
@@ -174,6 +207,7 @@ desk_told now (request.PutItem i) o = (once_judges _ _).0
 desk_told now (request.Register b) o = (registered_judges b _ _).0
 desk_told now (request.PutOutlet u) o = (once_judges _ _).0
 desk_told now (request.Assign n a) o = (placed_judges n a _ (assigned_judges _ _ _ _ _)).0
+desk_told now (request.HandOver h) o = (handed_judges h o).0
 desk_told now (request.PutPlan year body) o = (plan_judges (frozen_months o.releases) (plan_standing o.plans (planned year (sent o.items body)))).0
 desk_told now (request.PutCalendar row) o = (replaced_judges _ MonthFrozen _ _ (refl, refl)).0
 
@@ -189,6 +223,7 @@ public_told now (request.PutItem i) o = refl
 public_told now (request.Register b) o = refl
 public_told now (request.PutOutlet u) o = refl
 public_told now (request.Assign n a) o = refl
+public_told now (request.HandOver h) o = refl
 public_told now (request.PutPlan year body) o = refl
 public_told now (request.PutCalendar row) o = refl
 

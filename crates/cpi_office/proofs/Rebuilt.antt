@@ -3,10 +3,10 @@ use Rattle.std.proofs.Common.{◌≡◌, ◌≢◌, ℕ, length, List, [], ◌�
 use Rattle.std.specs.Prelude.{slice_get}
 use Rattle.std.proofs.lemmas.List.{append-nil}
 use Rattle.std.proofs.lemmas.Grind.{flat_map-append}
-use Rattle.cpi_store.specs.Office.{Office, Change, changed, PutsItem, PutsPlan, PutsCalendar, Registers, PutsOutlet, Assigns, Quotes, Freezes}
+use Rattle.cpi_store.specs.Office.{Office, Change, changed, PutsItem, PutsPlan, PutsCalendar, Registers, PutsOutlet, Assigns, HandsOver, Quotes, Freezes}
 use Rattle.cpi_office.specs.Views.{View, view}
 use Rattle.cpi_office.specs.Verdicts.{Verdict, Refuses, Stands, Makes, after_verdict, accepted, made}
-use Rattle.cpi_office.specs.Sights.{Sight, sights, shown, seen, build}
+use Rattle.cpi_office.specs.Sights.{sights, seen, build}
 use Rattle.cpi_office.specs.Runs.{verdict, next, after, trace, changes, replies, reply_to}
 use Rattle.cpi_office.specs.Answers.{answer}
 use Rattle.cpi_store.specs.Sound.{IsSound}
@@ -17,7 +17,7 @@ use Rattle.cpi_office.specs.declared.caller.Caller.{Caller}
 use Rattle.cpi_office.specs.declared.caller.Caller.TheVariants.{Public, Collector, Desk}
 use Rattle.cpi_office.specs.declared.request.Request.{Request}
 use Rattle.cpi_office.proofs.Accepted.{Holds, Fits}
-use Rattle.cpi_office.proofs.Sights.{shows_item, shows_plan, shows_calendar, shows_registered, shows_outlet, shows_assignment, shows_quote, shows_release, Shows}
+use Rattle.cpi_office.proofs.Sights.{shows_item, shows_plan, shows_calendar, shows_registered, shows_outlet, shows_assignment, shows_handover, shows_quote, shows_release, Shows, build_append}
 use Rattle.cpi_store.proofs.Published.{release_total}
 use Rattle.cpi_office.proofs.Stood.{stood_shows}
 use Rattle.cpi_rows.specs.Keyed.{row_at}
@@ -35,6 +35,7 @@ fits_shows k t o s (PutsCalendar r) h = shows_calendar k t o r
 fits_shows k t o s (Registers b) h = shows_registered k t o s b h.0 h.1
 fits_shows k t o s (PutsOutlet u) h = shows_outlet k t o s u h
 fits_shows k t o s (Assigns b a) h = shows_assignment k t o s b a h.1 h.4
+fits_shows k t o s (HandsOver h) f = shows_handover k t o s h f.1 f.2 f.3
 fits_shows k t o s (Quotes b q) h = shows_quote k t o s b q h.0
 fits_shows k t o s (Freezes r) h = shows_release k t o s r (h.0 s.releases)
 
@@ -57,10 +58,6 @@ module _ (o : Office) (s : IsSound o) where
 
 pub next_sound : (a : Ask) (o : Office) → IsSound o → IsSound (next a o)
 next_sound a o s = kept o s (verdict a.now a.caller a.request o) (verdict_holds a.now o s a.caller a.request)
-
-build_append : (v : View) (xs ys : List Sight) → build v (xs ++ ys) ≡ build (build v xs) ys
-build_append v [] ys = refl
-build_append v (x ∷ xs) ys = build_append (shown x v) xs ys
 
 pub sound_runs : StaysSound
 sound_runs [] o s = s
@@ -118,6 +115,7 @@ module _ (o : Office) (s : IsSound o) (key : ReleaseKey) (r : Release) (there : 
   stays_after (Registers b) h = there
   stays_after (PutsOutlet u) h = there
   stays_after (Assigns b a) h = there
+  stays_after (HandsOver n) h = there
   stays_after (Quotes b q) h = there
   stays_after (Freezes n) h = row_at-put_found release_total release_key n o.releases s.releases (h.0 s.releases) key r there
 

@@ -1,5 +1,5 @@
 -- Rows that are the same are equal.
-use Rattle.std.proofs.Common.{◌≡◌, ℕ, Bool, true, false, List, refl, ap}
+use Rattle.std.proofs.Common.{◌≡◌, ℕ, Bool, true, false, List, Some, None, Option, refl, ap}
 use Rattle.std.specs.Prelude.{◌&&◌, ◌==◌}
 use Rattle.std.specs.Cmp.Lexicographic.{bytes_decides}
 use Rattle.std.proofs.lemmas.Bool.{eqb-true, false≢true}
@@ -7,10 +7,14 @@ use Rattle.cpi_codes.specs.Text.{same_text}
 use Rattle.cpi_plan.specs.Items.{same_item}
 use Rattle.cpi_plan.specs.Calendar.{same_calendar, CalendarPart}
 use Rattle.cpi_store.specs.Bearer.{same_bearer}
-use Rattle.cpi_survey.specs.Assignment.{same_assignment}
+use Rattle.cpi_survey.specs.Assignment.{same_assignment, same_price}
 use Rattle.cpi_survey.specs.Mark.{is_same_mark, is_same_reason}
 use Rattle.cpi_plan.specs.declared.items.Item.{Item}
 use Rattle.cpi_store.specs.declared.bearer.Bearer.{Bearer}
+use Rattle.cpi_store.specs.declared.given.Given.{Given}
+use Rattle.cpi_store.specs.Series.{same_series}
+use Rattle.cpi_codes.specs.declared.series.SeriesId.{SeriesId}
+use Rattle.cpi_office.specs.Assigning.{same_given}
 use Rattle.cpi_survey.specs.declared.assignment.Assignment.{Assignment}
 use Rattle.cpi_survey.specs.declared.mark.Mark.{Mark}
 use Rattle.cpi_survey.specs.declared.mark.Mark.TheVariants.{Price, Missing, Comparable, Other}
@@ -84,11 +88,16 @@ bearer_equal a b e =
     let h = both (a.number == b.number) (a.key == b.key) e in
     λ n. record { number = same_number a.number b.number h.0 n; key = same_number a.key b.key h.1 n }
 
+price_equal : (p q : Option ℕ) → same_price p q ≡ true → p ≡ q
+price_equal None None e = refl
+price_equal None (Some q) e = absurd (false≢true e)
+price_equal (Some p) None e = absurd (false≢true e)
+price_equal (Some p) (Some q) e = ap Some (eqb-true p q e)
+
 pub assignment_equal : (a b : Assignment) → same_assignment a b ≡ true → a ≡ b
 assignment_equal a b e =
     let placed = a.slot == b.slot && a.outlet == b.outlet && a.item == b.item in
-    let f = both (placed && a.first_month == b.first_month && a.last_month == b.last_month && a.series.collector == b.series.collector) (a.series.slot == b.series.slot) e in
-    let g = both (placed && a.first_month == b.first_month && a.last_month == b.last_month) (a.series.collector == b.series.collector) f.0 in
+    let g = both (placed && a.first_month == b.first_month && a.last_month == b.last_month) (same_price a.copied b.copied) e in
     let h = both (placed && a.first_month == b.first_month) (a.last_month == b.last_month) g.0 in
     let i = both placed (a.first_month == b.first_month) h.0 in
     let j = both (a.slot == b.slot && a.outlet == b.outlet) (a.item == b.item) i.0 in
@@ -99,5 +108,15 @@ assignment_equal a b e =
       item = same_number a.item b.item j.1 n;
       first_month = same_number a.first_month b.first_month i.1 n;
       last_month = same_number a.last_month b.last_month h.1 n;
-      series = record { collector = same_number a.series.collector b.series.collector g.1 n; slot = same_number a.series.slot b.series.slot f.1 n };
+      copied = price_equal a.copied b.copied g.1 n;
     }
+
+pub series_equal : (s t : SeriesId) → same_series s t ≡ true → s ≡ t
+series_equal s t e =
+    let h = both (s.collector == t.collector) (s.slot == t.slot) e in
+    λ n. record { collector = same_number s.collector t.collector h.0 n; slot = same_number s.slot t.slot h.1 n }
+
+pub given_equal : (a b : Given) → same_given a b ≡ true → a ≡ b
+given_equal a b e =
+    let h = both (same_assignment a.assignment b.assignment) (same_series a.series b.series) e in
+    λ n. record { assignment = assignment_equal a.assignment b.assignment h.0 n; series = series_equal a.series b.series h.1 n }

@@ -39,6 +39,7 @@ collector_stays key now (request.PutItem i) o refused = refl
 collector_stays key now (request.Register b) o refused = refl
 collector_stays key now (request.PutOutlet u) o refused = refl
 collector_stays key now (request.Assign n a) o refused = refl
+collector_stays key now (request.HandOver h) o refused = refl
 collector_stays key now (request.PutPlan year body) o refused = refl
 collector_stays key now (request.PutCalendar row) o refused = refl
 collector_stays key now (request.Freeze month carry) o refused = refl

@@ -11,16 +11,19 @@ use Rattle.cpi_rows.specs.Keyed.{row_at, at}
 use Rattle.cpi_rows.specs.Held.{held_by, held_cmp, held_key}
 use Rattle.cpi_store.specs.Bearer.{bearer_of}
 use Rattle.cpi_survey.specs.Quote.{quote_key, quote_cmp}
-use Rattle.cpi_store.specs.Office.{Office, Change, changed, PutsItem, PutsPlan, PutsCalendar, Registers, PutsOutlet, Assigns, Quotes, Freezes}
+use Rattle.cpi_store.specs.Office.{Office, Change, changed, PutsItem, PutsPlan, PutsCalendar, Registers, PutsOutlet, Assigns, HandsOver, Quotes, Freezes}
 use Rattle.cpi_office.specs.Views.{view}
 use Rattle.cpi_office.specs.Sights.{sights, build}
 use Rattle.cpi_store.specs.Sound.{IsSound}
 use Rattle.cpi_store.specs.declared.bearer.Bearer.{Bearer}
+use Rattle.cpi_store.specs.declared.given.Given.{Given}
+use Rattle.cpi_store.specs.Series.{first_of_series}
+use Rattle.cpi_store.proofs.GivenRows.{given_total, handed_standing}
 use Rattle.cpi_office.specs.declared.caller.Caller.{Caller}
 use Rattle.cpi_office.specs.declared.caller.Caller.TheVariants.{Public, Collector, Desk}
 use Rattle.cpi_rows.proofs.Puts.{put_standing}
 use Rattle.cpi_office.proofs.Accepted.{Stood}
-use Rattle.cpi_office.proofs.Sights.{Shows, shows_item, shows_plan, shows_calendar, shows_assignment, shows_quote}
+use Rattle.cpi_office.proofs.Sights.{Shows, shows_item, shows_plan, shows_calendar, shows_assignment, shows_handover, shows_quote}
 
 pub held_total : {K : Type 0} {cmp : K → K → Ordering} → IsTotalOrder cmp → IsTotalOrder (held_cmp cmp)
 held_total o = then_total (on_total (λ r. r.0) nat_cmp_total) (on_total (λ r. r.1) o)
@@ -77,8 +80,12 @@ stood_shows k t o s (Registers b) h = registered_stands k t o s b h
 stood_shows k t o s (PutsOutlet u) h = refl
 stood_shows k t o s (Assigns b a) h =
     unmoved k t o s (Assigns b a)
-    (ap (λ rows. record o { assignments = rows }) (put_standing (held_total nat_cmp_total) (held_key (λ a. a.slot)) (b.number, a.assignment) o.assignments s.assignments (row_held nat_cmp (λ a. a.slot) b.number a.assignment.slot a.assignment o.assignments h.0)))
+    (ap (λ rows. record o { assignments = rows }) (put_standing given_total (held_key (λ (g : Given). g.assignment.slot)) (b.number, first_of_series b.number a.assignment) o.assignments s.assignments (row_held nat_cmp (λ (g : Given). g.assignment.slot) b.number a.assignment.slot (first_of_series b.number a.assignment) o.assignments h.0)))
     (shows_assignment k t o s b a h.1 h.2)
+stood_shows k t o s (HandsOver h) stood =
+    unmoved k t o s (HandsOver h)
+    (ap (λ rows. record o { assignments = rows }) (handed_standing o.assignments h s.assignments stood.0 stood.1))
+    (shows_handover k t o s h stood.2 stood.3 stood.4)
 stood_shows k t o s (Quotes b q) h =
     unmoved k t o s (Quotes b q)
     (ap (λ rows. record o { quotes = rows }) (put_standing (held_total quote_total) (held_key quote_key) (b.number, q) o.quotes s.quotes (row_held quote_cmp quote_key b.number (q.slot, q.month) q o.quotes h.1)))

@@ -7,7 +7,7 @@ use Rattle.cpi_release.specs.State.{State}
 use Rattle.cpi_office.specs.Calls.{ServesWhere, IsServed, is_failure}
 use Rattle.cpi_store.specs.Sound.{IsSound}
 use Rattle.cpi_office.specs.Served.{all_served, all_told, NoneFails, IsRun}
-use Rattle.cpi_office.specs.Alone.{is_bearer, told_to, without_others, NoneFreezes, OthersMayDiffer}
+use Rattle.cpi_office.specs.Alone.{is_bearer, told_to, without_others, NonePassesOn, OthersMayDiffer}
 use Rattle.cpi_office.specs.Told.{replies_to, AreToldAlone, IsWhole, RunsTellAlike}
 use Rattle.cpi_office.specs.declared.request.Ask.{Ask}
 use Rattle.cpi_office.specs.declared.reply.Reply.{Reply}
@@ -23,12 +23,12 @@ told_is : (key : ℕ) (asks : List Ask) (o : Office) → replies_to key asks (re
 told_is key [] o = refl
 told_is key (a ∷ asks) o = ap (λ rs. (if is_bearer key a.caller then reply_to a.now a.caller a.request o ∷ [] else []) ++ rs) (told_is key asks (next a o))
 
-none_served : (asks : List Ask) (rs : List Reply) → NoneFreezes asks → NoneFreezes (all_served asks rs)
+none_served : (asks : List Ask) (rs : List Reply) → NonePassesOn asks → NonePassesOn (all_served asks rs)
 none_served [] rs none = tt
 none_served (a ∷ asks) [] none = tt
 none_served (a ∷ asks) (r ∷ rs) none = by (is_failure r) refl (none_served asks rs none.1)
   where
-    by : (w : Bool) → is_failure r ≡ w → NoneFreezes (all_served asks rs) → NoneFreezes (all_served (a ∷ asks) (r ∷ rs))
+    by : (w : Bool) → is_failure r ≡ w → NonePassesOn (all_served asks rs) → NonePassesOn (all_served (a ∷ asks) (r ∷ rs))
     by true e rest = rw e rest
     by false e rest = rw e (none.0, rest)
 
@@ -48,7 +48,7 @@ all_are_told [] none = refl
 all_are_told (r ∷ rs) none = rw none.0 (ap (λ xs. r ∷ xs) (all_are_told rs none.1))
 
 module _ (old new : State Office) (asks : List Ask) (rs : List Reply) where
-  whole_told : IsWhole old new asks rs → NoneFreezes asks → (key : ℕ) → replies_to key asks rs ≡ told_to key (without_others key asks) old.held
+  whole_told : IsWhole old new asks rs → NonePassesOn asks → (key : ℕ) → replies_to key asks rs ≡ told_to key (without_others key asks) old.held
   whole_told whole none key =
       let served = all_are_served asks rs whole.each whole.served in
       let told = all_are_told rs whole.served in

@@ -32,6 +32,7 @@ turned_is now (request.PutItem i) v own turned = refl
 turned_is now (request.Register b) v own turned = refl
 turned_is now (request.PutOutlet u) v own turned = refl
 turned_is now (request.Assign n a) v own turned = refl
+turned_is now (request.HandOver h) v own turned = refl
 turned_is now (request.PutPlan year body) v own turned = refl
 turned_is now (request.PutCalendar row) v own turned = refl
 
@@ -54,6 +55,7 @@ module _ (now : ℕ) (v w : View) (p q : OwnPart) where
   not_for (request.Register b) turned = refl
   not_for (request.PutOutlet u) turned = refl
   not_for (request.Assign n a) turned = refl
+  not_for (request.HandOver h) turned = refl
   not_for (request.PutPlan year body) turned = refl
   not_for (request.PutCalendar row) turned = refl
 

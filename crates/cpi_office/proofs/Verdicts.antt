@@ -1,15 +1,15 @@
 -- What becomes of a request holds of the office: a change that is made fits, and one that stands is there.
-use Rattle.std.proofs.Common.{◌≡◌, ℕ, Bool, true, false, List, Some, None, Option, Result, Ok, Err, refl, sym, ap, ◌∙◌, subst, inl, inr}
-use Rattle.std.specs.Prelude.{◌⊎◌, IsSome, nat_lt, nat_le, is_none, option_map, not, ◌&&◌}
+use Rattle.std.proofs.Common.{◌≡◌, ℕ, ◌≤◌, ◌+◌, ◌-◌, Bool, true, false, List, Some, None, Option, Result, Ok, Err, refl, sym, ap, ◌∙◌, subst, arith}
+use Rattle.std.specs.Prelude.{IsSome, nat_lt, nat_le, is_none, option_map, not, ◌&&◌, ◌==◌}
 use Rattle.std.specs.Ordering.{nat_cmp}
-use Rattle.std.proofs.lemmas.Bool.{false≢true, leb-true}
+use Rattle.std.proofs.lemmas.Bool.{false≢true, leb-true, ltb-true, eqb-true}
 use Rattle.std.proofs.lemmas.Map.Lookups.{exact_pairs, exact_unsigned}
 use Rattle.cpi_rows.specs.Keyed.{at, row_at}
 use Rattle.cpi_rows.specs.Held.{held_by}
 use Rattle.cpi_rows.proofs.Found.{row_key, at_key, at-map}
 use Rattle.cpi_survey.specs.Quote.{QuoteRow, quote_cmp, quote_key}
 use Rattle.cpi_survey.specs.Entry.{EntryRow}
-use Rattle.cpi_survey.specs.Assignment.{is_active, same_assignment}
+use Rattle.cpi_survey.specs.Assignment.{is_active}
 use Rattle.cpi_survey.specs.Decision.{decided, in_slot, over_quote, in_month, in_window, once_checked, with_receipt}
 use Rattle.cpi_survey.specs.Mark.{is_same_mark}
 use Rattle.cpi_store.specs.Outlet.{with_name, same_outlet}
@@ -28,21 +28,28 @@ use Rattle.cpi_survey.specs.declared.assignment.Assignment.{Assignment}
 use Rattle.cpi_survey.specs.declared.assignment.Assigned.{Assigned}
 use Rattle.cpi_survey.specs.declared.decision.Decision.{Decision}
 use Rattle.cpi_survey.specs.declared.refusal.Refusal.{Refusal as EntryRefusal}
-use Rattle.cpi_store.specs.Office.{Office, Change, PutsPlan, PutsCalendar, own_part, public_part}
+use Rattle.cpi_survey.specs.Within.{has_quotes_since}
+use Rattle.cpi_store.specs.Office.{Office, Change, PutsPlan, PutsCalendar, HandsOver, own_part, assignments_by, public_part, given_until}
+use Rattle.cpi_store.specs.Series.{first_of_series, same_series}
+use Rattle.cpi_store.specs.declared.given.Given.{Given}
+use Rattle.cpi_store.proofs.Changes.{IsHandover}
+use Rattle.cpi_codes.specs.declared.series.SeriesId.{SeriesId}
 use Rattle.cpi_codes.specs.declared.codes.Code.{Code}
 use Rattle.cpi_index.specs.declared.fault.IndexFault.{IndexFault}
-use Rattle.cpi_release.specs.FrozenMonths.{frozen_months, stays_frozen, is_year_frozen, is_next, plan_for, lacks_plan}
+use Rattle.cpi_release.specs.FrozenMonths.{frozen_months, last_frozen, stays_frozen, is_year_frozen, is_next, plan_for, lacks_plan}
 use Rattle.cpi_release.specs.Publishing.{fault_of}
 use Rattle.cpi_office.specs.Freezing.{has_weightless, row_judged, frozen_with, judged_release, release_verdict, freeze_verdict, frozen}
 use Rattle.cpi_store.specs.Sound.{IsWellMade, HasNodesInOrder, IsSound}
 use Rattle.cpi_plan.proofs.PlanNodes.{planned_nodes}
 use Rattle.cpi_office.specs.declared.request.NewAssignment.{NewAssignment}
+use Rattle.cpi_office.specs.declared.request.HandOver.{HandOver}
 use Rattle.cpi_office.specs.declared.refusal.Refusal.{Refusal}
 use Rattle.cpi_office.specs.declared.refusal.Refusal.TheVariants.{PlanFrozen, MonthFrozen}
 use Rattle.cpi_office.specs.Views.{view, own_view}
-use Rattle.cpi_office.specs.Verdicts.{Verdict, Makes}
+use Rattle.cpi_office.specs.Verdicts.{Verdict, Stands, Makes}
 use Rattle.cpi_office.specs.Standing.{standing}
-use Rattle.cpi_office.specs.Assigning.{assigned_in, to_collector, standing_for, assigned, first_of_series, is_assignable}
+use Rattle.cpi_office.specs.Assigning.{assigned_in, to_collector, standing_for, assigned, assignment_of, same_given, is_assignable}
+use Rattle.cpi_office.specs.HandingOver.{is_takeable, handed_over, over_collectors, over_slots, over_free, over_standing, over_judged, stands_over, is_handed_within, is_not_after, handover_of, taken_on}
 use Rattle.cpi_office.specs.Replacing.{unless_frozen, replaced, calendar_put, sent, plan_standing, plan_put}
 use Rattle.cpi_office.specs.Desk.{item_put, outlet_put, registered, commanded}
 use Rattle.cpi_office.specs.Entries.{of_collector, decision_verdict, entered, quoted}
@@ -55,7 +62,7 @@ use Rattle.cpi_office.proofs.Accepted.{Holds}
 use Rattle.cpi_office.proofs.Failures.{if_holds}
 use Rattle.cpi_store.proofs.Published.{none_follows}
 use Rattle.cpi_office.proofs.Bearers.{bearer_listed}
-use Rattle.cpi_office.proofs.Same.{item_equal, calendar_equal, bearer_equal, assignment_equal, mark_equal}
+use Rattle.cpi_office.proofs.Same.{item_equal, calendar_equal, bearer_equal, given_equal, series_equal, mark_equal}
 
 module _ (o : Office) where
   abbrev Fair : Verdict → Type 0
@@ -107,51 +114,61 @@ module _ (o : Office) where
   registered_fair b None (Some other) e f = tt
   registered_fair b (Some old) v e f = if_holds Fair (same_bearer old b) _ _ (λ same. e ∙ ap Some (bearer_equal old b same)) (λ other. tt)
 
-  module _ (n : ℕ) (x : Assignment) (made : IsWellMade (n, x)) where
-    abbrev slot_free : Type 0
-    slot_free = at (λ a. a.slot) x.slot (held_by n o.assignments) ≡ None
+  both : (a b : Bool) → (a && b) ≡ true → (a ≡ true) × (b ≡ true)
+  both true b e = (refl, e)
+  both false b e = absurd (false≢true e)
 
-    to_collector_fair : (w : Option Bearer) → at (λ b. b.number) n o.collectors ≡ w → slot_free → IsSome (at (λ u. u.number) x.outlet o.outlets) → IsSome (at (λ i. i.code) x.item o.items) → Fair (to_collector (with_name o.outlets x) w)
+  passes : (w : Bool) → not w ≡ false → w ≡ true
+  passes true e = refl
+  passes false e = absurd (false≢true (sym e))
+
+  abbrev in_slot_of : ℕ → ℕ → Option Given
+  in_slot_of n slot = at (λ (g : Given). g.assignment.slot) slot (held_by n o.assignments)
+
+  -- who is found by a number has it
+  bears_number : (n : ℕ) (b : Bearer) → at (λ b. b.number) n o.collectors ≡ Some b → b.number ≡ n
+  bears_number n b e = at_key (λ b. b.number) n b o.collectors e
+
+  found_itself : (n : ℕ) (b : Bearer) → at (λ b. b.number) n o.collectors ≡ Some b → at (λ b. b.number) b.number o.collectors ≡ Some b
+  found_itself n b e = ap (λ k. at (λ b. b.number) k o.collectors) (bears_number n b e) ∙ e
+
+  module _ (n : ℕ) (x : Assignment) (made : IsWellMade (n, x)) where
+    to_collector_fair : (w : Option Bearer) → at (λ b. b.number) n o.collectors ≡ w → in_slot_of n x.slot ≡ None → IsSome (at (λ u. u.number) x.outlet o.outlets) → IsSome (at (λ i. i.code) x.item o.items) → Fair (to_collector (with_name o.outlets x) w)
     to_collector_fair None e free outlet item = tt
     to_collector_fair (Some b) e free outlet item =
-        let same : b.number ≡ n = at_key (λ b. b.number) n b o.collectors e in
-        (ap (λ k. at (λ a. a.slot) x.slot (held_by k o.assignments)) same ∙ free, ap (λ k. at (λ b. b.number) k o.collectors) same ∙ e, outlet, item, refl, subst (λ k. IsWellMade (k, x)) (sym same) made)
+        let same = bears_number n b e in
+        (ap (λ k. in_slot_of k x.slot) same ∙ free, found_itself n b e, outlet, item, refl, subst (λ k. IsWellMade (k, x)) (sym same) made)
 
-    standing_fair : (w : Option Bearer) → at (λ b. b.number) n o.collectors ≡ w → at (λ a. a.slot) x.slot (held_by n o.assignments) ≡ Some x → Fair (standing_for (with_name o.outlets x) w)
+    standing_fair : (w : Option Bearer) → at (λ b. b.number) n o.collectors ≡ w → in_slot_of n x.slot ≡ Some (first_of_series n x) → Fair (standing_for (with_name o.outlets x) w)
     standing_fair None e there = tt
     standing_fair (Some b) e there =
-        let same : b.number ≡ n = at_key (λ b. b.number) n b o.collectors e in
-        (ap (λ k. at (λ a. a.slot) x.slot (held_by k o.assignments)) same ∙ there, ap (λ k. at (λ b. b.number) k o.collectors) same ∙ e, refl)
+        let same = bears_number n b e in
+        (ap (λ k. in_slot_of k x.slot) same ∙ there ∙ ap (λ k. Some (first_of_series k x)) (sym same), found_itself n b e, refl)
 
     known : {X : Type 0} (w : Option X) → is_none w ≡ false → IsSome w
     known None e = absurd (false≢true (sym e))
     known (Some y) e = refl
 
-    assigned_fair : (w : Option Bearer) (v : Option Assignment) → at (λ b. b.number) n o.collectors ≡ w → at (λ a. a.slot) x.slot (held_by n o.assignments) ≡ v →
-        Fair (assigned (with_name o.outlets x) (at (λ i. i.code) x.item o.items) (at (λ u. u.number) x.outlet o.outlets) w (standing same_assignment x v))
+    assigned_fair : (w : Option Bearer) (v : Option Given) → at (λ b. b.number) n o.collectors ≡ w → in_slot_of n x.slot ≡ v →
+        Fair (assigned (with_name o.outlets x) (at (λ i. i.code) x.item o.items) (at (λ u. u.number) x.outlet o.outlets) w (standing same_given (first_of_series n x) v))
     assigned_fair w None e free =
         if_holds Fair (is_none (at (λ i. i.code) x.item o.items)) _ _ (λ miss. tt) (λ item.
         if_holds Fair (is_none (at (λ u. u.number) x.outlet o.outlets)) _ _ (λ miss. tt) (λ outlet.
         to_collector_fair w e free (known (at (λ u. u.number) x.outlet o.outlets) outlet) (known (at (λ i. i.code) x.item o.items) item)))
-    assigned_fair w (Some old) e there = by (same_assignment old x) refl
+    assigned_fair w (Some old) e there = by (same_given old (first_of_series n x)) refl
       where
-        by : (t : Bool) → same_assignment old x ≡ t → Fair (assigned (with_name o.outlets x) (at (λ i. i.code) x.item o.items) (at (λ u. u.number) x.outlet o.outlets) w (standing same_assignment x (Some old)))
-        by true f = rw f (standing_fair w e (there ∙ ap Some (assignment_equal old x f)))
+        by : (t : Bool) → same_given old (first_of_series n x) ≡ t → Fair (assigned (with_name o.outlets x) (at (λ i. i.code) x.item o.items) (at (λ u. u.number) x.outlet o.outlets) w (standing same_given (first_of_series n x) (Some old)))
+        by true f = rw f (standing_fair w e (there ∙ ap Some (given_equal old (first_of_series n x) f)))
         by false f = rw f tt
 
   -- ---- an assignment that is sent
 
-  both : (a b : Bool) → (a && b) ≡ true → (a ≡ true) × (b ≡ true)
-  both true b e = (refl, e)
-  both false b e = absurd (false≢true e)
-
-  well_made : (n : ℕ) (p : NewAssignment) → is_assignable n p ≡ true → IsWellMade (n, first_of_series n p)
+  well_made : (n : ℕ) (p : NewAssignment) → is_assignable n p ≡ true → IsWellMade (n, assignment_of p)
   well_made n p e =
       let last = both (nat_le p.first_month p.last_month && nat_le 1 n && nat_le 1 p.slot) (nat_le p.slot 400) e in
       let slot = both (nat_le p.first_month p.last_month && nat_le 1 n) (nat_le 1 p.slot) last.0 in
       let number = both (nat_le p.first_month p.last_month) (nat_le 1 n) slot.0 in
       record {
-        series = refl;
         months = leb-true p.first_month p.last_month number.0;
         collector = leb-true 1 n number.1;
         slot = (leb-true 1 p.slot slot.1, leb-true p.slot 400 last.1);
@@ -160,13 +177,90 @@ module _ (o : Office) where
   placed_fair : (n : ℕ) (p : NewAssignment) → Fair (assigned_in n p o)
   placed_fair n p =
       if_holds Fair (is_assignable n p) _ _ (λ e.
-      assigned_fair n (first_of_series n p) (well_made n p e) (at (λ b. b.number) n o.collectors) (at (λ a. a.slot) p.slot (held_by n o.assignments)) refl refl) (λ e. tt)
+      assigned_fair n (assignment_of p) (well_made n p e) (at (λ b. b.number) n o.collectors) (in_slot_of n p.slot) refl refl) (λ e. tt)
+
+  -- ---- a hand-over that is sent
+
+  module _ (h : HandOver) (takeable : is_takeable h ≡ true) (b c : Bearer) (from : at (λ b. b.number) h.from o.collectors ≡ Some b) (to : at (λ b. b.number) h.to o.collectors ≡ Some c)
+      (former : Given) (has : in_slot_of b.number h.slot ≡ Some former) where
+    former_slot : former.assignment.slot ≡ h.slot
+    former_slot = at_key (λ (g : Given). g.assignment.slot) h.slot former (held_by b.number o.assignments) has
+
+    former_found : in_slot_of b.number former.assignment.slot ≡ Some former
+    former_found = ap (in_slot_of b.number) former_slot ∙ has
+
+    over_free_fair : in_slot_of c.number h.new_slot ≡ None → Fair (over_free h o b c former)
+    over_free_fair free =
+        if_holds Judged (not (is_handed_within h former.assignment)) _ _ (λ e. tt) (λ within.
+        if_holds Judged (is_not_after h.month (last_frozen (frozen_months o.releases))) _ _ (λ e. tt) (λ e.
+        if_holds Judged (has_quotes_since h.slot h.month (held_by b.number o.quotes)) _ _ (λ e. tt) (λ unquoted.
+        (over within unquoted, found_itself h.from b from, found_itself h.to c to, refl))))
+      where
+        Judged : Result Assignment Refusal → Type 0
+        Judged r = Fair (over_judged h o b c former r)
+
+        over : not (is_handed_within h former.assignment) ≡ false → has_quotes_since h.slot h.month (held_by b.number o.quotes) ≡ false →
+            IsHandover o.assignments o.quotes (handover_of h b c former (taken_on h former.assignment (held_by b.number o.quotes)) o)
+        over within unquoted =
+            let months = both (nat_lt former.assignment.first_month h.month) (nat_le h.month former.assignment.last_month) (passes (is_handed_within h former.assignment) within) in
+            let last = both (nat_le 1 h.to && nat_le 1 h.new_slot) (nat_le h.new_slot 400) takeable in
+            let first = both (nat_le 1 h.to) (nat_le 1 h.new_slot) last.0 in
+            record {
+              former = former;
+              found = former_found;
+              ended = refl;
+              after_first = ltb-true former.assignment.first_month h.month months.0;
+              until_last = leb-true h.month former.assignment.last_month months.1;
+              last = refl;
+              item = refl;
+              outlet = refl;
+              new = free;
+              taker = subst (λ n. 1 ≤ n) (sym (bears_number h.to c to)) (leb-true 1 h.to first.0);
+              slot = (leb-true 1 h.new_slot first.1, leb-true h.new_slot 400 last.1);
+              unquoted = ap (λ k. has_quotes_since k h.month (held_by b.number o.quotes)) former_slot ∙ unquoted;
+            }
+
+    over_standing_fair : (new : Given) → in_slot_of c.number h.new_slot ≡ Some new → Fair (over_standing h o b c former new)
+    over_standing_fair new there = if_holds Fair (stands_over h former new) _ _ stands (λ e. tt)
+      where
+        over_as : Assignment → SeriesId → Given
+        over_as a s = record { assignment = a; series = s }
+
+        stands : stands_over h former new ≡ true → Fair (Stands (HandsOver (handover_of h b c former new.assignment o)))
+        stands e =
+            let last = both (same_series new.series former.series && new.assignment.first_month == h.month) (former.assignment.last_month + 1 == h.month) e in
+            let first = both (same_series new.series former.series) (new.assignment.first_month == h.month) last.0 in
+            let next : former.assignment.last_month + 1 ≡ h.month = eqb-true (former.assignment.last_month + 1) h.month last.1 in
+            let month : former.assignment.last_month ≡ h.month - 1 = omega (arith, next) in
+            let ended : former ≡ given_until (h.month - 1) former = ap (λ m. given_until m former) month in
+            let new_slot : new.assignment.slot ≡ h.new_slot = at_key (λ (g : Given). g.assignment.slot) h.new_slot new (held_by c.number o.assignments) there in (
+              former_found ∙ ap Some ended,
+              ap (in_slot_of c.number) new_slot ∙ there ∙ ap (λ s. Some (over_as new.assignment s)) (series_equal new.series former.series first.0),
+              found_itself h.from b from,
+              found_itself h.to c to,
+              refl,
+            )
+
+    over_new_fair : (w : Option Given) → in_slot_of c.number h.new_slot ≡ w → Fair (over_slots h o b c (Some former) w)
+    over_new_fair None e = over_free_fair e
+    over_new_fair (Some new) e = over_standing_fair new e
+
+  over_slots_fair : (h : HandOver) → is_takeable h ≡ true → (b c : Bearer) → at (λ b. b.number) h.from o.collectors ≡ Some b → at (λ b. b.number) h.to o.collectors ≡ Some c →
+      (w : Option Given) → in_slot_of b.number h.slot ≡ w → Fair (over_slots h o b c w (in_slot_of c.number h.new_slot))
+  over_slots_fair h takeable b c from to None e = tt
+  over_slots_fair h takeable b c from to (Some former) e = over_new_fair h takeable b c from to former e (in_slot_of c.number h.new_slot) refl
+
+  over_collectors_fair : (h : HandOver) → is_takeable h ≡ true → (w v : Option Bearer) → at (λ b. b.number) h.from o.collectors ≡ w → at (λ b. b.number) h.to o.collectors ≡ v → Fair (over_collectors h o w v)
+  over_collectors_fair h takeable None v from to = tt
+  over_collectors_fair h takeable (Some b) None from to = tt
+  over_collectors_fair h takeable (Some b) (Some c) from to = over_slots_fair h takeable b c from to (in_slot_of b.number h.slot) refl
+
+  handed_fair : (h : HandOver) → Fair (handed_over h o)
+  handed_fair h =
+      if_holds Fair (is_takeable h) _ _
+      (λ e. over_collectors_fair h e (at (λ b. b.number) h.from o.collectors) (at (λ b. b.number) h.to o.collectors) refl refl) (λ e. tt)
 
   -- ---- a freeze
-
-  passes : (w : Bool) → not w ≡ false → w ≡ true
-  passes true e = refl
-  passes false e = absurd (false≢true (sym e))
 
   module _ (now : ℕ) (carry : List Code) where
     release_fair : (row : CalendarPart) → is_next row.month (frozen_months o.releases) ≡ true → lacks_plan o.plans (frozen_months o.releases) row.month ≡ false →
@@ -198,26 +292,26 @@ module _ (o : Office) where
 
   -- ---- an entry
 
-  module _ (b : Bearer) (found : at (λ b. b.number) b.number o.collectors ≡ Some b) (entry : EntryRow) (has : IsSome (at (λ a. a.slot) entry.slot (held_by b.number o.assignments))) where
+  module _ (b : Bearer) (found : at (λ b. b.number) b.number o.collectors ≡ Some b) (entry : EntryRow) (g : Given) (has : in_slot_of b.number entry.slot ≡ Some g) where
     abbrev Meets : Result Decision EntryRefusal → Type 0
     Meets d = Holds (Some (decision_verdict b entry d)) o
 
-    receipt_meets : (greatest : ℕ) → Meets (with_receipt entry greatest)
-    receipt_meets greatest = if_holds Meets (nat_le 1000000 greatest) _ _ (λ e. tt) (λ e. (found, has))
+    receipt_meets : is_active entry.month g.assignment ≡ true → (greatest : ℕ) → Meets (with_receipt entry greatest)
+    receipt_meets active greatest = if_holds Meets (nat_le 1000000 greatest) _ _ (λ e. tt) (λ e. (found, (g, has, active)))
 
-    checked_meets : (check : Result (Unit {0}) EntryRefusal) (greatest : ℕ) → Meets (once_checked entry check greatest)
-    checked_meets (Ok _) greatest = receipt_meets greatest
-    checked_meets (Err f) greatest = tt
+    checked_meets : is_active entry.month g.assignment ≡ true → (check : Result (Unit {0}) EntryRefusal) (greatest : ℕ) → Meets (once_checked entry check greatest)
+    checked_meets active (Ok _) greatest = receipt_meets active greatest
+    checked_meets active (Err f) greatest = tt
 
-    window_meets : (now : ℕ) (row : CalendarPart) (a : Assignment) (check : Result (Unit {0}) EntryRefusal) (greatest : ℕ) → Meets (in_window now entry row a check greatest)
-    window_meets now row a check greatest =
-        if_holds Meets (is_active entry.month a) _ _ (λ e.
+    window_meets : (now : ℕ) (row : CalendarPart) (check : Result (Unit {0}) EntryRefusal) (greatest : ℕ) → Meets (in_window now entry row g.assignment check greatest)
+    window_meets now row check greatest =
+        if_holds Meets (is_active entry.month g.assignment) _ _ (λ active.
         if_holds Meets (nat_lt now row.opens) _ _ (λ e. tt) (λ e.
-        if_holds Meets (nat_le row.closes now) _ _ (λ e. tt) (λ e. checked_meets check greatest))) (λ e. tt)
+        if_holds Meets (nat_le row.closes now) _ _ (λ e. tt) (λ e. checked_meets active check greatest))) (λ e. tt)
 
-    month_meets : (now : ℕ) (row : Option CalendarPart) (a : Assignment) (check : Result (Unit {0}) EntryRefusal) (greatest : ℕ) → Meets (in_month now entry row a check greatest)
-    month_meets now None a check greatest = tt
-    month_meets now (Some row) a check greatest = window_meets now row a check greatest
+    month_meets : (now : ℕ) (row : Option CalendarPart) (check : Result (Unit {0}) EntryRefusal) (greatest : ℕ) → Meets (in_month now entry row g.assignment check greatest)
+    month_meets now None check greatest = tt
+    month_meets now (Some row) check greatest = window_meets now row check greatest
 
     -- the stored quote is the entry with its receipt
     again_is : (q : QuoteRow) → row_at quote_cmp quote_key (entry.slot, entry.month) (held_by b.number o.quotes) ≡ Some q → is_same_mark q.mark entry.mark ≡ true →
@@ -228,27 +322,26 @@ module _ (o : Office) where
         let is : q ≡ quoted entry q.receipt = λ n. record { slot = (keys n).0; month = (keys n).1; mark = marks n; receipt = q.receipt } in
         stored ∙ ap Some is
 
-    over_meets : (now : ℕ) (row : Option CalendarPart) (a : Assignment) (q : Option QuoteRow) (check : Result (Unit {0}) EntryRefusal) (greatest : ℕ) →
-        row_at quote_cmp quote_key (entry.slot, entry.month) (held_by b.number o.quotes) ≡ q → Meets (over_quote now entry row a q check greatest)
-    over_meets now row a None check greatest stored = month_meets now row a check greatest
-    over_meets now row a (Some q) check greatest stored =
-        if_holds Meets (is_same_mark q.mark entry.mark) _ _ (λ same. (found, again_is q stored same)) (λ other. month_meets now row a check greatest)
+    over_meets : (now : ℕ) (row : Option CalendarPart) (q : Option QuoteRow) (check : Result (Unit {0}) EntryRefusal) (greatest : ℕ) →
+        row_at quote_cmp quote_key (entry.slot, entry.month) (held_by b.number o.quotes) ≡ q → Meets (over_quote now entry row g.assignment q check greatest)
+    over_meets now row None check greatest stored = month_meets now row check greatest
+    over_meets now row (Some q) check greatest stored =
+        if_holds Meets (is_same_mark q.mark entry.mark) _ _ (λ same. (found, again_is q stored same)) (λ other. month_meets now row check greatest)
 
   module _ (b : Bearer) (found : at (λ b. b.number) b.number o.collectors ≡ Some b) (now : ℕ) (entry : EntryRow) where
-    slot_meets : (a : Option Assigned) → (a ≡ None) ⊎ IsSome (at (λ a. a.slot) entry.slot (held_by b.number o.assignments)) → Holds (Some (decision_verdict b entry (in_slot now entry (public_part o) a (own_part b.number o)))) o
-    slot_meets None has = tt
-    slot_meets (Some a) (inl none) = cc
-    slot_meets (Some a) (inr has) = over_meets b found entry has now _ a.assignment _ _ _ refl
+    abbrev Slotted : Option Assigned → Type 0
+    Slotted a = Holds (Some (decision_verdict b entry (in_slot now entry (public_part o) a (own_part b.number o)))) o
+
+    slot_meets : (w : Option Given) → in_slot_of b.number entry.slot ≡ w → Slotted (option_map (with_name o.outlets) (option_map (λ (g : Given). g.assignment) w))
+    slot_meets None e = tt
+    slot_meets (Some g) e = over_meets b found entry g e now _ _ _ _ refl
 
     decided_meets : Holds (Some (decision_verdict b entry (decided now entry (public_part o) (own_part b.number o)))) o
-    decided_meets = by (at (λ a. a.slot) entry.slot (held_by b.number o.assignments)) refl
+    decided_meets = subst Slotted (sym named) (slot_meets (in_slot_of b.number entry.slot) refl)
       where
-        named : at (λ a. a.assignment.slot) entry.slot (own_part b.number o).assignments ≡ option_map (with_name o.outlets) (at (λ a. a.slot) entry.slot (held_by b.number o.assignments))
-        named = at-map (with_name o.outlets) (λ a. a.assignment.slot) entry.slot (held_by b.number o.assignments)
-
-        by : (x : Option Assignment) → at (λ a. a.slot) entry.slot (held_by b.number o.assignments) ≡ x → Holds (Some (decision_verdict b entry (decided now entry (public_part o) (own_part b.number o)))) o
-        by None e = slot_meets (at (λ a. a.assignment.slot) entry.slot (own_part b.number o).assignments) (inl (named ∙ ap (option_map (with_name o.outlets)) e))
-        by (Some x) e = slot_meets (at (λ a. a.assignment.slot) entry.slot (own_part b.number o).assignments) (inr (subst IsSome (sym e) refl))
+        named : at (λ a. a.assignment.slot) entry.slot (own_part b.number o).assignments ≡ option_map (with_name o.outlets) (option_map (λ (g : Given). g.assignment) (in_slot_of b.number entry.slot))
+        named = at-map (with_name o.outlets) (λ (a : Assigned). a.assignment.slot) entry.slot (assignments_by b.number o)
+            ∙ ap (option_map (with_name o.outlets)) (at-map (λ (g : Given). g.assignment) (λ (a : Assignment). a.slot) entry.slot (held_by b.number o.assignments))
 
 entered_holds : (o : Office) → IsSound o → (key now : ℕ) (entry : EntryRow) → Holds (of_collector key now (request.Submit entry) (view (caller.Collector key) now o)) o
 entered_holds o s key now entry = by (bearer_of key o.collectors) refl
@@ -267,6 +360,7 @@ module _ (now : ℕ) (o : Office) where
   command_holds (request.Register b) = registered_fair o b (at (λ b. b.number) b.number o.collectors) (bearer_of b.key o.collectors) refl refl
   command_holds (request.PutOutlet u) = outlet_fair o u (at (λ u. u.number) u.number o.outlets) refl
   command_holds (request.Assign n a) = placed_fair o n a
+  command_holds (request.HandOver h) = handed_fair o h
   command_holds (request.Freeze month carry) = frozen_fair o now carry month
   command_holds request.Tables = tt
   command_holds (request.Table month form edition) = tt
@@ -283,6 +377,7 @@ module _ (now : ℕ) (o : Office) where
   collector_holds s key (request.Register b) = tt
   collector_holds s key (request.PutOutlet u) = tt
   collector_holds s key (request.Assign n a) = tt
+  collector_holds s key (request.HandOver h) = tt
   collector_holds s key request.Items = tt
   collector_holds s key request.Tables = tt
   collector_holds s key (request.Table month form edition) = tt

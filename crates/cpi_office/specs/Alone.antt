@@ -1,5 +1,5 @@
--- What one collector is told, whatever other collectors ask: where no freeze is among the requests, since the table of
--- a frozen month is made of everybody's quotes.
+-- What one collector is told, whatever other collectors ask: where nothing is passed on by the requests. The table of a
+-- frozen month is made of everybody's quotes, and with a series that is handed over goes its last price.
 use Rattle.std.specs.List.{AllByRecursion}
 use Rattle.std.specs.Prelude.{◌≡◌, ℕ, Bool, true, IsFalse, false, not, ◌==◌, List, [], ◌∷◌, ◌++◌, filter, if◌then◌else◌}
 use Rattle.cpi_store.specs.Office.{Office}
@@ -7,7 +7,7 @@ use Rattle.cpi_office.specs.Runs.{reply_to, next}
 use Rattle.cpi_store.specs.Sound.{IsSound}
 use Rattle.cpi_office.specs.declared.request.Ask.{Ask}
 use Rattle.cpi_office.specs.declared.request.Request.{Request}
-use Rattle.cpi_office.specs.declared.request.Request.TheVariants.{Freeze}
+use Rattle.cpi_office.specs.declared.request.Request.TheVariants.{Freeze, HandOver}
 use Rattle.cpi_office.specs.declared.reply.Reply.{Reply}
 use Rattle.cpi_office.specs.declared.caller.Caller.{Caller}
 use Rattle.cpi_office.specs.declared.caller.Caller.TheVariants.{Public, Collector, Desk}
@@ -32,25 +32,27 @@ told_to key [] o = []
 told_to key (a ∷ asks) o =
     (if is_bearer key a.caller then reply_to a.now a.caller a.request o ∷ [] else []) ++ told_to key asks (next a o)
 
-abbrev pub freezes : Request → Bool
-freezes (Freeze month carry) = true
-freezes _ = false
+-- a request by which something of one collector's prices comes to others: a freeze, or a hand-over
+abbrev pub passes_on : Request → Bool
+passes_on (Freeze month carry) = true
+passes_on (HandOver h) = true
+passes_on _ = false
 
--- no freeze is among the requests
-abbrev pub NoneFreezes : List Ask → Type 0
-NoneFreezes asks = AllByRecursion (λ a. IsFalse (freezes a.request)) asks
+-- neither a freeze nor a hand-over is among the requests
+abbrev pub NonePassesOn : List Ask → Type 0
+NonePassesOn asks = AllByRecursion (λ a. IsFalse (passes_on a.request)) asks
 
--- Where no freeze is among the requests, a collector is told the same if all requests of all other collectors are left
--- out.
+-- Where neither a freeze nor a hand-over is among the requests, a collector is told the same if all requests of all
+-- other collectors are left out.
 abbrev pub OthersDoNotMatter : Type 0
 OthersDoNotMatter =
-    (key : ℕ) (asks : List Ask) (o : Office) → IsSound o → NoneFreezes asks →
+    (key : ℕ) (asks : List Ask) (o : Office) → IsSound o → NonePassesOn asks →
     told_to key asks o ≡ told_to key (without_others key asks) o
 
--- Where no freeze is among the requests, a collector is told the same by two lists of requests that differ in the
--- requests of other collectors alone.
+-- Where neither a freeze nor a hand-over is among the requests, a collector is told the same by two lists of requests
+-- that differ in the requests of other collectors alone.
 abbrev pub OthersMayDiffer : Type 0
 OthersMayDiffer =
-    (key : ℕ) (asks others : List Ask) (o : Office) → IsSound o → NoneFreezes asks → NoneFreezes others →
+    (key : ℕ) (asks others : List Ask) (o : Office) → IsSound o → NonePassesOn asks → NonePassesOn others →
     without_others key asks ≡ without_others key others →
     told_to key asks o ≡ told_to key others o

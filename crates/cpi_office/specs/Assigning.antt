@@ -8,6 +8,8 @@ use Rattle.cpi_survey.specs.declared.assignment.Assignment.{Assignment}
 use Rattle.cpi_survey.specs.declared.assignment.Assigned.{Assigned}
 use Rattle.cpi_store.specs.Office.{Office, Assigns}
 use Rattle.cpi_store.specs.Outlet.{with_name}
+use Rattle.cpi_store.specs.Series.{first_of_series, same_series}
+use Rattle.cpi_store.specs.declared.given.Given.{Given}
 use Rattle.cpi_store.specs.declared.bearer.Bearer.{Bearer}
 use Rattle.cpi_store.specs.declared.outlet.Outlet.{Outlet}
 use Rattle.cpi_office.specs.Standing.{standing}
@@ -17,16 +19,20 @@ use Rattle.cpi_office.specs.declared.request.NewAssignment.{NewAssignment}
 use Rattle.cpi_office.specs.declared.standing.Standing.{Standing}
 use Rattle.cpi_office.specs.declared.standing.Standing.TheVariants.{Free, Same, Other}
 
--- the assignment that is made of what is sent: its series is named by this slot
-abbrev pub first_of_series : ℕ → NewAssignment → Assignment
-first_of_series collector sent = record {
+-- the assignment that is made of what is sent: no price is copied
+abbrev pub assignment_of : NewAssignment → Assignment
+assignment_of sent = record {
   slot = sent.slot;
   outlet = sent.outlet;
   item = sent.item;
   first_month = sent.first_month;
   last_month = sent.last_month;
-  series = record { collector = collector; slot = sent.slot };
+  copied = None;
 }
+
+-- the same content, and one series
+abbrev pub same_given : Given → Given → Bool
+same_given old g = same_assignment old.assignment g.assignment && same_series old.series g.series
 
 -- the first month isn't after the last, and number and slot are within their limits, which their types keep
 abbrev pub is_assignable : ℕ → NewAssignment → Bool
@@ -64,11 +70,13 @@ assigned_over stands collector a o =
     assigned (with_name o.outlets a) (at (λ i. i.code) a.item o.items) (at (λ u. u.number) a.outlet o.outlets)
     (at (λ b. b.number) collector o.collectors) stands
 
--- the slot is given to the collector, with its outlet and item
+-- the slot is given to the collector, with its outlet and item, as a series of its own
 abbrev pub slot_given : ℕ → Assignment → Office → Verdict
 slot_given collector a o =
-    assigned_over (standing same_assignment a (at (λ a. a.slot) a.slot (held_by collector o.assignments))) collector a o
+    assigned_over
+    (standing same_given (first_of_series collector a)
+    (at (λ g. g.assignment.slot) a.slot (held_by collector o.assignments))) collector a o
 
 -- what becomes of an assignment that is sent
 abbrev pub assigned_in : ℕ → NewAssignment → Office → Verdict
-assigned_in collector sent o = if_assignable collector sent (slot_given collector (first_of_series collector sent) o)
+assigned_in collector sent o = if_assignable collector sent (slot_given collector (assignment_of sent) o)

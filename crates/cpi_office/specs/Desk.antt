@@ -10,6 +10,7 @@ use Rattle.cpi_store.specs.Outlet.{same_outlet}
 use Rattle.cpi_store.specs.Office.{Office, PutsItem, Registers, PutsOutlet}
 use Rattle.cpi_office.specs.Standing.{standing, put_once}
 use Rattle.cpi_office.specs.Assigning.{assigned_in}
+use Rattle.cpi_office.specs.HandingOver.{handed_over}
 use Rattle.cpi_office.specs.Replacing.{planned_in, scheduled_in}
 use Rattle.cpi_office.specs.Freezing.{frozen}
 use Rattle.cpi_office.specs.Verdicts.{Verdict, Refuses, Stands, Makes}
@@ -38,5 +39,6 @@ commanded now (request.Register b) o =
     Some (registered b (at (λ b. b.number) b.number o.collectors) (bearer_of b.key o.collectors))
 commanded now (request.PutOutlet u) o = Some (outlet_put u (at (λ u. u.number) u.number o.outlets))
 commanded now (request.Assign collector sent) o = Some (assigned_in collector sent o)
+commanded now (request.HandOver h) o = Some (handed_over h o)
 commanded now (request.Freeze month carry) o = Some (frozen now month carry o)
 commanded now _ o = None

@@ -4,12 +4,14 @@ use Rattle.cpi_plan.specs.declared.items.Item.{Item}
 use Rattle.cpi_survey.specs.declared.mark.Mark.{Mark}
 use Rattle.cpi_survey.specs.declared.mark.Mark.TheVariants.{Price, Missing, Comparable, Other}
 use Rattle.cpi_survey.specs.declared.mark.Reason.TheVariants.{Stock}
-use Rattle.cpi_survey.specs.declared.assignment.Assignment.{Assignment}
 use Rattle.cpi_survey.specs.Quote.{QuoteRow}
 use Rattle.cpi_survey.specs.WorkPart.{WorkPart}
 use Rattle.cpi_store.specs.Office.{Office, empty_office}
+use Rattle.cpi_store.specs.Series.{first_of_series}
+use Rattle.cpi_store.specs.declared.given.Given.{Given}
 use Rattle.cpi_office.specs.Runs.{replies}
 use Rattle.cpi_office.specs.Alone.{told_to}
+use Rattle.cpi_office.specs.Assigning.{assignment_of}
 use Rattle.cpi_office.specs.declared.caller.Caller.TheVariants.{Public, Collector, Desk}
 use Rattle.cpi_office.specs.declared.request.Request.{Request}
 use Rattle.cpi_office.specs.declared.request.Request.TheVariants as request
@@ -65,15 +67,12 @@ abbrev pub new_assignment : ℕ → ℕ → ℕ → NewAssignment
 new_assignment slot outlet item =
     record { slot = slot; outlet = outlet; item = item; first_month = 311; last_month = 323 }
 
-abbrev pub placed : ℕ → ℕ → ℕ → ℕ → Assignment
-placed number slot outlet item = record {
-  slot = slot;
-  outlet = outlet;
-  item = item;
-  first_month = 311;
-  last_month = 323;
-  series = record { collector = number; slot = slot };
-}
+-- what it is given by that: its own series
+abbrev pub placed : ℕ → ℕ → ℕ → ℕ → ℕ × Given
+placed number slot outlet item = (
+  number,
+  first_of_series number (assignment_of (new_assignment slot outlet item)),
+)
 
 abbrev pub assign : ℕ → ℕ → ℕ → ℕ → Request
 assign number slot outlet item = request.Assign number (new_assignment slot outlet item)
@@ -183,7 +182,7 @@ late = record {
       ∷ record { month = 312; opens = 1000; closes = 2000; publishes = 9000 } ∷ [];
   collectors = record { number = 7; key = key_a } ∷ [];
   outlets = record { number = 10; name = shop_name } ∷ [];
-  assignments = (7, placed 7 1 10 rice_code) ∷ (7, placed 7 2 10 rice_code) ∷ [];
+  assignments = placed 7 1 10 rice_code ∷ placed 7 2 10 rice_code ∷ [];
   quotes = (7, stored 1 311 900 999999) ∷ [];
   releases = [];
 }

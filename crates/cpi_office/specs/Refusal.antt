@@ -39,4 +39,5 @@ number_of refusal.FreezeTooEarly = 47
 number_of refusal.NoPlan = 48
 number_of (refusal.Index fault) = 49
 number_of refusal.MonthFrozen = 50
+number_of refusal.QuotesStand = 51
 number_of refusal.Unavailable = 90

@@ -1,14 +1,15 @@
 -- What a caller sees of what was accepted, and the view with it.
-use Rattle.std.specs.Prelude.{[], ℕ, Bool, false, ◌==◌, nat_le, List, ◌∷◌, Option, Some, None, option_map, if◌then◌else◌}
+use Rattle.std.specs.Prelude.{[], ℕ, Bool, false, ◌==◌, nat_le, List, ◌∷◌, ◌++◌, Option, Some, None, option_map, if◌then◌else◌}
 use Rattle.std.specs.List.{flat_map}
 use Rattle.cpi_rows.specs.Keyed.{put, put_by}
 use Rattle.cpi_survey.specs.Quote.{QuoteRow, quote_cmp, quote_key}
 use Rattle.cpi_plan.specs.declared.items.Item.{Item}
 use Rattle.cpi_plan.specs.Plan.{Plan}
 use Rattle.cpi_plan.specs.Calendar.{CalendarPart}
+use Rattle.cpi_survey.specs.Assignment.{ended}
 use Rattle.cpi_survey.specs.declared.assignment.Assigned.{Assigned}
 use Rattle.cpi_store.specs.declared.bearer.Bearer.{Bearer}
-use Rattle.cpi_store.specs.Office.{Change, PutsItem, PutsPlan, PutsCalendar, Registers, PutsOutlet, Assigns, Quotes, Freezes}
+use Rattle.cpi_store.specs.Office.{Change, PutsItem, PutsPlan, PutsCalendar, Registers, PutsOutlet, Assigns, HandsOver, Quotes, Freezes}
 use Rattle.cpi_release.specs.FrozenMonths.{release_cmp}
 use Rattle.cpi_release.specs.PublishedTables.{PublishedTable, published_table, published_key}
 use Rattle.cpi_office.specs.Views.{View, OwnView}
@@ -23,6 +24,7 @@ pub data Sight : Type 0 where
   SeesCalendar : CalendarPart → Sight
   IsRegistered : ℕ → Sight
   IsAssigned : Assigned → Sight
+  HasEnded : ℕ → ℕ → Sight  -- the slot, with its last month
   HasQuoted : QuoteRow → Sight
   SeesTable : PublishedTable → Sight
 
@@ -43,6 +45,10 @@ sights k t (PutsCalendar r) = SeesCalendar r ∷ []
 sights k t (PutsOutlet u) = []
 sights k t (Registers b) = seen_if (is_borne k b) (IsRegistered b.number)
 sights k t (Assigns b a) = seen_if (is_borne k b) (IsAssigned a)
+-- of a hand-over each of the two sees the own side alone
+sights k t (HandsOver h) =
+    seen_if (is_borne k h.former) (HasEnded h.ended.assignment.slot h.ended.assignment.last_month)
+    ++ seen_if (is_borne k h.taker) (IsAssigned h.assigned)
 sights k t (Quotes b q) = seen_if (is_borne k b) (HasQuoted q)
 sights k t (Freezes r) = seen_if (nat_le r.publishes t) (SeesTable (published_table r))
 
@@ -57,6 +63,10 @@ abbrev pub with_assigned : Assigned → OwnView → OwnView
 with_assigned a own =
     record own { part = record own.part { assignments = put_by (λ a. a.assignment.slot) a own.part.assignments } }
 
+abbrev pub with_end : ℕ → ℕ → OwnView → OwnView
+with_end slot last_month own =
+    record own { part = record own.part { assignments = ended slot last_month own.part.assignments } }
+
 abbrev pub with_quote : QuoteRow → OwnView → OwnView
 with_quote q own = record own { part = record own.part { quotes = put quote_cmp quote_key q own.part.quotes } }
 
@@ -69,6 +79,7 @@ shown (SeesCalendar r) v =
 shown (SeesTable i) v = record v { tables = put release_cmp published_key i v.tables }
 shown (IsRegistered n) v = record v { own = Some (with_number n v.own) }
 shown (IsAssigned a) v = record v { own = option_map (with_assigned a) v.own }
+shown (HasEnded slot last_month) v = record v { own = option_map (with_end slot last_month) v.own }
 shown (HasQuoted q) v = record v { own = option_map (with_quote q) v.own }
 
 abbrev pub build : View → List Sight → View

@@ -4,7 +4,7 @@ use Rattle.cpi_release.specs.State.{State}
 use Rattle.cpi_store.specs.Office.{Office}
 use Rattle.cpi_store.specs.Sound.{IsSound}
 use Rattle.cpi_office.specs.Served.{all_served, all_told, NoneFails, Ran}
-use Rattle.cpi_office.specs.Alone.{is_bearer, told_to, without_others, NoneFreezes}
+use Rattle.cpi_office.specs.Alone.{is_bearer, told_to, without_others, NonePassesOn}
 use Rattle.cpi_office.specs.declared.request.Ask.{Ask}
 use Rattle.cpi_office.specs.declared.reply.Reply.{Reply}
 
@@ -15,11 +15,11 @@ replies_to key (a ∷ asks) [] = []
 replies_to key (a ∷ asks) (r ∷ rs) =
     (if is_bearer key a.caller then r ∷ [] else []) ++ replies_to key asks rs
 
--- Where no freeze is among the requests: those aside that were answered 90, each collector is told what would be told
--- if all requests of all other collectors were left out.
+-- Where neither a freeze nor a hand-over is among the requests: those aside that were answered 90, each collector is
+-- told what would be told if all requests of all other collectors were left out.
 abbrev pub AreToldAlone : Office → List Ask → List Reply → Type 0
 AreToldAlone o asks rs =
-    NoneFreezes asks → (key : ℕ) →
+    NonePassesOn asks → (key : ℕ) →
     replies_to key (all_served asks rs) (all_told rs) ≡ told_to key (without_others key (all_served asks rs)) o
 
 -- a run from a sound office, with a reply to each request and none of them 90
@@ -30,12 +30,12 @@ pub record IsWhole (old new : State Office) (asks : List Ask) (rs : List Reply) 
   pub each : length rs ≡ length asks
   pub served : NoneFails rs
 
--- Two runs over books that hold the same lists, with no freeze among their requests, tell a collector the same where
--- the requests differ in those of other collectors alone.
+-- Two runs over books that hold the same lists, with neither a freeze nor a hand-over among their requests, tell a
+-- collector the same where the requests differ in those of other collectors alone.
 abbrev pub RunsTellAlike : {B C : Type 0} → (B → State Office) → (C → State Office) → Type 0
 RunsTellAlike {B} {C} state state' =
     (key : ℕ) (asks others : List Ask) (rs ss : List Reply) (old new : B) (old' new' : C) →
     IsWhole (state old) (state new) asks rs → IsWhole (state' old') (state' new') others ss →
     (state old).held ≡ (state' old').held →
-    NoneFreezes asks → NoneFreezes others → without_others key asks ≡ without_others key others →
+    NonePassesOn asks → NonePassesOn others → without_others key asks ≡ without_others key others →
     replies_to key asks rs ≡ replies_to key others ss

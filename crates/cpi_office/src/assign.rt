@@ -7,22 +7,22 @@ ghost use Rattle.cpi_store.specs.Outlet.{with_name};
 ghost use Rattle.cpi_store.specs.Sound.{IsWellMade};
 ghost use Rattle.cpi_office.specs.Standing.{standing};
 ghost use Rattle.cpi_office.specs.Assigning.{assigned_in, slot_given, to_collector, outlet_judged};
-ghost use Rattle.cpi_office.specs.Assigning.{is_assignable as assignable_is, first_of_series as series_of};
+ghost use Rattle.cpi_office.specs.Assigning.{is_assignable as assignable_is, assignment_of as made_of};
 ghost use Rattle.cpi_office.specs.Verdicts.{with_verdict, verdict_reply};
-ghost use Rattle.cpi_office.specs.Named.{slot_given_by_name, slot_standing, again_reply, same_assigned, IsNamed};
+ghost use Rattle.cpi_office.specs.Named.{slot_standing, again_reply, is_first, same_assigned, IsNamed};
 ghost use Rattle.cpi_office.specs.Calls.{Serves};
 
 use crate::refusal::Refusal;
 use crate::reply::Reply;
 use crate::request::NewAssignment;
 use crate::standing::Standing;
-use cpi_codes::{CollectorId, SeriesId};
+use cpi_codes::{CollectorId, Slot};
 use cpi_store::{Book, Outlet, StoreFault};
 use cpi_survey::{Assigned, Assignment};
 use std::alloc::{AllocError, Global};
 
 /// Gives a slot of a collector what is sent for it, as a series of its own. A first month after the last is a bad
-/// request.
+/// request. What stands already is done, unless the slot took its series over.
 pub fn assign<B: Book>(
     alloc: Global,
     book: &mut B,
@@ -33,12 +33,7 @@ pub fn assign<B: Book>(
         Serves (B.state book.old) (B.state book.new) result (verdict_reply v) (with_verdict v o) }
 {
     if is_assignable(collector, &new_assignment) {
-        assign_series(
-            alloc,
-            book,
-            collector,
-            first_of_series(collector, new_assignment),
-        )
+        assign_slot(alloc, book, collector, assignment_of(new_assignment))
     } else {
         Reply::Refused(Refusal::BadRequest)
     }
@@ -56,9 +51,9 @@ fn is_assignable(collector: CollectorId, new_assignment: &NewAssignment) -> bool
         && slot <= 400
 }
 
-/// The assignment whose series is named by the collector's slot.
-fn first_of_series(collector: CollectorId, new_assignment: NewAssignment) -> Assignment
-    ensures { result ≡ series_of collector new_assignment }
+/// The assignment that is sent. No price is copied.
+fn assignment_of(new_assignment: NewAssignment) -> Assignment
+    ensures { result ≡ made_of new_assignment }
 {
     Assignment {
         slot: new_assignment.slot,
@@ -66,15 +61,12 @@ fn first_of_series(collector: CollectorId, new_assignment: NewAssignment) -> Ass
         item: new_assignment.item,
         first_month: new_assignment.first_month,
         last_month: new_assignment.last_month,
-        series: SeriesId {
-            collector,
-            slot: new_assignment.slot,
-        },
+        copied: None,
     }
 }
 
-/// Gives a slot of a collector an assignment.
-fn assign_series<B: Book>(
+/// Gives a slot of a collector an assignment, as a series of its own.
+fn assign_slot<B: Book>(
     alloc: Global,
     book: &mut B,
     collector: CollectorId,
@@ -84,24 +76,10 @@ fn assign_series<B: Book>(
     ensures { let o = (B.state book.old).held in let v = slot_given collector assignment o in
         Serves (B.state book.old) (B.state book.new) result (verdict_reply v) (with_verdict v o) }
 {
-    assign_judged(alloc, book, collector, assignment)
-}
-
-/// The same, judged against what stands in the slot with its outlet's name.
-fn assign_judged<B: Book>(
-    alloc: Global,
-    book: &mut B,
-    collector: CollectorId,
-    assignment: Assignment,
-) -> Reply
-    requires made { IsWellMade (collector, assignment) }
-    ensures { let o = (B.state book.old).held in let v = slot_given_by_name collector assignment o in
-        Serves (B.state book.old) (B.state book.new) result (verdict_reply v) (with_verdict v o) }
-{
     match find_slot(book, collector, &assignment) {
         Err(StoreFault) => Reply::Refused(Refusal::Unavailable),
         Ok((Standing::Other, _)) => Reply::Refused(Refusal::Taken),
-        Ok((Standing::Same, _)) => assign_again(book, collector),
+        Ok((Standing::Same, _)) => assign_again(book, collector, assignment.slot),
         Ok((Standing::Free, true)) => Reply::Refused(Refusal::UnknownItem),
         Ok((Standing::Free, false)) => assign_new(alloc, book, collector, assignment),
     }
@@ -137,16 +115,37 @@ fn standing_assignment(assignment: &Assignment, old: Option<&Assigned>) -> Stand
     }
 }
 
-/// Answers an assignment that stands, if there is the collector.
-fn assign_again<B: Book>(book: &mut B, collector: CollectorId) -> Reply
+/// Answers an assignment that stands, if the slot names its series, and there is the collector.
+fn assign_again<B: Book>(book: &mut B, collector: CollectorId, slot: Slot) -> Reply
     ensures { let o = (B.state book.old).held in
+        let first = is_first collector slot (at (λ g. g.assignment.slot) slot (held_by collector o.assignments)) in
         Serves (B.state book.old) (B.state book.new) result
-        (again_reply (at (λ b. b.number) collector o.collectors)) o }
+        (again_reply first (at (λ b. b.number) collector o.collectors)) o }
 {
-    match book.bearer_at(collector) {
+    match names_series(book, collector, slot) {
         Err(StoreFault) => Reply::Refused(Refusal::Unavailable),
-        Ok(None) => Reply::Refused(Refusal::Taken),
-        Ok(Some(_)) => Reply::Done,
+        Ok(false) => Reply::Refused(Refusal::Taken),
+        Ok(true) => match book.bearer_at(collector) {
+            Err(StoreFault) => Reply::Refused(Refusal::Unavailable),
+            Ok(None) => Reply::Refused(Refusal::Taken),
+            Ok(Some(_)) => Reply::Done,
+        },
+    }
+}
+
+/// Whether the slot names the series that it prices.
+fn names_series<B: Book>(
+    book: &mut B,
+    collector: CollectorId,
+    slot: Slot,
+) -> Result<bool, StoreFault>
+    ensures { Reads (B.state book.old) (B.state book.new) result (λ found.
+        found ≡ is_first collector slot
+        (at (λ g. g.assignment.slot) slot (held_by collector (B.state book.old).held.assignments))) }
+{
+    match book.given(collector, slot)? {
+        None => Ok(false),
+        Some(given) => Ok(given.series.collector == collector && given.series.slot == slot),
     }
 }
 
@@ -159,7 +158,7 @@ fn assign_new<B: Book>(
 ) -> Reply
     requires made { IsWellMade (collector, assignment) }
     requires free { (B.state book.old).is_clean →
-        at (λ a. a.slot) assignment.slot (held_by collector (B.state book.old).held.assignments) ≡ None }
+        at (λ g. g.assignment.slot) assignment.slot (held_by collector (B.state book.old).held.assignments) ≡ None }
     requires item { (B.state book.old).is_clean →
         IsSome (at (λ i. i.code) assignment.item (B.state book.old).held.items) }
     ensures { let o = (B.state book.old).held in
@@ -176,7 +175,7 @@ fn assign_new<B: Book>(
 }
 
 /// The assignment with its outlet's name, where the outlet is known.
-fn name_outlet<B: Book>(
+pub fn name_outlet<B: Book>(
     alloc: Global,
     book: &mut B,
     assignment: Assignment,
@@ -211,7 +210,7 @@ fn with_name(
 fn assign_to<B: Book>(book: &mut B, collector: CollectorId, assigned: Assigned) -> Reply
     requires made { (B.state book.old).is_clean → IsWellMade (collector, assigned.assignment) }
     requires free { (B.state book.old).is_clean →
-        at (λ a. a.slot) assigned.assignment.slot (held_by collector (B.state book.old).held.assignments) ≡ None }
+        at (λ g. g.assignment.slot) assigned.assignment.slot (held_by collector (B.state book.old).held.assignments) ≡ None }
     requires item { (B.state book.old).is_clean →
         IsSome (at (λ i. i.code) assigned.assignment.item (B.state book.old).held.items) }
     requires outlet { (B.state book.old).is_clean →

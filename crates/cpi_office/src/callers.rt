@@ -13,6 +13,7 @@ use crate::assign::assign;
 use crate::calendar::put_calendar;
 use crate::collectors::register;
 use crate::freeze::freeze;
+use crate::handover::hand_over;
 use crate::items::{items, put_item};
 use crate::outlets::put_outlet;
 use crate::plans::put_plan;
@@ -114,6 +115,7 @@ pub fn serve_desk<B: Book>(alloc: Global, book: &mut B, now: Moment, request: Re
             collector,
             new_assignment,
         ),
+        Request::HandOver(what) => hand_over(alloc, book, what),
         Request::Freeze(month, carry) => freeze(alloc, book, now, month, carry),
         Request::Work(_) | Request::Quotes(_, _) | Request::Submit(_) => {
             Reply::Refused(Refusal::NotForCaller)

@@ -38,8 +38,9 @@ pub fn tables_are_computed()
     ensures owed { JudgedIsOwed }
 {}
 
-/// What a collector is told doesn't hang on what other collectors ask, where no freeze is among the requests. (The
-/// table of a frozen month is made of everybody's quotes, so what is published of it may differ.)
+/// What a collector is told doesn't hang on what other collectors ask, where neither a freeze nor a hand-over is among
+/// the requests. (The table of a frozen month is made of everybody's quotes, so what is published of it may differ; and
+/// whoever takes a series over is told its last price.)
 ///
 /// From a sound office a collector is told the same, reply by reply, if all requests of all other collectors are left
 /// out of the list. So it is told the same by two lists that differ in other collectors' requests alone, whether
@@ -52,12 +53,13 @@ pub fn others_do_not_matter()
     ensures differ { OthersMayDiffer }
 {}
 
-/// What `Office::run` tells a collector doesn't hang on what other collectors ask, where no freeze is among the
-/// requests.
+/// What `Office::run` tells a collector doesn't hang on what other collectors ask, where neither a freeze nor a hand-over
+/// is among the requests.
 ///
 /// Take two runs, over books of any two kinds that hold the same sound lists, with two lists of requests without a
-/// freeze that differ in other collectors' requests alone. Where no reply of either run says that the office is
-/// unavailable, and both stores are clean at the end, the replies to the collector are the same in both, one by one.
+/// freeze and without a hand-over that differ in other collectors' requests alone. Where no reply of either run says
+/// that the office is unavailable, and both stores are clean at the end, the replies to the collector are the same in
+/// both, one by one.
 ///
 /// Nothing is said of time, nor of runs in which memory or a store fails a request.
 pub fn runs_tell_alike<B: Book, C: Book>()
@@ -66,10 +68,10 @@ pub fn runs_tell_alike<B: Book, C: Book>()
 
 /// Two offices that a caller sees alike answer that caller alike.
 ///
-/// Take two runs, over books of any two kinds, from sound offices, freezes and embargoed tables included. Where a
-/// caller's view at a moment was the same at the start of both, and the caller has seen the same accepted rows since,
-/// a request of that caller at that moment gets the same reply from both, as long as neither reply says that the
-/// office is unavailable.
+/// Take two runs, over books of any two kinds, from sound offices, freezes, hand-overs and embargoed tables included.
+/// Where a caller's view at a moment was the same at the start of both, and the caller has seen the same accepted rows
+/// since, a request of that caller at that moment gets the same reply from both, as long as neither reply says that
+/// the office is unavailable.
 pub fn replies_are_alike<B: Book, C: Book>()
     ensures { RepliesAreAlike B.state C.state }
 {}

@@ -10,6 +10,8 @@ mod edition;
 mod examples;
 mod freeze;
 mod freeze_examples;
+mod handover;
+mod handover_examples;
 mod items;
 mod laws;
 mod months;
@@ -31,6 +33,7 @@ pub use caller::Caller;
 pub use edition::Edition;
 pub use examples::worked_runs;
 pub use freeze_examples::worked_freezes;
+pub use handover_examples::worked_handovers;
 pub use laws::{
     empty_is_sound, others_do_not_matter, replies_are_alike, runs_tell_alike, tables_are_computed,
     views_are_rebuilt,
@@ -39,4 +42,4 @@ pub use office::Office;
 pub use plan_examples::worked_plans;
 pub use refusal::Refusal;
 pub use reply::Reply;
-pub use request::{Ask, NewAssignment, Request};
+pub use request::{Ask, HandOver, NewAssignment, Request};

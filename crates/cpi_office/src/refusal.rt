@@ -60,8 +60,10 @@ pub enum Refusal {
     NoPlan,
     /// There is no index of the month: its first fault, which is never want of memory.
     Index(IndexFault),
-    /// The month was frozen.
+    /// The month was frozen, or one after it.
     MonthFrozen,
+    /// A quote of the slot that is to be handed over stands for the month of the hand-over, or for a later one.
+    QuotesStand,
     /// Memory was refused, or the store failed during the request.
     Unavailable,
 }
@@ -95,6 +97,7 @@ impl Refusal {
             Refusal::NoPlan => 48,
             Refusal::Index(_) => 49,
             Refusal::MonthFrozen => 50,
+            Refusal::QuotesStand => 51,
             Refusal::Unavailable => 90,
         }
     }

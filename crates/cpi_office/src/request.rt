@@ -17,6 +17,21 @@ pub struct NewAssignment {
     pub last_month: Month,
 }
 
+/// A series that is to go from a slot of one collector to a free slot of another, who may be the same.
+#[derive(Clone, Copy, Debug, PartialEq, Eq)]
+pub struct HandOver {
+    /// The collector who has the series.
+    pub from: CollectorId,
+    /// The slot that ends.
+    pub slot: Slot,
+    /// The collector who takes the series over.
+    pub to: CollectorId,
+    /// The slot that begins.
+    pub new_slot: Slot,
+    /// The first month of the new slot. The former one's last month is the month before it.
+    pub month: Month,
+}
+
 /// What is asked of the office.
 #[derive(Debug, Drop)]
 pub enum Request {
@@ -40,6 +55,8 @@ pub enum Request {
     PutOutlet(Outlet),
     /// What a free slot of the collector is for.
     Assign(CollectorId, NewAssignment),
+    /// The hand-over of a series.
+    HandOver(HandOver),
     /// What there is for the plan of a year: titles, weights, and the aggregates of items.
     PutPlan(Year, PlanBody),
     /// The window and the publishing moment of a month.

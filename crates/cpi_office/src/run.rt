@@ -24,8 +24,9 @@ impl<B: Book> Office<B> {
     /// definitions of the index give over the quotes and weights frozen with it and before it, and each that stood
     /// before stands as it was.
     ///
-    /// Where no freeze is among the requests, each collector is told what would be told without the requests of all
-    /// other collectors. Where one is, a published table may tell of them all.
+    /// Where neither a freeze nor a hand-over is among the requests, each collector is told what would be told without
+    /// the requests of all other collectors. Where a freeze is, a published table may tell of them all; where a
+    /// hand-over is, the collector who takes the series over is told its last price.
     ///
     /// # Errors
     ///

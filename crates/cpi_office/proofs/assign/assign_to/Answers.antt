@@ -3,6 +3,7 @@ use Rattle.cpi_rows.specs.Keyed.{at}
 use Rattle.cpi_rows.specs.Held.{held_by}
 use Rattle.cpi_rows.proofs.Found.{at_key}
 use Rattle.cpi_store.specs.declared.bearer.Bearer.{Bearer}
+use Rattle.cpi_store.specs.declared.given.Given.{Given}
 use Rattle.cpi_office.proofs.assign.assign_to.Goals as goal
 
 pub put_assignment-requires-clause-known : goal.put_assignment-requires-clause-known
@@ -19,12 +20,4 @@ put_assignment-requires-clause-new g c = λ clean.
     let o = (g.B.Book.state c.args.book.now).held in
     let b = c.in-Ok-Some.bearer in
     let found : at (λ (b : Bearer). b.number) c.args.collector o.collectors ≡ Some b = sym (reads.shown clean) ∙ c.in-Ok-Some.field-0-is in
-    rw (reads.keeps.kept clean) (ap (λ n. at (λ a. a.slot) c.args.assigned.assignment.slot (held_by n o.assignments)) (at_key (λ (b : Bearer). b.number) c.args.collector b o.collectors found) ∙ c.requires.free (reads.keeps.was_clean clean))
-
-pub put_assignment-requires-clause-series : goal.put_assignment-requires-clause-series
-put_assignment-requires-clause-series g c = λ clean.
-    let reads = c.in-Ok-Some.ensures.reads in
-    let o = (g.B.Book.state c.args.book.now).held in
-    let b = c.in-Ok-Some.bearer in
-    let found : at (λ (b : Bearer). b.number) c.args.collector o.collectors ≡ Some b = sym (reads.shown clean) ∙ c.in-Ok-Some.field-0-is in
-    (c.requires.made (reads.keeps.was_clean clean)).series ∙ ap (λ n. record { collector = n; slot = c.args.assigned.assignment.slot }) (sym (at_key (λ (b : Bearer). b.number) c.args.collector b o.collectors found))
+    rw (reads.keeps.kept clean) (ap (λ n. at (λ (g : Given). g.assignment.slot) c.args.assigned.assignment.slot (held_by n o.assignments)) (at_key (λ (b : Bearer). b.number) c.args.collector b o.collectors found) ∙ c.requires.free (reads.keeps.was_clean clean))

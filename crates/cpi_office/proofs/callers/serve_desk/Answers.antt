@@ -1,7 +1,7 @@
 use Rattle.std.proofs.Common.{sym, ap, ◌∙◌}
 use Rattle.std.proofs.lemmas.Bool.{false≢true}
 use Rattle.cpi_office.specs.Turned.{is_turned_away}
-use Rattle.cpi_office.proofs.Failures.{plan_judges, frozen_judges}
+use Rattle.cpi_office.proofs.Failures.{plan_judges, frozen_judges, handed_judges}
 use Rattle.cpi_office.specs.Assigning.{assigned_in}
 use Rattle.cpi_office.specs.Replacing.{planned_in, scheduled_in, body_judged}
 use Rattle.cpi_release.specs.FrozenMonths.{frozen_months}
@@ -40,6 +40,16 @@ returns-in-Assign-clause-serves g c =
     rw c.in-Assign.is
     (serves_where (IsSound o) (g.B.Book.state c.args.book.now) (g.B.Book.state c.assign.new.book) c.assign.result
     (assigned_in c.in-Assign.collector c.in-Assign.new_assignment o) c.assign.ensures)
+
+pub returns-in-HandOver-clause-turns : goal.returns-in-HandOver-clause-turns
+returns-in-HandOver-clause-turns g c =
+    let told = (handed_judges c.in-HandOver.what (g.B.Book.state c.args.book.now).held).1 in
+    rw c.in-HandOver.is
+    (record {
+      keyless = λ _ turned. absurd (false≢true (sym told ∙ turned));
+      keyed = λ _ turned. absurd (false≢true (sym told ∙ turned));
+      unavailable = λ not_mine _. absurd (false≢true (sym told ∙ ap is_turned_away not_mine));
+    })
 
 pub returns-in-Freeze-clause-turns : goal.returns-in-Freeze-clause-turns
 returns-in-Freeze-clause-turns g c =

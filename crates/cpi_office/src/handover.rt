@@ -1,0 +1,320 @@
+ghost use Rattle.std.specs.Prelude.{◌≡◌, Some, None, Ok, IsSome, option_map, if◌then◌else◌};
+ghost use Rattle.std.specs.Option.{option_copied};
+ghost use Rattle.cpi_rows.specs.Keyed.{at};
+ghost use Rattle.cpi_rows.specs.Held.{held_by};
+ghost use Rattle.cpi_release.specs.State.{Reads};
+ghost use Rattle.cpi_release.specs.FrozenMonths.{frozen_months, last_frozen};
+ghost use Rattle.cpi_store.specs.Sound.{IsSound};
+ghost use Rattle.cpi_store.specs.Outlet.{with_name};
+ghost use Rattle.cpi_store.specs.Office.{changed, HandsOver, given_until as until};
+ghost use Rattle.cpi_office.specs.HandingOver.{handed_over, over_collectors, is_takeable as takeable_is, over_slots, over_free, over_judged};
+ghost use Rattle.cpi_office.specs.HandingOver.{judged_over, stands_over as stood_over, taken_on as made_of};
+ghost use Rattle.cpi_office.specs.HandingOver.{is_handed_within, is_not_after as comes_late};
+ghost use Rattle.cpi_office.specs.Verdicts.{with_verdict, verdict_reply};
+ghost use Rattle.cpi_office.specs.Calls.{Serves, ServesWhere};
+
+use crate::assign::name_outlet;
+use crate::months::last;
+use crate::refusal::Refusal;
+use crate::reply::Reply;
+use crate::request::HandOver;
+use cpi_codes::{CollectorId, Month};
+use cpi_release::FrozenMonth;
+use cpi_store::{Bearer, Book, Given, Handover, StoreFault};
+use cpi_survey::{Assignment, Own};
+use std::alloc::Global;
+
+/// Hands a series over from a slot of one collector to a free slot of another. What was handed over already is done.
+pub fn hand_over<B: Book>(alloc: Global, book: &mut B, what: HandOver) -> Reply
+    ensures { let o = (B.state book.old).held in let v = handed_over what o in
+        ServesWhere (B.state book.old) (B.state book.new) (IsSound o) result (verdict_reply v) (with_verdict v o) }
+{
+    if is_takeable(&what) {
+        hand_over_between(alloc, book, what)
+    } else {
+        Reply::Refused(Refusal::BadRequest)
+    }
+}
+
+/// Whether the new collector's number and slot are within their limits, as they are by their types.
+fn is_takeable(what: &HandOver) -> bool
+    ensures { result ≡ takeable_is what.now }
+{
+    let number = what.to.number();
+    let slot = what.new_slot.number();
+    1 <= number && 1 <= slot && slot <= 400
+}
+
+/// Hands a series over, if there are both collectors.
+fn hand_over_between<B: Book>(alloc: Global, book: &mut B, what: HandOver) -> Reply
+    ensures { let o = (B.state book.old).held in
+        let v = over_collectors what o (at (λ b. b.number) what.from o.collectors)
+        (at (λ b. b.number) what.to o.collectors) in
+        ServesWhere (B.state book.old) (B.state book.new) (IsSound o) result (verdict_reply v) (with_verdict v o) }
+{
+    match find_both(book, what.from, what.to) {
+        Err(StoreFault) => Reply::Refused(Refusal::Unavailable),
+        Ok((None, _)) => Reply::Refused(Refusal::UnknownCollector),
+        Ok((Some(former), taker)) => match taker {
+            None => Reply::Refused(Refusal::UnknownCollector),
+            Some(taker) => hand_over_slot(alloc, book, what, former, taker),
+        },
+    }
+}
+
+/// Both collectors, as they are registered.
+fn find_both<B: Book>(
+    book: &mut B,
+    from: CollectorId,
+    to: CollectorId,
+) -> Result<(Option<Bearer>, Option<Bearer>), StoreFault>
+    ensures { Reads (B.state book.old) (B.state book.new) result (λ found.
+        (found.0 ≡ at (λ b. b.number) from (B.state book.old).held.collectors)
+        × (found.1 ≡ at (λ b. b.number) to (B.state book.old).held.collectors)) }
+{
+    let former = book.bearer_at(from)?;
+    let taker = book.bearer_at(to)?;
+    Ok((former, taker))
+}
+
+/// Hands a series over between collectors who are known.
+fn hand_over_slot<B: Book>(
+    alloc: Global,
+    book: &mut B,
+    what: HandOver,
+    former: Bearer,
+    taker: Bearer,
+) -> Reply
+    requires former { (B.state book.old).is_clean →
+        at (λ b. b.number) what.from (B.state book.old).held.collectors ≡ Some former }
+    requires taker { (B.state book.old).is_clean →
+        at (λ b. b.number) what.to (B.state book.old).held.collectors ≡ Some taker }
+    ensures { let o = (B.state book.old).held in
+        let v = over_slots what o former taker
+        (at (λ g. g.assignment.slot) what.slot (held_by former.number o.assignments))
+        (at (λ g. g.assignment.slot) what.new_slot (held_by taker.number o.assignments)) in
+        ServesWhere (B.state book.old) (B.state book.new) (IsSound o) result (verdict_reply v) (with_verdict v o) }
+{
+    match book.given(former.number, what.slot) {
+        Err(StoreFault) => Reply::Refused(Refusal::Unavailable),
+        Ok(None) => Reply::Refused(Refusal::UnknownSlot),
+        Ok(Some(given)) => hand_over_given(alloc, book, what, former, taker, given),
+    }
+}
+
+/// Hands a series over that the former collector has.
+fn hand_over_given<B: Book>(
+    alloc: Global,
+    book: &mut B,
+    what: HandOver,
+    former: Bearer,
+    taker: Bearer,
+    given: Given,
+) -> Reply
+    requires former { (B.state book.old).is_clean →
+        at (λ b. b.number) former.number (B.state book.old).held.collectors ≡ Some former }
+    requires taker { (B.state book.old).is_clean →
+        at (λ b. b.number) taker.number (B.state book.old).held.collectors ≡ Some taker }
+    requires stands { (B.state book.old).is_clean →
+        at (λ g. g.assignment.slot) what.slot (held_by former.number (B.state book.old).held.assignments) ≡ Some given }
+    ensures { let o = (B.state book.old).held in
+        let v = over_slots what o former taker (Some given)
+        (at (λ g. g.assignment.slot) what.new_slot (held_by taker.number o.assignments)) in
+        ServesWhere (B.state book.old) (B.state book.new) (IsSound o) result (verdict_reply v) (with_verdict v o) }
+{
+    match book.given(taker.number, what.new_slot) {
+        Err(StoreFault) => Reply::Refused(Refusal::Unavailable),
+        Ok(None) => hand_over_free(alloc, book, what, former, taker, given),
+        Ok(Some(new)) => answer_standing(what, &given, &new),
+    }
+}
+
+/// Answers where the new slot stands: done where it took over this series in this month.
+fn answer_standing(what: HandOver, given: &Given, new: &Given) -> Reply
+    ensures { result ≡ (if stood_over what given.now new.now then Reply.Done else Reply.Refused Refusal.Taken) }
+{
+    if stands_over(what, given, new) {
+        Reply::Done
+    } else {
+        Reply::Refused(Refusal::Taken)
+    }
+}
+
+/// Whether the new slot took this series over in this month, and the former one ended with the month before.
+fn stands_over(what: HandOver, given: &Given, new: &Given) -> bool
+    ensures { result ≡ stood_over what given.now new.now }
+{
+    new.series.collector == given.series.collector
+        && new.series.slot == given.series.slot
+        && new.assignment.first_month == what.month
+        && given.assignment.last_month.next() == Some(what.month)
+}
+
+/// Hands a series over to a slot that is free.
+fn hand_over_free<B: Book>(
+    alloc: Global,
+    book: &mut B,
+    what: HandOver,
+    former: Bearer,
+    taker: Bearer,
+    given: Given,
+) -> Reply
+    requires former { (B.state book.old).is_clean →
+        at (λ b. b.number) former.number (B.state book.old).held.collectors ≡ Some former }
+    requires taker { (B.state book.old).is_clean →
+        at (λ b. b.number) taker.number (B.state book.old).held.collectors ≡ Some taker }
+    requires stands { (B.state book.old).is_clean →
+        at (λ g. g.assignment.slot) what.slot (held_by former.number (B.state book.old).held.assignments) ≡ Some given }
+    requires free { (B.state book.old).is_clean →
+        at (λ g. g.assignment.slot) what.new_slot (held_by taker.number (B.state book.old).held.assignments) ≡ None }
+    ensures { let o = (B.state book.old).held in let v = over_free what o former taker given in
+        ServesWhere (B.state book.old) (B.state book.new) (IsSound o) result (verdict_reply v) (with_verdict v o) }
+{
+    match judge(book, &what, former.number, &given) {
+        Err(StoreFault) => Reply::Refused(Refusal::Unavailable),
+        Ok(Err(refusal)) => Reply::Refused(refusal),
+        Ok(Ok(assignment)) => put_over(alloc, book, &what, former, taker, given, assignment),
+    }
+}
+
+/// The new assignment, or why there is none: by the months, by what was frozen, and by the quotes that stand.
+fn judge<B: Book>(
+    book: &mut B,
+    what: &HandOver,
+    from: CollectorId,
+    former: &Given,
+) -> Result<Result<Assignment, Refusal>, StoreFault>
+    ensures { Reads (B.state book.old) (B.state book.new) result (λ judged.
+        let o = (B.state book.old).held in
+        judged ≡ judged_over what.now former.now.assignment (frozen_months o.releases) (held_by from o.quotes)) }
+{
+    let frozen = book.frozen_months()?;
+    let own = book.own(from)?;
+    Ok(judge_by(what, former, &frozen, own))
+}
+
+fn judge_by(
+    what: &HandOver,
+    former: &Given,
+    frozen: &[FrozenMonth],
+    own: &Own,
+) -> Result<Assignment, Refusal>
+    ensures { result ≡ judged_over what.now former.now.assignment frozen.now own.now.quotes }
+{
+    if !is_within(what, former) {
+        Err(Refusal::NotActive)
+    } else if is_not_after(what.month, last(frozen)) {
+        Err(Refusal::MonthFrozen)
+    } else if own.has_quotes_since(what.slot, what.month) {
+        Err(Refusal::QuotesStand)
+    } else {
+        Ok(taken_on(what, former, own))
+    }
+}
+
+/// Whether the month is after the former slot's first month, and not after its last.
+fn is_within(what: &HandOver, former: &Given) -> bool
+    ensures { result ≡ is_handed_within what.now former.now.assignment }
+{
+    former.assignment.first_month < what.month && what.month <= former.assignment.last_month
+}
+
+/// Whether the month isn't after the last frozen one.
+fn is_not_after(month: Month, last: Option<&FrozenMonth>) -> bool
+    ensures { result ≡ comes_late month (option_copied last.entry) }
+{
+    match last {
+        None => false,
+        Some(last) => month <= last.month,
+    }
+}
+
+/// The new assignment: as the former one is, from the month on, with the former one's last price.
+fn taken_on(what: &HandOver, former: &Given, own: &Own) -> Assignment
+    ensures { result ≡ made_of what.now former.now.assignment own.now.quotes }
+{
+    let former = &former.assignment;
+    Assignment {
+        slot: what.new_slot,
+        outlet: former.outlet,
+        item: former.item,
+        first_month: what.month,
+        last_month: former.last_month,
+        copied: own.last_price(former, what.month),
+    }
+}
+
+/// Puts both assignments.
+fn put_over<B: Book>(
+    alloc: Global,
+    book: &mut B,
+    what: &HandOver,
+    former: Bearer,
+    taker: Bearer,
+    given: Given,
+    assignment: Assignment,
+) -> Reply
+    requires former { (B.state book.old).is_clean →
+        at (λ b. b.number) former.number (B.state book.old).held.collectors ≡ Some former }
+    requires taker { (B.state book.old).is_clean →
+        at (λ b. b.number) taker.number (B.state book.old).held.collectors ≡ Some taker }
+    requires stands { (B.state book.old).is_clean →
+        at (λ g. g.assignment.slot) what.now.slot (held_by former.number (B.state book.old).held.assignments) ≡ Some given }
+    requires free { (B.state book.old).is_clean → at (λ g. g.assignment.slot) assignment.slot
+        (held_by taker.number (B.state book.old).held.assignments) ≡ None }
+    requires judged { (B.state book.old).is_clean → let o = (B.state book.old).held in
+        judged_over what.now given.assignment (frozen_months o.releases) (held_by former.number o.quotes) ≡ Ok assignment }
+    ensures { let o = (B.state book.old).held in let v = over_judged what.now o former taker given (Ok assignment) in
+        ServesWhere (B.state book.old) (B.state book.new) (IsSound o) result (verdict_reply v) (with_verdict v o) }
+{
+    let Some(last_month) = what.month.prev() else {
+        return Reply::Refused(Refusal::Unavailable);
+    };
+    match name_outlet(alloc, book, assignment) {
+        Ok(Ok(Some(assigned))) => {
+            let ended = given_until(given, last_month);
+            let handover = Handover {
+                former,
+                ended,
+                taker,
+                assigned,
+            };
+            store_both(book, handover)
+        }
+        _ => Reply::Refused(Refusal::Unavailable),
+    }
+}
+
+/// Stores both assignments.
+fn store_both<B: Book>(book: &mut B, handover: Handover) -> Reply
+    requires former { (B.state book.old).is_clean →
+        at (λ b. b.number) handover.former.number (B.state book.old).held.collectors ≡ Some handover.former }
+    requires taker { (B.state book.old).is_clean →
+        at (λ b. b.number) handover.taker.number (B.state book.old).held.collectors ≡ Some handover.taker }
+    requires stands { (B.state book.old).is_clean →
+        option_map (until handover.ended.assignment.last_month) (at (λ g. g.assignment.slot)
+        handover.ended.assignment.slot (held_by handover.former.number (B.state book.old).held.assignments))
+        ≡ Some handover.ended }
+    requires new { (B.state book.old).is_clean → at (λ g. g.assignment.slot) handover.assigned.assignment.slot
+        (held_by handover.taker.number (B.state book.old).held.assignments) ≡ None }
+    requires outlet { (B.state book.old).is_clean →
+        IsSome (at (λ u. u.number) handover.assigned.assignment.outlet (B.state book.old).held.outlets) }
+    requires name { (B.state book.old).is_clean →
+        handover.assigned ≡ with_name (B.state book.old).held.outlets handover.assigned.assignment }
+    ensures { Serves (B.state book.old) (B.state book.new) result
+        Reply.Done (changed (HandsOver handover) (B.state book.old).held) }
+{
+    match book.put_handover(handover) {
+        Ok(()) => Reply::Done,
+        Err(StoreFault) => Reply::Refused(Refusal::Unavailable),
+    }
+}
+
+/// What a slot was given, with this last month.
+fn given_until(given: Given, last_month: Month) -> Given
+    ensures { result ≡ until last_month given }
+{
+    let mut ended = given;
+    ended.assignment.last_month = last_month;
+    ended
+}
