@@ -89,6 +89,7 @@ refusal-none refusal.FreezeTooEarly = refl
 refusal-none refusal.NoPlan = refl
 refusal-none (refusal.Index f) = index-none f
 refusal-none refusal.MonthFrozen = refl
+refusal-none refusal.QuotesStand = refl
 refusal-none refusal.Unavailable = refl
 
 pub no-floats : (r : Reply) → has_float (data_of r) ≡ false

@@ -318,7 +318,7 @@ replays_tell_alike state state' zone key old new old' new' rows others ans bs is
     sym (own-left zone key rows) ∙ ap (λ z. own_asks key (map (ask_of zone) z)) same ∙ own-left zone key others in
     let left = left-requests zone key rows ∙ ap (requests zone) same ∙ sym (left-requests zone key others) in
     let alike = runs_tell_alike state state' key (requests zone rows) (requests zone others) (replies_of zone rows ans) (replies_of zone others bs)
-    old new old' new' (whole state zone old new rows ans is) (whole state' zone old' new' others bs is') start is.without_freeze is'.without_freeze left in
+    old new old' new' (whole state zone old new rows ans is) (whole state' zone old' new' others bs is') start is.none_passes_on is'.none_passes_on left in
     let told : all_told (own_asks key mine) (own key mine ans) ≡ all_told (own_asks key mine) (own key yours bs) =
     sym (told-to state zone old new rows ans is key) ∙ alike ∙ told-to state' zone old' new' others bs is' key
     ∙ ap (λ ks. all_told ks (own key yours bs)) (sym asks) in

@@ -8,7 +8,7 @@ use Rattle.cpi_office.specs.Runs.{trace}
 use Rattle.cpi_office.specs.Sights.{Sight, seen}
 use Rattle.cpi_office.specs.Served.{all_served, NoneFails}
 use Rattle.cpi_store.specs.Sound.{IsSound}
-use Rattle.cpi_office.specs.Alone.{is_bearer, is_other, NoneFreezes}
+use Rattle.cpi_office.specs.Alone.{is_bearer, is_other, NonePassesOn}
 use Rattle.cpi_office.specs.declared.caller.Caller.{Caller}
 use Rattle.cpi_office.specs.declared.caller.Caller.TheVariants.{Desk}
 use Rattle.cpi_office.specs.declared.reply.Reply.{Reply}
@@ -99,16 +99,16 @@ abbrev pub lines_to : ZoneRule → ℕ → List Record → List Answer → List 
 lines_to zone key rows answers = map answer_line (own_answers zone key rows answers)
 
 module _ {B : Type 0} (state : B → State Office) where
-  -- a replay from a sound office in which no record asks for a freeze and no reply says that the office is unavailable,
+  -- a replay from a sound office in which no record asks for a freeze or a hand-over and no reply says that the office is unavailable,
   -- over a store that is clean at its end
   pub record IsReplayed (zone : ZoneRule) (old new : B) (rows : List Record) (answers : List Answer) : Type 0 where
     pub each : AnswersAll zone state old rows answers new
     pub clean : (state new).is_clean
     pub sound : IsSound (state old).held
-    pub without_freeze : NoneFreezes (requests zone rows)
+    pub none_passes_on : NonePassesOn (requests zone rows)
     pub served : NoneFails (replies_of zone rows answers)
 
--- Two replays without a freeze under one zone, over books of any two kinds that hold the same lists: where their records
+-- Two replays without a freeze or a hand-over under one zone, over books of any two kinds that hold the same lists: where their records
 -- differ in those of other collectors alone, the lines to a collector are the same, byte for byte.
 abbrev pub ReplaysTellAlike : {B C : Type 0} → (B → State Office) → (C → State Office) → Type 0
 ReplaysTellAlike {B} {C} state state' =

@@ -38,6 +38,7 @@ word_of text =
     else if bytes_eq text (codes "outlet") then word.Outlet
     else if bytes_eq text (codes "collector") then word.Collector
     else if bytes_eq text (codes "assign") then word.Assign
+    else if bytes_eq text (codes "handover") then word.HandOver
     else if bytes_eq text (codes "calendar") then word.Calendar
     else if bytes_eq text (codes "plan") then word.Plan
     else if bytes_eq text (codes "tables") then word.Tables
@@ -105,6 +106,17 @@ assign_request arguments = do
   assignment ← in_order (record { slot = s; outlet = o; item = i; first_month = first; last_month = last })
   Some (request.Assign c assignment)
 
+-- a collector's slot, the slot of the collector who takes its series over, and the month from which on
+abbrev pub hand_over_request : List Text → Option Request
+hand_over_request arguments = do
+  a ← five arguments
+  c ← collector a.0
+  s ← slot a.1
+  d ← collector a.2
+  n ← slot a.3
+  m ← month a.4
+  Some (request.HandOver (record { from = c; slot = s; to = d; new_slot = n; month = m }))
+
 abbrev pub calendar_request : ZoneRule → List Text → Option Request
 calendar_request zone arguments = do
   a ← four arguments
@@ -160,6 +172,7 @@ request_of zone word.Item arguments = item_request arguments
 request_of zone word.Outlet arguments = outlet_request arguments
 request_of zone word.Collector arguments = collector_request arguments
 request_of zone word.Assign arguments = assign_request arguments
+request_of zone word.HandOver arguments = hand_over_request arguments
 request_of zone word.Calendar arguments = calendar_request zone arguments
 request_of zone word.Plan arguments = plan_request arguments
 request_of zone word.Tables arguments = tables_request arguments

@@ -2,7 +2,7 @@
 ghost use Rattle.std.specs.Prelude.{◌≡◌, map, IfOk};
 ghost use Rattle.cpi_wire.specs.Words.{word_of as spelled_word, items_request, work_request, quotes_request};
 ghost use Rattle.cpi_wire.specs.Words.{quote_request, item_request, outlet_request, collector_request};
-ghost use Rattle.cpi_wire.specs.Words.{assign_request, calendar_request, plan_request, tables_request};
+ghost use Rattle.cpi_wire.specs.Words.{assign_request, hand_over_request, calendar_request, plan_request, tables_request};
 ghost use Rattle.cpi_wire.specs.Words.{table_request, elementary_codes, freeze_request};
 ghost use Rattle.cpi_wire.specs.Words.{request_of as spelled_request};
 
@@ -10,7 +10,7 @@ use crate::arguments::{five, four, four_and_confirm, no_more, one, six, two, two
 use crate::plan_body::plan_body;
 use crate::values::{elementary_code_of, form_of, mark_of, month_of, name_of, time_of};
 use cpi_codes::{Code, CollectorId, ItemCode, Key, OutletId, Slot, Year, Zone};
-use cpi_office::{Edition, NewAssignment, Request};
+use cpi_office::{Edition, HandOver, NewAssignment, Request};
 use cpi_plan::{CalendarRow, HighTolerance, Item, LowTolerance};
 use cpi_release::Revision;
 use cpi_rows::Rows;
@@ -29,6 +29,7 @@ pub(crate) enum Word {
     Outlet,
     Collector,
     Assign,
+    HandOver,
     Calendar,
     Plan,
     Tables,
@@ -56,6 +57,8 @@ pub(crate) fn word_of(text: &[u8]) -> Word
         Word::Collector
     } else if text == b"assign".as_slice() {
         Word::Assign
+    } else if text == b"handover".as_slice() {
+        Word::HandOver
     } else if text == b"calendar".as_slice() {
         Word::Calendar
     } else if text == b"plan".as_slice() {
@@ -152,6 +155,24 @@ fn assign_of(arguments: &[&[u8]]) -> Option<Request>
         last_month,
     };
     Some(Request::Assign(collector, new_assignment))
+}
+
+fn hand_over_of(arguments: &[&[u8]]) -> Option<Request>
+    ensures { result ≡ hand_over_request (map (λ a. a.now) arguments.now) }
+{
+    let (from, slot, to, new_slot, month) = five(arguments)?;
+    let from = CollectorId::parse(from)?;
+    let slot = Slot::parse(slot)?;
+    let to = CollectorId::parse(to)?;
+    let new_slot = Slot::parse(new_slot)?;
+    let month = month_of(month)?;
+    Some(Request::HandOver(HandOver {
+        from,
+        slot,
+        to,
+        new_slot,
+        month,
+    }))
 }
 
 fn outlet_of(alloc: Global, arguments: &[&[u8]]) -> Result<Option<Request>, AllocError>
@@ -281,6 +302,7 @@ pub(crate) fn request_of(
         Word::Outlet => outlet_of(alloc, arguments),
         Word::Collector => Ok(collector_of(arguments)),
         Word::Assign => Ok(assign_of(arguments)),
+        Word::HandOver => Ok(hand_over_of(arguments)),
         Word::Calendar => Ok(calendar_of(zone, arguments)),
         Word::Plan => plan_of(alloc, arguments),
         Word::Tables => Ok(tables_of(arguments)),
