@@ -12,6 +12,8 @@ mod files;
 #[cfg(test)]
 mod first;
 #[cfg(test)]
+mod handed;
+#[cfg(test)]
 mod migrated;
 #[cfg(test)]
 mod reopened;

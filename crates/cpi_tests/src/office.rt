@@ -45,6 +45,22 @@ const OTHERS: [&str; 11] = [
     "1500|public|tables",
 ];
 
+// A collector who takes a series over, in a month of the calendar, and sees it then.
+const HAND_OVER: [&str; 4] = [
+    "2000|desk|collector|8|bbbbbbbbbbbbbbbbbbbbbbbbbbbbbbbb",
+    "2000|desk|calendar|2026-02|2000|3000|3000",
+    "2000|desk|handover|7|4|8|1|2026-02",
+    "2000|bbbbbbbbbbbbbbbbbbbbbbbbbbbbbbbb|work|2026-02",
+];
+
+// The same with another key, another moment, and another series for the same slot.
+const OTHER_HAND_OVER: [&str; 4] = [
+    "2000|desk|collector|8|cccccccccccccccccccccccccccccccc",
+    "2000|desk|calendar|2026-02|2000|3000|3001",
+    "2000|desk|handover|7|3|8|1|2026-02",
+    "2000|bbbbbbbbbbbbbbbbbbbbbbbbbbbbbbbb|work|2026-02",
+];
+
 const FREEZE: [&str; 2] = ["2000|desk|freeze|2026-01", "3000|public|table|2026-01|csv"];
 
 // Whether the reply is that of an office in which the request is the first of its kind.
@@ -109,6 +125,17 @@ fn each_call_of_a_freeze_fails_in_turn(rt: HostRuntime) -> Result<(), Fail> {
     for nth in 1..=27 {
         let told = is_unavailable_at(alloc, priced(alloc)?, nth, &FREEZE, &FREEZE)?;
         assert_eq!(rt; told, Some(nth < 27), "call {nth}");
+    }
+    Ok(())
+}
+
+// Three calls register a collector, three put a calendar row, eight hand a series over, and two give a work list.
+#[test]
+fn each_call_of_a_handover_fails_in_turn(rt: HostRuntime) -> Result<(), Fail> {
+    let alloc = rt.alloc();
+    for nth in 1..=17 {
+        let told = is_unavailable_at(alloc, priced(alloc)?, nth, &HAND_OVER, &OTHER_HAND_OVER)?;
+        assert_eq!(rt; told, Some(nth < 17), "call {nth}");
     }
     Ok(())
 }

@@ -4,7 +4,7 @@ ghost use Rattle.std.specs.Ordering.{nat_cmp};
 ghost use Rattle.cpi_rows.specs.Keyed.{IsInOrder};
 
 use crate::records::{at, january, rice};
-use cpi_codes::{Code, CollectorId, ItemCode, Month, Name, OutletId, Price, SeriesId, Slot};
+use cpi_codes::{Code, ItemCode, Month, Name, OutletId, Price, Slot};
 use cpi_plan::{CalendarRow, HighTolerance, Item, LowTolerance, Place, Title, Weight, YearPlan};
 use cpi_rows::{RowsByKey, put_row};
 use cpi_survey::{Assigned, Assignment, Mark, Own, Public, Quote};
@@ -81,7 +81,6 @@ fn a_plan_is_made_of_rows(rt: HostRuntime) -> Result<(), Fail> {
 // What slot 1 is for.
 fn assigned(alloc: Global) -> Result<Assigned, Fail> {
     let (slot, month) = (slot()?, january()?);
-    let collector = CollectorId::new(7).ok_or("no collector")?;
     Ok(Assigned {
         assignment: Assignment {
             slot,
@@ -89,7 +88,7 @@ fn assigned(alloc: Global) -> Result<Assigned, Fail> {
             item: code()?,
             first_month: month,
             last_month: month,
-            series: SeriesId { collector, slot },
+            copied: None,
         },
         outlet_name: Name::new(alloc, b"Corner shop")?,
     })
