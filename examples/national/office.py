@@ -10,6 +10,7 @@ HERE = os.path.dirname(os.path.abspath(__file__))
 ZONE = "CET-1CEST,M3.5.0,M10.5.0/3"
 
 Series = collections.namedtuple("Series", "collector slot outlet item first last")
+Held = collections.namedtuple("Held", "first collector slot")
 
 
 def rows_of(name):
@@ -41,6 +42,10 @@ class Office:
         self.references = {row["year"]: row["reference"] for row in rows_of("plans")}
         self.keys = {int(row["collector"]): row["key"] for row in rows_of("collectors")}
         self.series = list(self.assigned())
+        self.held = {series: [Held(series.first, series.collector, series.slot)] for series in self.series}
+        self.handed = {row["month"]: [] for row in rows_of("handovers")}
+        for row in sorted(rows_of("handovers"), key=lambda row: row["month"]):
+            self.handed[row["month"]] += self.handed_over(row["month"], int(row["collector"]), int(row["to"]))
 
     def assigned(self):
         """Every outlet prices each item of its kind; a collector's slots are counted outlet by outlet."""
@@ -52,6 +57,20 @@ class Office:
                     slots[collector] += 1
                     place = collector, slots[collector], int(outlet["outlet"])
                     yield Series(*place, item, outlet["first"], outlet["last"])
+
+    def handed_over(self, month, collector, to):
+        """All series of a collector that go on in the month get the next slots of another."""
+        slots = max(held.slot for each in self.held.values() for held in each if held.collector == to)
+        for series in sorted(self.series, key=lambda series: self.held[series][-1].slot):
+            held = self.held[series][-1]
+            if held.collector == collector and held.first < month <= series.last:
+                slots += 1
+                self.held[series].append(Held(month, to, slots))
+                yield "handover", collector, held.slot, to, slots, month
+
+    def holder(self, series, month):
+        """Who prices a series in a month, with the slot."""
+        return [held for held in self.held[series] if held.first <= month][-1]
 
     def weights(self, year):
         """The weights of a year by aggregate; an aggregate without one isn't in that year's plan."""

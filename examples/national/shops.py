@@ -171,8 +171,9 @@ class Shops:
         visits = collections.defaultdict(list)
         for shelf in self.shelves:
             if shelf.series.first <= month <= shelf.series.last:
+                held = self.office.holder(shelf.series, month)
                 for entry in shelf.sent(turn, month):
-                    visits[entry.day, shelf.series.collector].append(entry)
+                    visits[entry.day, held.collector].append(entry._replace(slot=held.slot))
         found = []
         for (day, collector), entries in sorted(visits.items()):
             body = text_of(row_of(entry, month) for entry in entries)

@@ -1,6 +1,7 @@
 """The office: what each record is answered, and what it changes."""
 
 import json
+from typing import NamedTuple
 
 from . import tables, values
 from .index import FrozenQuote, Index, before, december_before
@@ -18,6 +19,15 @@ def month_text(month):
     return f"{month[0]:04}-{month[1]:02}"
 
 
+class Assignment(NamedTuple):
+    outlet: int
+    item: str
+    first: tuple
+    last: tuple
+    series: tuple  # collector and slot that it was first given to
+    copied: int = None  # the last price that was handed over with it
+
+
 class Office:
     def __init__(self):
         self.items = {}  # by code: text, unit, low, high
@@ -25,7 +35,7 @@ class Office:
         self.calendar = {}  # by month: opens, closes, publishes
         self.outlets = {}
         self.keys = {}  # by collector
-        self.assignments = {}  # by collector and slot: outlet, item, first and last month
+        self.assignments = {}  # by collector and slot
         self.quotes = {}  # by collector, slot and month: mark, receipt
         self.index = Index(self.plans, {}, {})  # over the frozen months
         self.tables = {}  # by frozen month: of each revision the moment of publishing and the rows
@@ -115,7 +125,33 @@ class Office:
                 return refused(42)
             if collector not in self.keys:
                 return refused(43)
-        return self.put_once(self.assignments, (collector, slot), (outlet, item, first, last))
+        place = collector, slot
+        return self.put_once(self.assignments, place, Assignment(outlet, item, first, last, place))
+
+    def hand_over(self, collector, slot, to, new_slot, month):
+        """Ends an assignment before the month, and gives another slot the rest of it with the last price at this moment."""
+        former, new = (collector, slot), (to, new_slot)
+        if collector not in self.keys or to not in self.keys:
+            return refused(43)
+        if former not in self.assignments:
+            return refused(20)
+        old = self.assignments[former]
+        if new in self.assignments:
+            return DONE if self.is_handed_over(old, self.assignments[new], month) else refused(40)
+        if not old.first < month <= old.last:
+            return refused(22)
+        if self.tables and month <= max(self.tables):
+            return refused(50)
+        if any(place[:2] == former and place[2] >= month for place in self.quotes):
+            return refused(51)
+        copied = self.last_price(self.own_quotes(collector), former, month)
+        self.assignments[new] = old._replace(first=month, copied=copied)
+        self.assignments[former] = old._replace(last=before(month))
+        return DONE
+
+    def is_handed_over(self, old, new, month):
+        """Whether one assignment goes on from the month where the other ends."""
+        return (new.series, new.first, before(month)) == (old.series, month, old.last)
 
     def stays_frozen(self, month, publishes):
         """Whether the month was frozen and can't be reopened by a calendar row with that moment of publishing."""
@@ -168,10 +204,17 @@ class Office:
 
     # ---- freezing
 
+    def last_month_of(self, series):
+        """The greatest last month among the assignments of a series."""
+        return max(one.last for one in self.assignments.values() if one.series == series)
+
     def stored_quotes(self, month):
-        rows = [(place, mark) for place, (mark, _) in sorted(self.quotes.items()) if place[2] == month]
-        assigned = [(place[:2], self.assignments[place[:2]], mark) for place, mark in rows]
-        return [FrozenQuote(series, item, last, mark) for series, (_, item, _, last), mark in assigned]
+        """The quotes of the month by their series, whoever has it then."""
+        rows = [(self.assignments[place[:2]], mark) for place, (mark, _) in self.quotes.items() if place[2] == month]
+        return [
+            FrozenQuote(one.series, one.item, self.last_month_of(one.series), mark)
+            for one, mark in sorted(rows, key=lambda row: row[0].series)
+        ]
 
     def is_first(self, month):
         """Whether it is the first month of all, frozen already or not."""
@@ -214,25 +257,25 @@ class Office:
     def own_quotes(self, collector):
         return {(slot, month): quote for (holder, slot, month), quote in self.quotes.items() if holder == collector}
 
-    def last_price(self, own, slot, month):
-        """The price of the greatest earlier month with one, among a collector's own quotes."""
+    def last_price(self, own, place, month):
+        """The price of the greatest earlier month with one, among a collector's own quotes of a slot; else the copied one."""
         found = [
             (earlier, mark[1])
-            for (own_slot, earlier), (mark, _) in own.items()
-            if own_slot == slot and earlier < month and mark[0] != "missing"
+            for (slot, earlier), (mark, _) in own.items()
+            if slot == place[1] and earlier < month and mark[0] != "missing"
         ]
-        return max(found)[1] if found else None
+        return max(found)[1] if found else self.assignments[place].copied
 
     def work(self, _, collector, month):
         if month not in self.calendar:
             return refused(21)
         rows, own = [], self.own_quotes(collector)
-        for (holder, slot), (outlet, item, first, last) in sorted(self.assignments.items()):
-            if holder == collector and first <= month <= last:
+        for (holder, slot), one in sorted(self.assignments.items()):
+            if holder == collector and one.first <= month <= one.last:
                 mark, receipt = own.get((slot, month), ((None,), None))
-                text, unit = self.items[item][:2]
-                price = self.last_price(own, slot, month)
-                rows.append([slot, outlet, self.outlets[outlet], item, text, unit, price, mark[0], receipt])
+                text, unit = self.items[one.item][:2]
+                price = self.last_price(own, (holder, slot), month)
+                rows.append([slot, one.outlet, self.outlets[one.outlet], one.item, text, unit, price, mark[0], receipt])
         return {"work": rows}
 
     def quotes_within(self, _, collector, first, last):
@@ -255,20 +298,20 @@ class Office:
         return {"receipt": receipt}
 
     def quote_refusal(self, now, collector, slot, month, mark, confirm):
-        _, item, first, last = self.assignments[collector, slot]
+        one = self.assignments[collector, slot]
         if month not in self.calendar:
             return refused(21)
         opens, closes, _ = self.calendar[month]
-        if not first <= month <= last:
+        if not one.first <= month <= one.last:
             return refused(22)
         if now < opens:
             return refused(23)
         if now >= closes:
             return refused(24)
-        price = self.last_price(self.own_quotes(collector), slot, month)
+        price = self.last_price(self.own_quotes(collector), (collector, slot), month)
         if price is None:
             return refused(25) if mark[0] in ("comparable", "other") else None
-        low, high = -(-price * self.items[item][2] // 1000), price * self.items[item][3] // 1000
+        low, high = -(-price * self.items[one.item][2] // 1000), price * self.items[one.item][3] // 1000
         if mark[0] in ("price", "comparable") and not confirm and not low <= mark[1] <= high:
             return refused(26, last=price, low=low, high=high)
         return None
@@ -280,6 +323,7 @@ class Office:
         "outlet": put_outlet,
         "collector": register,
         "assign": assign,
+        "handover": hand_over,
         "calendar": put_calendar,
         "plan": put_plan,
     }

@@ -1,6 +1,6 @@
 """Random records round a small office: three collectors, two items, four months, and what lies at every limit.
 
-No month of it is ever frozen.
+No month of it is ever frozen. In one half of such offices series are handed over.
 """
 
 import csv
@@ -48,7 +48,8 @@ REFERENCES = ["2025-12", "2025-12", "2025-06", "2000-01", "2026-01", "2199-12"]
 OTHER_REFERENCES = ["", "1999-12", "2025-13", "2025-6", "2200-01", "01.1"]
 WORDS = ["quote"] * 12 + ["quotes", "work", "work", "items", "item", "outlet", "collector", "assign", "assign"]
 WORDS += ["calendar", "plan", "plan", "import", "freeze", "table", "tables", "Quote", ""]
-OF_THE_DESK = ("item", "outlet", "collector", "assign", "calendar", "plan", "freeze")
+NEW_SLOTS = ["6", *map(str, range(8, 25)), "400"]  # of series that are handed over
+OF_THE_DESK = ("item", "outlet", "collector", "assign", "calendar", "plan", "freeze", "handover")
 
 
 def text_of(rows, end="\n"):
@@ -58,9 +59,14 @@ def text_of(rows, end="\n"):
 
 
 class Records:
-    def __init__(self, drawn, count):
+    def __init__(self, drawn, count, is_handing_over):
         self.drawn = drawn
         self.count = count
+        self.words = WORDS + ["quote"] * 8 + ["handover"] * 4 if is_handing_over else WORDS
+        self.confirmed = 20 if is_handing_over else 2  # so that earlier prices decide seldom what is taken
+        self.months = MONTHS[:2] * 3 + MONTHS if is_handing_over else MONTHS
+        self.slots = ["1", "2", "3", "4", "5"] if is_handing_over else ["1", "2"]
+        self.of_begun = (self.slots, [MONTHS[0], MONTHS[-1]]) if is_handing_over else (self.slots, MONTHS[::2])
 
     def mostly(self, usual, others, share=0.9):
         return self.drawn.choice(usual if self.drawn.random() < share else others)
@@ -118,13 +124,20 @@ class Records:
     def quote(self):
         kind = self.one(MARKS)
         value = self.one(REASONS) if kind == "missing" else self.mostly(PRICES[:12], PRICES + NUMBERS)
-        last = self.mostly([[]], [["confirm"], ["confirm"], ["Confirm"], [""]], 0.8)
-        return [self.mostly(["1", "2"], NUMBERS), self.month(), kind, value, *self.one([last])]
+        last = self.mostly([[]], [*[["confirm"]] * self.confirmed, ["Confirm"], [""]], 0.8 if self.confirmed == 2 else 0.4)
+        month = self.mostly(self.months, OTHER_MONTHS)
+        return [self.mostly(self.slots, [*NEW_SLOTS, *NUMBERS], 0.8), month, kind, value, *self.one([last])]
 
     def assign(self):
         collector, slot = self.mostly(["1", "2", "3", "9"], NUMBERS), self.mostly(["1", "2", "3"], NUMBERS)
         outlet = self.mostly(["10", "11", "12"], NUMBERS)
         return [collector, slot, outlet, self.item(), self.month(), self.month()]
+
+    def handover(self):
+        """A hand-over of one of the first slots to a slot that may stand."""
+        collector, to = (self.mostly(["1", "2", "3"], ["4", "9", *NUMBERS], 0.95) for _ in range(2))
+        slot, new_slot = self.mostly(self.slots, ["6", *NUMBERS], 0.95), self.mostly(NEW_SLOTS, ["1", *NUMBERS], 0.95)
+        return [collector, slot, to, new_slot, self.mostly(MONTHS[2:], [*MONTHS, *OTHER_MONTHS], 0.7)]
 
     def calendar(self):
         opens = self.one([0, 1000, 1500])
@@ -141,7 +154,7 @@ class Records:
         return [self.mostly(MONTHS[1:], OTHER_MONTHS), *(self.code() for _ in range(self.one([0, 0, 1, 2])))]
 
     def import_body(self):
-        rows = [[word, *self.arguments(word)] for word in self.drawn.choices(WORDS, k=self.drawn.randrange(5))]
+        rows = [[word, *self.arguments(word)] for word in self.drawn.choices(self.words, k=self.drawn.randrange(5))]
         return self.one(["", "", "\ufeff"]) + text_of(rows, self.one(["\n", "\r\n"]))
 
     def arguments(self, word):
@@ -156,6 +169,7 @@ class Records:
             "outlet": lambda: [self.mostly(["10", "12"], NUMBERS), self.one(TEXTS)],
             "collector": lambda: [self.mostly(["1", "2", "4"], NUMBERS), self.mostly(KEYS, SHAPES_OF_KEYS)],
             "assign": self.assign,
+            "handover": self.handover,
             "calendar": self.calendar,
             "plan": lambda: [self.mostly(["2026"], ["2000", "2199", "2200", "1999"]), self.plan_body()],
             "import": lambda: [self.import_body()],
@@ -176,8 +190,8 @@ class Records:
         for outlet in (10, 11):
             yield ["0", "desk", "outlet", str(outlet), f"Shop {outlet}"]
         for collector in (1, 2, 3):
-            for slot in (1, 2):
-                yield ["0", "desk", "assign", str(collector), str(slot), "10", self.one(ITEMS), *MONTHS[::2]]
+            for slot in self.of_begun[0]:
+                yield ["0", "desk", "assign", str(collector), slot, "10", self.one(ITEMS), *self.of_begun[1]]
         for month in MONTHS:
             yield ["0", "desk", "calendar", month, "1000", "2000", "3000"]
 
@@ -185,5 +199,5 @@ class Records:
         yield from self.begun()
         for _ in range(self.count):
             moment = self.mostly(["999", "1000", "1500", "1500", "1999", "2000"], ["9999999999", *NUMBERS], 0.97)
-            word = self.one(WORDS)
+            word = self.one(self.words)
             yield [moment, self.caller(word), word, *self.arguments(word)]

@@ -53,6 +53,7 @@ ARGUMENTS = {
     "collector": [COLLECTOR, values.key],
     "outlet": [OUTLET, values.name],
     "assign": [COLLECTOR, SLOT, OUTLET, values.item_code, values.month, values.month],
+    "handover": [COLLECTOR, SLOT, COLLECTOR, SLOT, values.month],
 }
 
 

@@ -84,7 +84,7 @@ def carried(office, month):
     index = office.index
     for code in index.aggregates(month[0]) if before(month) in index.frozen else []:
         for series in index.sample(month[0], code):
-            _, item, _, last = office.assignments[series]
+            item, last = office.assignments[series].item, office.last_month_of(series)
             ticks, scale, is_imputed = index.carried(month[0], month, series)
             observed = index.observed(month, series) is not None
             yield *series, item, number(last), ticks, *scale, int(observed), int(is_imputed)
@@ -116,8 +116,8 @@ ROWS = {
     "calendar": lambda office: [(number(month), *window) for month, window in office.calendar.items()],
     **{name: lambda office: [] for name in EMPTY},
     "assignment_2": lambda office: [
-        (*series, outlet, item, number(first), number(last), *series, None)
-        for series, (outlet, item, first, last) in office.assignments.items()
+        (*place, one.outlet, one.item, number(one.first), number(one.last), *one.series, one.copied)
+        for place, one in office.assignments.items()
     ],
     "quote_2": lambda office: [
         (collector, slot, number(month), *mark_columns(mark), receipt)
@@ -137,7 +137,7 @@ def rows_of(office, names=tuple(TABLES)):
 
 
 def first_of(rows):
-    """The rows of schema 1 for those of an office without a further revision and without a reference month."""
+    """The rows of schema 1 for those of an office without a further revision, a reference month or a hand-over."""
     releases = {name: [(month, *row) for month, _, *row in rows[f"{name}_2"]] for name in OF_A_MONTH}
     own = {"assignment": [row[:6] for row in rows["assignment_2"]], "quote": rows["quote_2"]}
     return {**{name: rows[name] for name in KEPT}, "version": [(1,)], **own, **releases}

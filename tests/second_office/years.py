@@ -4,6 +4,7 @@ A life is a generator of records, and is sent the reply to each. The desk goes b
 freeze is refused for want of a match, it carries the aggregate; where a sample is empty, it sends a plan without it;
 where prices can't move a weight from the reference month, it sends a plan with another one, or without any.
 Now and then the last frozen month is reopened, quoted and frozen again, in one life of a few up to its last revision.
+In most lives series are handed over, at any month and some of them several times.
 """
 
 from . import values
@@ -44,6 +45,7 @@ class Years:
         self.publishes = [self.closes(at) + drawn.choice([0, 0, 100, 900, 3000]) for at in range(self.count + 2)]
         self.moments = [[first] for first in self.publishes]  # of publishing, that were ever sent
         self.codes, self.places, self.body = [], {}, []
+        self.handing_over = self.one([0, 0.2, 0.2, 0.5, 1])  # how often, each month
 
     def is_so(self, share):
         return self.drawn.random() < share
@@ -61,7 +63,9 @@ class Years:
         yield from self.begun()
         for at in range(self.count):
             yield from self.opened(at)
+            yield from self.handed_over(at)
             yield from self.collected(at)
+            yield from self.handed_over(at)
             yield from self.looks(at)
             if not (yield from self.frozen(at)):
                 break
@@ -89,6 +93,28 @@ class Years:
             slot = 1 + sum(place[0] == collector for place in self.assigned)
             self.assigned[collector, slot] = item, first, last
             yield from self.send(0, "desk", "assign", collector, slot, 10, item, month(first), month(last))
+
+    # ---- hand-overs
+
+    def handed_over(self, at):
+        """Some series, mostly from this month or the next on; what was done may be sent again, and what is assigned too."""
+        while self.is_so(self.handing_over / 2):
+            place, to = self.one([*self.assigned]), self.one([1, 2, 3])
+            new = to, 1 + sum(place[0] == to for place in self.assigned)
+            if self.is_so(0.1):
+                place, new = self.one([(*place, *self.one([*self.assigned])), (*place, 4, 1), (9, 1, *new), (to, 400, *new)]), None
+            of = max(at + self.one([0, 0, 0, 1, 1, 1, 2, 5, -1, -12]), 0)
+            words = ["handover", *(new and (*place, *new) or place), month(of)]
+            reply = yield from self.send(self.opens(at), "desk", *words)
+            if new and "done" in reply:
+                item, first, last = self.assigned[place]
+                self.assigned[place], self.assigned[new] = (item, first, of - 1), (item, of, last)
+                self.prices[new] = self.prices.get(place)
+            if self.is_so(0.2):
+                yield from self.send(self.opens(at), "desk", *words)
+            if self.is_so(0.1):
+                (collector, slot), (item, first, last) = self.one([*self.assigned.items()])
+                yield from self.send(0, "desk", "assign", collector, slot, 10, item, month(first), month(last))
 
     # ---- plans
 
@@ -182,7 +208,7 @@ class Years:
         """The quotes of all series, by imports and one by one; where they are late, of some of them."""
         gone = self.drawn.choices(ITEMS, k=self.one([0, 0, 0, 1, 2]))
         for collector, key in enumerate(KEYS[:3], 1):
-            places = [place for place in self.assigned if place[0] == collector and not (is_late and self.is_so(0.7))]
+            places = [place for place in self.of(collector, at) if not (is_late and self.is_so(0.7))]
             entries = [(place, self.entry(place, gone, at)) for place in places]
             rows = [["quote", str(place[1]), month(at), *entry] for place, entry in entries if entry]
             now = self.opens(at) + self.drawn.randrange(600)
@@ -194,6 +220,12 @@ class Years:
                 if "receipt" in reply and row[3] != "missing":
                     self.prices[collector, int(row[1])] = int(row[4])
         yield from self.read(at)
+
+    def of(self, collector, at):
+        """The slots of a collector that are active in a month, and now and then one that isn't."""
+        for place, (_, first, last) in self.assigned.items():
+            if place[0] == collector and (first <= at <= last or self.is_so(0.1)):
+                yield place
 
     def one_by_one(self, now, key, rows):
         replies = []
@@ -294,8 +326,8 @@ class Years:
 
     def taken_back(self, at):
         """Wild prices are taken back: the series was missing."""
-        for (collector, slot), (item, *_) in self.assigned.items():
-            if item == "GOLD":
+        for (collector, slot), (item, first, last) in self.assigned.items():
+            if item == "GOLD" and first <= at <= last:
                 yield from self.send(self.opens(at), KEYS[collector - 1], "quote", slot, month(at), "missing", "gone")
 
     # ---- after the freeze
