@@ -195,9 +195,9 @@ pub trait Book: Groups {
         ensures writes { Writes (state self.old) (state self.new) result
             (changed (PutsOutlet outlet) (state self.old).held) };
 
-    /// Puts a new assignment of the collector, as a series of its own, with the name of its outlet. The caller owes that the collector is
-    /// registered with this key, that the collector's slot is free, that the first month isn't after the last, that
-    /// item and outlet are there, and that the name is the outlet's.
+    /// Puts a new assignment of the collector, as a series of its own, with the name of its outlet. The caller owes that
+    /// the collector is registered with this key, that the collector's slot is free, that the first month isn't after
+    /// the last, that item and outlet are there, and that the name is the outlet's.
     fn put_assignment(&mut self, bearer: Bearer, assigned: Assigned) -> Result<(), StoreFault>
         requires known { (state self.old).is_clean →
             at (λ b. b.number) bearer.number (state self.old).held.collectors ≡ Some bearer }

@@ -12,8 +12,8 @@ pub fn records_are_a_run<B: Book>()
 
 /// What a collector, or the public, is told of a record is the same bytes in two replays under one zone, over books of
 /// any two kinds, that show that caller the same at the record's moment: at the start, the tables published by then
-/// among it, and of what was accepted since, freezes and hand-overs among it. What all others send doesn't matter otherwise: a table
-/// that isn't published yet shows nothing.
+/// among it, and of what was accepted since, freezes and hand-overs among it. What all others send doesn't matter
+/// otherwise: a table that isn't published yet shows nothing.
 ///
 /// Both offices are sound at the start, both stores are clean once the record is answered, and none of its replies says
 /// that the office is unavailable. Nothing is said of time.
@@ -25,8 +25,9 @@ pub fn lines_are_alike<B: Book, C: Book>()
 /// other collectors alone, whether these are added, dropped, changed or moved.
 ///
 /// No record of either replay asks for a freeze or a hand-over: a published table is made of the prices of all
-/// collectors, so it tells of them, and with a series goes its last price. The books, of any two kinds, hold the same sound lists at the start, tables among them, and are clean at
-/// the end, and no reply says that the office is unavailable. Nothing is said of time.
+/// collectors, so it tells of them, and with a series goes its last price. The books, of any two kinds, hold the same
+/// sound lists at the start, tables among them, and are clean at the end, and no reply says that the office is
+/// unavailable. Nothing is said of time.
 pub fn replays_tell_alike<B: Book, C: Book>()
     ensures { ReplaysTellAlike B.state C.state }
 {}
