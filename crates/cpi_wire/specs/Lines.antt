@@ -99,8 +99,8 @@ abbrev pub lines_to : ZoneRule → ℕ → List Record → List Answer → List 
 lines_to zone key rows answers = map answer_line (own_answers zone key rows answers)
 
 module _ {B : Type 0} (state : B → State Office) where
-  -- a replay from a sound office in which no record asks for a freeze or a hand-over and no reply says that the office is unavailable,
-  -- over a store that is clean at its end
+  -- a replay from a sound office, over a store that is clean at its end, in which no record asks for a freeze or a
+  -- hand-over and no reply says that the office is unavailable
   pub record IsReplayed (zone : ZoneRule) (old new : B) (rows : List Record) (answers : List Answer) : Type 0 where
     pub each : AnswersAll zone state old rows answers new
     pub clean : (state new).is_clean
@@ -108,8 +108,8 @@ module _ {B : Type 0} (state : B → State Office) where
     pub none_passes_on : NonePassesOn (requests zone rows)
     pub served : NoneFails (replies_of zone rows answers)
 
--- Two replays without a freeze or a hand-over under one zone, over books of any two kinds that hold the same lists: where their records
--- differ in those of other collectors alone, the lines to a collector are the same, byte for byte.
+-- Two replays under one zone without a freeze or a hand-over, over books of any two kinds that hold the same lists:
+-- where their records differ in those of other collectors alone, the lines to a collector are the same, byte for byte.
 abbrev pub ReplaysTellAlike : {B C : Type 0} → (B → State Office) → (C → State Office) → Type 0
 ReplaysTellAlike {B} {C} state state' =
     (zone : ZoneRule) (key : ℕ) (old new : B) (old' new' : C) (rows others : List Record) (answers answers' : List Answer) →
