@@ -1,5 +1,5 @@
 -- What a write of a book does, whichever book it is, and how what is said of its groups belongs to its office.
-use Rattle.std.specs.Prelude.{◌≡◌, ◌⊎◌, ℕ, ◌<◌, ◌≤◌, Result, OnOk, OnErr, ⊤}
+use Rattle.std.specs.Prelude.{◌≡◌, ◌⊎◌, ◌<◌, ◌≤◌, Result, OnOk, OnErr, ⊤}
 use Rattle.std.specs.Borrow.{follows_so, MutBor, Fml, RattleType}
 use mathlib.Core.Option.{none}
 use Rattle.cpi_release.specs.State.{State, StaysClean}
