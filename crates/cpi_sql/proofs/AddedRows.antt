@@ -1,6 +1,6 @@
 -- The rows of a year dropped, and rows added one by one, replace them.
-use Rattle.std.proofs.Common.{◌≡◌, ◌≢◌, ◌↔◌, ◌⊎◌, inl, inr, ℕ, pos, List, [], ◌∷◌, ◌++◌, Bool, true, false}
-use Rattle.std.proofs.Common.{Some, None, Option, refl, sym, ap, subst, ◌∙◌}
+use Rattle.std.proofs.Common.{◌≡◌, inl, inr, ℕ, pos, List, [], ◌∷◌, ◌++◌, true, false}
+use Rattle.std.proofs.Common.{Some, Option, refl, sym, ap, subst, ◌∙◌}
 use Rattle.std.proofs.lemmas.Bool.{cases_Bool}
 use Rattle.std.specs.declared.cmp.Ordering.{Ordering}
 use Rattle.std.specs.Cmp.{IsTotalOrder}
@@ -10,7 +10,7 @@ use Rattle.sqlite.specs.Tree.{put_row}
 use Rattle.sqlite_rules.specs.Lists.{Has}
 use Rattle.sqlite_rules.proofs.ListLemmas.{has_left, has_right, has_either}
 use Rattle.sqlite_rules.proofs.TableLemmas.{has_put as has_put_row, put_has as put_row_has}
-use Rattle.cpi_sql.specs.Lists.{and_then, ranged}
+use Rattle.cpi_sql.specs.Lists.{ranged}
 pub use Rattle.cpi_sql.specs.Steps.{HasDropped, AddsRows, entry}
 use Rattle.cpi_sql.specs.Shelf.{equals}
 use Rattle.cpi_sql.proofs.Lists.{bound_is, ranged_is, same_number, equal_number}

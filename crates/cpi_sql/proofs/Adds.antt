@@ -1,23 +1,20 @@
 -- The statements that add one row.
-use Rattle.std.proofs.Common.{◌≡◌, ◌≢◌, ◌⊎◌, inl, inr, ℕ, pos, List, [], ◌∷◌, ◌++◌, false, Some, None, Option}
+use Rattle.std.proofs.Common.{◌≡◌, ◌≢◌, ℕ, pos, List, [], ◌∷◌, false, Some, None, Option}
 use Rattle.std.proofs.Common.{Ok, refl, sym, ap, subst, ◌∙◌, arith}
 use Rattle.std.specs.Ordering.{nat_cmp}
 use Rattle.std.proofs.lemmas.Cmp.{nat_cmp_total}
-use Rattle.sqlite.specs.declared.types.Value.{Value}
 use Rattle.sqlite.specs.declared.types.Value.TheVariants.{Null, Int, Text}
-use Rattle.sqlite.specs.Order.{Row, column}
+use Rattle.sqlite.specs.Order.{Row}
 use Rattle.sqlite.specs.Tree.{Trees, put_row}
-use Rattle.sqlite.specs.Edit.{edit_of, edited, Applies, next_rowid}
-use Rattle.sqlite.specs.Rowids.TheVariants.{Chosen, Given}
+use Rattle.sqlite.specs.Edit.{edit_of, edited, next_rowid}
+use Rattle.sqlite.specs.Rowids.TheVariants.{Chosen}
 use Rattle.sqlite.specs.Source.TheVariants.{Values}
-use Rattle.sqlite.specs.Table.{Table}
-use Rattle.sqlite.specs.Term.{Term, lit, col}
+use Rattle.sqlite.specs.Term.{lit, col}
 use Rattle.sqlite.specs.Does.{Tally, Does}
 use Rattle.sqlite.specs.Effect.{Database}
 use Rattle.sqlite.specs.State.{State, mode_of}
 use Rattle.sqlite_rules.specs.Lists.{Has}
 use Rattle.sqlite_rules.proofs.TableLemmas.{put_all_keeps}
-use Rattle.cpi_rows.specs.Keyed.{at}
 use Rattle.cpi_store.specs.declared.bearer.Bearer.{Bearer}
 use Rattle.cpi_store.specs.declared.outlet.Outlet.{Outlet}
 use Rattle.cpi_plan.specs.declared.items.Item.{Item}
@@ -25,9 +22,9 @@ use Rattle.cpi_store.specs.Office.{changed, Registers, PutsOutlet, PutsItem}
 use Rattle.cpi_sql.specs.Tables.{office_schema, collector, outlet, item}
 use Rattle.cpi_sql.specs.Texts.{put_collector_command, put_outlet_command, put_item_command}
 use Rattle.cpi_sql.specs.Texts.{given_pair}
-use Rattle.cpi_sql.specs.Lists.{listed, office_in, collectors_in, collector_in, bearer_from, outlets_in}
-use Rattle.cpi_sql.specs.Lists.{outlet_in, items_in, item_in}
-use Rattle.cpi_sql.specs.Shelf.{HasTables, HasPlans, HasRowids, IsKeyed, IsDone}
+use Rattle.cpi_sql.specs.Lists.{office_in, collector_in}
+use Rattle.cpi_sql.specs.Lists.{outlet_in, item_in}
+use Rattle.cpi_sql.specs.Shelf.{HasTables, HasRowids, IsDone}
 pub use Rattle.cpi_sql.specs.Steps.{SameBut}
 use Rattle.cpi_sql.proofs.Unchanged.{others_same, same_plans, releases_after, same_releases, releases_kept}
 use Rattle.cpi_sql.proofs.Listed.{PutsRow, listed_put, still_keyed}

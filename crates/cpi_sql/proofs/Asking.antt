@@ -1,6 +1,6 @@
 -- What is known of a statement whatever its text is.
-use Rattle.std.proofs.Common.{◌≡◌, ◌⊎◌, inl, inr, ℕ, List, Bool, true, false, Option, Some, None, Result, OnOk}
-use Rattle.std.proofs.Common.{OnErr, IfOk, IfErr, Ok, Err, IsTrue, MatchBool, refl, sym, ap, subst, ◌∙◌}
+use Rattle.std.proofs.Common.{◌≡◌, inl, inr, ℕ, List, false, Option, Some, None, Result, OnOk}
+use Rattle.std.proofs.Common.{OnErr, IfOk, IfErr, Ok, Err, IsTrue, sym, subst, ◌∙◌}
 use Rattle.std.proofs.lemmas.Bool.{cases_Bool}
 use Rattle.sqlite.specs.Order.{Row}
 use Rattle.sqlite_schema.specs.declared.command.Command.{Command}
@@ -13,11 +13,11 @@ use Rattle.sqlite_schema.specs.declared.command.Returning.{Returning}
 use Rattle.sqlite.specs.declared.error.Error.{Error}
 use Rattle.sqlite.specs.Clock.{timed}
 use Rattle.sqlite.specs.Listing.{understood}
-use Rattle.sqlite.specs.State.{State, HasCleanDisk, IsUnchanged, Fails, Executes, ExecutesIn, IsNotRun}
+use Rattle.sqlite.specs.State.{State, IsUnchanged, Fails, Executes, ExecutesIn, IsNotRun}
 use Rattle.sqlite.specs.State.{shows_rows, Shown, ShowsRows, FailsToQuery, FailsToShow, RunsCommand, Runs}
 use Rattle.sqlite.specs.State.{text_of}
 use Rattle.sqlite.proofs.Callers.{IsPlain}
-use Rattle.cpi_sql.specs.Shelf.{IsCleanBook, IsKept}
+use Rattle.cpi_sql.specs.Shelf.{IsKept}
 
 abbrev pub WasOpen : State → State → Type 0
 WasOpen old new = IsTrue new.is_open → IsTrue old.is_open

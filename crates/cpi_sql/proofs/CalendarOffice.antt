@@ -1,26 +1,24 @@
 -- The upsert of a calendar row, by its text, as a change of the office.
-use Rattle.std.proofs.Common.{◌≡◌, ◌≢◌, ◌⊎◌, inl, inr, ℕ, pos, List, [], ◌∷◌, Bool, true, false, Some, None}
+use Rattle.std.proofs.Common.{◌≡◌, inl, inr, ℕ, pos, List, Bool, true, false, Some, None}
 use Rattle.std.proofs.Common.{Option, Ok, refl, sym, ap, subst, ◌∙◌, arith}
-use Rattle.std.specs.declared.cmp.Ordering.TheVariants.{Less, Equal, Greater}
+use Rattle.std.specs.declared.cmp.Ordering.TheVariants.{Equal}
 use Rattle.std.specs.Prelude.{if◌then◌else◌}
-use Rattle.std.specs.Ordering.{nat_cmp}
 use Rattle.std.specs.Cmp.{tied_itself}
 use Rattle.std.proofs.lemmas.Cmp.{nat_cmp_total, ranked}
-use Rattle.sqlite.specs.declared.types.Value.TheVariants.{Null, Int}
+use Rattle.sqlite.specs.declared.types.Value.TheVariants.{Int}
 use Rattle.sqlite.specs.Order.{Row, column}
 use Rattle.sqlite.specs.Tree.{Trees}
 use Rattle.sqlite.specs.Effect.{Database}
 use Rattle.sqlite.specs.Listing.{understood}
 use Rattle.sqlite.specs.State.{State, Executes, Survives, CommitsBy}
-use Rattle.sqlite_rules.specs.Lists.{Has}
 use Rattle.sqlite.proofs.StateLemmas.{survives_weaker}
 use Rattle.sqlite.proofs.Callers.{statement_of}
 use Rattle.cpi_plan.specs.Calendar.{CalendarPart}
 use Rattle.cpi_store.specs.Office.{changed, PutsCalendar}
 use Rattle.cpi_sql.specs.Tables.{office_schema}
 use Rattle.cpi_sql.specs.Texts.{put_calendar_text, put_calendar_command}
-use Rattle.cpi_sql.specs.Lists.{office_in, calendar_in, calendar_from, ranged, month_from, month_at, in_turn}
-use Rattle.cpi_sql.specs.Lists.{number_in, and_then}
+use Rattle.cpi_sql.specs.Lists.{office_in, calendar_in, ranged, month_from, month_at, in_turn}
+use Rattle.cpi_sql.specs.Lists.{number_in}
 use Rattle.cpi_sql.proofs.Unchanged.{same_plans, releases_after, same_releases, releases_kept}
 use Rattle.cpi_sql.specs.Shelf.{HasTables, HasRowids, IsDone, equals}
 use Rattle.cpi_sql.proofs.Texts.{put_calendar_is}

@@ -1,13 +1,13 @@
 -- The calls of a book over a database: what they show, and what a crash leaves.
-use Rattle.std.proofs.Common.{◌≡◌, ◌⊎◌, ℕ, ◌<◌, ◌≤◌, Ok, Err, IsTrue, false, arith, ap, inl, inr, ◌∙◌}
+use Rattle.std.proofs.Common.{◌≡◌, ◌⊎◌, ℕ, ◌<◌, Ok, Err, IsTrue, false, arith, ap, inl, inr, ◌∙◌}
 use Rattle.sqlite.specs.Tree.{Trees}
 use Rattle.sqlite.specs.Effect.{Database}
 use Rattle.sqlite.specs.State.{State, HasCleanDisk, Survives}
 use Rattle.cpi_release.specs.State.{Keeps, Reads}
-use Rattle.cpi_store.specs.Office.{Office, Change, changed}
+use Rattle.cpi_store.specs.Office.{Office}
 use Rattle.cpi_store.specs.Calls.{Writes}
 use Rattle.cpi_sql.specs.Lists.{office_in}
-use Rattle.cpi_sql.specs.Shelf.{HasTables, IsCleanBook, IsDone, IsKept, IsLook, StaysOpen, office_state}
+use Rattle.cpi_sql.specs.Shelf.{HasTables, IsCleanBook, IsKept, IsLook, StaysOpen, office_state}
 
 module _ (old new : State) (n : ℕ) (tables : IsCleanBook old → HasTables old) where
   keeps : (m : ℕ) → IsLook old new → Keeps (office_state old n) (office_state new m)

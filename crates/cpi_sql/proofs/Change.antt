@@ -1,6 +1,6 @@
 -- A statement of a known text that changes rows: what it leaves, and what it commits.
-use Rattle.std.proofs.Common.{◌≡◌, ◌⊎◌, inl, inr, ℕ, List, [], false, Option, None, Ok, Result, OnOk, Err, refl}
-use Rattle.std.proofs.Common.{sym, ap, subst, ◌∙◌, IsTrue}
+use Rattle.std.proofs.Common.{◌≡◌, ◌⊎◌, inl, inr, ℕ, List, Option, None, Ok}
+use Rattle.std.proofs.Common.{sym, subst}
 use Rattle.sqlite.specs.Order.{Row}
 use Rattle.sqlite.specs.Tree.{Trees}
 use Rattle.sqlite.specs.Command.{Command}

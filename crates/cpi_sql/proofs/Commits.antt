@@ -1,5 +1,5 @@
 -- What a statement of a known text commits.
-use Rattle.std.proofs.Common.{◌≡◌, ◌⊎◌, inl, inr, ℕ, List, [], true, false, None, Ok, append-nil, sym, ap}
+use Rattle.std.proofs.Common.{◌≡◌, ℕ, List, None, append-nil, sym, ap}
 use Rattle.std.proofs.Common.{subst, subst₂, ◌∙◌}
 use Rattle.sqlite.specs.Order.{Row}
 use Rattle.sqlite.specs.Tree.{Trees}

@@ -1,11 +1,10 @@
 -- What is kept in memory after a look and after a write.
-use Rattle.std.proofs.Common.{◌≡◌, ℕ, Bool, false, None, Some, Option, IsTrue, List, [], map, Result, OnOk}
-use Rattle.std.proofs.Common.{OnErr, Ok, Err, refl, sym, ap, subst, ◌∙◌}
+use Rattle.std.proofs.Common.{◌≡◌, ℕ, Bool, false, None, Some, Option, IsTrue, List, [], map}
+use Rattle.std.proofs.Common.{sym, ap, subst, ◌∙◌}
 use Rattle.std.specs.Ordering.{nat_cmp}
 use Rattle.sqlite.specs.State.{State}
 use Rattle.sqlite.specs.Effect.{Database}
 use Rattle.cpi_rows.specs.Keyed.{IsInOrder, put}
-use Rattle.cpi_rows.specs.Held.{held_by}
 use Rattle.cpi_rows.proofs.Held.{puts_own}
 use Rattle.cpi_plan.specs.declared.items.Item.{Item}
 use Rattle.cpi_plan.specs.Calendar.{CalendarPart}

@@ -1,14 +1,12 @@
 -- A series that is handed over: the former row ends and the new one is put, as a change of the office.
-use Rattle.std.proofs.Common.{◌≡◌, ◌≢◌, ◌⊎◌, inl, inr, ℕ, Bool, true, false, eqb, List, [], ◌∷◌, map, Some, None}
-use Rattle.std.proofs.Common.{Option, refl, sym, ap, subst, ◌∙◌, arith, IsTrue}
-use Rattle.std.specs.Prelude.{◌&&◌, ◌==◌, option_map, if◌then◌else◌}
+use Rattle.std.proofs.Common.{◌≡◌, ◌≢◌, ◌⊎◌, inl, inr, ℕ, Bool, true, false, eqb, List, [], ◌∷◌, Some, None}
+use Rattle.std.proofs.Common.{Option, refl, sym, ap, subst, ◌∙◌, arith}
+use Rattle.std.specs.Prelude.{option_map, if◌then◌else◌}
 use Rattle.std.specs.List.{AllByRecursion}
 use Rattle.std.specs.List.Sorted.{IsStrictlySortedBy}
 use Rattle.std.specs.Ordering.{nat_cmp, is_eq}
-use Rattle.std.specs.declared.cmp.Ordering.{Ordering}
 use Rattle.std.specs.declared.cmp.Ordering.TheVariants.{Less, Equal}
 use Rattle.std.specs.Cmp.{tied_itself}
-use Rattle.std.proofs.lemmas.Bool.{and_parts, and_from, eq-eqb, cases_Bool}
 use Rattle.std.proofs.lemmas.Bool.Decides.{eqb_tells}
 use Rattle.std.proofs.lemmas.Cmp.{nat_cmp_total, ranked}
 use Rattle.sqlite_rules.specs.Lists.{Has}
@@ -16,24 +14,21 @@ use Rattle.sqlite_rules.proofs.ProbeLemmas.{has_mapped, mapped_has}
 use Rattle.sqlite.specs.Effect.{Database}
 use Rattle.sqlite.specs.State.{State, HasCleanDisk, Survives}
 use Rattle.sqlite.proofs.StateLemmas.{survives_then}
-use Rattle.cpi_rows.specs.Keyed.{IsInOrder, put, at, row_at}
+use Rattle.cpi_rows.specs.Keyed.{IsInOrder, at}
 use Rattle.cpi_rows.specs.Held.{held_by, held_cmp, held_key}
 use Rattle.cpi_rows.proofs.Found.{at_key}
-use Rattle.cpi_rows.proofs.Held.{puts_own, puts_other}
 use Rattle.cpi_rows.proofs.Places.{put_in_order}
 use Rattle.cpi_store.specs.declared.given.Given.{Given}
 use Rattle.cpi_store.specs.declared.handover.Handover.{Handover}
 use Rattle.cpi_store.specs.Office.{changed, HandsOver, put_given, given_until, row_until, end_given, given_over}
 use Rattle.cpi_store.specs.Office.{hand_over}
-use Rattle.cpi_sql.specs.Tables.{office_schema}
 use Rattle.cpi_sql.specs.Lists.{office_in, assignments_in, assignment_in}
 use Rattle.cpi_sql.specs.GivenColumns.{CanHandOver, IsFree, PutsGiven}
 use Rattle.cpi_sql.specs.Shelf.{HasTables, HasRowids, IsDone, IsKeyed}
 use Rattle.cpi_sql.specs.Steps.{IsStep, SameBut, outside}
 use Rattle.cpi_sql.proofs.Listed.{same_in_order, listed_in_order, has_put, put_has, put_keeps}
-use Rattle.cpi_sql.proofs.Lists.{held_total, held_has, has_held}
+use Rattle.cpi_sql.proofs.Lists.{held_total, held_has}
 use Rattle.cpi_sql.proofs.AddPremises.{slot_apart}
-use Rattle.cpi_sql.proofs.Inserting.{none_apart}
 use Rattle.cpi_sql.proofs.PlanOffice.{tables_begun}
 use Rattle.cpi_sql.proofs.QuoteOffice.{first_tied, second_tied}
 use Rattle.cpi_sql.proofs.PlanSteps.{others_then}

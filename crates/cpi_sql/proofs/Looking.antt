@@ -1,5 +1,5 @@
 -- Looks, one after the other: nothing is committed.
-use Rattle.std.proofs.Common.{◌≡◌, IsTrue, arith, refl, inl, sym, subst}
+use Rattle.std.proofs.Common.{IsTrue, arith, refl, inl, sym, subst}
 use Rattle.sqlite.specs.Effect.{Database}
 use Rattle.sqlite.specs.Tree.{Trees}
 use Rattle.sqlite.specs.State.{State, HasCleanDisk, Survives}

@@ -1,27 +1,20 @@
 -- A plan whose rows are put in place of those of its year is put among the plans.
-use Rattle.std.proofs.Common.{◌≡◌, ◌≢◌, ◌⊎◌, inl, inr, ℕ, zero, suc, ◌+◌, ◌<◌, ◌≤◌, Bool, true, false, List, []}
+use Rattle.std.proofs.Common.{◌≡◌, ◌≢◌, ◌⊎◌, inl, inr, ℕ, zero, suc, ◌+◌, ◌<◌, ◌≤◌, List, []}
 use Rattle.std.proofs.Common.{◌∷◌, Some, None, Option, refl, sym, ap, subst, ◌∙◌, arith}
 use Rattle.std.proofs.lemmas.Bool.Decides.{nat_tests}
-use Rattle.std.specs.Prelude.{filter_map, if◌then◌else◌}
+use Rattle.std.specs.Prelude.{filter_map}
 use Rattle.std.specs.declared.cmp.Ordering.TheVariants.{Less, Equal}
 use Rattle.std.specs.Ordering.{nat_cmp}
 use Rattle.std.specs.Cmp.{tied_itself}
-use Rattle.std.specs.List.{AllByRecursion}
 use Rattle.std.specs.List.Sorted.{IsStrictlySortedBy}
 use Rattle.std.proofs.lemmas.Cmp.{nat_cmp_total}
-use Rattle.sqlite.specs.Order.{Row}
 use Rattle.sqlite_rules.specs.Lists.{Has}
 use Rattle.sqlite_rules.proofs.ListLemmas.{all_from}
-use Rattle.cpi_rows.specs.Keyed.{IsInOrder, put, put_by}
-use Rattle.cpi_rows.specs.Held.{held_by}
-use Rattle.cpi_rows.proofs.Places.{put_in_order, none_in_order}
-use Rattle.cpi_codes.specs.CodeOrder.{code_cmp}
-use Rattle.cpi_codes.specs.contracts.codes.CodeOrd.TheImpl.Laws.{total-law}
-use Rattle.cpi_plan.specs.Plan.{Plan, IsPlan}
-use Rattle.cpi_plan.specs.Stored.{plan_from, is_whole, weights_of}
-use Rattle.cpi_sql.specs.Lists.{numbers, years, if_whole, plan_at, plans_of, nodes_in, places_in, node_in, place_in}
+use Rattle.cpi_rows.specs.Keyed.{IsInOrder, put}
+use Rattle.cpi_rows.proofs.Places.{put_in_order}
+use Rattle.cpi_sql.specs.Lists.{numbers}
 use Rattle.cpi_sql.proofs.Listed.{same_in_order, put_has, has_put, put_keeps}
-use Rattle.cpi_sql.proofs.Replaced.{number_same, ReplacesRows, replaced_here, replaced_there}
+use Rattle.cpi_sql.proofs.Replaced.{number_same}
 
 some_is : {X : Type 0} {x y : X} → ◌≡◌ {A = Option X} (Some x) (Some y) → x ≡ y
 some_is e = cc

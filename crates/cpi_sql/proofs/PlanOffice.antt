@@ -1,6 +1,5 @@
 -- The rows of a plan put in place of those of its year, as a change of the office.
-use Rattle.std.proofs.Common.{◌≡◌, ◌≢◌, ℕ, List, Option, false, IsTrue, arith, refl, sym, ap, subst, ◌∙◌}
-use Rattle.std.specs.Ordering.{nat_cmp}
+use Rattle.std.proofs.Common.{◌≡◌, ℕ, List, Option, false, arith, refl, sym, ap, subst, ◌∙◌}
 use Rattle.std.proofs.lemmas.Cmp.{nat_cmp_total}
 use Rattle.sqlite.specs.Tree.{Trees}
 use Rattle.sqlite.specs.Effect.{Database}

@@ -1,20 +1,16 @@
 -- The steps within the transaction that puts a plan.
-use Rattle.std.proofs.Common.{◌≡◌, ◌⊎◌, inl, inr, ℕ, ◌+◌, ◌<◌, ◌≤◌, length, take, get_or, pos, List, [], ◌∷◌}
-use Rattle.std.proofs.Common.{◌++◌, Some, Option, Ok, IsTrue, refl, sym, ap, subst, ◌∙◌}
+use Rattle.std.proofs.Common.{◌≡◌, inl, inr, ℕ, ◌+◌, ◌<◌, ◌≤◌, length, take, get_or, pos, List, [], ◌∷◌}
+use Rattle.std.proofs.Common.{◌++◌, Some, Ok, IsTrue, refl, sym, ap, subst, ◌∙◌}
 use Rattle.std.proofs.lemmas.List.{take_more}
 use Rattle.std.proofs.lemmas.Bool.{le-leb}
 use Rattle.cpi_codes.specs.CodeOf.{code_of}
 use Rattle.cpi_codes.specs.ItemCode.{item_code_of}
 use Rattle.sqlite.specs.declared.types.Value.TheVariants.{Null, Int, Text}
-use Rattle.sqlite.specs.Order.{Row, column}
 use Rattle.sqlite.specs.Tree.{Trees}
-use Rattle.sqlite.specs.Effect.{Database}
 use Rattle.sqlite.specs.Edit.{next_rowid}
 use Rattle.sqlite.specs.Listing.{understood}
 use Rattle.sqlite.specs.State.{State, Executes, KeepsCommit}
 use Rattle.sqlite.proofs.Callers.{statement_of}
-use Rattle.sqlite_rules.specs.Lists.{Has}
-use Rattle.sqlite_rules.proofs.ListLemmas.{has_left, has_right, has_either}
 use Rattle.cpi_plan.specs.declared.plan_rows.Place.{Place}
 use Rattle.cpi_plan.specs.declared.plan_rows.Node.{Node}
 use Rattle.cpi_sql.specs.Tables.{office_schema}
@@ -28,7 +24,7 @@ use Rattle.cpi_sql.specs.Shelf.{HasRowids}
 use Rattle.cpi_sql.proofs.Texts.{drop_places_is, drop_nodes_is, add_place_is, add_node_is, drop_references_is, add_reference_is}
 use Rattle.cpi_sql.proofs.Change.{change_done}
 use Rattle.cpi_sql.specs.Steps.{SameBut}
-use Rattle.cpi_sql.proofs.AddedRows.{HasDropped, AddsRows, added_none, added_more, added_then, replaced_by}
+use Rattle.cpi_sql.proofs.AddedRows.{HasDropped, added_none, added_more, added_then, replaced_by}
 use Rattle.cpi_sql.proofs.Replaced.{ReplacesRows}
 use Rattle.cpi_codes.specs.contracts.codes.CodeOrd.TheImpl.Laws.{total-law}
 use Rattle.std.proofs.lemmas.Cmp.{nat_cmp_total}

@@ -1,27 +1,25 @@
 -- The upsert of a quote, by its text, as a change of the office.
-use Rattle.std.proofs.Common.{◌≡◌, ◌≢◌, ◌⊎◌, inl, inr, ℕ, pos, ◌/◌, ◌%◌, ◌+◌, ◌-◌, ◌*◌, ◌≤◌, List, [], ◌∷◌}
-use Rattle.std.proofs.Common.{Bool, true, false, ◌&&◌, Some, None, Option, Ok, Err, Result, refl, sym, ap}
+use Rattle.std.proofs.Common.{◌≡◌, inl, inr, ℕ, pos, ◌/◌, ◌%◌, ◌+◌, ◌-◌, ◌*◌, ◌≤◌, List, ◌∷◌}
+use Rattle.std.proofs.Common.{Bool, true, false, Some, Option, Ok, Err, refl, sym, ap}
 use Rattle.std.proofs.Common.{subst, ◌∙◌, arith}
-use Rattle.std.specs.Prelude.{nat_le, if◌then◌else◌}
+use Rattle.std.specs.Prelude.{if◌then◌else◌}
 use Rattle.std.specs.declared.cmp.Ordering.{Ordering}
 use Rattle.std.specs.declared.cmp.Ordering.TheVariants.{Less, Equal, Greater}
-use Rattle.std.specs.Ordering.{nat_cmp, ordering_then}
+use Rattle.std.specs.Ordering.{ordering_then}
 use Rattle.std.specs.Cmp.{tied_itself}
 use Rattle.std.proofs.lemmas.Bool.{and_parts, and_from, leb-true}
-use Rattle.std.proofs.lemmas.Cmp.{nat_cmp_total, ranked}
+use Rattle.std.proofs.lemmas.Cmp.{ranked}
 use Rattle.sqlite.specs.declared.types.Value.{Value}
-use Rattle.sqlite.specs.declared.types.Value.TheVariants.{Null, Int, Text}
+use Rattle.sqlite.specs.declared.types.Value.TheVariants.{Int}
 use Rattle.sqlite.specs.Order.{Row, column}
 use Rattle.sqlite.specs.Tree.{Trees}
 use Rattle.sqlite.specs.Effect.{Database}
 use Rattle.sqlite.specs.Listing.{understood}
 use Rattle.sqlite.specs.State.{State, Executes, Survives, CommitsBy}
-use Rattle.sqlite_rules.specs.Lists.{Has}
 use Rattle.sqlite.proofs.StateLemmas.{survives_weaker}
 use Rattle.sqlite.proofs.Callers.{statement_of}
 use Rattle.cpi_rows.specs.Held.{held_cmp, held_key}
 use Rattle.cpi_codes.specs.Month.{month_in, is_in_calendar}
-use Rattle.cpi_codes.specs.declared.months.MonthFault.{MonthFault}
 use Rattle.cpi_codes.specs.declared.months.MonthFault.TheVariants.{Range}
 use Rattle.cpi_survey.specs.Quote.{QuoteRow, quote_cmp, quote_key}
 use Rattle.cpi_store.specs.declared.bearer.Bearer.{Bearer}
@@ -29,14 +27,14 @@ use Rattle.cpi_store.specs.Office.{changed, Quotes}
 use Rattle.cpi_sql.specs.Tables.{office_schema}
 use Rattle.cpi_sql.specs.Texts.{put_quote_text, put_quote_command}
 use Rattle.cpi_sql.specs.Lists.{office_in, quote_in, quote_from, ranged, month_from, month_at, month_out}
-use Rattle.cpi_sql.specs.Lists.{mark_in, number_in, and_then}
+use Rattle.cpi_sql.specs.Lists.{mark_in, number_in}
 use Rattle.cpi_sql.proofs.Unchanged.{same_plans, releases_after, same_releases, releases_kept}
-use Rattle.cpi_sql.specs.Shelf.{HasTables, HasRowids, IsDone, equals}
+use Rattle.cpi_sql.specs.Shelf.{HasTables, HasRowids, IsDone}
 use Rattle.cpi_sql.proofs.Texts.{put_quote_is}
 use Rattle.cpi_sql.proofs.Change.{change_done, change_commits}
 use Rattle.cpi_sql.proofs.Listed.{PutsRow, listed_put, still_keyed}
 use Rattle.cpi_sql.proofs.Lists.{held_total, quote_total, bound_is, number_is, ranged_is, same_number, equal_number}
-use Rattle.cpi_sql.proofs.QuoteRows.{PutsQuote, IsQuotePut, QuoteDone, quote_columns, quote_done, has_key}
+use Rattle.cpi_sql.proofs.QuoteRows.{PutsQuote, QuoteDone, quote_columns, quote_done, has_key}
 
 some_is : {X : Type 0} {x y : X} → ◌≡◌ {A = Option X} (Some x) (Some y) → x ≡ y
 some_is e = cc

@@ -1,7 +1,7 @@
 -- What the upsert of a quote does to the rows.
-use Rattle.std.proofs.Common.{◌≡◌, ◌⊎◌, inl, inr, ℕ, ℤ, pos, List, [], ◌∷◌, ◌++◌, Bool, true, false, cond, ◌&&◌}
-use Rattle.std.proofs.Common.{◌||◌, Some, None, Option, length, map, drop, not, ◌==◌, true≢false, Ok, Err}
-use Rattle.std.proofs.Common.{Result, refl, sym, ap, subst, ◌∙◌, arith}
+use Rattle.std.proofs.Common.{◌≡◌, ◌⊎◌, inl, inr, ℕ, ℤ, pos, List, [], ◌∷◌, ◌++◌, Bool, true, false, ◌&&◌}
+use Rattle.std.proofs.Common.{◌||◌, Some, None, Option, length, map, drop, not, ◌==◌, true≢false, Ok}
+use Rattle.std.proofs.Common.{refl, sym, ap, subst, ◌∙◌}
 use Rattle.sqlite.specs.Term.{Term, col, op2}
 use Rattle.sqlite.specs.Rows.{Edited}
 use Rattle.sqlite.specs.Source.TheVariants.{Values}
@@ -10,12 +10,11 @@ use Rattle.sqlite.specs.Effect.{Database, Answers}
 use Rattle.sqlite.specs.Program.{overlay}
 use Rattle.sqlite_rules.specs.Calls.{ids_of}
 use Rattle.sqlite_rules.proofs.PlaceLemmas.{given}
-use Rattle.sqlite_rules.proofs.ListLemmas.{all_has, some_from, test_has}
+use Rattle.sqlite_rules.proofs.ListLemmas.{some_from}
 use Rattle.sqlite_rules.proofs.ProbeLemmas.{has_mapped, mapped_has}
 use Rattle.std.specs.Cmp.{tied_itself, tied_back}
 use Rattle.sqlite_trees.specs.View.{is_int}
 use Rattle.sqlite.proofs.Callers.{one_step}
-use Rattle.cpi_sql.specs.Texts.{whole_query}
 use Rattle.cpi_sql.proofs.Unchanged.{others_same}
 use Rattle.cpi_sql.proofs.Reading.{Members, members, equality, left_has, has_left}
 use Rattle.std.specs.Ordering.{is_eq, is_ne}
@@ -51,7 +50,7 @@ use Rattle.std.proofs.lemmas.Bool.{cases_Bool}
 use Rattle.sqlite_value.specs.Keys.{first_key}
 use Rattle.sqlite_schema.specs.declared.schema.Keys.{Keys}
 use Rattle.cpi_sql.specs.Tables.{quote_2, office_schema}
-use Rattle.cpi_sql.specs.Texts.{update_quote, given_quote, put_quote_text, put_quote_command}
+use Rattle.cpi_sql.specs.Texts.{update_quote, given_quote, put_quote_command}
 use Rattle.cpi_sql.specs.Shelf.{equals, HasRowids}
 use Rattle.cpi_sql.proofs.Adds.{SameBut}
 use Rattle.cpi_sql.proofs.Writing as writing

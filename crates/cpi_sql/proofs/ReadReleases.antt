@@ -2,7 +2,7 @@
 use Rattle.std.proofs.Common.{◌≡◌, ◌≤◌, ℕ, pos, List, [], ◌∷◌, true, Some, Option, refl, sym, subst, ◌∙◌}
 use Rattle.std.specs.Ordering.{nat_cmp}
 use Rattle.std.proofs.lemmas.Cmp.{nat_cmp_total}
-use Rattle.sqlite.specs.declared.types.Value.TheVariants.{Null, Int}
+use Rattle.sqlite.specs.declared.types.Value.TheVariants.{Int}
 use Rattle.sqlite.specs.Order.{Row, column}
 use Rattle.sqlite.specs.Listing.{understood}
 use Rattle.sqlite.specs.State.{State, Shown}
@@ -18,7 +18,6 @@ use Rattle.cpi_release.specs.FrozenMonths.{release_cmp}
 use Rattle.cpi_release.specs.declared.level.Level.{Level}
 use Rattle.cpi_store.proofs.Published.{release_total}
 use Rattle.cpi_sql.specs.declared.release_rows.Header.{Header}
-use Rattle.cpi_sql.specs.Tables.{office_schema}
 use Rattle.cpi_sql.specs.Texts.{is_release, headers_text, frozen_text, carried_text, levels_text}
 use Rattle.cpi_sql.specs.Read.{AreRead}
 use Rattle.cpi_sql.specs.Lists.{month_at, header_from, header_in, header_key, headers_in, frozen_in, frozens_in}

@@ -1,9 +1,9 @@
 -- What a query on one table answers.
-use Rattle.std.proofs.Common.{◌≡◌, ◌⊎◌, inl, inr, ℕ, ℤ, pos, negsuc, not, filter, Some, ◌&&◌, List, [], ◌∷◌}
-use Rattle.std.proofs.Common.{◌++◌, map, Bool, true, false, cond, None, refl, sym, ap, subst, ◌∙◌}
-use Rattle.std.specs.List.{flat_map, list_all, AllByRecursion}
+use Rattle.std.proofs.Common.{◌≡◌, inl, inr, ℕ, ℤ, not, Some, ◌&&◌, List, [], ◌∷◌}
+use Rattle.std.proofs.Common.{◌++◌, map, Bool, true, false, cond, refl, sym, ap, subst, ◌∙◌}
+use Rattle.std.specs.List.{flat_map, list_all}
 use Rattle.std.specs.List.Sorted.{IsPermutation}
-use Rattle.std.proofs.lemmas.List.Sorted.{IsPermutation-sym, IsPermutation-keeps}
+use Rattle.std.proofs.lemmas.List.Sorted.{IsPermutation-sym}
 use Rattle.sqlite.specs.declared.types.Value.TheVariants.{Null, Int, Real, Text, Blob}
 use Rattle.sqlite.specs.declared.types.Value.{Value}
 use Rattle.std.specs.Ordering.{is_eq}
@@ -19,8 +19,8 @@ use Rattle.sqlite.specs.Edit.{without_all}
 use Rattle.sqlite_value.specs.declared.keys.Key.{Key}
 use Rattle.sqlite.specs.Order.{Row}
 use Rattle.sqlite.specs.Tree.{Trees, has_rowid, without_rowid}
-use Rattle.sqlite.specs.Term.{Term, lit, holds, eval_all}
-use Rattle.sqlite.specs.Query.{Query, inner, end, IsAnswer, Output, output, matches}
+use Rattle.sqlite.specs.Term.{Term, holds, eval_all}
+use Rattle.sqlite.specs.Query.{inner, end, IsAnswer, Output, output, matches}
 use Rattle.sqlite_rules.specs.Lists.{Has}
 use Rattle.sqlite_rules.proofs.ProbeLemmas.{has_mapped, mapped_has}
 use Rattle.sqlite_rules.proofs.ListLemmas.{all_has, all_from}

@@ -1,5 +1,5 @@
 -- The columns that stand for a row of a release.
-use Rattle.std.proofs.Common.{◌≡◌, ℕ, ℤ, pos, List, [], ◌∷◌, Bool, Some, None, Option, Result, Ok, Err, IfOk}
+use Rattle.std.proofs.Common.{◌≡◌, ℕ, ℤ, pos, List, [], ◌∷◌, Some, None, Option, Result, Ok, Err}
 use Rattle.std.proofs.Common.{OnOk, refl, sym}
 use Rattle.sqlite.specs.declared.types.Value.TheVariants.{Null, Int, Text}
 use Rattle.cpi_codes.specs.CodeOf.{code_of}

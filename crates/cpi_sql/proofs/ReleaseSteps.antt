@@ -1,14 +1,13 @@
 -- The steps within the transaction that puts a release.
-use Rattle.std.proofs.Common.{◌≡◌, ◌⊎◌, inl, inr, ℕ, ℤ, pos, List, [], ◌∷◌, ◌++◌, Some, None, Option, Ok}
+use Rattle.std.proofs.Common.{◌≡◌, inl, inr, ℕ, ℤ, pos, List, [], ◌∷◌, ◌++◌, Some, None, Option, Ok}
 use Rattle.std.proofs.Common.{IsTrue, refl, sym, ap, subst, ◌∙◌, ◌+◌, ◌<◌, length, take, get_or}
 use Rattle.std.proofs.lemmas.List.{take_more}
 use Rattle.sqlite.specs.declared.types.Value.{Value}
 use Rattle.sqlite.specs.declared.types.Value.TheVariants.{Null, Int, Text}
-use Rattle.sqlite.specs.Order.{Row, column}
+use Rattle.sqlite.specs.Order.{Row}
 use Rattle.sqlite.specs.Values.{bound_value}
 use Rattle.sqlite.specs.Tree.{Trees, put_row}
 use Rattle.sqlite.specs.Edit.{next_rowid}
-use Rattle.sqlite.specs.Effect.{Database}
 use Rattle.sqlite.specs.Listing.{understood}
 use Rattle.sqlite.specs.State.{State, Executes}
 use Rattle.sqlite.proofs.Callers.{statement_of}
@@ -26,7 +25,7 @@ use Rattle.cpi_sql.specs.Texts.{drop_frozen_text, drop_frozen_command, drop_carr
 use Rattle.cpi_sql.specs.Texts.{drop_level_text, drop_level_command}
 use Rattle.cpi_sql.specs.Lists.{header_in, frozen_in, carried_in, level_in}
 use Rattle.cpi_sql.specs.ReleaseRows.{annual, frozen_after, carried_after, level_after}
-use Rattle.cpi_sql.specs.ReleaseSteps.{beside_release, AddsRelease, AddsHeader, HasDroppedRelease, IsHeaderStep}
+use Rattle.cpi_sql.specs.ReleaseSteps.{beside_release, AddsRelease, HasDroppedRelease, IsHeaderStep}
 use Rattle.cpi_sql.specs.ReleaseSteps.{Replaces}
 use Rattle.cpi_sql.specs.Shelf.{HasRowids}
 use Rattle.cpi_sql.specs.Steps.{IsStep, SameBut}

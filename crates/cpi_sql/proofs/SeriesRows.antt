@@ -9,7 +9,6 @@ use Rattle.cpi_codes.specs.declared.series.SeriesId.{SeriesId}
 use Rattle.cpi_rows.specs.Keyed.{row_at}
 use Rattle.cpi_rows.specs.Held.{held_by}
 use Rattle.cpi_survey.specs.Quote.{QuoteRow, quote_cmp, quote_key}
-use Rattle.cpi_index.specs.Frozen.{Frozen}
 use Rattle.cpi_store.specs.declared.given.Given.{Given}
 use Rattle.cpi_store.specs.declared.series_ends.SeriesEnds.{SeriesEnds}
 use Rattle.cpi_store.specs.Office.{frozen_quote, frozen_row, stored_rows}

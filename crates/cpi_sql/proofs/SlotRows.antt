@@ -46,7 +46,6 @@ use Rattle.cpi_sql.specs.Texts.{given_assignment, put_assignment_command, update
 use Rattle.cpi_sql.specs.Shelf.{equals, HasRowids}
 use Rattle.cpi_sql.specs.Steps.{SameBut}
 use Rattle.cpi_sql.proofs.Unchanged.{others_same}
-use Rattle.cpi_sql.proofs.Adds.{AddsRow}
 use Rattle.cpi_sql.proofs.Lists.{equal_is}
 use Rattle.cpi_sql.proofs.PlanChanges.{AddsApart}
 use Rattle.cpi_sql.proofs.Reading.{Members, members, equality, left_has, has_left}

@@ -1,14 +1,13 @@
 -- A query inside a transaction commits nothing, whatever its text means.
-use Rattle.std.proofs.Common.{◌≡◌, ◌⊎◌, inl, inr, List, ℕ, false, Option, Some, None, Result, Ok, Err, IfOk}
-use Rattle.std.proofs.Common.{IfErr, IsTrue, refl, sym, ap, subst, ◌∙◌}
+use Rattle.std.proofs.Common.{◌≡◌, ◌⊎◌, inl, inr, List, ℕ, Option, Some, None, Result, Ok, Err, IfOk}
+use Rattle.std.proofs.Common.{IfErr, IsTrue, sym, ap, ◌∙◌}
 use Rattle.std.specs.Prelude.{if◌then◌else◌}
 use Rattle.sqlite.specs.Order.{Row}
 use Rattle.sqlite_schema.specs.declared.command.Returning.{Returning}
 use Rattle.sqlite.specs.declared.error.Error.{Error}
 use Rattle.sqlite.specs.Clock.{timed}
-use Rattle.sqlite.specs.Effect.{Database}
 use Rattle.sqlite.specs.State.{State, KeepsCommit, IsRolledBack, IsNotRun, Shown, ShowsRows, FailsToQuery}
-use Rattle.sqlite.specs.State.{FailsToShow, IsTooLate, RunsCommand, Shows}
+use Rattle.sqlite.specs.State.{FailsToShow, IsTooLate}
 use Rattle.sqlite.proofs.InsideLemmas.{unchanged_keeps}
 use Rattle.cpi_sql.specs.Shelf.{IsKept}
 

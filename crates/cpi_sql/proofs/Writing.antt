@@ -1,12 +1,12 @@
 -- What a write of one row comes down to, for any table with no AUTOINCREMENT.
-use Rattle.std.proofs.Common.{◌≡◌, ◌⊎◌, inl, inr, ℕ, ℤ, pos, List, [], ◌∷◌, ◌++◌, Bool, true, false, cond, Some}
+use Rattle.std.proofs.Common.{◌≡◌, ◌⊎◌, inl, inr, ℕ, ℤ, List, [], ◌∷◌, ◌++◌, Bool, true, false, cond, Some}
 use Rattle.std.proofs.Common.{None, Option, Ok, Err, Result, refl, sym, ap, subst, ◌∙◌}
 use Rattle.sqlite.specs.declared.types.Value.{Value}
-use Rattle.sqlite.specs.declared.types.Value.TheVariants.{Null, Int, Text}
+use Rattle.sqlite.specs.declared.types.Value.TheVariants.{Null, Int}
 use Rattle.sqlite.specs.Order.{Row}
 use Rattle.sqlite.specs.Ops.{unary}
 use Rattle.sqlite.specs.Tree.{Trees, rowid}
-use Rattle.sqlite.specs.Edit.{Edit, edit_of, edited, with_rowid, taken_by, Applies}
+use Rattle.sqlite.specs.Edit.{edit_of, with_rowid, Applies}
 use Rattle.sqlite.specs.Cast.{cast, cast_row}
 use Rattle.sqlite.specs.Kind.TheVariants.{Integer}
 use Rattle.sqlite.specs.Rowids.TheVariants.{Chosen, Given}
@@ -21,8 +21,8 @@ use Rattle.cpi_sql.specs.Tables.{plain_table}
 use Rattle.sqlite_schema.specs.declared.command.Conflict.TheVariants.{Abort}
 use Rattle.sqlite_schema.specs.declared.command.Upsert.{Upsert}
 use Rattle.sqlite_schema.specs.declared.program.Program.{Program}
-use Rattle.sqlite.specs.Rows.{Task, Written, Sourced, Queried, stamped, Inserts, InsertsOr, Upserts, Tries}
-use Rattle.sqlite.specs.Rows.{Judged, Outcome, Puts, Clears, Meets, Updates, Edited, shown, nothing}
+use Rattle.sqlite.specs.Rows.{Task, Written, Sourced, stamped, Inserts, InsertsOr, Upserts, Tries}
+use Rattle.sqlite.specs.Rows.{Judged, Outcome, Puts, Clears, Meets, Edited, shown}
 use Rattle.sqlite.specs.Effect.{Database, Answers, edit_error}
 use Rattle.sqlite_rules.specs.declared.error.Refusal.{Refusal}
 use Rattle.sqlite_rules.specs.Keys.{AreConflicts}

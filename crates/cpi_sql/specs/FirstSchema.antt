@@ -1,6 +1,6 @@
 -- The lists of the office that the rows of schema 1 stand for: each row for what its copy in schema 2 does, which has
 -- the slot's own series, no copied price and revision 1. No plan has a reference month.
-use Rattle.std.specs.Prelude.{ℕ, pos, List, [], ◌∷◌, map}
+use Rattle.std.specs.Prelude.{pos, List, [], ◌∷◌, map}
 use Rattle.std.specs.Ordering.{nat_cmp}
 use Rattle.sqlite.specs.declared.types.Value.TheVariants.{Null, Int}
 use Rattle.sqlite.specs.Order.{Row, column}

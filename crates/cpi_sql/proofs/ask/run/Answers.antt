@@ -1,6 +1,5 @@
-use Rattle.std.proofs.Common.{◌≡◌, ◌∙◌, ap, not, IsTrue, false, arith}
+use Rattle.std.proofs.Common.{◌∙◌, ap, not, IsTrue, arith}
 use Rattle.sqlite.specs.Held.{state}
-use Rattle.sqlite.specs.State.{HasCleanDisk}
 use Rattle.cpi_sql.proofs.Asking.{executes_open, executes_opens, ran_kept}
 use Rattle.cpi_sql.proofs.ask.run.Goals as goal
 

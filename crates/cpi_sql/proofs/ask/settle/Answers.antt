@@ -1,4 +1,4 @@
-use Rattle.std.proofs.Common.{◌≡◌, ◌∙◌, ap, not, IsTrue, false, sym}
+use Rattle.std.proofs.Common.{◌∙◌, ap, not, sym}
 use Rattle.sqlite.specs.Effect.{Database}
 use Rattle.cpi_sql.proofs.ask.settle.Goals as goal
 

@@ -1,4 +1,4 @@
-use Rattle.std.proofs.Common.{◌≡◌, ap, ◌∙◌, ◌++◌, List, ◌∷◌, [], sym, rules}
+use Rattle.std.proofs.Common.{◌≡◌, ap, ◌∙◌, ◌++◌, ◌∷◌, [], sym, rules}
 use Rattle.std.proofs.lemmas.List.{append_assoc}
 use Rattle.cpi_rows.specs.Keyed.{put}
 use Rattle.cpi_sql.proofs.Keyed.{put_next}

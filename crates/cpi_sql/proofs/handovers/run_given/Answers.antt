@@ -1,4 +1,3 @@
-use Rattle.std.proofs.Common.{◌≡◌}
 use Rattle.cpi_sql.proofs.SlotOffice.{copied_bound}
 use Rattle.cpi_sql.proofs.ReleaseColumns.{on_then}
 use Rattle.cpi_sql.proofs.handovers.run_given.Goals as goal

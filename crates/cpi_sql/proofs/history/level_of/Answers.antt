@@ -5,7 +5,7 @@ use Rattle.cpi_release.specs.Releases.{level_at}
 use Rattle.cpi_sql.specs.LevelTables.{AreTablesOf}
 use Rattle.cpi_sql.specs.Lists.{headers_in, releases_in}
 use Rattle.cpi_sql.proofs.Kept.{kept_tables}
-use Rattle.cpi_sql.proofs.Looking.{back, forth, looks_then, open_then}
+use Rattle.cpi_sql.proofs.Looking.{back, forth, looks_then}
 use Rattle.cpi_sql.proofs.history.level_of.Goals as goal
 
 pub returns-clause-look : goal.returns-clause-look

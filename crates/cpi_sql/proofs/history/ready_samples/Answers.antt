@@ -1,4 +1,3 @@
-use Rattle.std.proofs.Common.{◌≡◌, sym, ap, ◌∙◌}
 use Rattle.sqlite.specs.Held.{state}
 use Rattle.cpi_sql.specs.Shelf.{PublicStands}
 use Rattle.cpi_sql.proofs.Kept.{kept_tables}

@@ -1,4 +1,3 @@
-use Rattle.std.proofs.Common.{◌≡◌}
 use Rattle.sqlite.specs.Held.{state}
 use Rattle.cpi_sql.specs.Shelf.{IsLook}
 use Rattle.cpi_sql.proofs.Looking.{looks, looks_then}

@@ -1,4 +1,3 @@
-use Rattle.std.proofs.Common.{◌≡◌}
 use Rattle.sqlite.specs.Held.{state}
 use Rattle.cpi_sql.proofs.PlanSteps.{add_node_ran}
 use Rattle.cpi_sql.proofs.plan_rows.add_node.Goals as goal

@@ -1,4 +1,4 @@
-use Rattle.std.proofs.Common.{◌≡◌, refl}
+use Rattle.std.proofs.Common.{refl}
 use Rattle.cpi_sql.proofs.PlanSteps.{node_read}
 use Rattle.cpi_sql.proofs.put_plan.put_node.Goals as goal
 

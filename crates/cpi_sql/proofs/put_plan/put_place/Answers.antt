@@ -1,4 +1,3 @@
-use Rattle.std.proofs.Common.{◌≡◌}
 use Rattle.cpi_sql.proofs.PlanSteps.{place_read}
 use Rattle.cpi_sql.proofs.put_plan.put_place.Goals as goal
 

@@ -1,4 +1,4 @@
-use Rattle.std.proofs.Common.{◌≡◌, sym, subst}
+use Rattle.std.proofs.Common.{sym, subst}
 use Rattle.sqlite.specs.Held.{state}
 use Rattle.cpi_sql.specs.Lists.{references_for}
 use Rattle.cpi_sql.specs.Steps.{AddsReferences, IsStep}

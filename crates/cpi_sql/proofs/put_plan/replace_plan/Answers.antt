@@ -1,4 +1,4 @@
-use Rattle.std.proofs.Common.{rules, ◌≡◌}
+use Rattle.std.proofs.Common.{rules}
 use Rattle.sqlite.specs.Held.{state}
 use Rattle.cpi_store.specs.Office.{PutsPlan}
 use Rattle.cpi_sql.proofs.PlanOffice.{plan_survives}

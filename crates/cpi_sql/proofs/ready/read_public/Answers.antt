@@ -1,7 +1,6 @@
-use Rattle.std.proofs.Common.{◌≡◌, ap, ◌∙◌, IsTrue}
+use Rattle.std.proofs.Common.{◌≡◌, ap, ◌∙◌}
 use Rattle.sqlite.specs.Effect.{Database}
 use Rattle.sqlite.specs.Held.{state}
-use Rattle.sqlite.specs.State.{HasCleanDisk}
 use Rattle.cpi_sql.specs.Lists.{items_in, plans_in, calendar_rows_in}
 use Rattle.cpi_sql.specs.Shelf.{IsCleanBook, IsKept, IsLook, HasTables}
 use Rattle.cpi_sql.proofs.Kept.{kept_tables}

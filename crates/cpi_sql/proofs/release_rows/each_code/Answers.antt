@@ -1,4 +1,4 @@
-use Rattle.std.proofs.Common.{arith, length, ◌≤◌}
+use Rattle.std.proofs.Common.{arith}
 use Rattle.cpi_codes.specs.CodeOf.{code_of}
 use Rattle.cpi_sql.proofs.ReleaseRows.{each_all}
 use Rattle.cpi_sql.proofs.release_rows.each_code.Goals as goal

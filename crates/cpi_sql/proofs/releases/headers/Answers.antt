@@ -1,4 +1,3 @@
-use Rattle.std.proofs.Common.{◌≡◌}
 use Rattle.sqlite.specs.Held.{state}
 use Rattle.cpi_sql.specs.Texts.{headers_text}
 use Rattle.cpi_sql.proofs.Whole.{both_ok, asked_crash}

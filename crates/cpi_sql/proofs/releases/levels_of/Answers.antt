@@ -1,4 +1,4 @@
-use Rattle.std.proofs.Common.{◌≡◌, ◌≤◌, subst}
+use Rattle.std.proofs.Common.{◌≤◌, subst}
 use Rattle.sqlite.specs.Held.{state}
 use Rattle.cpi_sql.specs.Texts.{levels_text}
 use Rattle.cpi_sql.proofs.Whole.{both_ok, asked_crash}

@@ -1,4 +1,3 @@
-use Rattle.std.proofs.Common.{◌≡◌}
 use Rattle.sqlite.specs.Held.{state}
 use Rattle.cpi_sql.proofs.SlotOffice.{assignment_ran, assignment_survives, copied_bound}
 use Rattle.cpi_sql.proofs.writes.put_assignment.Goals as goal

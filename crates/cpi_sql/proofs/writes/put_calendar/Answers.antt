@@ -1,4 +1,3 @@
-use Rattle.std.proofs.Common.{◌≡◌}
 use Rattle.sqlite.specs.Held.{state}
 use Rattle.cpi_sql.proofs.CalendarOffice.{day_ran, day_survives}
 use Rattle.cpi_sql.proofs.writes.put_calendar.Goals as goal

@@ -1,4 +1,3 @@
-use Rattle.std.proofs.Common.{◌≡◌, ◌∙◌, ap, inl, inr}
 use Rattle.sqlite.specs.Held.{state}
 use Rattle.cpi_sql.proofs.AddStatements.{collector_ran, collector_survives}
 use Rattle.cpi_sql.proofs.writes.put_collector.Goals as goal

@@ -1,4 +1,4 @@
-use Rattle.std.proofs.Common.{◌≡◌, ◌∙◌, ap, refl, Some}
+use Rattle.std.proofs.Common.{refl}
 use Rattle.sqlite.specs.Held.{state}
 use Rattle.cpi_sql.proofs.AddStatements.{outlet_ran, outlet_survives}
 use Rattle.cpi_sql.proofs.writes.put_outlet.Goals as goal

@@ -1,4 +1,4 @@
-use Rattle.std.proofs.Common.{◌≡◌, ◌∙◌, ap, arith, rules}
+use Rattle.std.proofs.Common.{◌≡◌, ◌∙◌, ap, arith}
 use Rattle.sqlite.specs.Held.{state}
 use Rattle.cpi_store.specs.Bearer.{bearer_of}
 use Rattle.cpi_sql.specs.Lists.{collectors_in}

@@ -1,4 +1,4 @@
-use Rattle.std.proofs.Common.{◌≡◌, ◌∙◌, ap, arith, rules}
+use Rattle.std.proofs.Common.{◌≡◌, arith, rules}
 use Rattle.sqlite.specs.Held.{state}
 use Rattle.cpi_sql.specs.Lists.{collectors_in}
 use Rattle.cpi_sql.proofs.Calls.{reads, read_fails}

@@ -1,4 +1,4 @@
-use Rattle.std.proofs.Common.{◌≡◌, ◌∙◌, arith, refl}
+use Rattle.std.proofs.Common.{arith, refl}
 use Rattle.sqlite.specs.Held.{state}
 use Rattle.cpi_sql.proofs.Calls.{reads, read_fails}
 use Rattle.cpi_sql.proofs.Followed.{look_sound, tables_of}

@@ -1,4 +1,4 @@
-use Rattle.std.proofs.Common.{◌≡◌, arith}
+use Rattle.std.proofs.Common.{arith}
 use Rattle.sqlite.specs.Held.{state}
 use Rattle.cpi_sql.proofs.Calls.{writes, write_fails}
 use Rattle.cpi_sql.proofs.Followed.{kept_sound, handover_stands, tables_of}
