@@ -41,3 +41,11 @@ def at_rest(process):
         time.sleep(0.02)
         before, now = now, processor_seconds(process)
     return now
+
+
+def timed(process, record):
+    """The processor seconds and the wall seconds of a record, and its reply."""
+    from_rest, begin = at_rest(process), time.perf_counter()
+    reply = exchange(process, [record])
+    wall = time.perf_counter() - begin
+    return at_rest(process) - from_rest, wall, reply
