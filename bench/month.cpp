@@ -1,6 +1,6 @@
-// A yardstick for the release of a month: the same plan and quotes as crates/cpi_release_speed makes by its rule, and
+// A yardstick for the freeze of a month: the same plan and quotes as tests/month makes by its rule for a nation, and
 // the same tables, computed plainly with maps; with no proofs, no limits looked at and no handling of faults. It
-// measures; it is no product. It prints the same lines, and the time of each release to standard error.
+// measures; it is no product. It prints the tables as CSV, and the seconds of each month to standard error.
 //
 // Build: g++ -O2 -std=c++17 month.cpp -o month
 #include <algorithm>
@@ -21,7 +21,7 @@ using std::unordered_map;
 using std::vector;
 using wide = __int128;
 
-static const int COUNT = 20000, SERIES_OF_AN_ITEM = 10, MONTHS = 3;
+static const int COUNT = 6532, SUBCLASSES = 130, SERIES = 200000, MONTHS = 3;
 static const long HUNDRED = 100000000;
 
 enum class Kind { price, missing, comparable, other };
@@ -46,17 +46,14 @@ static map<int, Release> releases;
 // ---- what is made by a rule
 
 static string aggregate(int n) {
-    char code[32];
-    snprintf(code, sizeof code, "%02d.%d.%d.%d-%02d", 1 + n % 13, n / 13 % 10, n / 130 % 10, n / 1300 % 10,
-             1 + n / 13000 % 99);
+    int place = n % SUBCLASSES;
+    char code[64];
+    snprintf(code, sizeof code, "%02d.%d.%d.%d-%02d", 1 + place % 13, place / 13 % 10, place / 130 % 10,
+             place / 1300 % 10, 1 + n / SUBCLASSES);
     return code;
 }
 
-static string item_code(int n) {
-    char code[16];
-    snprintf(code, sizeof code, "I%05d", n);
-    return code;
-}
+static string item_code(int n) { return "I" + std::to_string(n); }
 
 static vector<string> codes_above(const string &aggregate) {
     return {"00", aggregate.substr(0, 2), aggregate.substr(0, 4), aggregate.substr(0, 6), aggregate.substr(0, 8)};
@@ -66,12 +63,12 @@ static Plan made_plan() {
     Plan plan;
     for (int n = 0; n < COUNT; n++) {
         string code = aggregate(n);
-        long weight = 1000000 / COUNT + (n % 2 ? -1 : 1) * (n / 2 % 7);
+        long weight = 1000000 / COUNT + (n < 1000000 % COUNT) + (n % 2 ? -1 : 1) * (n / 2 % 7);
         plan.weights[code] = weight;
         plan.places[item_code(n)] = code;
-        plan.nodes[code] = {"Title", weight};
+        plan.nodes[code] = {"Title of " + code, weight};
         for (auto &above : codes_above(code)) {
-            plan.nodes[above].title = "Title";
+            plan.nodes[above].title = "Title of " + above;
             plan.nodes[above].weight += weight;
         }
     }
@@ -86,7 +83,7 @@ static Mark made_mark(int n, int turn) {
 
 static vector<Quote> made_quotes(int turn) {
     vector<Quote> quotes;
-    for (int n = 0; n < COUNT * SERIES_OF_AN_ITEM; n++) {
+    for (int n = 0; n < SERIES; n++) {
         if ((n % 1019 + turn) % 97 == 0) continue;
         int last_month = (n % 23 == 0 ? 2026 : 2027) * 12 + 11;
         quotes.push_back({n, item_code(n % COUNT), last_month, made_mark(n, turn)});
@@ -219,28 +216,17 @@ static Release release_of(const Plan &plan, int month, vector<Quote> frozen) {
     return release;
 }
 
-// ---- what is told of it
+// ---- the table as CSV
 
-// The sum of the rows' numbers by their places.
-template <class Rows, class Number> static long long sum_of(const Rows &rows, Number number) {
-    wide sum = 0;
-    long place = 0;
-    for (auto &row : rows) sum += wide(++place) * number(row);
-    return sum;
+static string tenths(optional<long> number) {
+    if (!number) return "";
+    return (*number < 0 ? "-" : "") + std::to_string(labs(*number) / 10) + "." + std::to_string(labs(*number) % 10);
 }
 
-static void tell(int month, const Release &release) {
-    auto &rows = release.levels;
-    auto &carried = release.carried;
-    printf("%d-%02d: %zu rows\n", month / 12, month % 12 + 1, rows.size());
-    auto ticks = sum_of(carried, [](const Carried &row) { return row.ticks; });
-    printf("carried prices: %zu %lld\n", carried.size(), ticks);
-    printf("weights: %lld\n", sum_of(rows, [](const Level &row) { return row.weight; }));
-    printf("indices: %lld\n", sum_of(rows, [](const Level &row) { return row.within; }));
-    printf("levels: %lld\n", sum_of(rows, [](const Level &row) { return row.chained; }));
-    printf("monthly changes: %lld\n", sum_of(rows, [](const Level &row) { return row.month_change; }));
-    printf("annual changes: %lld\n", sum_of(rows, [](const Level &row) { return row.year_change.value_or(0); }));
-    printf("imputed: %lld\n", sum_of(rows, [](const Level &row) { return long(row.is_imputed); }));
+static void print(const Level &row) {
+    printf("%s,%ld,%ld.%06ld,%ld.%06ld,%s,%s,%d,%s\n", row.code.c_str(), row.weight, row.within / 1000000,
+           row.within % 1000000, row.chained / 1000000, row.chained % 1000000, tenths(row.month_change).c_str(),
+           tenths(row.year_change).c_str(), row.is_imputed, row.title.c_str());
 }
 
 int main() {
@@ -250,9 +236,9 @@ int main() {
         vector<Quote> frozen = made_quotes(turn);
         auto begin = std::chrono::steady_clock::now();
         Release release = release_of(plan, month, std::move(frozen));
-        std::chrono::duration<double, std::milli> took = std::chrono::steady_clock::now() - begin;
-        fprintf(stderr, "%d-%02d: %fms\n", month / 12, month % 12 + 1, took.count());
-        tell(month, release);
+        std::chrono::duration<double> took = std::chrono::steady_clock::now() - begin;
+        fprintf(stderr, "%d-%02d %f\n", month / 12, month % 12 + 1, took.count());
+        for (auto &row : release.levels) print(row);
         releases[month] = std::move(release);
     }
 }
