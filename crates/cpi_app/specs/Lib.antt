@@ -1,4 +1,5 @@
 pub mod Command
+pub mod CommandExamples
 pub mod Connection
 pub mod Desk
 pub mod Fault

@@ -5,6 +5,7 @@
 mod command;
 mod connection;
 mod desk;
+mod examples;
 mod fault;
 mod help;
 mod job;
@@ -17,6 +18,7 @@ mod timed;
 pub use command::job_of_words;
 pub use connection::{is_shaken, serve_connection, serve_front};
 pub use desk::{Desk, desk_of};
+pub use examples::worked_commands;
 pub use fault::{RunFault, fault_line};
 pub use job::Job;
 pub use replay::{replay_over, run_replay};

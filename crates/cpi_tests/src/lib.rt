@@ -1,34 +1,35 @@
-//! What `#[test]` alone can show of the crates below: that calls succeed with ample memory, and what becomes of calls
-//! of the book, of reads, of writes and of growths that fail.
+//! What `#[test]` alone can show of the crates below: what becomes of an office over a book each of whose calls is
+//! refused, and in files each of whose calls stops; that no input is read for ever; that nothing is refused where
+//! nothing is wanting; and calls that the program doesn't make.
 #![tactic(auto)]
 
 #[cfg(test)]
-mod books;
+mod ample;
 #[cfg(test)]
-mod command_words;
+mod endless;
 #[cfg(test)]
-mod imports;
+mod files;
+#[cfg(test)]
+mod first;
 #[cfg(test)]
 mod index;
 #[cfg(test)]
-mod jobs;
-#[cfg(test)]
 mod laws;
 #[cfg(test)]
-mod moments;
+mod migrated;
 #[cfg(test)]
-mod office;
+mod parts;
 #[cfg(test)]
-mod page_messages;
-#[cfg(test)]
-mod pages;
+mod reads;
 #[cfg(test)]
 mod records;
 #[cfg(test)]
+mod refused;
+#[cfg(test)]
 mod release;
 #[cfg(test)]
-mod streams;
+mod runs;
 #[cfg(test)]
-mod survey;
+mod script;
 #[cfg(test)]
-mod weights;
+mod stops;

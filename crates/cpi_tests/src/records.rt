@@ -62,8 +62,25 @@ const PRICES: [&str; 9] = [
     "1100|aaaaaaaaaaaaaaaaaaaaaaaaaaaaaaaa|quote|4|2026-01|price|490",
 ];
 
-// What a record asks.
-fn asked(alloc: Global, record: &str) -> Result<Ask, Fail> {
+/// The table of January 2026.
+pub(crate) const JANUARY_CSV: &str = "00,1000000,102.200000,102.200000,2.2,,0,All items
+01,1000000,102.200000,102.200000,2.2,,0,Food and drink
+01.1,1000000,102.200000,102.200000,2.2,,0,Food
+01.1.1,1000000,102.200000,102.200000,2.2,,0,Cereals
+01.1.1.1,600000,105.000000,105.000000,5.0,,0,Rice
+01.1.1.1-01,600000,105.000000,105.000000,5.0,,0,\"Rice, packed\"
+01.1.1.2,400000,98.000000,98.000000,-2.0,,0,Flour
+01.1.1.2-01,400000,98.000000,98.000000,-2.0,,0,\"Flour, wheat\"
+";
+
+/// The number of a reply as it is wanted, below those of all refusals.
+pub(crate) const WANTED: u16 = 0;
+
+/// The number of another reply that is no refusal.
+pub(crate) const ANOTHER: u16 = 1;
+
+/// What a record asks.
+pub(crate) fn asked(alloc: Global, record: &str) -> Result<Ask, Fail> {
     let mut fields = Vec::new(alloc);
     for field in record.split('|') {
         fields.push(field.as_bytes())?;
@@ -78,18 +95,30 @@ fn asked(alloc: Global, record: &str) -> Result<Ask, Fail> {
     }
 }
 
-/// What records ask.
-pub(crate) fn asks(alloc: Global, records: &[&str]) -> Result<Vec<Ask>, Fail> {
-    let mut asks = Vec::new(alloc);
-    for record in records {
-        asks.push(asked(alloc, record)?)?;
-    }
-    Ok(asks)
+/// The number of a reply: a refusal's own; `WANTED` where it is that of an office in which the request is the first of
+/// its kind, and the table is the CSV that is given; else `ANOTHER`.
+pub(crate) fn number_of(reply: &Reply, csv: &str) -> u16 {
+    let is_wanted = match reply {
+        Reply::Refused(refusal) => return refusal.number(),
+        Reply::Receipt(receipt) => *receipt == 1,
+        Reply::Work(rows) => rows.len() == 1,
+        Reply::Quotes(rows) => rows.len() == 1,
+        Reply::Items(rows) => rows.len() == 1,
+        Reply::Table(printed) => printed.as_bytes() == csv.as_bytes(),
+        Reply::Done | Reply::Tables(_) => true,
+    };
+    if is_wanted { WANTED } else { ANOTHER }
 }
 
-/// What a request is answered.
-pub(crate) fn answer<B: Book>(office: &mut Office<B>, ask: Ask) -> Reply {
-    office.handle(ask.now, ask.caller, ask.request)
+/// The number of the reply to a record.
+pub(crate) fn told<B: Book>(
+    alloc: Global,
+    office: &mut Office<B>,
+    record: &str,
+    csv: &str,
+) -> Result<u16, Fail> {
+    let ask = asked(alloc, record)?;
+    Ok(number_of(&office.handle(ask.now, ask.caller, ask.request), csv))
 }
 
 /// Sends records, each of which is accepted.
@@ -98,27 +127,30 @@ pub(crate) fn send<B: Book>(
     office: &mut Office<B>,
     records: &[&str],
 ) -> Result<(), Fail> {
-    for ask in asks(alloc, records)? {
-        if let Reply::Refused(refusal) = answer(office, ask) {
-            return Err(Fail::new(refusal.number()));
+    for record in records {
+        let number = told(alloc, office, record, "")?;
+        if number > ANOTHER {
+            return Err(Fail::new(number));
         }
     }
     Ok(())
 }
 
-/// A book with the prices of two months, the first of which is frozen.
-pub(crate) fn priced(alloc: Global) -> Result<VecBook, Fail> {
+/// The book in memory of an office that was sent records, each of which is accepted.
+pub(crate) fn book_after(alloc: Global, records: &[&[&str]]) -> Result<VecBook, Fail> {
     let mut office = Office::new(alloc, VecBook::new(alloc));
-    send(alloc, &mut office, &DESK)?;
-    send(alloc, &mut office, &PRICES)?;
+    for part in records {
+        send(alloc, &mut office, part)?;
+    }
     Ok(office.into_book())
 }
 
+/// The records up to the prices of two months, the first of which is frozen.
+pub(crate) const PRICED: [&[&str]; 2] = [&DESK, &PRICES];
+
 /// A book with two frozen months.
 pub(crate) fn frozen(alloc: Global) -> Result<VecBook, Fail> {
-    let mut office = Office::new(alloc, priced(alloc)?);
-    send(alloc, &mut office, &["2000|desk|freeze|2026-01"])?;
-    Ok(office.into_book())
+    book_after(alloc, &[&DESK, &PRICES, &["2000|desk|freeze|2026-01"]])
 }
 
 /// What the index of January 2026 is computed from.
@@ -149,14 +181,15 @@ fn year_of<B: Book>(alloc: Global, book: &mut B) -> Result<WorkedYear, Fail> {
 }
 
 pub(crate) fn two_months(alloc: Global) -> Result<WorkedYear, Fail> {
-    year_of(alloc, &mut priced(alloc)?)
+    year_of(alloc, &mut book_after(alloc, &PRICED)?)
 }
 
 /// The plan of 2026 with a reference month.
 pub(crate) fn referred_plan(alloc: Global) -> Result<YearPlan, Fail> {
-    let mut office = Office::new(alloc, priced(alloc)?);
-    send(alloc, &mut office, &[REFERRED])?;
-    plan_of(alloc, &mut office.into_book())
+    plan_of(
+        alloc,
+        &mut book_after(alloc, &[&DESK, &PRICES, &[REFERRED]])?,
+    )
 }
 
 pub(crate) fn january() -> Result<Month, Fail> {

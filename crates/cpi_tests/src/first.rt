@@ -76,9 +76,3 @@ pub(crate) fn first_files(alloc: Global) -> Result<Held, Fail> {
     let made = changed(alloc, &Held::nothing(alloc), TABLES)?;
     changed(alloc, &made, ROWS)
 }
-
-/// The same without rows but the number of the schema.
-pub(crate) fn first_tables(alloc: Global) -> Result<Held, Fail> {
-    let made = changed(alloc, &Held::nothing(alloc), TABLES)?;
-    changed(alloc, &made, "INSERT INTO version VALUES (1)")
-}

@@ -1,17 +1,20 @@
-//! Books: each read of one that fails in turn, and a book in memory. Writes are counted where the office makes them.
+//! The reads of a book, each of which is refused in turn. Writes are counted where the office makes them.
 use crate::records::{at, frozen, january, rice};
 use cpi_codes::{CollectorId, Key, Month, OutletId};
 use cpi_release::{Groups, Revision};
 use cpi_store::{Book, FailBook};
 use std::test::Fail;
 
-// The place of the first read that fails, one call each.
-fn first_failing<B: Book>(book: &mut B) -> Result<Option<usize>, Fail> {
+/// How many reads there are.
+const READS: usize = 15;
+
+// The place of the first read that is refused, one call each.
+fn first_refused<B: Book>(book: &mut B) -> Result<Option<usize>, Fail> {
     let number = CollectorId::new(7).ok_or("no collector")?;
     let key = Key::parse(b"aaaaaaaaaaaaaaaaaaaaaaaaaaaaaaaa").ok_or("no key")?;
     let outlet = OutletId::new(10).ok_or("no outlet")?;
     let (month, until, rice) = (january()?, at(3000)?, rice()?);
-    let failed = [
+    let refused: [bool; READS] = [
         book.bearer_of(key).is_err(),
         book.bearer_at(number).is_err(),
         book.collector_of(key).is_err(),
@@ -28,16 +31,7 @@ fn first_failing<B: Book>(book: &mut B) -> Result<Option<usize>, Fail> {
         book.rows(2026, month, rice).is_err(),
         book.chained(month, rice).is_err(),
     ];
-    Ok(failed.iter().position(|fails| *fails))
-}
-
-#[test]
-fn each_read_of_a_book_fails_in_turn(rt: HostRuntime) -> Result<(), Fail> {
-    for place in 0..15 {
-        let mut book = FailBook::new(frozen(rt.alloc())?, place as u64 + 1);
-        assert_eq!(rt; first_failing(&mut book)?, Some(place));
-    }
-    Ok(())
+    Ok(refused.iter().position(|is_refused| *is_refused))
 }
 
 // How many rows each read that takes memory finds.
@@ -53,9 +47,16 @@ fn found<B: Book>(book: &mut B) -> Result<[usize; 5], Fail> {
 }
 
 #[test]
-fn a_book_in_memory_is_read(rt: HostRuntime) -> Result<(), Fail> {
-    let mut book = frozen(rt.alloc())?;
-    assert_eq!(rt; first_failing(&mut book)?, None);
+fn each_read_of_a_book_is_refused_in_turn(rt: HostRuntime) -> Result<(), Fail> {
+    let alloc = rt.alloc();
+    for place in 0..READS {
+        let mut book = FailBook::new(frozen(alloc)?, place as u64 + 1);
+        if first_refused(&mut book)? != Some(place) {
+            return Err(Fail::new(format_args!("another read than that at {place}")));
+        }
+    }
+    let mut book = frozen(alloc)?;
+    assert_eq!(rt; first_refused(&mut book)?, None);
     assert_eq!(rt; found(&mut book)?, [2, 4, 1, 3, 3]);
     Ok(())
 }

@@ -1,6 +1,6 @@
 //! Files that stop at each of their calls.
 use crate::files::{Calls, ENOUGH, End, Held, Told, run};
-use crate::script::{lines, script, states, trial};
+use crate::script::{CHANGES, changes, lines, script, states, trial};
 use std::alloc::Global;
 use std::test::Fail;
 
@@ -150,15 +150,10 @@ impl Seen {
 }
 
 // Stops the log, or the database file, after each number of calls, until a run has no stop.
-fn see_stops(alloc: Global, is_log: bool) -> Result<Seen, Fail> {
-    let prepared = prepare(alloc)?;
+fn see_stops(alloc: Global, prepared: &Prepared, is_log: bool) -> Result<Seen, Fail> {
     let mut seen = Seen::new();
     for stop in 0..1000 {
-        let calls = Calls {
-            log: if is_log { stop } else { u64::MAX },
-            db: if is_log { u64::MAX } else { stop },
-        };
-        seen.see(stop, try_with(alloc, &prepared, calls)?);
+        seen.see(stop, try_with(alloc, prepared, Calls::until(is_log, stop))?);
         if seen.whole.is_some() || seen.wrong.is_some() {
             break;
         }
@@ -166,14 +161,21 @@ fn see_stops(alloc: Global, is_log: bool) -> Result<Seen, Fail> {
     Ok(seen)
 }
 
+// Whether each command was whole or not there at all, and no run is left that has a stop.
+fn is_sound(seen: &Seen) -> bool {
+    seen.wrong.is_none() && seen.whole.is_some()
+}
+
 #[test]
 fn a_log_that_stops_leaves_each_command_whole_or_not_at_all(rt: HostRuntime) -> Result<(), Fail> {
-    let seen = see_stops(rt.alloc(), true)?;
-    assert_eq!(rt; seen.wrong, None);
-    assert!(rt; seen.whole.is_some());
-    // all but the two quotes that come again
-    assert_eq!(rt; seen.commands, 21);
-    assert!(rt; seen.has_before && seen.has_after);
+    let alloc = rt.alloc();
+    let prepared = prepare(alloc)?;
+    let seen = see_stops(alloc, &prepared, true)?;
+    assert!(rt;
+        is_sound(&seen) && seen.has_before && seen.has_after,
+        "{seen:?}"
+    );
+    assert_eq!(rt; [changes(&prepared.states), seen.commands], [CHANGES; 2]);
     Ok(())
 }
 
@@ -181,14 +183,8 @@ fn a_log_that_stops_leaves_each_command_whole_or_not_at_all(rt: HostRuntime) -> 
 fn a_database_file_that_stops_leaves_each_command_whole_or_not_at_all(
     rt: HostRuntime,
 ) -> Result<(), Fail> {
-    let seen = see_stops(rt.alloc(), false)?;
-    assert_eq!(rt; seen.wrong, None);
-    assert!(rt; seen.whole.is_some());
-    assert!(rt;
-        seen.commands > 1,
-        "{} commands, whole after {:?} calls",
-        seen.commands,
-        seen.whole
-    );
+    let alloc = rt.alloc();
+    let seen = see_stops(alloc, &prepare(alloc)?, false)?;
+    assert!(rt; is_sound(&seen) && seen.commands > 1, "{seen:?}");
     Ok(())
 }

@@ -1,13 +1,10 @@
 //! An office in a database file and its log, both in memory.
-ghost use Rattle.std.specs.Prelude.{IfSome};
-ghost use Rattle.sqlite.specs.Held.{IsNew};
-
 use cpi_codes::zone_of;
 use cpi_office::Office;
-use cpi_sql::{OpenFault, SqlBook};
+use cpi_sql::SqlBook;
 use cpi_store::{Book, VecBook};
 use cpi_wire::replay;
-use sqlite::{Connection, FileStore, Files, Options};
+use sqlite::{Alter, Connection, FileStore, Files, Options};
 use sqlite_disk::{Crash, Disk, Fuse, Memory};
 use std::alloc::Global;
 use std::io;
@@ -84,6 +81,16 @@ pub(crate) struct Calls {
     pub(crate) db: u64,
 }
 
+impl Calls {
+    /// The log, or the database file, stops after so many calls, and the other one doesn't.
+    pub(crate) fn until(is_log: bool, stop: u64) -> Calls {
+        Calls {
+            log: if is_log { stop } else { u64::MAX },
+            db: if is_log { u64::MAX } else { stop },
+        }
+    }
+}
+
 /// So many that no file stops.
 pub(crate) const ENOUGH: Calls = Calls {
     log: u64::MAX,
@@ -100,6 +107,11 @@ pub(crate) struct Left {
     pub(crate) synced: Held,
 }
 
+// Files in memory that stop after so many calls.
+type MemoryFiles = Files<Fuse<Memory>>;
+
+type Database = Connection<FileStore<Fuse<Memory>>>;
+
 // A file that holds the bytes, and will hold them after a crash.
 fn file_of(alloc: Global, bytes: &[u8], calls: u64) -> Result<Fuse<Memory>, Fail> {
     let mut file = Memory::new(alloc);
@@ -108,14 +120,14 @@ fn file_of(alloc: Global, bytes: &[u8], calls: u64) -> Result<Fuse<Memory>, Fail
     Ok(Fuse::new(file, calls))
 }
 
-fn files_of(alloc: Global, held: &Held, calls: Calls) -> Result<Files<Fuse<Memory>>, Fail> {
+fn files_of(alloc: Global, held: &Held, calls: Calls) -> Result<MemoryFiles, Fail> {
     Ok(Files {
         log: file_of(alloc, &held.log, calls.log)?,
         db: file_of(alloc, &held.db, calls.db)?,
     })
 }
 
-fn held_by(alloc: Global, files: &Files<Fuse<Memory>>) -> Result<Held, Fail> {
+fn held_by(alloc: Global, files: &MemoryFiles) -> Result<Held, Fail> {
     Ok(Held {
         log: files.log.inner().bytes().to_vec(alloc)?,
         db: files.db.inner().bytes().to_vec(alloc)?,
@@ -125,64 +137,47 @@ fn held_by(alloc: Global, files: &Files<Fuse<Memory>>) -> Result<Held, Fail> {
 // How many frames the log has before it is copied into the database file: those of some commands.
 const FRAMES: usize = 6;
 
-// The database of the files, whatever it holds.
-fn connected<D: Disk + Drop>(
+// ---- what is done over a connection of any store, so that each such call is proved once
+
+// Sends records to the office of a database. None where it is none, or can't be opened.
+fn sent<S: Alter + Drop>(
     alloc: Global,
-    files: Files<D>,
-    frames: usize,
-) -> Option<Connection<FileStore<D>>>
-    ensures { IfSome result IsNew }
-{
+    conn: Connection<S>,
+    records: &str,
+) -> Option<(Told, Connection<S>)> {
+    if !conn.is_autocommit() {
+        return None;
+    }
+    let book = SqlBook::new(alloc, conn).ok()?;
+    let (book, told) = answered(alloc, book, records);
+    Some((told, book.into_connection()))
+}
+
+// Has another program's statements carried out.
+fn execute<S: Alter + Drop>(conn: &mut Connection<S>, statements: &str) -> Result<(), Fail> {
+    conn.execute_batch(statements)?;
+    Ok(())
+}
+
+/// The number that another program's query finds.
+pub(crate) fn number_in<S: Alter + Drop>(
+    conn: &mut Connection<S>,
+    query: &str,
+) -> Result<i64, Fail> {
+    let row = conn.query_row(query, &[])?;
+    Ok(row.get(0)?)
+}
+
+// ---- the connections of these files: each call at their type stands here
+
+// The database of the files, whatever it holds.
+fn connected(alloc: Global, files: MemoryFiles, frames: usize) -> Option<Database> {
     if !files.may_be_used() {
         return None;
     }
     let mut options = Options::new(7);
     options.checkpoint_frames = frames;
     Connection::open_files(alloc, files, options).ok()
-}
-
-// The office of the files.
-fn opened<D: Disk + Drop>(alloc: Global, files: Files<D>) -> Option<SqlBook<FileStore<D>>> {
-    let conn = connected(alloc, files, FRAMES)?;
-    SqlBook::new(alloc, conn).ok()
-}
-
-/// Why files that hold so much can't be opened as an office. None where they can.
-pub(crate) fn fault_of(alloc: Global, held: &Held) -> Result<Option<OpenFault>, Fail> {
-    let files = files_of(alloc, held, ENOUGH)?;
-    let conn = connected(alloc, files, FRAMES).ok_or("no database")?;
-    Ok(SqlBook::new(alloc, conn).err())
-}
-
-/// The files after statements of another program, with what the log holds copied into the database file.
-pub(crate) fn changed(alloc: Global, held: &Held, statements: &str) -> Result<Held, Fail> {
-    let files = files_of(alloc, held, ENOUGH)?;
-    let mut conn = connected(alloc, files, FRAMES).ok_or("no database")?;
-    conn.execute_batch(statements)?;
-    match conn.close_files() {
-        Ok(files) => held_by(alloc, &files),
-        Err((error, store)) => {
-            drop(store.close());
-            Err(Fail::from(error))
-        }
-    }
-}
-
-/// The number that a query of another program finds.
-pub(crate) fn number_in(alloc: Global, held: &Held, query: &str) -> Result<i64, Fail> {
-    let files = files_of(alloc, held, ENOUGH)?;
-    let mut conn = connected(alloc, files, FRAMES).ok_or("no database")?;
-    let row = conn.query_row(query, &[])?;
-    Ok(row.get(0)?)
-}
-
-/// What the files hold once they were opened as an office, and nothing of the log was copied into the database file.
-pub(crate) fn opened_in_the_log(alloc: Global, held: &Held) -> Result<Held, Fail> {
-    let files = files_of(alloc, held, ENOUGH)?;
-    let conn = connected(alloc, files, usize::MAX).ok_or("no database")?;
-    let book = SqlBook::new(alloc, conn)?;
-    let files = let_go(book, End::Process).ok_or("no files")?;
-    held_by(alloc, &files)
 }
 
 /// How an office in files is let go.
@@ -195,8 +190,7 @@ pub(crate) enum End {
 }
 
 // The files, given back. None where they can't be closed.
-fn let_go<D: Disk + Drop>(book: SqlBook<FileStore<D>>, end: End) -> Option<Files<D>> {
-    let conn = book.into_connection();
+fn let_go(conn: Database, end: End) -> Option<MemoryFiles> {
     if end == End::Process {
         return Some(conn.into_store().close());
     }
@@ -210,16 +204,37 @@ fn let_go<D: Disk + Drop>(book: SqlBook<FileStore<D>>, end: End) -> Option<Files
 }
 
 // Sends records to the office of the files, which is then let go.
-fn sent<D: Disk + Drop>(
+fn sent_in(
     alloc: Global,
-    files: Files<D>,
+    files: MemoryFiles,
+    frames: usize,
     end: End,
     records: &str,
-) -> Option<(Told, Files<D>)> {
-    let book = opened(alloc, files)?;
-    let (book, told) = answered(alloc, book, records);
-    let files = let_go(book, end)?;
-    Some((told, files))
+) -> Option<(Told, MemoryFiles)> {
+    let conn = connected(alloc, files, frames)?;
+    let (told, conn) = sent(alloc, conn, records)?;
+    Some((told, let_go(conn, end)?))
+}
+
+/// The database of files that hold so much, to be looked at by another program.
+pub(crate) fn database(alloc: Global, held: &Held) -> Result<Database, Fail> {
+    let files = files_of(alloc, held, ENOUGH)?;
+    Ok(connected(alloc, files, FRAMES).ok_or("no database")?)
+}
+
+/// The files after statements of another program, with what the log holds copied into the database file.
+pub(crate) fn changed(alloc: Global, held: &Held, statements: &str) -> Result<Held, Fail> {
+    let mut conn = database(alloc, held)?;
+    execute(&mut conn, statements)?;
+    let files = let_go(conn, End::Closed).ok_or("not closed")?;
+    held_by(alloc, &files)
+}
+
+/// What the files hold once they were opened as an office, and nothing of the log was copied into the database file.
+pub(crate) fn opened_in_the_log(alloc: Global, held: &Held) -> Result<Held, Fail> {
+    let files = files_of(alloc, held, ENOUGH)?;
+    let (_, files) = sent_in(alloc, files, usize::MAX, End::Process, "").ok_or("no office")?;
+    held_by(alloc, &files)
 }
 
 /// Sends records to the office of files that hold so much and take so many calls, and lets it go. None where it can't
@@ -232,7 +247,7 @@ pub(crate) fn run(
     records: &str,
 ) -> Result<Option<Left>, Fail> {
     let files = files_of(alloc, held, calls)?;
-    let Some((told, mut files)) = sent(alloc, files, end, records) else {
+    let Some((told, mut files)) = sent_in(alloc, files, FRAMES, end, records) else {
         return Ok(None);
     };
     let written = held_by(alloc, &files)?;

@@ -1,5 +1,5 @@
 //! Enough memory and a disk that works: then no reply is that the office is unavailable.
-use crate::files::{ENOUGH, End, Held, run, told_in_memory};
+use crate::files::{ENOUGH, End, Held, Told, run, told_in_memory};
 use std::alloc::Global;
 use std::test::Fail;
 
@@ -82,29 +82,19 @@ fn whole_sheet(alloc: Global) -> Result<Sheet, Fail> {
     Ok(sheet)
 }
 
-#[test]
-fn nothing_is_unavailable_in_memory(rt: HostRuntime) -> Result<(), Fail> {
-    let alloc = rt.alloc();
-    let sheet = whole_sheet(alloc)?;
-    let told = told_in_memory(alloc, "", sheet.records.as_str());
-    assert!(rt; told.is_whole);
-    assert!(rt; told.lines.as_slice() == sheet.lines.as_bytes());
-    Ok(())
+// Whether each record has the line that it is to be told.
+fn is_told(sheet: &Sheet, told: &Told) -> bool {
+    told.is_whole && told.lines.as_slice() == sheet.lines.as_bytes()
 }
 
 #[test]
-fn nothing_is_unavailable_in_files(rt: HostRuntime) -> Result<(), Fail> {
+fn nothing_is_unavailable(rt: HostRuntime) -> Result<(), Fail> {
     let alloc = rt.alloc();
     let sheet = whole_sheet(alloc)?;
-    let left = run(
-        alloc,
-        &Held::nothing(alloc),
-        ENOUGH,
-        End::Process,
-        sheet.records.as_str(),
-    )?;
-    let told = left.ok_or("no office")?.told;
-    assert!(rt; told.is_whole);
-    assert!(rt; told.lines.as_slice() == sheet.lines.as_bytes());
+    let records = sheet.records.as_str();
+    assert!(rt; is_told(&sheet, &told_in_memory(alloc, "", records)));
+    let nothing = Held::nothing(alloc);
+    let left = run(alloc, &nothing, ENOUGH, End::Process, records)?.ok_or("no office")?;
+    assert!(rt; is_told(&sheet, &left.told));
     Ok(())
 }

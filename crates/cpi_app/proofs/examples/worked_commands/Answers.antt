@@ -1,0 +1,19 @@
+use Rattle.std.proofs.Common.{refl}
+use Rattle.clap.specs.Walk.{walked}
+use Rattle.cpi_app.proofs.examples.worked_commands.Goals as goal
+
+pub returns-clause-replays : goal.returns-clause-replays
+unfolding walked
+returns-clause-replays c = (refl, refl, refl, refl, refl, refl)
+
+pub returns-clause-serves : goal.returns-clause-serves
+unfolding walked
+returns-clause-serves c = (refl, refl, refl, refl, refl, refl)
+
+pub returns-clause-prints : goal.returns-clause-prints
+unfolding walked
+returns-clause-prints c = (refl, refl, refl, refl, refl, refl)
+
+pub returns-clause-names_none : goal.returns-clause-names_none
+unfolding walked
+returns-clause-names_none c = (refl, refl, refl, refl)

@@ -1,0 +1,48 @@
+-- Command lines, and what they give, computed.
+use Rattle.std.specs.Prelude.{◌≡◌, List, [], ◌∷◌, Option, Some, None, option_map, option_and_then, codes}
+use Rattle.clap.specs.Words.{Text, first_of, subcommand_of}
+use Rattle.cpi_app.specs.Command.{cpi}
+
+-- the subcommand that the words name
+abbrev pub job : List Text → Option Text
+job words = option_map (λ sub. sub.0) (subcommand_of cpi words)
+
+-- the value that they give an option of it
+abbrev pub value : List Text → Text → Option Text
+value words name = option_and_then (λ sub. first_of name sub.1) (subcommand_of cpi words)
+
+-- a replay in memory, by a zone; one in a file, by none
+abbrev pub zoned : List Text
+zoned = codes "replay" ∷ codes "--zone" ∷ codes "EST5" ∷ []
+
+abbrev pub filed : List Text
+filed = codes "replay" ∷ codes "--db=office.db" ∷ []
+
+abbrev pub Replays : Type 0
+Replays = (job zoned ≡ Some (codes "replay")) × (value zoned (codes "zone") ≡ Some (codes "EST5"))
+    × (value zoned (codes "db") ≡ None)
+    × (job filed ≡ Some (codes "replay")) × (value filed (codes "zone") ≡ None)
+    × (value filed (codes "db") ≡ Some (codes "office.db"))
+
+abbrev pub pages : List Text
+pages = codes "serve" ∷ codes "--port" ∷ codes "8080" ∷ codes "--db" ∷ codes "F" ∷ codes "--limit" ∷ codes "1"
+    ∷ codes "--desk-key" ∷ codes "K" ∷ []
+
+abbrev pub Serves : Type 0
+Serves = (job pages ≡ Some (codes "serve")) × (value pages (codes "db") ≡ Some (codes "F"))
+    × (value pages (codes "port") ≡ Some (codes "8080")) × (value pages (codes "desk-key") ≡ Some (codes "K"))
+    × (value pages (codes "limit") ≡ Some (codes "1")) × (value pages (codes "zone") ≡ None)
+
+abbrev pub printed : List Text
+printed = codes "table" ∷ codes "--db" ∷ codes "F" ∷ codes "--month" ∷ codes "2026-01" ∷ codes "--revision" ∷ codes "2"
+    ∷ codes "--form" ∷ codes "csv" ∷ codes "--at" ∷ codes "9999999999" ∷ []
+
+abbrev pub Prints : Type 0
+Prints = (job printed ≡ Some (codes "table")) × (value printed (codes "db") ≡ Some (codes "F"))
+    × (value printed (codes "month") ≡ Some (codes "2026-01")) × (value printed (codes "revision") ≡ Some (codes "2"))
+    × (value printed (codes "form") ≡ Some (codes "csv")) × (value printed (codes "at") ≡ Some (codes "9999999999"))
+
+-- no word, help that is asked for, a word of no subcommand, and one in capital letters
+abbrev pub NamesNone : Type 0
+NamesNone = (job [] ≡ None) × (job (codes "--help" ∷ []) ≡ None) × (job (codes "play" ∷ []) ≡ None)
+    × (job (codes "Replay" ∷ []) ≡ None)

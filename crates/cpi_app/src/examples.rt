@@ -1,0 +1,9 @@
+ghost use Rattle.cpi_app.specs.CommandExamples.{Replays, Serves, Prints, NamesNone};
+
+/// Command lines and the values that they give, computed by the definitions.
+pub fn worked_commands()
+    ensures replays { Replays }
+    ensures serves { Serves }
+    ensures prints { Prints }
+    ensures names_none { NamesNone }
+{}
