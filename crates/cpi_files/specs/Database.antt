@@ -1,5 +1,5 @@
--- The office that is found in a file.
-use Rattle.std.specs.Prelude.{◌≡◌}
+-- The office that is found in a file, and a job in it.
+use Rattle.std.specs.Prelude.{◌≡◌, ℕ, List, Option}
 use Rattle.sqlite_disk.specs.declared.Disk.{Ghosts}
 use Rattle.sqlite.specs.Recovery.{Image}
 use Rattle.sqlite.specs.declared.FileStore.{FileStore}
@@ -8,11 +8,12 @@ use Rattle.sqlite.specs.Start.{FindsIn}
 use Rattle.sqlite.specs.Held.{Held}
 use Rattle.cpi_release.specs.State.{State}
 use Rattle.cpi_store.specs.Office.{Office}
-use Rattle.cpi_sql.specs.Shelf.{Shelf, office_state}
+use Rattle.cpi_sql.specs.Shelf.{Shelf, IsCleanBook, office_state}
 use Rattle.cpi_sql.specs.Finding as office
 use Rattle.cpi_sql.specs.declared.open.OpenFault.{OpenFault}
 use Rattle.cpi_app.specs.declared.fault.RunFault.{RunFault}
 use Rattle.cpi_app.specs.declared.fault.RunFault.TheVariants.{Database}
+use Rattle.cpi_files.specs.Job.{Deed}
 
 -- the office of a file, as a book over it shows that
 abbrev pub file_book : {D : Type 0} {g : Ghosts D} → Shelf (FileStore D g) → State Office
@@ -26,6 +27,14 @@ pub record IsOfficeOf {D : Type 0} {g : Ghosts D} (start : Image) (book : Shelf 
   pub found : FindsIn start (file_state was)
   pub office : office.IsOpened (file_state was) (file_state book.held)
   pub count : book.failures ≡ 0
+
+-- the job was done in that office
+pub record IsDoneIn {D Told : Type 0} (g : Ghosts D) (start : Image) (does : Deed Told)
+    (input before after : Option (List ℕ)) (told : Told) : Type 0 where
+  pub book : Shelf (FileStore D g)
+  pub last : Shelf (FileStore D g)
+  pub found : IsCleanBook (file_state book.held) → IsOfficeOf start book
+  pub done : does _ file_book book last input before after told
 
 -- the file couldn't be opened as an office
 abbrev pub IsUnopened : RunFault → Type 0

@@ -1,12 +1,16 @@
-//! The office of a database file: its book, and the jobs of the program over it.
+//! The office of a database file, and the jobs of the program in it.
 #![tactic(auto)]
 
-mod database;
+mod file;
+mod job;
+mod over;
 mod replay;
 mod serve;
 mod table;
 
-pub use database::{FileBook, close_book, open_book};
-pub use replay::{replay_in_file, run_replay_in};
+pub use file::job_in_file;
+pub use job::BookJob;
+pub use over::job_over;
+pub use replay::replay_in_file;
 pub use serve::run_serve;
-pub use table::{run_table, table_in_file};
+pub use table::table_in_file;

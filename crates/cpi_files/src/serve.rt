@@ -4,45 +4,76 @@ ghost use Rattle.jiff.specs.Words.{read_whole};
 ghost use Rattle.cpi_app.specs.Desk.{HasNoKey};
 ghost use Rattle.cpi_app.specs.declared.fault.RunFault.TheVariants as RunFault;
 
-use crate::database::{FileBook, close_book, open_book};
+use crate::file::job_in_file;
+use crate::job::BookJob;
 use cpi_app::{Desk, RunFault, desk_of, listen, serve_book};
+use cpi_store::Book;
 use sqlite::Unknown;
+use std::io::{Read, Write, empty, sink};
 use std::net::TcpListener;
 
-// Serves up to so many connections over a book, closes it, and answers how many of them are left. A close that failed is
-// told where none is left.
-fn serve_and_close(
-    rt: &HostRuntime,
-    listener: &TcpListener,
+// Serving up to so many connections at a port of this machine, whose listener is there once the office was opened.
+#[derive(Drop)]
+struct Serve {
+    desk: Desk,
+    port: u16,
+    listener: Option<TcpListener>,
     limit: u32,
-    desk: &Desk,
-    book: FileBook<Unknown>,
-) -> Result<u32, RunFault> {
-    let (book, outcome) = serve_book(rt.alloc(), rt, listener, limit, desk, book);
-    let closed = close_book(book);
-    let left = outcome?;
-    if left == 0 {
-        closed?;
-    }
-    Ok(left)
 }
 
-// Serves so many connections, over a book that is opened again wherever one of them shook it.
-fn serve_all(
+// The listener that is there, or else one at the port.
+fn listener_at(
     rt: &HostRuntime,
-    path: &str,
-    listener: &TcpListener,
-    limit: u32,
-    desk: &Desk,
-    book: FileBook<Unknown>,
-) -> Result<(), RunFault> {
-    let mut left = serve_and_close(rt, listener, limit, desk, book)?;
-    for _ in 0..limit {
-        if left == 0 {
-            break;
-        }
-        let book = open_book(rt, path, Unknown)?;
-        left = serve_and_close(rt, listener, left, desk, book)?;
+    port: u16,
+    listener: Option<TcpListener>,
+) -> Result<TcpListener, RunFault> {
+    match listener {
+        Some(listener) => Ok(listener),
+        None => listen(rt, port),
+    }
+}
+
+impl BookJob for Serve {
+    ghost use Rattle.cpi_files.specs.Serve.{Serves};
+
+    // how many connections are left
+    type Told = Result<u32, RunFault>;
+
+    ghost does = { λ job. Serves job.desk job.limit };
+
+    fn run<B: Book, R: Read, W: Write, E: Write>(
+        &mut self,
+        rt: &HostRuntime,
+        book: B,
+        _reader: &mut R,
+        _out: &mut W,
+        _err: &mut E,
+    ) -> (B, Result<u32, RunFault>) {
+        let listener = match listener_at(rt, self.port, self.listener.take()) {
+            Ok(listener) => listener,
+            Err(fault) => return (book, Err(fault)),
+        };
+        let served = serve_book(rt.alloc(), rt, &listener, self.limit, &self.desk, book);
+        self.listener = Some(listener);
+        served
+    }
+}
+
+// Serves over the office of the file until no connection is left or one of them shook the book, and closes the file. A
+// close that failed is told where none is left.
+fn serve_in_file(rt: &HostRuntime, path: &str, job: &mut Serve) -> Result<(), RunFault> {
+    let (outcome, closed) = job_in_file(
+        rt,
+        path,
+        Unknown,
+        job,
+        &mut empty(),
+        &mut sink(),
+        &mut sink(),
+    )?;
+    job.limit = outcome?;
+    if job.limit == 0 {
+        closed?;
     }
     Ok(())
 }
@@ -62,12 +93,19 @@ pub fn run_serve(
     ensures bad_key { HasNoKey zone.now key.now → IsErrOf result RunFault.BadKey }
 {
     let desk = desk_of(zone, key)?;
-    let book = open_book(rt, path, Unknown)?;
-    match listen(rt, port) {
-        Ok(listener) => serve_all(rt, path, &listener, limit, &desk, book),
-        Err(fault) => {
-            let _ = close_book(book);
-            Err(fault)
+    let mut job = Serve {
+        desk,
+        port,
+        listener: None,
+        limit,
+    };
+    serve_in_file(rt, path, &mut job)?;
+    for _ in 0..limit {
+        if job.limit == 0 {
+            break;
         }
+        // a connection shook the book
+        serve_in_file(rt, path, &mut job)?;
     }
+    Ok(())
 }

@@ -1,38 +1,48 @@
 //! The job of a table of the office of a file.
 ghost use Rattle.std.specs.Prelude.{◌≡◌, IfOk, IfErr};
 ghost use Rattle.sqlite.specs.WalFiles.{image_at};
-ghost use Rattle.sqlite.specs.declared.FileStore.{FileStore};
-ghost use Rattle.cpi_sql.specs.Shelf.{Shelf};
 ghost use Rattle.cpi_files.specs.Database.{IsUnopened};
 ghost use Rattle.cpi_files.specs.Table.{IsPrintedFrom};
 
-use crate::database::{FileBook, close_book, open_book};
+use crate::file::job_in_file;
+use crate::job::BookJob;
 use cpi_app::{AskedTable, RunFault, print_table};
+use cpi_store::Book;
 use sqlite::{FileFrom, Start};
 use sqlite_disk::Disk;
-use std::io::Write;
+use std::io::{Read, Write, empty};
 
-/// Prints a table from the office of the file at the path, of which `start` says how a crash is read, and answers the
-/// status to end with beside the book. Where the file can't be opened nothing is written.
-pub fn run_table<S: Start, W: Write, E: Write>(
-    rt: &HostRuntime,
-    path: &str,
-    start: S,
+// The print of a table.
+#[derive(Drop)]
+struct Print {
     asked: AskedTable,
-    out: &mut W,
-    err: &mut E,
-) -> Result<(FileBook<S>, u8), RunFault>
-    ensures printed { IfOk result (λ it. IsPrintedFrom (image_at S.Start) asked
-        (W.contents out.old) (W.contents out.new) it.0 it.1) }
-    ensures fault { IfErr result IsUnopened }
-    ensures untouched { IfErr result (λ _. (out.new ≡ out.old) × (err.new ≡ err.old)) }
-{
-    let mut book = open_book(rt, path, start)?;
-    let status = print_table(rt.alloc(), &mut book, asked, out, err);
-    Ok((book, status))
 }
 
-/// The same, and the file is closed. Nothing was written to it, so that nothing is lost where its log can't be copied.
+impl BookJob for Print {
+    ghost use Rattle.cpi_files.specs.Table.{Prints};
+
+    // the status to end with
+    type Told = u8;
+
+    ghost does = { λ job. Prints job.asked };
+
+    fn run<B: Book, R: Read, W: Write, E: Write>(
+        &mut self,
+        rt: &HostRuntime,
+        book: B,
+        _reader: &mut R,
+        out: &mut W,
+        err: &mut E,
+    ) -> (B, u8) {
+        let mut book = book;
+        let status = print_table(rt.alloc(), &mut book, self.asked, out, err);
+        (book, status)
+    }
+}
+
+/// Prints a table from the office of the file at the path, of which `start` says how a crash is read, and answers the
+/// status to end with. Where the file can't be opened nothing is written. The file is closed, and nothing was written to
+/// it, so that nothing is lost where its log can't be copied.
 pub fn table_in_file<S: Start, W: Write, E: Write>(
     rt: &HostRuntime,
     path: &str,
@@ -41,12 +51,12 @@ pub fn table_in_file<S: Start, W: Write, E: Write>(
     out: &mut W,
     err: &mut E,
 ) -> Result<u8, RunFault>
-    ensures printed { IfOk result (λ status. (now : Shelf (FileStore _ ⟦<FileFrom<S> as Disk>⟧))
-        × IsPrintedFrom (image_at S.Start) asked (W.contents out.old) (W.contents out.new) now status) }
+    ensures printed { IfOk result (λ status. IsPrintedFrom ⟦<FileFrom<S> as Disk>⟧ (image_at S.Start) asked
+        (W.contents out.old) (W.contents out.new) status) }
     ensures fault { IfErr result IsUnopened }
     ensures untouched { IfErr result (λ _. (out.new ≡ out.old) × (err.new ≡ err.old)) }
 {
-    let (book, status) = run_table(rt, path, start, asked, out, err)?;
-    let _ = close_book(book);
+    let mut job = Print { asked };
+    let (status, _) = job_in_file(rt, path, start, &mut job, &mut empty(), out, err)?;
     Ok(status)
 }

@@ -1,0 +1,26 @@
+//! What a job is, whatever keeps the office.
+ghost use Rattle.cpi_files.specs.Job.{Deed};
+
+use cpi_store::Book;
+use std::io::{Read, Write};
+
+/// A job over the book of an office. It may read an input, and write an output and the lines of faults.
+pub trait BookJob {
+    /// What the job tells of how it went.
+    type Told;
+
+    /// What it does.
+    ghost does: { Self → Deed Self.Told };
+
+    /// Does the job, and hands the book back, also after a fault.
+    fn run<B: Book, R: Read, W: Write, E: Write>(
+        &mut self,
+        rt: &HostRuntime,
+        book: B,
+        reader: &mut R,
+        out: &mut W,
+        err: &mut E,
+    ) -> (B, Self::Told)
+        ensures { does self.old _ B.state book result.0
+            (R.remaining reader.old) (W.contents out.old) (W.contents out.new) result.1 };
+}

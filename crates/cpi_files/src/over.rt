@@ -1,0 +1,33 @@
+//! A job over a connection, whatever its store is.
+ghost use Rattle.std.specs.Prelude.{◌≡◌, false, IfOk, IfErr};
+ghost use Rattle.sqlite.specs.Held.{state};
+ghost use Rattle.cpi_files.specs.Over.{IsDoneOver};
+
+use crate::job::BookJob;
+use cpi_sql::{OpenFault, SqlBook};
+use sqlite::{Alter, Connection};
+use std::io::{Read, Write};
+
+/// Does the job in the office that the connection holds, and gives the connection back with what the job tells. Where
+/// the connection holds no office the job doesn't begin.
+pub fn job_over<S: Alter + Drop, J: BookJob, R: Read, W: Write, E: Write>(
+    rt: &HostRuntime,
+    conn: Connection<S>,
+    job: &mut J,
+    reader: &mut R,
+    out: &mut W,
+    err: &mut E,
+) -> Result<(Connection<S>, J::Told), OpenFault>
+    requires { (state S.Store conn).in_transaction ≡ false }
+    ensures done { IfOk result (λ it. IsDoneOver S.Store conn (J.does job.old) (R.remaining reader.old)
+        (W.contents out.old) (W.contents out.new) it.0 it.1) }
+    ensures untouched { IfErr result (λ _. (reader.new ≡ reader.old) × (out.new ≡ out.old) × (err.new ≡ err.old)) }
+{
+    match SqlBook::new(rt.alloc(), conn) {
+        Ok(book) => {
+            let (book, told) = job.run(rt, book, reader, out, err);
+            Ok((book.into_connection(), told))
+        }
+        Err(fault) => Err(fault),
+    }
+}
