@@ -4,7 +4,7 @@
 
 use clap::Error;
 use clap::error::ErrorKind;
-use cpi_app::{Job, RunFault, asked_table, job_of_words, run_replay};
+use cpi_app::{AskedTable, Job, RunFault, asked_table, job_of_words, run_replay};
 use cpi_files::{replay_in_file, run_serve, table_in_file};
 use cpi_release::Revision;
 use cpi_wire::WireFault;
@@ -44,25 +44,47 @@ fn tell_refused(rt: &HostRuntime, error: &Error) -> Result<u8, RunFault> {
     }
 }
 
+// Answers the records of standard input in an office in memory.
+fn replay_in_memory(rt: &HostRuntime, zone: &str) -> Result<(), RunFault> {
+    run_replay(rt.alloc(), zone, &mut rt.reader(), &mut io::writer(rt))
+}
+
+// Answers the records of standard input in the office of the file.
+fn replay_in(rt: &HostRuntime, zone: &str, path: &str) -> Result<(), RunFault> {
+    replay_in_file(
+        rt,
+        zone,
+        path,
+        Unknown,
+        &mut rt.reader(),
+        &mut io::writer(rt),
+    )
+}
+
+// Prints the table from the office of the file, and answers the exit status.
+fn table_in(rt: &HostRuntime, path: &str, asked: AskedTable) -> Result<u8, RunFault> {
+    table_in_file(
+        rt,
+        path,
+        Unknown,
+        asked,
+        &mut io::writer(rt),
+        &mut rt.stderr(),
+    )
+}
+
 // Hands what stands outside to the run of the job, and answers the exit status.
 fn run_job(rt: &HostRuntime, job: Job) -> Result<u8, RunFault> {
     match job {
         Job::Replay { zone, db: None } => {
-            run_replay(rt.alloc(), zone, &mut rt.reader(), &mut io::writer(rt))?;
+            replay_in_memory(rt, zone)?;
             Ok(0)
         }
         Job::Replay {
             zone,
             db: Some(path),
         } => {
-            replay_in_file(
-                rt,
-                zone,
-                path,
-                Unknown,
-                &mut rt.reader(),
-                &mut io::writer(rt),
-            )?;
+            replay_in(rt, zone, path)?;
             Ok(0)
         }
         Job::Serve {
@@ -85,14 +107,7 @@ fn run_job(rt: &HostRuntime, job: Job) -> Result<u8, RunFault> {
             let asked = asked_table(month, revision, form, at)?;
             // (named here, since the prover has to be told of each type that `?` hands on)
             let _revision: Option<Revision> = asked.revision;
-            table_in_file(
-                rt,
-                db,
-                Unknown,
-                asked,
-                &mut io::writer(rt),
-                &mut rt.stderr(),
-            )
+            table_in(rt, db, asked)
         }
     }
 }
