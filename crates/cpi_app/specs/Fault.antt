@@ -4,8 +4,8 @@ use Rattle.cpi_wire.specs.Fault.{fault_text}
 use Rattle.cpi_app.specs.declared.fault.RunFault.{RunFault}
 use Rattle.cpi_app.specs.declared.fault.RunFault.TheVariants.{BadWord, BadZone, BadKey, BadMonth, BadRevision, Database}
 use Rattle.cpi_app.specs.declared.fault.RunFault.TheVariants.{NoTable, NoClock, NoPort, Wire}
-use Rattle.cpi_sql.specs.declared.open.OpenFault.{OpenFault}
-use Rattle.cpi_sql.specs.declared.open.OpenFault.TheVariants.{UnknownSchema, Store}
+use Rattle.cpi_store.specs.declared.open_fault.OpenFault.{OpenFault}
+use Rattle.cpi_store.specs.declared.open_fault.OpenFault.TheVariants.{UnknownSchema, Store}
 
 -- the line of a database that couldn't be opened, without its end
 abbrev pub open_line : OpenFault → List ℕ

@@ -2,7 +2,7 @@
 ghost use Rattle.std.specs.Prelude.{◌≡◌};
 ghost use Rattle.cpi_app.specs.Fault.{status_of, open_line};
 
-use cpi_sql::OpenFault;
+use cpi_store::OpenFault;
 use cpi_wire::WireFault;
 use std::alloc::AllocFailed;
 use std::fmt;

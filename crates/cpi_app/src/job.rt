@@ -1,7 +1,7 @@
 //! What the program is asked to do.
 
 /// A subcommand with the values of its options, as the words give them.
-#[derive(Clone, Copy, Debug, PartialEq, Eq)]
+#[derive(Clone, Copy, PartialEq, Eq)]
 pub enum Job<'a> {
     /// Records from standard input, reply lines to standard output, in the office of the database, or in one in memory
     /// that is empty at first; civil times are read by the clock of the zone.

@@ -13,15 +13,14 @@ ghost use Rattle.cpi_app.specs.Table.{revision_asked, HasNoRevision};
 use crate::fault::RunFault;
 use cpi_codes::{Moment, Month};
 use cpi_release::{Form, PrintedTable, Revision, printed};
-use cpi_sql::OpenFault;
-use cpi_store::Book;
+use cpi_store::{Book, OpenFault};
 use cpi_wire::{WireFault, write_whole};
 use std::alloc::Global;
 use std::io::Write;
 
 /// A table that is asked for: of which month, in which revision (`None` is the latest), in which form, and by which
 /// moment it is to have been published.
-#[derive(Clone, Copy, Debug, PartialEq, Eq)]
+#[derive(Clone, Copy, PartialEq, Eq)]
 pub struct AskedTable {
     pub month: Month,
     pub revision: Option<Revision>,

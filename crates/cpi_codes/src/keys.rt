@@ -10,7 +10,7 @@ use std::marker::Model;
 const KEY_LEN: usize = 32;
 
 /// A collector's key of 32 characters of 0-9 and a-f, seen as the number that they write in base 16.
-#[derive(Clone, Copy, Debug, PartialEq, Eq, PartialOrd, Ord)]
+#[derive(Clone, Copy, PartialEq, Eq, PartialOrd, Ord)]
 pub struct Key {
     value: u128,
 }

@@ -11,7 +11,7 @@ use std::marker::Model;
 const LONGEST: usize = 400;
 
 /// A name, title, unit or text: 1 to 400 bytes of UTF-8, no byte below 0x20 and no 0x7F. It is seen as its bytes.
-#[derive(Debug, Drop)]
+#[derive(Drop)]
 pub struct Name {
     text: String,
 }

@@ -10,7 +10,7 @@ const LOWEST: u16 = 2000;
 const HIGHEST: u16 = 2199;
 
 /// A year of the survey, 2000 to 2199.
-#[derive(Clone, Copy, Debug, PartialEq, Eq, PartialOrd, Ord)]
+#[derive(Clone, Copy, PartialEq, Eq, PartialOrd, Ord)]
 pub struct Year {
     number: u16,
 }

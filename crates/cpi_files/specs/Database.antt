@@ -8,9 +8,9 @@ use Rattle.sqlite.specs.Start.{FindsIn}
 use Rattle.sqlite.specs.Held.{Held}
 use Rattle.cpi_release.specs.State.{State}
 use Rattle.cpi_store.specs.Office.{Office}
-use Rattle.cpi_sql.specs.Shelf.{Shelf, IsCleanBook, office_state}
-use Rattle.cpi_sql.specs.Finding as office
-use Rattle.cpi_sql.specs.declared.open.OpenFault.{OpenFault}
+use Rattle.cpi_sql_rows.specs.Shelf.{Shelf, IsCleanBook, office_state}
+use Rattle.cpi_sql_rows.specs.Finding as office
+use Rattle.cpi_store.specs.declared.open_fault.OpenFault.{OpenFault}
 use Rattle.cpi_app.specs.declared.fault.RunFault.{RunFault}
 use Rattle.cpi_app.specs.declared.fault.RunFault.TheVariants.{Database}
 use Rattle.cpi_files.specs.Job.{Deed}

@@ -3,8 +3,8 @@ use Rattle.std.specs.Prelude.{◌≡◌, ℕ, List, Option}
 use Rattle.sqlite_trees.specs.declared.store.Store.{Ghosts}
 use Rattle.sqlite.specs.State.{HasCleanDisk}
 use Rattle.sqlite.specs.Held.{Held, state}
-use Rattle.cpi_sql.specs.Shelf.{Shelf, IsCleanBook, book_state}
-use Rattle.cpi_sql.specs.Finding as office
+use Rattle.cpi_sql_rows.specs.Shelf.{Shelf, IsCleanBook, book_state}
+use Rattle.cpi_sql_rows.specs.Finding as office
 use Rattle.cpi_files.specs.Job.{Deed}
 
 -- the book holds the rows of the connection, which are those of an office, or those of schema 1 migrated, or the tables

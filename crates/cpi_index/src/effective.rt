@@ -9,7 +9,7 @@ const MOST: u128 = 1_000_000_000;
 
 /// The weight in use of an elementary aggregate: 1 to 10^9. A plan's own weights are parts per million; where they are
 /// moved by prices, their sum may be another.
-#[derive(Clone, Copy, Debug, PartialEq, Eq)]
+#[derive(Clone, Copy, PartialEq, Eq)]
 pub struct EffectiveWeight {
     code: Code,
     parts: u32,

@@ -15,14 +15,14 @@ use crate::series::is_by_series;
 use std::alloc::AllocError;
 
 /// What an elementary aggregate has in a month: its index, and whether a price of its sample is imputed.
-#[derive(Clone, Copy, Debug)]
+#[derive(Clone, Copy)]
 pub struct GroupIndex {
     pub index: Index,
     pub imputed: bool,
 }
 
 // The sums over the carried prices of a sample and over its bases.
-#[derive(Clone, Copy, Debug)]
+#[derive(Clone, Copy)]
 struct Sums {
     current: u128,
     base: u128,

@@ -7,7 +7,7 @@ use std::marker::Model;
 const MOST: u128 = 1_000_000_000_000_000;
 
 /// The sum of the weights in use at and below a node: 1 to 10^15.
-#[derive(Clone, Copy, Debug, PartialEq, Eq)]
+#[derive(Clone, Copy, PartialEq, Eq)]
 pub struct NodeWeight {
     parts: u64,
 }

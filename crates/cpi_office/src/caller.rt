@@ -1,7 +1,7 @@
 use cpi_codes::Key;
 
 /// Who makes a request.
-#[derive(Clone, Copy, Debug, PartialEq, Eq)]
+#[derive(Clone, Copy, PartialEq, Eq)]
 pub enum Caller {
     /// Anybody.
     Public,

@@ -3,7 +3,7 @@ use std::marker::Model;
 
 /// Which table of a month is asked for: that of one revision, or else the latest that is published. It is seen as the
 /// revision, if it names one.
-#[derive(Clone, Copy, Debug, PartialEq, Eq)]
+#[derive(Clone, Copy, PartialEq, Eq)]
 pub struct Edition {
     revision: Option<Revision>,
 }

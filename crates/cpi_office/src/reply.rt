@@ -5,7 +5,7 @@ use cpi_rows::Rows;
 use cpi_survey::{Quote, WorkRow};
 
 /// What a request is answered.
-#[derive(Debug, Drop)]
+#[derive(Drop)]
 pub enum Reply {
     /// The entry is stored under this receipt, 1 to 1,000,000.
     Receipt(u32),

@@ -8,7 +8,7 @@ use cpi_store::{Bearer, Outlet};
 use cpi_survey::Entry;
 
 /// What a free slot is given: an item to be priced in an outlet, from the first month to the last.
-#[derive(Clone, Copy, Debug, PartialEq, Eq)]
+#[derive(Clone, Copy, PartialEq, Eq)]
 pub struct NewAssignment {
     pub slot: Slot,
     pub outlet: OutletId,
@@ -18,7 +18,7 @@ pub struct NewAssignment {
 }
 
 /// A series that is to go from a slot of one collector to a free slot of another, who may be the same.
-#[derive(Clone, Copy, Debug, PartialEq, Eq)]
+#[derive(Clone, Copy, PartialEq, Eq)]
 pub struct HandOver {
     /// The collector who has the series.
     pub from: CollectorId,
@@ -33,7 +33,7 @@ pub struct HandOver {
 }
 
 /// What is asked of the office.
-#[derive(Debug, Drop)]
+#[derive(Drop)]
 pub enum Request {
     /// The items; of all callers.
     Items,
@@ -66,7 +66,7 @@ pub enum Request {
 }
 
 /// One request, with who makes it and when.
-#[derive(Debug, Drop)]
+#[derive(Drop)]
 pub struct Ask {
     /// Seconds since 1970 UTC. Moments may go backwards from one request to the next.
     pub now: Moment,

@@ -1,5 +1,5 @@
 /// Whether the place of a row is free, or taken by a row with the same content or with other content.
-#[derive(Clone, Copy, Debug, PartialEq, Eq)]
+#[derive(Clone, Copy, PartialEq, Eq)]
 pub enum Standing {
     Free,
     Same,

@@ -6,7 +6,7 @@ use http::StatusCode;
 use std::alloc::{AllocError, Global};
 
 /// What a body is.
-#[derive(Clone, Copy, Debug, PartialEq, Eq)]
+#[derive(Clone, Copy, PartialEq, Eq)]
 pub enum Content {
     Json,
     Text,

@@ -6,7 +6,7 @@ ghost use Rattle.cpi_pages.specs.Fields.{values_named, AreNamed, is_same_text, a
 use httparse::spans::HeaderSpan;
 
 /// The value of a field that should stand at most once.
-#[derive(Clone, Copy, Debug)]
+#[derive(Clone, Copy)]
 pub(crate) enum Named<'b> {
     Never,
     Once(&'b [u8]),

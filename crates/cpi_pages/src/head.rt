@@ -11,7 +11,7 @@ use std::alloc::AllocError;
 use std::io::Read;
 
 /// What the bytes of a stream began with.
-#[derive(Clone, Copy, Debug, PartialEq, Eq)]
+#[derive(Clone, Copy, PartialEq, Eq)]
 pub enum HeadEnd {
     /// A head within the limits, which ends where reading stopped.
     Whole(RequestSpans),

@@ -17,7 +17,7 @@ use http::StatusCode;
 use std::alloc::{AllocError, Global};
 
 /// A response, before it is put into bytes.
-#[derive(Debug, Drop)]
+#[derive(Drop)]
 pub(crate) struct Response {
     pub(crate) status: StatusCode,
     pub(crate) content: Content,

@@ -8,7 +8,7 @@ use std::alloc::Global;
 use std::str;
 
 /// What a method and a path ask for.
-#[derive(Clone, Copy, Debug, PartialEq, Eq)]
+#[derive(Clone, Copy, PartialEq, Eq)]
 pub enum Page {
     Items,
     Tables,

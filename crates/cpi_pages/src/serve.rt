@@ -29,7 +29,7 @@ use std::alloc::{AllocError, Global};
 use std::io::{Read, Write};
 
 /// What became of a connection's message.
-#[derive(Clone, Copy, Debug, PartialEq, Eq)]
+#[derive(Clone, Copy, PartialEq, Eq)]
 pub enum Served {
     /// The status that was written, and whether one of the replies is that the office was unavailable.
     Answered(StatusCode, bool),

@@ -8,7 +8,7 @@ use std::marker::Model;
 
 /// When a month opens for quotes, closes, and is published: it opens before it closes, and is published when it
 /// closes or later.
-#[derive(Clone, Copy, Debug, PartialEq, Eq)]
+#[derive(Clone, Copy, PartialEq, Eq)]
 pub struct CalendarRow {
     month: Month,
     opens: Moment,

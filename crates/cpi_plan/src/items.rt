@@ -8,7 +8,7 @@ use cpi_rows::Keyed;
 use std::alloc::{AllocError, Global};
 
 /// An item that is priced: its text, the unit that is priced, and how far a price may lie from the last one.
-#[derive(Debug, Drop)]
+#[derive(Drop)]
 pub struct Item {
     pub code: ItemCode,
     pub text: Name,

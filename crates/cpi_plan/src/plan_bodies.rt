@@ -5,7 +5,7 @@ use cpi_rows::Rows;
 
 /// What the desk sends for the plan of a year, each list in any order. Nothing is checked yet: a code may come twice,
 /// and a weight may be any number.
-#[derive(Debug, Drop)]
+#[derive(Drop)]
 pub struct PlanBody {
     pub titles: Rows<Title>,
     pub weights: Rows<Weight>,

@@ -5,21 +5,21 @@ use cpi_codes::{Code, ItemCode, Name};
 use cpi_rows::Keyed;
 
 /// The title of a code, as the desk sends it.
-#[derive(Debug, Drop)]
+#[derive(Drop)]
 pub struct Title {
     pub code: Code,
     pub title: Name,
 }
 
 /// An elementary aggregate's weight, in parts per million.
-#[derive(Clone, Copy, Debug, PartialEq, Eq)]
+#[derive(Clone, Copy, PartialEq, Eq)]
 pub struct Weight {
     pub code: Code,
     pub parts: u32,
 }
 
 /// The elementary aggregate in which an item is placed.
-#[derive(Clone, Copy, Debug, PartialEq, Eq)]
+#[derive(Clone, Copy, PartialEq, Eq)]
 pub struct Place {
     pub item: ItemCode,
     pub aggregate: Code,
@@ -27,7 +27,7 @@ pub struct Place {
 
 /// A code that is an elementary aggregate with weight or above one, with its title and the sum of the weights at and
 /// below it, in parts per million.
-#[derive(Debug, Drop)]
+#[derive(Drop)]
 pub struct Node {
     pub code: Code,
     pub title: Name,

@@ -23,7 +23,7 @@ use std::alloc::{AllocError, Global};
 use std::marker::Model;
 
 /// The plan of a year.
-#[derive(Debug, Drop)]
+#[derive(Drop)]
 pub struct YearPlan {
     year: u16,
     nodes: Vec<Node>,

@@ -14,7 +14,7 @@ const LOWEST_HIGH: u64 = 1000;
 const HIGHEST_HIGH: u64 = 10_000;
 
 /// The lower bound of a price, 1 to 1000 per mille of the last price.
-#[derive(Clone, Copy, Debug, PartialEq, Eq, PartialOrd, Ord)]
+#[derive(Clone, Copy, PartialEq, Eq, PartialOrd, Ord)]
 pub struct LowTolerance {
     per_mille: u16,
 }
@@ -61,7 +61,7 @@ impl LowTolerance {
 }
 
 /// The upper bound of a price, 1000 to 10000 per mille of the last price.
-#[derive(Clone, Copy, Debug, PartialEq, Eq, PartialOrd, Ord)]
+#[derive(Clone, Copy, PartialEq, Eq, PartialOrd, Ord)]
 pub struct HighTolerance {
     per_mille: u16,
 }

@@ -14,7 +14,7 @@ const JANUARY: u8 = 1;
 
 // The link level, the level that the monthly change is from, and the one that the annual change is from, if there is
 // one.
-#[derive(Clone, Copy, Debug)]
+#[derive(Clone, Copy)]
 pub(crate) struct Before {
     pub(crate) link: ChainedLevel,
     pub(crate) month: ChainedLevel,

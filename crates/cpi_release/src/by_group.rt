@@ -24,7 +24,7 @@ use cpi_plan::YearPlan;
 use std::alloc::Global;
 
 // The carried prices of a month, by series, and its table, by code.
-#[derive(Debug, Drop)]
+#[derive(Drop)]
 pub(crate) struct Made {
     pub(crate) carried: Vec<CarriedPrice>,
     pub(crate) levels: Vec<Level>,

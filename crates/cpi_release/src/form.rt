@@ -1,7 +1,7 @@
 //! The forms of a printed table.
 
 /// How a table is printed.
-#[derive(Clone, Copy, Debug, PartialEq, Eq)]
+#[derive(Clone, Copy, PartialEq, Eq)]
 pub enum Form {
     /// In columns.
     Text,

@@ -3,7 +3,7 @@ use crate::revision::Revision;
 use cpi_codes::{Moment, Month};
 
 /// A frozen month in one of its revisions, and the moment at which the table of that revision is published.
-#[derive(Clone, Copy, Debug, PartialEq, Eq)]
+#[derive(Clone, Copy, PartialEq, Eq)]
 pub struct FrozenMonth {
     pub month: Month,
     pub revision: Revision,

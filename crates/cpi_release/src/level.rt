@@ -6,7 +6,7 @@ use cpi_rows::Keyed;
 /// A row of the table of a month: a node of the plan with its title, the sum of the weights in use at and below it,
 /// its index within the year and its chained level, how much that changed against the month and the year before, in
 /// tenths of a percent, and whether a price at or below it was imputed.
-#[derive(Debug, Drop)]
+#[derive(Drop)]
 pub struct Level {
     pub code: Code,
     pub title: Name,

@@ -14,7 +14,7 @@ use std::alloc::{AllocError, Global};
 use std::marker::Model;
 
 /// A printed table, which is a text. It is seen as its bytes.
-#[derive(Debug, Drop)]
+#[derive(Drop)]
 pub struct PrintedTable {
     text: String,
 }

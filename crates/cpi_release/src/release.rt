@@ -11,7 +11,7 @@ use cpi_plan::YearPlan;
 use cpi_rows::{Keyed, Rows};
 
 /// The release of a month in one of its revisions: what was frozen, and what the index made of it.
-#[derive(Debug, Drop)]
+#[derive(Drop)]
 pub struct Release {
     pub month: Month,
     /// 1 where the month was frozen first.
@@ -31,7 +31,7 @@ pub struct Release {
 }
 
 /// The plans by year, and the releases by month and revision.
-#[derive(Debug, Drop)]
+#[derive(Drop)]
 pub struct History {
     pub plans: Rows<YearPlan>,
     pub releases: Rows<Release>,

@@ -6,8 +6,8 @@ use Rattle.sqlite.specs.State.{State, HasCleanDisk, Survives}
 use Rattle.cpi_release.specs.State.{Keeps, Reads}
 use Rattle.cpi_store.specs.Office.{Office}
 use Rattle.cpi_store.specs.Calls.{Writes}
-use Rattle.cpi_sql.specs.Lists.{office_in}
-use Rattle.cpi_sql.specs.Shelf.{HasTables, IsCleanBook, IsKept, IsLook, StaysOpen, office_state}
+use Rattle.cpi_sql_rows.specs.Lists.{office_in}
+use Rattle.cpi_sql_rows.specs.Shelf.{HasTables, IsCleanBook, IsKept, IsLook, StaysOpen, office_state}
 
 module _ (old new : State) (n : ℕ) (tables : IsCleanBook old → HasTables old) where
   keeps : (m : ℕ) → IsLook old new → Keeps (office_state old n) (office_state new m)

@@ -10,7 +10,7 @@ use Rattle.cpi_plan.specs.declared.items.Item.{Item}
 use Rattle.cpi_plan.specs.Calendar.{CalendarPart}
 use Rattle.cpi_plan.specs.Plan.{Plan}
 use Rattle.cpi_release.specs.declared.release.Release.{Release}
-use Rattle.cpi_sql.specs.declared.release_rows.Header.{Header}
+use Rattle.cpi_sql_rows.specs.declared.release_rows.Header.{Header}
 use Rattle.cpi_survey.specs.Public.{PublicPart}
 use Rattle.cpi_survey.specs.Own.{OwnPart}
 use Rattle.cpi_survey.specs.declared.assignment.Assigned.{Assigned}
@@ -20,12 +20,12 @@ use Rattle.cpi_store.specs.declared.outlet.Outlet.{Outlet}
 use Rattle.cpi_store.specs.declared.handover.Handover.{Handover}
 use Rattle.cpi_store.specs.Office.{Office, Assigns, Freezes, HandsOver, PutsCalendar, PutsItem, PutsPlan, PutsOutlet}
 use Rattle.cpi_store.specs.Office.{Quotes, Registers, public_part, own_part}
-use Rattle.cpi_sql.specs.Lists.{collectors_in, outlets_in, office_in}
-use Rattle.cpi_sql.specs.Shelf.{Caches, HasTables, IsCleanBook, IsDone, IsKept, IsLook, IsSound, KeptReleases}
-use Rattle.cpi_sql.specs.Shelf.{ReleasesStand, Stands}
-use Rattle.cpi_sql.specs.LevelTables.{ReleaseLevels, AreTablesOf}
-use Rattle.cpi_sql.proofs.HeaderLists.{header_of, headers_told}
-use Rattle.cpi_sql.proofs.Kept.{kept_tables}
+use Rattle.cpi_sql_rows.specs.Lists.{collectors_in, outlets_in, office_in}
+use Rattle.cpi_sql_rows.specs.Shelf.{Caches, HasTables, IsCleanBook, IsDone, IsKept, IsLook, IsSound, KeptReleases}
+use Rattle.cpi_sql_rows.specs.Shelf.{ReleasesStand, Stands}
+use Rattle.cpi_sql_rows.specs.LevelTables.{ReleaseLevels, AreTablesOf}
+use Rattle.cpi_sql_reads.proofs.HeaderLists.{header_of, headers_told}
+use Rattle.cpi_sql_rows.proofs.Kept.{kept_tables}
 
 -- ---- looks
 

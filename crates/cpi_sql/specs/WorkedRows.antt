@@ -10,8 +10,8 @@ use Rattle.cpi_survey.specs.declared.mark.Reason.TheVariants.{Stock}
 use Rattle.cpi_store.specs.declared.given.Given.{Given}
 use Rattle.cpi_index.specs.Carried.{Carried}
 use Rattle.cpi_release.specs.declared.level.Level.{Level}
-use Rattle.cpi_sql.specs.Lists.{item_in, calendar_in, assignment_in, quote_in, node_in, header_in}
-use Rattle.cpi_sql.specs.Lists.{frozen_in, carried_in, level_in}
+use Rattle.cpi_sql_rows.specs.Lists.{item_in, calendar_in, assignment_in, quote_in, node_in, header_in}
+use Rattle.cpi_sql_rows.specs.Lists.{frozen_in, carried_in, level_in}
 
 -- ---- values. A row is its rowid, and then its columns; where the key is the rowid, its column is NULL
 

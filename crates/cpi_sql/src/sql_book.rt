@@ -1,27 +1,21 @@
-use crate::ask::settle;
-use crate::follow::{
-    follow_calendar, follow_collector, follow_item, follow_outlet, follow_plan, follow_quote,
-};
-use crate::given_rows::given_to;
-use crate::handovers::put_handover;
-use crate::history::{
-    all_months, find_revision, find_table, level_of, months_published, sample_rows,
-};
-use crate::level_table::{LevelTable, lent_table};
-use crate::month_rows::month_rows;
-use crate::open::{OpenFault, open_office};
-use crate::owned::{ready_own, ready_parts};
-use crate::put_plan::put_plan;
-use crate::put_release::put_release;
-use crate::ready::{find_key, ready_bearers, ready_outlets, ready_public};
-use crate::release_rows::Header;
-use crate::writes::{put_assignment, put_calendar, put_collector, put_item, put_outlet, put_quote};
 use cpi_codes::{Code, CollectorId, Key, Moment, Month, OutletId, Slot};
 use cpi_index::{ChainedLevel, FrozenQuote, GroupRow};
 use cpi_plan::{CalendarRow, Item, YearPlan};
 use cpi_release::{Cached, Failures, FrozenMonth, GroupFault, Groups, Level, Release, Revision};
 use cpi_rows::{Rows, RowsByKey, find_row};
-use cpi_store::{Bearer, Book, Given, Handover, Outlet, Parts, StoreFault};
+use cpi_sql_open::open_office;
+use cpi_sql_reads::{
+    LevelTable, all_months, find_key, find_revision, find_table, follow_calendar, follow_collector,
+    follow_item, follow_outlet, follow_plan, follow_quote, lent_table, level_of, month_rows,
+    months_published, ready_bearers, ready_outlets, ready_own, ready_parts, ready_public,
+    sample_rows,
+};
+use cpi_sql_rows::{Header, given_to, settle};
+use cpi_sql_writes::{
+    put_assignment, put_calendar, put_collector, put_handover, put_item, put_outlet, put_plan,
+    put_quote, put_release,
+};
+use cpi_store::{Bearer, Book, Given, Handover, OpenFault, Outlet, Parts, StoreFault};
 use cpi_survey::{Assigned, Own, Public, Quote};
 use sqlite::{Alter, Connection};
 use std::alloc::Global;
@@ -77,7 +71,7 @@ pub struct SqlBook<S: Alter> {
 
 impl<S: Alter> Model for SqlBook<S> {
     ghost use Rattle.sqlite.specs.Held.{state};
-    ghost use Rattle.cpi_sql.specs.Shelf.{Shelf, shelf_code, IsSound};
+    ghost use Rattle.cpi_sql_rows.specs.Shelf.{Shelf, shelf_code, IsSound};
 
     ghost Value = { Shelf S };
 
@@ -106,9 +100,9 @@ impl<S: Alter> Model for SqlBook<S> {
 impl<S: Alter + Drop> SqlBook<S> {
     ghost use Rattle.std.specs.Prelude.{◌≡◌, false, IfOk};
     ghost use Rattle.sqlite.specs.Held.{state};
-    ghost use Rattle.cpi_sql.specs.Shelf.{IsCleanBook};
+    ghost use Rattle.cpi_sql_rows.specs.Shelf.{IsCleanBook};
     ghost use Rattle.sqlite.specs.State.{Survives};
-    ghost use Rattle.cpi_sql.specs.Finding.{IsOpened, MayBeMade};
+    ghost use Rattle.cpi_sql_rows.specs.Finding.{IsOpened, MayBeMade};
 
     /// The office in the database. Where it has no table, the tables are made, all or none; else they are to be those
     /// of the office with the row 2 in `version`, and no row changes, or those of schema 1 with the row 1, which are
@@ -158,7 +152,7 @@ impl<S: Alter> Groups for SqlBook<S> {
     ghost use Rattle.cpi_store.specs.Office.{Office};
     ghost use Rattle.cpi_store.specs.Sources.{office_sources};
     ghost use Rattle.cpi_release.specs.Cached.{IsFit};
-    ghost use Rattle.cpi_sql.specs.Shelf.{book_state};
+    ghost use Rattle.cpi_sql_rows.specs.Shelf.{book_state};
 
     ghost Held = { Office };
 
@@ -205,7 +199,7 @@ impl<S: Alter> Groups for SqlBook<S> {
 
 impl<S: Alter> Book for SqlBook<S> {
     ghost use Rattle.std.specs.Prelude.{◌≡◌, refl};
-    ghost use Rattle.cpi_sql.specs.Shelf.{book_state};
+    ghost use Rattle.cpi_sql_rows.specs.Shelf.{book_state};
 
     ghost state = { book_state S.Store };
 

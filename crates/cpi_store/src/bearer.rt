@@ -6,7 +6,7 @@ use cpi_rows::Keyed;
 
 /// A registered collector: the number, 1 to 9999, and the key of 32 hexadecimal digits that the collector bears. No
 /// two collectors share either.
-#[derive(Clone, Copy, Debug, PartialEq, Eq)]
+#[derive(Clone, Copy, PartialEq, Eq)]
 pub struct Bearer {
     /// The collector's number.
     pub number: CollectorId,

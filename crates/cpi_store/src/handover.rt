@@ -3,7 +3,7 @@ use crate::given::Given;
 use cpi_survey::Assigned;
 
 /// A series that goes from a slot of one collector to a new slot of another, who may be the same.
-#[derive(Debug, Drop)]
+#[derive(Drop)]
 pub struct Handover {
     /// The collector who had the series.
     pub former: Bearer,

@@ -5,7 +5,7 @@ use cpi_codes::{Name, OutletId};
 use cpi_rows::Keyed;
 
 /// An outlet where items are priced. It never changes once it stands.
-#[derive(Debug, Drop)]
+#[derive(Drop)]
 pub struct Outlet {
     /// The outlet's number, 1 to 999999.
     pub number: OutletId,

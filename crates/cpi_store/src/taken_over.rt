@@ -9,7 +9,7 @@ use cpi_codes::{CollectorId, SeriesId, Slot};
 use cpi_rows::{Keyed, find_row};
 
 /// A slot that took a series over, with that series.
-#[derive(Clone, Copy, Debug)]
+#[derive(Clone, Copy)]
 pub struct TakenOver {
     pub collector: CollectorId,
     pub slot: Slot,

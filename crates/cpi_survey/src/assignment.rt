@@ -54,7 +54,7 @@ impl Keyed for Assignment {
 }
 
 /// An assignment with its outlet's name, as its collector sees it.
-#[derive(Debug, Drop)]
+#[derive(Drop)]
 pub struct Assigned {
     /// What the slot is for.
     pub assignment: Assignment,

@@ -1,7 +1,7 @@
 use crate::quote::Quote;
 
 /// How an entry of a quote is decided, where it isn't refused.
-#[derive(Clone, Copy, Debug, PartialEq, Eq)]
+#[derive(Clone, Copy, PartialEq, Eq)]
 pub enum Decision {
     /// The quote stands already with the same mark, and this is its receipt. Nothing is to be stored.
     Again(u32),

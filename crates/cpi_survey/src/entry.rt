@@ -3,7 +3,7 @@ use cpi_codes::{Month, Slot};
 use std::marker::Model;
 
 /// What a collector sends: what was found for a slot in a month, and whether an unlikely price was looked at once more.
-#[derive(Clone, Copy, Debug, PartialEq, Eq)]
+#[derive(Clone, Copy, PartialEq, Eq)]
 pub struct Entry {
     /// The slot that was priced.
     pub slot: Slot,

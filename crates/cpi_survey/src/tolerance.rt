@@ -8,7 +8,7 @@ use cpi_plan::Item;
 const PER_MILLE: u64 = 1000;
 
 /// How a price lies to the bounds that an item sets round the last price.
-#[derive(Clone, Copy, Debug, PartialEq, Eq)]
+#[derive(Clone, Copy, PartialEq, Eq)]
 pub enum Verdict {
     /// Between the bounds, or at one of them.
     Inside,

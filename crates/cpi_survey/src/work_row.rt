@@ -3,7 +3,7 @@ use cpi_codes::{ItemCode, Name, OutletId, Price, Slot};
 use std::marker::Model;
 
 /// A row of a work list: what is to be priced in a slot, and what is known of it.
-#[derive(Debug, Drop)]
+#[derive(Drop)]
 pub struct WorkRow {
     /// The slot.
     pub slot: Slot,

@@ -75,7 +75,7 @@ impl Held {
 }
 
 /// How many calls a file takes before it stops.
-#[derive(Clone, Copy, Debug, PartialEq, Eq)]
+#[derive(Clone, Copy, PartialEq, Eq)]
 pub(crate) struct Calls {
     pub(crate) log: u64,
     pub(crate) db: u64,
@@ -181,7 +181,7 @@ fn connected(alloc: Global, files: MemoryFiles, frames: usize) -> Option<Databas
 }
 
 /// How an office in files is let go.
-#[derive(Clone, Copy, Debug, PartialEq, Eq)]
+#[derive(Clone, Copy, PartialEq, Eq)]
 pub(crate) enum End {
     /// Its process ends.
     Process,

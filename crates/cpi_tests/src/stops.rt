@@ -27,7 +27,7 @@ fn prepare(alloc: Global) -> Result<Prepared, Fail> {
 }
 
 // What is found of a command in what the files hold.
-#[derive(Clone, Copy, Debug, PartialEq, Eq)]
+#[derive(Clone, Copy, PartialEq, Eq)]
 enum Found {
     // the office before it
     Before,
@@ -59,7 +59,7 @@ fn find(alloc: Global, prepared: &Prepared, held: &Held, place: usize) -> Result
 }
 
 // What became of a run.
-#[derive(Clone, Copy, Debug, PartialEq, Eq)]
+#[derive(Clone, Copy, PartialEq, Eq)]
 enum Outcome {
     // A file stopped before the office was open.
     Unopened,

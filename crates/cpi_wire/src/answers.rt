@@ -15,7 +15,7 @@ use cpi_store::Book;
 use std::alloc::{AllocError, Global};
 
 /// What the rows of an import are told.
-#[derive(Debug, Drop)]
+#[derive(Drop)]
 pub struct RowsTold {
     /// The line of their replies.
     pub line: Vec<u8>,

@@ -4,7 +4,7 @@ use cpi_codes::Moment;
 use cpi_office::{Caller, Request};
 
 /// What a record asks.
-#[derive(Debug, Drop)]
+#[derive(Drop)]
 pub enum Ask {
     /// The record is none of the forms, or outside the limits.
     Bad,

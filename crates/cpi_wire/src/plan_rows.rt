@@ -11,7 +11,7 @@ use cpi_plan::{Place, Title, Weight};
 use std::alloc::{AllocError, Global};
 
 /// A row of a plan's body.
-#[derive(Debug, Drop)]
+#[derive(Drop)]
 pub(crate) enum PlanRow {
     Title(Title),
     Weight(Weight),

@@ -6,7 +6,7 @@ use cpi_office::Request;
 use std::marker::Model;
 
 /// The rows of an import in their order, each a request, or none where it is of no form or outside the limits.
-#[derive(Debug, Drop)]
+#[derive(Drop)]
 pub struct ImportRows {
     pub(crate) rows: Vec<Option<Request>>,
 }

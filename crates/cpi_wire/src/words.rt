@@ -19,7 +19,7 @@ use cpi_survey::Entry;
 use std::alloc::{AllocError, Global};
 
 /// The word of a request.
-#[derive(Clone, Copy, Debug, PartialEq, Eq)]
+#[derive(Clone, Copy, PartialEq, Eq)]
 pub(crate) enum Word {
     Items,
     Work,

@@ -1,6 +1,6 @@
 use Rattle.std.proofs.Common.{◌≡◌, arith, rules}
 use Rattle.sqlite.specs.Held.{state}
-use Rattle.cpi_sql.specs.Lists.{collectors_in}
+use Rattle.cpi_sql_rows.specs.Lists.{collectors_in}
 use Rattle.cpi_sql.proofs.Calls.{reads, read_fails}
 use Rattle.cpi_sql.proofs.Followed.{look_sound, tables_of}
 use Rattle.cpi_sql.proofs.sql_book.SqlBookBook.bearer_at.Goals as goal

@@ -1,7 +1,7 @@
 use Rattle.std.proofs.Common.{arith}
 use Rattle.sqlite.specs.Held.{state}
 use Rattle.cpi_sql.proofs.Calls.{reads, read_fails}
-use Rattle.cpi_sql.proofs.Looking.{looks}
+use Rattle.cpi_sql_reads.proofs.Looking.{looks}
 use Rattle.cpi_sql.proofs.Followed.{look_sound, tables_of}
 use Rattle.cpi_sql.proofs.sql_book.SqlBookBook.month_rows.Goals as goal
 

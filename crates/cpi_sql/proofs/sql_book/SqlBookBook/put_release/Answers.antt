@@ -1,6 +1,6 @@
 use Rattle.std.proofs.Common.{arith}
 use Rattle.sqlite.specs.Held.{state}
-use Rattle.cpi_sql.proofs.HeaderLists.{releases_ordered}
+use Rattle.cpi_sql_reads.proofs.HeaderLists.{releases_ordered}
 use Rattle.cpi_sql.proofs.Calls.{writes, write_fails}
 use Rattle.cpi_sql.proofs.Followed.{kept_sound, release_stands, tables_of}
 use Rattle.cpi_sql.proofs.sql_book.SqlBookBook.put_release.Goals as goal

@@ -4,7 +4,7 @@ use Rattle.cpi_sql.proofs.Calls.{reads, read_fails}
 use Rattle.cpi_sql.proofs.Followed.{look_sound, tables_of}
 use Rattle.cpi_release.proofs.Late.{late}
 use Rattle.cpi_store.specs.Sources.{office_sources}
-use Rattle.cpi_sql.specs.Lists.{office_in}
+use Rattle.cpi_sql_rows.specs.Lists.{office_in}
 use Rattle.cpi_sql.proofs.sql_book.SqlBookGroups.rows.Goals as goal
 
 pub invariant_of-self : goal.invariant_of-self

@@ -1,0 +1,13 @@
+pub mod MakeLemmas
+pub mod Undone
+pub mod Versioned
+pub mod NumberedLemmas
+pub mod CopyTexts
+pub mod CopiedRows
+pub mod CopiedTables
+pub mod CopiedLists
+pub mod CopiedOffice
+pub mod CopySteps
+pub mod ClearSteps
+pub mod FirstNumber
+pub mod Moved

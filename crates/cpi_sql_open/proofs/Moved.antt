@@ -1,0 +1,159 @@
+-- The steps of the migration, taken together.
+use Rattle.std.proofs.Common.{◌≡◌, ℕ, List, [], ◌∷◌, ◌++◌, Ok, Err, Result, OnOk, IsTrue, refl, sym, ap}
+use Rattle.std.proofs.Common.{subst, ◌∙◌, arith}
+use Rattle.sqlite.specs.Order.{Row}
+use Rattle.sqlite.specs.Tree.{Trees}
+use Rattle.sqlite.specs.Effect.{Database}
+use Rattle.sqlite.specs.State.{State, HasCleanDisk, Shown, Survives}
+use Rattle.sqlite.proofs.StateLemmas.{survives_then}
+use Rattle.cpi_sql_rows.specs.Tables.{first_schema, office_schema}
+use Rattle.cpi_sql_rows.specs.Lists.{office_in}
+use Rattle.cpi_sql_rows.specs.FirstSchema.{first_office_in, first_releases_in}
+use Rattle.cpi_sql_rows.specs.Finding.{HaveReleaseRowids, HaveSurveyRowids, IsMigrated, IsMoved, KeepsLists}
+use Rattle.cpi_sql_rows.specs.Making.{MakesTables, AreMade, second_tables}
+use Rattle.cpi_sql_rows.specs.Numbered.{IsVersion, version_text}
+use Rattle.cpi_sql_open.specs.Copies.{HasCopied, IsLeft, IsNumbered, IsReady, KeepsBut}
+use Rattle.cpi_sql_rows.specs.Shelf.{HasRowids}
+use Rattle.cpi_sql_open.proofs.CopiedTables.{left_then}
+use Rattle.cpi_sql_open.proofs.FirstNumber.{first_seen}
+use Rattle.cpi_sql_rows.proofs.Unchanged.{same_releases}
+
+abbrev cleared_trees : List ℕ
+cleared_trees = 20 ∷ 18 ∷ 16 ∷ 15 ∷ 13 ∷ 11 ∷ []
+
+abbrev rest_trees : List ℕ
+rest_trees = cleared_trees ++ 0 ∷ 0 ∷ []
+
+-- the tables that tell of the office are left
+same_office : (old new : Trees) → KeepsBut rest_trees old new → office_in new ≡ office_in old
+same_office old new k = rw (
+  k 1 refl,
+  k 3 refl,
+  k 4 refl,
+  k 6 refl,
+  k 8 refl,
+  k 10 refl,
+  k 22 refl,
+  k 24 refl,
+  k 34 refl,
+  same_releases old new (record {
+    releases = k 26 refl;
+    frozen = k 28 refl;
+    carried = k 30 refl;
+    levels = k 32 refl;
+  }),
+) refl
+
+module _ (a b : State) (m : AreMade first_schema office_schema second_tables a b) where
+  first_releases : first_releases_in b.now.trees ≡ first_releases_in a.now.trees
+  unfolding first_releases_in
+  first_releases = rw (
+    m.others.1.1.1.1.1.1.1.1.1.0,
+    m.others.1.1.1.1.1.1.1.1.1.1.0,
+    m.others.1.1.1.1.1.1.1.1.1.1.1.0,
+    m.others.1.1.1.1.1.1.1.1.1.1.1.1.0,
+  ) refl
+
+  -- the new tables are made beside the old ones
+  first_office : first_office_in b.now.trees ≡ first_office_in a.now.trees
+  first_office = rw (
+    m.others.1.0,
+    m.others.1.1.0,
+    m.others.1.1.1.0,
+    m.others.1.1.1.1.0,
+    m.others.1.1.1.1.1.0,
+    m.others.1.1.1.1.1.1.0,
+    m.others.1.1.1.1.1.1.1.0,
+    m.others.1.1.1.1.1.1.1.1.0,
+    first_releases,
+  ) refl
+
+  module _ (c d e : State) (copied : HasCopied b c) (cleared : IsLeft cleared_trees c d) (n : IsNumbered d e) where
+    rest : KeepsBut rest_trees c.now.trees e.now.trees
+    rest = (left_then cleared_trees (0 ∷ 0 ∷ []) c d e cleared n.left).others
+
+    office : office_in e.now.trees ≡ first_office_in a.now.trees
+    office = same_office c.now.trees e.now.trees rest ∙ copied.office ∙ first_office
+
+    moved : IsMoved a e
+    moved = record {
+      schema = n.left.schema;
+      migrated = record { office = office; version = n.version };
+      lists = record {
+        collectors = rest 1 refl ∙ copied.left.others 1 refl ∙ m.others.1.0;
+        outlets = rest 3 refl ∙ copied.left.others 3 refl ∙ m.others.1.1.0;
+        items = rest 4 refl ∙ copied.left.others 4 refl ∙ m.others.1.1.1.0;
+        nodes = rest 6 refl ∙ copied.left.others 6 refl ∙ m.others.1.1.1.1.0;
+        places = rest 8 refl ∙ copied.left.others 8 refl ∙ m.others.1.1.1.1.1.0;
+        calendar = rest 10 refl ∙ copied.left.others 10 refl ∙ m.others.1.1.1.1.1.1.0;
+      };
+      survey = record {
+        assignments = subst HasRowids (sym (rest 22 refl)) copied.survey.assignments;
+        quotes = subst HasRowids (sym (rest 24 refl)) copied.survey.quotes;
+        references = subst HasRowids (sym (rest 34 refl)) copied.survey.references;
+      };
+      releases = record {
+        headers = subst HasRowids (sym (rest 26 refl)) copied.releases.headers;
+        frozen = subst HasRowids (sym (rest 28 refl)) copied.releases.frozen;
+        carried = subst HasRowids (sym (rest 30 refl)) copied.releases.carried;
+        levels = subst HasRowids (sym (rest 32 refl)) copied.releases.levels;
+      };
+    }
+
+pub all_moved : {A E : Type 0} (r : Result A E) (a b c d e : State) → IsTrue a.in_transaction
+    → a.now.schema ≡ first_schema → IsVersion 1 (a.now.trees 0)
+    → MakesTables first_schema office_schema second_tables a b → (IsReady b → HasCopied b c)
+    → (IsTrue c.in_transaction → c.now.schema ≡ office_schema → IsLeft cleared_trees c d)
+    → (IsTrue d.in_transaction → d.now.schema ≡ office_schema → IsVersion 1 (d.now.trees 0) → OnOk r (IsNumbered d e))
+    → OnOk r (IsMoved a e)
+all_moved (Err x) a b c d e inside first one makes copies clears numbers = tt
+all_moved (Ok x) a b c d e inside first one makes copies clears numbers =
+    let m = makes inside first in
+    let copied = copies (record { inside = m.inside; schema = m.schema; empty = m.empty }) in
+    let cleared = clears copied.left.inside copied.left.schema in
+    let number : d.now.trees 0 ≡ a.now.trees 0 = cleared.others 0 refl ∙ copied.left.others 0 refl ∙ m.others.0 in
+    moved a b m c d e copied cleared
+    (numbers cleared.inside cleared.schema (subst (IsVersion 1) (sym number) one))
+
+-- ---- after the look at the number
+
+-- what is moved depends on the rows and the schema alone
+pub moved_same : (a begun b c : State) → begun.now ≡ a.now → c.now ≡ b.now → IsMoved begun b → IsMoved a c
+moved_same a begun b c start end m = record {
+  schema = ap (λ (d : Database). d.schema) end ∙ m.schema;
+  migrated = subst (λ (d : Database). IsMigrated a.now.trees d.trees) (sym end)
+      (subst (λ (d : Database). IsMigrated d.trees b.now.trees) start m.migrated);
+  lists = subst (λ (d : Database). KeepsLists a.now.trees d.trees) (sym end)
+      (subst (λ (d : Database). KeepsLists d.trees b.now.trees) start m.lists);
+  survey = subst (λ (d : Database). HaveSurveyRowids d.trees) (sym end) m.survey;
+  releases = subst (λ (d : Database). HaveReleaseRowids d.trees) (sym end) m.releases;
+}
+
+pub moved_seen : (a b c : State) (rows : List Row) → IsTrue a.in_transaction → a.now.schema ≡ first_schema
+    → Shown version_text [] a b rows → IsVersion 1 rows
+    → (IsTrue b.in_transaction → b.now.schema ≡ first_schema → IsVersion 1 (b.now.trees 0) → IsMoved b c)
+    → IsMoved a c
+moved_seen a b c rows inside first shown one moves =
+    let seen = first_seen a b rows first shown one in
+    let same : b.now ≡ a.now = seen.unchanged.0.now_is in
+    let m = moves (seen.unchanged.0.mode ∙ inside) (ap (λ (d : Database). d.schema) same ∙ first)
+    (subst (λ (d : Database). IsVersion 1 (d.trees 0)) (sym same) seen.version) in
+    moved_same a b c c same refl m
+
+-- ---- the end of the transaction
+
+-- what a crash may leave of it
+pub moved_survives : (a begun b c : State) → begun.now ≡ a.now → Survives a b (λ _. ⊥)
+    → (HasCleanDisk b → begun.now.schema ≡ first_schema → IsMoved begun b)
+    → Survives b c (λ db. db ≡ b.now.trees)
+    → Survives a c (λ db. a.now.schema ≡ first_schema → IsMigrated a.now.trees db)
+moved_survives a begun b c start one done two =
+    survives_then a b c _ _ _ (λ _ db no. absurd no)
+    (λ clean db is first.
+    let disk : HasCleanDisk b = omega (arith, two.clean) in
+    let m = done disk (ap (λ (d : Database). d.schema) start ∙ first) in
+    subst (IsMigrated a.now.trees) (sym is) (moved_same a begun b b start refl m).migrated) one two
+
+pub unmoved_survives : (a b c : State) → Survives a b (λ _. ⊥) → Survives b c (λ _. ⊥)
+    → Survives a c (λ db. a.now.schema ≡ first_schema → IsMigrated a.now.trees db)
+unmoved_survives a b c one two = survives_then a b c _ _ _ (λ _ db no. absurd no) (λ _ db no. absurd no) one two

@@ -1,0 +1,153 @@
+use Rattle.std.proofs.Common.{subst}
+use Rattle.std.specs.Ordering.{nat_cmp}
+use Rattle.sqlite.specs.Held.{state}
+use Rattle.sqlite.specs.Effect.{Database}
+use Rattle.cpi_sql_rows.specs.Finding.{IsOfOffice}
+use Rattle.cpi_sql_rows.specs.Lists.{outlet_in, item_in, calendar_in}
+use Rattle.cpi_sql_rows.specs.Shelf.{IsKeyed}
+use Rattle.cpi_sql_rows.proofs.Kept.{kept_then}
+use Rattle.cpi_sql_rows.proofs.FoundTables.{schema_after, quiet_then, step_kept}
+use Rattle.cpi_sql_open.proofs.inspect.read_all_small.Goals as goal
+
+pub returns-in_err-_outlets-clause-kept : goal.returns-in_err-_outlets-clause-kept
+returns-in_err-_outlets-clause-kept g c =
+    (step_kept IsOfOffice (state g.S.Store c.args.conn.now) (state g.S.Store c.bearers.new.conn)
+    (state g.S.Store c.outlets.new.conn) c.outlets.ensures.clean
+    c.bearers.ensures.found_kept
+    c.outlets.ensures.found_kept)
+
+pub returns-in_err-_outlets-clause-crash : goal.returns-in_err-_outlets-clause-crash
+returns-in_err-_outlets-clause-crash g c =
+    (quiet_then IsOfOffice (state g.S.Store c.args.conn.now) (state g.S.Store c.bearers.new.conn)
+    (state g.S.Store c.outlets.new.conn) c.in_ok-_bearers.ensures.open
+    c.bearers.ensures.found_kept
+    c.bearers.ensures.found_crash
+    c.outlets.ensures.found_crash)
+
+pub returns-in_err-_items-clause-kept : goal.returns-in_err-_items-clause-kept
+returns-in_err-_items-clause-kept g c =
+    (step_kept IsOfOffice (state g.S.Store c.args.conn.now) (state g.S.Store c.outlets.new.conn)
+    (state g.S.Store c.items.new.conn) c.items.ensures.clean
+    (step_kept IsOfOffice (state g.S.Store c.args.conn.now) (state g.S.Store c.bearers.new.conn)
+    (state g.S.Store c.outlets.new.conn) c.outlets.ensures.clean
+    c.bearers.ensures.found_kept
+    c.outlets.ensures.found_kept)
+    c.items.ensures.found_kept)
+
+pub returns-in_err-_items-clause-crash : goal.returns-in_err-_items-clause-crash
+returns-in_err-_items-clause-crash g c =
+    (quiet_then IsOfOffice (state g.S.Store c.args.conn.now) (state g.S.Store c.outlets.new.conn)
+    (state g.S.Store c.items.new.conn) c.in_ok-_outlets.ensures.open
+    (step_kept IsOfOffice (state g.S.Store c.args.conn.now) (state g.S.Store c.bearers.new.conn)
+    (state g.S.Store c.outlets.new.conn) c.outlets.ensures.clean
+    c.bearers.ensures.found_kept
+    c.outlets.ensures.found_kept)
+    (quiet_then IsOfOffice (state g.S.Store c.args.conn.now) (state g.S.Store c.bearers.new.conn)
+    (state g.S.Store c.outlets.new.conn) c.in_ok-_bearers.ensures.open
+    c.bearers.ensures.found_kept
+    c.bearers.ensures.found_crash
+    c.outlets.ensures.found_crash)
+    c.items.ensures.found_crash)
+
+pub returns-in_err-_calendar-clause-kept : goal.returns-in_err-_calendar-clause-kept
+returns-in_err-_calendar-clause-kept g c =
+    (step_kept IsOfOffice (state g.S.Store c.args.conn.now) (state g.S.Store c.items.new.conn)
+    (state g.S.Store c.calendar.new.conn) c.calendar.ensures.clean
+    (step_kept IsOfOffice (state g.S.Store c.args.conn.now) (state g.S.Store c.outlets.new.conn)
+    (state g.S.Store c.items.new.conn) c.items.ensures.clean
+    (step_kept IsOfOffice (state g.S.Store c.args.conn.now) (state g.S.Store c.bearers.new.conn)
+    (state g.S.Store c.outlets.new.conn) c.outlets.ensures.clean
+    c.bearers.ensures.found_kept
+    c.outlets.ensures.found_kept)
+    c.items.ensures.found_kept)
+    c.calendar.ensures.found_kept)
+
+pub returns-in_err-_calendar-clause-crash : goal.returns-in_err-_calendar-clause-crash
+returns-in_err-_calendar-clause-crash g c =
+    (quiet_then IsOfOffice (state g.S.Store c.args.conn.now) (state g.S.Store c.items.new.conn)
+    (state g.S.Store c.calendar.new.conn) c.in_ok-_items.ensures.open
+    (step_kept IsOfOffice (state g.S.Store c.args.conn.now) (state g.S.Store c.outlets.new.conn)
+    (state g.S.Store c.items.new.conn) c.items.ensures.clean
+    (step_kept IsOfOffice (state g.S.Store c.args.conn.now) (state g.S.Store c.bearers.new.conn)
+    (state g.S.Store c.outlets.new.conn) c.outlets.ensures.clean
+    c.bearers.ensures.found_kept
+    c.outlets.ensures.found_kept)
+    c.items.ensures.found_kept)
+    (quiet_then IsOfOffice (state g.S.Store c.args.conn.now) (state g.S.Store c.outlets.new.conn)
+    (state g.S.Store c.items.new.conn) c.in_ok-_outlets.ensures.open
+    (step_kept IsOfOffice (state g.S.Store c.args.conn.now) (state g.S.Store c.bearers.new.conn)
+    (state g.S.Store c.outlets.new.conn) c.outlets.ensures.clean
+    c.bearers.ensures.found_kept
+    c.outlets.ensures.found_kept)
+    (quiet_then IsOfOffice (state g.S.Store c.args.conn.now) (state g.S.Store c.bearers.new.conn)
+    (state g.S.Store c.outlets.new.conn) c.in_ok-_bearers.ensures.open
+    c.bearers.ensures.found_kept
+    c.bearers.ensures.found_crash
+    c.outlets.ensures.found_crash)
+    c.items.ensures.found_crash)
+    c.calendar.ensures.found_crash)
+
+pub returns-clause-kept : goal.returns-clause-kept
+returns-clause-kept g c =
+    (step_kept IsOfOffice (state g.S.Store c.args.conn.now) (state g.S.Store c.items.new.conn)
+    (state g.S.Store c.calendar.new.conn) c.calendar.ensures.clean
+    (step_kept IsOfOffice (state g.S.Store c.args.conn.now) (state g.S.Store c.outlets.new.conn)
+    (state g.S.Store c.items.new.conn) c.items.ensures.clean
+    (step_kept IsOfOffice (state g.S.Store c.args.conn.now) (state g.S.Store c.bearers.new.conn)
+    (state g.S.Store c.outlets.new.conn) c.outlets.ensures.clean
+    c.bearers.ensures.found_kept
+    c.outlets.ensures.found_kept)
+    c.items.ensures.found_kept)
+    c.calendar.ensures.found_kept)
+
+pub returns-clause-crash : goal.returns-clause-crash
+returns-clause-crash g c =
+    (quiet_then IsOfOffice (state g.S.Store c.args.conn.now) (state g.S.Store c.items.new.conn)
+    (state g.S.Store c.calendar.new.conn) c.in_ok-_items.ensures.open
+    (step_kept IsOfOffice (state g.S.Store c.args.conn.now) (state g.S.Store c.outlets.new.conn)
+    (state g.S.Store c.items.new.conn) c.items.ensures.clean
+    (step_kept IsOfOffice (state g.S.Store c.args.conn.now) (state g.S.Store c.bearers.new.conn)
+    (state g.S.Store c.outlets.new.conn) c.outlets.ensures.clean
+    c.bearers.ensures.found_kept
+    c.outlets.ensures.found_kept)
+    c.items.ensures.found_kept)
+    (quiet_then IsOfOffice (state g.S.Store c.args.conn.now) (state g.S.Store c.outlets.new.conn)
+    (state g.S.Store c.items.new.conn) c.in_ok-_outlets.ensures.open
+    (step_kept IsOfOffice (state g.S.Store c.args.conn.now) (state g.S.Store c.bearers.new.conn)
+    (state g.S.Store c.outlets.new.conn) c.outlets.ensures.clean
+    c.bearers.ensures.found_kept
+    c.outlets.ensures.found_kept)
+    (quiet_then IsOfOffice (state g.S.Store c.args.conn.now) (state g.S.Store c.bearers.new.conn)
+    (state g.S.Store c.outlets.new.conn) c.in_ok-_bearers.ensures.open
+    c.bearers.ensures.found_kept
+    c.bearers.ensures.found_crash
+    c.outlets.ensures.found_crash)
+    c.items.ensures.found_crash)
+    c.calendar.ensures.found_crash)
+
+pub returns-clause-keyed : goal.returns-clause-keyed
+returns-clause-keyed g c = λ clean alone has.
+    let start = state g.S.Store c.args.conn.now in
+    let s_1 = state g.S.Store c.bearers.new.conn in
+    let s_2 = state g.S.Store c.outlets.new.conn in
+    let s_3 = state g.S.Store c.items.new.conn in
+    let clean_3 = c.calendar.ensures.clean clean in
+    let clean_2 = c.items.ensures.clean clean_3 in
+    let clean_1 = c.outlets.ensures.clean clean_2 in
+    let kept_1 = c.bearers.ensures.found_kept clean_1 alone (has) in
+    let has_1 = schema_after IsOfOffice start s_1 kept_1 has in
+    let kept_2 = c.outlets.ensures.found_kept clean_2 kept_1.alone (has_1) in
+    let has_2 = schema_after IsOfOffice s_1 s_2 kept_2 has_1 in
+    let both_2 = kept_then start s_1 s_2 kept_1 kept_2 in
+    let kept_3 = c.items.ensures.found_kept clean_3 kept_2.alone (has_2) in
+    let has_3 = schema_after IsOfOffice s_2 s_3 kept_3 has_2 in
+    let both_3 = kept_then start s_2 s_3 both_2 kept_3 in
+    record {
+      collectors = c.in_ok-_bearers.ensures.found_keyed clean_1 has;
+      outlets = subst (λ (d : Database). IsKeyed nat_cmp (λ u. u.number) outlet_in (d.trees 3)) kept_1.now
+          (c.in_ok-_outlets.ensures.found_keyed clean_2 has_1);
+      items = subst (λ (d : Database). IsKeyed nat_cmp (λ i. i.code) item_in (d.trees 4)) both_2.now
+          (c.in_ok-_items.ensures.found_keyed clean_3 has_2);
+      calendar = subst (λ (d : Database). IsKeyed nat_cmp (λ r. r.month) calendar_in (d.trees 10)) both_3.now
+          (c.in_ok-_calendar.ensures.found_keyed clean has_3);
+    }

@@ -1,0 +1,11 @@
+-- What a number of the schema says of the rows of `version`.
+use Rattle.std.specs.Prelude.{List}
+use Rattle.sqlite.specs.Order.{Row}
+use Rattle.cpi_sql_open.specs.declared.version.Version.{Version}
+use Rattle.cpi_sql_open.specs.declared.version.Version.TheVariants.{First, Second, Other}
+use Rattle.cpi_sql_rows.specs.Numbered.{IsVersion}
+
+abbrev pub Says : Version → List Row → Type 0
+Says First rows = IsVersion 1 rows
+Says Second rows = IsVersion 2 rows
+Says Other rows = (IsVersion 1 rows → ⊥) × (IsVersion 2 rows → ⊥)

@@ -1,0 +1,77 @@
+//! The rows of schema 1, brought into the tables of schema 2 in one transaction.
+ghost use Rattle.std.specs.Prelude.{◌≡◌, false, IsTrue, OnOk, OnErr};
+ghost use Rattle.sqlite.specs.Held.{state};
+ghost use Rattle.sqlite.specs.State.{HasCleanDisk, KeepsCommit, Survives};
+ghost use Rattle.cpi_sql_rows.specs.Finding.{IsMigrated, IsMoved};
+ghost use Rattle.cpi_sql_rows.specs.Numbered.{IsVersion};
+ghost use Rattle.cpi_sql_rows.specs.Shelf.{IsCleanBook};
+ghost use Rattle.cpi_sql_rows.specs.Tables.{first_schema};
+
+use crate::copy_rows::{clear_rows, copy_rows, number_again};
+use crate::make::make_revisions;
+use crate::version::{Version, look};
+use cpi_sql_rows::Unread;
+use sqlite::{Alter, Connection, Error, Transaction};
+
+// The new tables, their rows, and the number.
+fn rewrite<S: Alter>(tx: &mut Transaction<'_, S>) -> Result<(), Error>
+    ensures same_reference { tx.new.conn.ghost_name ≡ tx.old.conn.ghost_name }
+    ensures moved { HasCleanDisk (state S.Store tx.new.conn.now) →
+        IsTrue (state S.Store tx.old.conn.now).in_transaction →
+        (state S.Store tx.old.conn.now).now.schema ≡ first_schema →
+        IsVersion 1 ((state S.Store tx.old.conn.now).now.trees 0) →
+        OnOk result (IsMoved (state S.Store tx.old.conn.now) (state S.Store tx.new.conn.now)) }
+    ensures kept { HasCleanDisk (state S.Store tx.new.conn.now) →
+        KeepsCommit (state S.Store tx.old.conn.now) (state S.Store tx.new.conn.now) }
+    ensures survives { Survives (state S.Store tx.old.conn.now) (state S.Store tx.new.conn.now) (λ _. ⊥) }
+{
+    make_revisions(tx)?;
+    copy_rows(tx)?;
+    clear_rows(tx)?;
+    number_again(tx)
+}
+
+// The same, once the number is seen to be that of schema 1.
+fn move_rows<S: Alter>(tx: &mut Transaction<'_, S>) -> Result<(), Unread>
+    ensures same_reference { tx.new.conn.ghost_name ≡ tx.old.conn.ghost_name }
+    ensures moved { HasCleanDisk (state S.Store tx.new.conn.now) →
+        IsTrue (state S.Store tx.old.conn.now).in_transaction →
+        (state S.Store tx.old.conn.now).now.schema ≡ first_schema →
+        OnOk result (IsMoved (state S.Store tx.old.conn.now) (state S.Store tx.new.conn.now)) }
+    ensures kept { HasCleanDisk (state S.Store tx.new.conn.now) →
+        IsTrue (state S.Store tx.old.conn.now).in_transaction →
+        KeepsCommit (state S.Store tx.old.conn.now) (state S.Store tx.new.conn.now) }
+    ensures survives { Survives (state S.Store tx.old.conn.now) (state S.Store tx.new.conn.now) (λ _. ⊥) }
+{
+    match look(tx)? {
+        Version::First => {}
+        Version::Second | Version::Other => return Err(Unread),
+    }
+    rewrite(tx)?;
+    Ok(())
+}
+
+/// Brings the rows of a file of schema 1 into the tables of schema 2: all of them, or none.
+#[tactic(auto, using(crate::proofs::Moved::moved_same, crate::proofs::Moved::unmoved_survives))]
+pub fn migrate<S: Alter>(conn: &mut Connection<S>) -> Result<(), Unread>
+    requires { (state S.Store conn.old).in_transaction ≡ false }
+    ensures alone { (state S.Store conn.new).in_transaction ≡ false }
+    ensures clean { IsCleanBook (state S.Store conn.new) → IsCleanBook (state S.Store conn.old) }
+    ensures open { HasCleanDisk (state S.Store conn.new) → OnOk result (IsTrue (state S.Store conn.new).is_open) }
+    ensures moved { HasCleanDisk (state S.Store conn.new) → (state S.Store conn.old).now.schema ≡ first_schema →
+        OnOk result (IsMoved (state S.Store conn.old) (state S.Store conn.new)) }
+    ensures undone { HasCleanDisk (state S.Store conn.new) → IsTrue (state S.Store conn.new).is_open →
+        OnErr result ((state S.Store conn.new).now ≡ (state S.Store conn.old).now) }
+    ensures crash { Survives (state S.Store conn.old) (state S.Store conn.new)
+        (λ db. (state S.Store conn.old).now.schema ≡ first_schema → IsMigrated (state S.Store conn.old).now.trees db) }
+{
+    let _settled = conn.is_autocommit();
+    let mut tx = conn.transaction();
+    move_rows(&mut tx)?;
+    let done = tx.commit();
+    let _settled_again = conn.is_autocommit();
+    match done {
+        Ok(()) => Ok(()),
+        Err(_) => Err(Unread),
+    }
+}

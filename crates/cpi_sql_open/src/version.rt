@@ -1,0 +1,93 @@
+//! The number of the schema, which is in the one row of `version`.
+ghost use Rattle.std.specs.Prelude.{◌≡◌, ◌↔◌, [], false, pos, IfOk, IsTrue};
+ghost use Rattle.sqlite.specs.declared.types.Value.TheVariants.{Int};
+ghost use Rattle.sqlite.specs.Held.{state};
+ghost use Rattle.sqlite.specs.Order.{column};
+ghost use Rattle.sqlite.specs.State.{HasCleanDisk, KeepsCommit, Shown, Survives};
+ghost use Rattle.cpi_sql_open.specs.declared.version.Version.TheVariants.{Second, Other};
+ghost use Rattle.cpi_sql_rows.specs.Numbered.{IsVersion, ShowsOther, version_text};
+ghost use Rattle.cpi_sql_open.specs.Said.{Says};
+ghost use Rattle.cpi_sql_rows.specs.Shelf.{IsCleanBook};
+ghost use Rattle.cpi_sql_rows.specs.Tables.{office_schema};
+
+use sqlite::{Alter, Connection, Error, Row, Transaction};
+use sqlite_value::value::ValueRef;
+
+/// What `version` shows.
+#[derive(Clone, Copy, PartialEq, Eq)]
+pub enum Version {
+    /// One row, which is 1.
+    First,
+    /// One row, which is 2.
+    Second,
+    /// Other rows.
+    Other,
+}
+
+const VERSION: &str = "SELECT number FROM version";
+
+fn begins_with(row: &Row, number: u8) -> bool
+    ensures { IsTrue result ↔ (column row.now 0 ≡ Int (pos number)) }
+{
+    match row.get_ref(0) {
+        Ok(ValueRef::Int(found)) => found == i64::from(number),
+        _ => false,
+    }
+}
+
+fn is_version(rows: &[Row], number: u8) -> bool
+    ensures { IsTrue result ↔ IsVersion number rows.now }
+{
+    match rows {
+        [row] => begins_with(row, number),
+        _ => false,
+    }
+}
+
+fn said(rows: &[Row]) -> Version
+    ensures { Says result rows.now }
+{
+    if is_version(rows, 1) {
+        Version::First
+    } else if is_version(rows, 2) {
+        Version::Second
+    } else {
+        Version::Other
+    }
+}
+
+/// What is shown under whatever schema.
+pub fn look<S: Alter>(tx: &mut Transaction<'_, S>) -> Result<Version, Error>
+    ensures same_reference { tx.new.conn.ghost_name ≡ tx.old.conn.ghost_name }
+    ensures shown { HasCleanDisk (state S.Store tx.new.conn.now) → IfOk result (λ v. (rows : _) ×
+        Shown version_text [] (state S.Store tx.old.conn.now) (state S.Store tx.new.conn.now) rows × Says v rows) }
+    ensures kept { HasCleanDisk (state S.Store tx.new.conn.now) →
+        IsTrue (state S.Store tx.old.conn.now).in_transaction →
+        KeepsCommit (state S.Store tx.old.conn.now) (state S.Store tx.new.conn.now) }
+    ensures survives { Survives (state S.Store tx.old.conn.now) (state S.Store tx.new.conn.now) (λ _. ⊥) }
+{
+    match tx.query_all(VERSION, &[]) {
+        Ok(rows) => Ok(said(&rows)),
+        Err(error) => Err(error),
+    }
+}
+
+/// The number of the schema, under any schema. Whatever the text means there is undone.
+pub fn read_version<S: Alter>(conn: &mut Connection<S>) -> Result<Version, Error>
+    requires { (state S.Store conn.old).in_transaction ≡ false }
+    ensures alone { (state S.Store conn.new).in_transaction ≡ false }
+    ensures clean { IsCleanBook (state S.Store conn.new) → IsCleanBook (state S.Store conn.old) }
+    ensures undone { HasCleanDisk (state S.Store conn.new) → IsTrue (state S.Store conn.new).is_open →
+        (state S.Store conn.new).now ≡ (state S.Store conn.old).now }
+    ensures second { HasCleanDisk (state S.Store conn.new) → IfOk result (λ v. v ≡ Second →
+        (state S.Store conn.old).now.schema ≡ office_schema → IsVersion 2 ((state S.Store conn.old).now.trees 0)) }
+    ensures other { HasCleanDisk (state S.Store conn.new) →
+        IfOk result (λ v. v ≡ Other → ShowsOther S.Store conn.old) }
+    ensures survives { Survives (state S.Store conn.old) (state S.Store conn.new) (λ _. ⊥) }
+{
+    let _settled = conn.is_autocommit();
+    let mut tx = conn.transaction();
+    let found = look(&mut tx);
+    tx.rollback();
+    found
+}

@@ -1,0 +1,11 @@
+use Rattle.std.proofs.Common.{sym, ap, ◌∙◌}
+use Rattle.sqlite.specs.Held.{state}
+use Rattle.cpi_sql_reads.specs.Headers.{months_until}
+use Rattle.cpi_sql_reads.proofs.HeaderLists.{tables_are}
+use Rattle.cpi_sql_reads.proofs.history.months_published.Goals as goal
+
+pub returns-in-Ok-clause-read : goal.returns-in-Ok-clause-read
+returns-in-Ok-clause-read g c = λ clean has stood.
+    let rows = c.ready_headers.ensures.stands clean has stood c.in_ok-ready_headers.ensures.ready in
+    c.in-Ok.ensures ∙ ap (months_until c.args.until) (c.deref.ensures.value ∙ rows)
+    ∙ sym (tables_are (state g.S.Store c.args.conn.now).now.trees c.args.until)

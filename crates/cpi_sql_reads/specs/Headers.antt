@@ -1,0 +1,36 @@
+-- What the headers tell of the releases without the rows of their lists.
+use Rattle.std.specs.Prelude.{ℕ, ◌==◌, ◌&&◌, nat_le, Bool, List, Option, filter, map, option_map}
+use Rattle.std.specs.List.{list_any}
+use Rattle.cpi_release.specs.Latest.{latest}
+use Rattle.cpi_release.specs.declared.frozen_month.FrozenMonth.{FrozenMonth}
+use Rattle.cpi_sql_rows.specs.declared.release_rows.Header.{Header}
+
+abbrev pub header_month : Header → FrozenMonth
+header_month h = record { month = h.month; revision = h.revision; publishes = h.publishes }
+
+abbrev pub months_of : List Header → List FrozenMonth
+months_of headers = map header_month headers
+
+-- those whose moment of publishing has come
+abbrev pub headers_until : ℕ → List Header → List Header
+headers_until until headers = filter (λ h. nat_le h.publishes until) headers
+
+abbrev pub months_until : ℕ → List Header → List FrozenMonth
+months_until until headers = months_of (headers_until until headers)
+
+-- the header of the latest release of a month
+abbrev pub latest_header : ℕ → List Header → Option Header
+latest_header month headers = latest (λ h. h.month) month headers
+
+-- the latest revision whose moment of publishing has come
+abbrev pub revision_published : ℕ → ℕ → List Header → Option ℕ
+revision_published month until headers = option_map (λ h. h.revision) (latest_header month (headers_until until headers))
+
+-- whether there is that release
+abbrev pub has_release : ℕ → ℕ → List Header → Bool
+has_release month revision headers = list_any (λ h. (h.month == month) && (h.revision == revision)) headers
+
+-- whether the month's table is published in that revision
+abbrev pub is_there : ℕ → ℕ → ℕ → List Header → Bool
+is_there month revision until headers =
+    list_any (λ h. (h.month == month) && ((h.revision == revision) && nat_le h.publishes until)) headers

@@ -1,0 +1,2 @@
+pub mod MonthRows
+pub mod Headers

@@ -1,0 +1,234 @@
+-- The tests of an open, taken together.
+use Rattle.std.proofs.Common.{◌≡◌, inl, inr, ℕ, List, [], ◌∷◌, codes, false, Result, OnOk, Ok, Err, IsTrue, arith, refl}
+use Rattle.std.proofs.Common.{sym, subst}
+use Rattle.sqlite.specs.Tree.{Trees}
+use Rattle.sqlite.specs.Effect.{Database}
+use Rattle.sqlite.specs.Listing.{understood}
+use Rattle.sqlite.specs.State.{State, IsLive, HasCleanDisk, Survives}
+use Rattle.sqlite.proofs.StateLemmas.{survives_then, survives_weaker}
+use Rattle.sqlite_catalog.specs.Listing.{IsSound}
+use Rattle.sqlite_trees.specs.View.{doubt}
+use Rattle.sqlite_trees.specs.Memory.{memory_view}
+use Rattle.sqlite_trees.specs.declared.memory.MemStore.{MemStore}
+use Rattle.sqlite_tied.specs.Compute.{everything}
+use Rattle.sqlite.specs.Schema.{Schema}
+use Rattle.cpi_sql_rows.specs.Tables.{first_schema, office_schema}
+use Rattle.cpi_sql_rows.specs.Finding.{AsksRowids, HaveRowids, HavePlanRowids, AreKeyed, IsOfOffice, IsSecond, IsQuiet}
+use Rattle.cpi_sql_rows.specs.Finding.{IsQuietOver, KeepsLists, IsMoved}
+use Rattle.cpi_sql_rows.specs.Shelf.{HasTables, HasRowids, IsKept, IsCleanBook}
+use Rattle.cpi_sql_rows.proofs.Kept.{kept_then}
+use Rattle.cpi_sql_rows.proofs.Found.{assignments_keyed, quotes_keyed}
+use Rattle.cpi_sql_rows.proofs.FoundPlans.{nodes_keyed, places_keyed, references_keyed}
+use Rattle.cpi_sql_rows.proofs.FoundReleases.{headers_keyed, frozen_keyed, carried_keyed, levels_keyed}
+
+-- ---- the texts that ask for rowids
+
+first_node_rowids : AsksRowids first_schema (codes "SELECT rowid FROM node ORDER BY rowid") 6
+unfolding understood everything
+first_node_rowids = record { names = codes "rowid" ∷ []; command = refl; listing = refl; plain = (refl, refl) }
+
+second_node_rowids : AsksRowids office_schema (codes "SELECT rowid FROM node ORDER BY rowid") 6
+unfolding understood everything
+second_node_rowids = record { names = codes "rowid" ∷ []; command = refl; listing = refl; plain = (refl, refl) }
+
+first_plan_item_rowids : AsksRowids first_schema (codes "SELECT rowid FROM plan_item ORDER BY rowid") 8
+unfolding understood everything
+first_plan_item_rowids = record { names = codes "rowid" ∷ []; command = refl; listing = refl; plain = (refl, refl) }
+
+second_plan_item_rowids : AsksRowids office_schema (codes "SELECT rowid FROM plan_item ORDER BY rowid") 8
+unfolding understood everything
+second_plan_item_rowids = record { names = codes "rowid" ∷ []; command = refl; listing = refl; plain = (refl, refl) }
+
+first_calendar_rowids : AsksRowids first_schema (codes "SELECT rowid FROM calendar ORDER BY rowid") 10
+unfolding understood everything
+first_calendar_rowids = record { names = codes "month" ∷ []; command = refl; listing = refl; plain = (refl, refl) }
+
+second_calendar_rowids : AsksRowids office_schema (codes "SELECT rowid FROM calendar ORDER BY rowid") 10
+unfolding understood everything
+second_calendar_rowids = record { names = codes "month" ∷ []; command = refl; listing = refl; plain = (refl, refl) }
+
+under_both : (text : List ℕ) (tree : ℕ) → AsksRowids first_schema text tree → AsksRowids office_schema text tree
+    → (schema : Schema) → IsOfOffice schema → AsksRowids schema text tree
+under_both text tree one two schema (inl e) = subst (λ s. AsksRowids s text tree) (sym e) one
+under_both text tree one two schema (inr e) = subst (λ s. AsksRowids s text tree) (sym e) two
+
+under_second : (text : List ℕ) (tree : ℕ) → AsksRowids office_schema text tree → (schema : Schema) → IsSecond schema
+    → AsksRowids schema text tree
+under_second text tree two schema e = subst (λ s. AsksRowids s text tree) (sym e) two
+
+pub node_rowids : (schema : Schema) → IsOfOffice schema
+    → AsksRowids schema (codes "SELECT rowid FROM node ORDER BY rowid") 6
+node_rowids = under_both _ 6 first_node_rowids second_node_rowids
+
+pub plan_item_rowids : (schema : Schema) → IsOfOffice schema
+    → AsksRowids schema (codes "SELECT rowid FROM plan_item ORDER BY rowid") 8
+plan_item_rowids = under_both _ 8 first_plan_item_rowids second_plan_item_rowids
+
+pub calendar_rowids : (schema : Schema) → IsOfOffice schema
+    → AsksRowids schema (codes "SELECT rowid FROM calendar ORDER BY rowid") 10
+calendar_rowids = under_both _ 10 first_calendar_rowids second_calendar_rowids
+
+second_assignment_rowids : AsksRowids office_schema (codes "SELECT rowid FROM assignment_2 ORDER BY rowid") 22
+unfolding understood everything
+second_assignment_rowids = record { names = codes "rowid" ∷ []; command = refl; listing = refl; plain = (refl, refl) }
+
+pub assignment_rowids : (schema : Schema) → IsSecond schema
+    → AsksRowids schema (codes "SELECT rowid FROM assignment_2 ORDER BY rowid") 22
+assignment_rowids = under_second _ 22 second_assignment_rowids
+
+second_quote_rowids : AsksRowids office_schema (codes "SELECT rowid FROM quote_2 ORDER BY rowid") 24
+unfolding understood everything
+second_quote_rowids = record { names = codes "rowid" ∷ []; command = refl; listing = refl; plain = (refl, refl) }
+
+pub quote_rowids : (schema : Schema) → IsSecond schema
+    → AsksRowids schema (codes "SELECT rowid FROM quote_2 ORDER BY rowid") 24
+quote_rowids = under_second _ 24 second_quote_rowids
+
+second_reference_rowids : AsksRowids office_schema (codes "SELECT rowid FROM plan_ref ORDER BY rowid") 34
+unfolding understood everything
+second_reference_rowids = record { names = codes "year" ∷ []; command = refl; listing = refl; plain = (refl, refl) }
+
+pub reference_rowids : (schema : Schema) → IsSecond schema
+    → AsksRowids schema (codes "SELECT rowid FROM plan_ref ORDER BY rowid") 34
+reference_rowids = under_second _ 34 second_reference_rowids
+
+second_release_rowids : AsksRowids office_schema (codes "SELECT rowid FROM release_2 ORDER BY rowid") 26
+unfolding understood everything
+second_release_rowids = record { names = codes "rowid" ∷ []; command = refl; listing = refl; plain = (refl, refl) }
+
+pub release_rowids : (schema : Schema) → IsSecond schema
+    → AsksRowids schema (codes "SELECT rowid FROM release_2 ORDER BY rowid") 26
+release_rowids = under_second _ 26 second_release_rowids
+
+second_frozen_rowids : AsksRowids office_schema (codes "SELECT rowid FROM frozen_2 ORDER BY rowid") 28
+unfolding understood everything
+second_frozen_rowids = record { names = codes "rowid" ∷ []; command = refl; listing = refl; plain = (refl, refl) }
+
+pub frozen_rowids : (schema : Schema) → IsSecond schema
+    → AsksRowids schema (codes "SELECT rowid FROM frozen_2 ORDER BY rowid") 28
+frozen_rowids = under_second _ 28 second_frozen_rowids
+
+second_carried_rowids : AsksRowids office_schema (codes "SELECT rowid FROM carried_2 ORDER BY rowid") 30
+unfolding understood everything
+second_carried_rowids = record { names = codes "rowid" ∷ []; command = refl; listing = refl; plain = (refl, refl) }
+
+pub carried_rowids : (schema : Schema) → IsSecond schema
+    → AsksRowids schema (codes "SELECT rowid FROM carried_2 ORDER BY rowid") 30
+carried_rowids = under_second _ 30 second_carried_rowids
+
+second_level_rowids : AsksRowids office_schema (codes "SELECT rowid FROM level_2 ORDER BY rowid") 32
+unfolding understood everything
+second_level_rowids = record { names = codes "rowid" ∷ []; command = refl; listing = refl; plain = (refl, refl) }
+
+pub level_rowids : (schema : Schema) → IsSecond schema
+    → AsksRowids schema (codes "SELECT rowid FROM level_2 ORDER BY rowid") 32
+level_rowids = under_second _ 32 second_level_rowids
+
+pub schema_after : (Fits : Schema → Type 0) (a b : State) → IsKept a b → Fits a.now.schema → Fits b.now.schema
+schema_after Fits a b k has = subst (λ (d : Database). Fits d.schema) (sym k.now) has
+
+pub on_more : {A E : Type 0} (r : Result A E) (P Q : Type 0) → OnOk r P → (P → Q) → OnOk r Q
+on_more (Ok a) P Q h f = f h
+on_more (Err e) P Q h f = tt
+
+pub on_any : {A E : Type 0} (r : Result A E) (P : Type 0) → P → OnOk r P
+on_any (Ok a) P h = h
+on_any (Err e) P h = tt
+
+pub found_tables : (s : State) → s.in_transaction ≡ false → s.now.schema ≡ office_schema → IsTrue s.is_open → IsLive s
+    → AreKeyed s.now.trees → HaveRowids s.now.trees → HasTables s
+found_tables s alone has is_open live keyed rise =
+    let sound : IsSound office_schema s.now.trees = subst (λ x. IsSound x s.now.trees) has (live is_open).0 in
+    record {
+      schema = has;
+      alone = alone;
+      rowids = rise.survey.quotes;
+      days = rise.plans.calendar;
+      assignment_ids = rise.survey.assignments;
+      collectors = keyed.collectors;
+      outlets = keyed.outlets;
+      items = keyed.items;
+      calendar = keyed.calendar;
+      assignments = assignments_keyed s.now.trees sound rise.survey.assignments;
+      quotes = quotes_keyed s.now.trees sound rise.survey.quotes;
+      plans = record {
+        node_ids = rise.plans.nodes;
+        place_ids = rise.plans.places;
+        reference_ids = rise.survey.references;
+        nodes = nodes_keyed s.now.trees sound rise.plans.nodes;
+        places = places_keyed s.now.trees sound rise.plans.places;
+        references = references_keyed (s.now.trees 34);
+      };
+      releases = record {
+        frozen_ids = rise.releases.frozen;
+        carried_ids = rise.releases.carried;
+        level_ids = rise.releases.levels;
+        releases = headers_keyed s.now.trees sound rise.releases.headers;
+        frozen = frozen_keyed s.now.trees sound rise.releases.frozen;
+        carried = carried_keyed s.now.trees sound rise.releases.carried;
+        levels = levels_keyed s.now.trees sound rise.releases.levels;
+      };
+    }
+
+pub clean_memory : (s : MemStore) → doubt (memory_view s).is_clean ≡ 0
+unfolding doubt
+clean_memory s = refl
+
+abbrev pub Keeps : (Schema → Type 0) → State → State → Type 0
+Keeps Fits a b = IsCleanBook b → a.in_transaction ≡ false → Fits a.now.schema → IsKept a b
+
+-- two looks in turn, the first of which left the connection open
+pub quiet_then : (Fits : Schema → Type 0) (a b c : State) → (HasCleanDisk b → IsTrue b.is_open) → Keeps Fits a b
+    → Survives a b (λ _. IsQuietOver Fits a) → Survives b c (λ _. IsQuietOver Fits b)
+    → Survives a c (λ _. IsQuietOver Fits a)
+quiet_then Fits a b c stays kept one two =
+    survives_then a b c _ _ _ (λ _ db q. q)
+    (λ clean db q alone has.
+    let disk : HasCleanDisk b = omega (arith, two.clean) in
+    let same = kept (record { disk = disk; is_open = stays disk }) alone has in
+    q same.alone (schema_after Fits a b same has)) one two
+
+pub scan_quiet : (Fits : Schema → Type 0) (text : List ℕ) (tree : ℕ)
+    → ((schema : Schema) → Fits schema → AsksRowids schema text tree) → (a b : State)
+    → Survives a b (λ _. (t : ℕ) → AsksRowids a.now.schema text t → ⊥) → Survives a b (λ _. IsQuietOver Fits a)
+scan_quiet Fits text tree asks a b h =
+    survives_weaker a b _ _ (λ _ db none alone has. none tree (asks a.now.schema has)) h
+
+pub step_kept : (Fits : Schema → Type 0) (a b c : State) → (IsCleanBook c → IsCleanBook b) → Keeps Fits a b
+    → Keeps Fits b c → Keeps Fits a c
+step_kept Fits a b c was one two clean alone has = let first = one (was clean) alone has in
+    kept_then a b c first (two clean first.alone (schema_after Fits a b first has))
+
+-- what holds over both schemas holds over the second
+pub second_keeps : (a b : State) → Keeps IsOfOffice a b → Keeps IsSecond a b
+second_keeps a b k clean alone has = k clean alone (inr has)
+
+pub second_quiet : (a b : State) → Survives a b (λ _. IsQuiet a) → Survives a b (λ _. IsQuietOver IsSecond a)
+second_quiet a b h = survives_weaker a b _ _ (λ _ db none alone has. none alone (inr has)) h
+
+-- ---- what a migration leaves
+
+moved_keys : (old new : Trees) → KeepsLists old new → AreKeyed old → AreKeyed new
+moved_keys old new k h = record {
+  collectors = rw k.collectors h.collectors;
+  outlets = rw k.outlets h.outlets;
+  items = rw k.items h.items;
+  calendar = rw k.calendar h.calendar;
+}
+
+moved_rowids : (old new : Trees) → KeepsLists old new → HavePlanRowids old → HavePlanRowids new
+moved_rowids old new k h = record {
+  nodes = subst HasRowids (sym k.nodes) h.nodes;
+  places = subst HasRowids (sym k.places) h.places;
+  calendar = subst HasRowids (sym k.calendar) h.calendar;
+}
+
+pub moved_tables : (old new : State) → new.in_transaction ≡ false → IsTrue new.is_open → IsLive new
+    → AreKeyed old.now.trees → HavePlanRowids old.now.trees → IsMoved old new → HasTables new
+moved_tables old new alone is_open live keyed rise moved =
+    found_tables new alone moved.schema is_open live (moved_keys old.now.trees new.now.trees moved.lists keyed)
+    (record {
+      plans = moved_rowids old.now.trees new.now.trees moved.lists rise;
+      survey = moved.survey;
+      releases = moved.releases;
+    })

@@ -1,0 +1,54 @@
+-- What the row of an assignment shows of its slot.
+use Rattle.std.proofs.Common.{◌≡◌, ℕ, pos, [], ◌∷◌, Option, Some, ap, ◌∙◌}
+use Rattle.sqlite.specs.declared.types.Value.{Value}
+use Rattle.sqlite.specs.declared.types.Value.TheVariants.{Int}
+use Rattle.sqlite.specs.Order.{Row, column}
+use Rattle.cpi_survey.specs.declared.assignment.Assignment.{Assignment}
+use Rattle.cpi_store.specs.declared.given.Given.{Given}
+use Rattle.cpi_sql_rows.specs.Lists.{ranged, month_from, item_from, price_or_none, series_from, assignment_from}
+use Rattle.cpi_sql_rows.specs.Lists.{assignment_in, shown_given}
+use Rattle.cpi_sql_rows.proofs.Lists.{bound_is, ranged_is}
+
+some_is : {X : Type 0} {x y : X} → ◌≡◌ {A = Option X} (Some x) (Some y) → x ≡ y
+some_is e = cc
+
+-- the nine columns of an assignment, as an answer shows them
+abbrev pub assignment_shape : Row → Row
+assignment_shape r =
+    column r 1 ∷ column r 2 ∷ column r 3 ∷ column r 4 ∷ column r 5 ∷ column r 6 ∷ column r 7 ∷ column r 8 ∷ column r 9
+    ∷ []
+
+-- the row's first two columns are the collector's number and the slot
+pub record HasSlot (r : Row) (c : ℕ) (g : Given) : Type 0 where
+  pub collector : column r 1 ≡ Int (pos c)
+  pub slot : column r 2 ≡ Int (pos g.assignment.slot)
+  pub shown : shown_given (assignment_shape r) ≡ Some (c, g)
+
+-- an assignment's slot is the one that its columns say
+pub slot_is : (slot outlet item first last copied : Value) (a : Assignment)
+    → assignment_from slot outlet item first last copied ≡ Some a → slot ≡ Int (pos a.slot)
+slot_is slot outlet item first last copied a e =
+    let one = bound_is (ranged 1 400 slot) _ _ e in
+    let two = bound_is (ranged 1 999999 outlet) _ _ one.2 in
+    let three = bound_is (item_from item) _ _ two.2 in
+    let four = bound_is (month_from first) _ _ three.2 in
+    let five = bound_is (month_from last) _ _ four.2 in
+    let six = bound_is (price_or_none copied) _ _ five.2 in
+    ranged_is 1 400 slot a.slot (one.1 ∙ ap (λ (b : Assignment). Some b.slot) (some_is six.2))
+
+pub slot_of : (r : Row) (c : ℕ) (g : Given) → shown_given (assignment_shape r) ≡ Some (c, g) → HasSlot r c g
+slot_of r c g e =
+    let one = bound_is (ranged 1 9999 (column r 1)) _ _ e in
+    let two = bound_is (assignment_from (column r 2) (column r 3) (column r 4) (column r 5) (column r 6) (column r 9))
+    _ _ one.2 in
+    let three = bound_is (series_from (column r 7) (column r 8)) _ _ two.2 in
+    let pair : ◌≡◌ {A = ℕ × Given} (one.0, record { assignment = two.0; series = three.0 }) (c, g) = some_is three.2 in
+    record {
+      collector = ranged_is 1 9999 (column r 1) c (one.1 ∙ ap (λ (p : ℕ × Given). Some p.0) pair);
+      slot = slot_is (column r 2) (column r 3) (column r 4) (column r 5) (column r 6) (column r 9) two.0 two.1
+          ∙ ap (λ (p : ℕ × Given). Int (pos p.1.assignment.slot)) pair;
+      shown = e;
+    }
+
+pub slot_in : (r : Row) (c : ℕ) (g : Given) → assignment_in r ≡ Some (c, g) → HasSlot r c g
+slot_in r c g e = slot_of r c g e

@@ -1,0 +1,229 @@
+-- The codes of a header, and the rows of a month.
+use Rattle.std.proofs.Common.{◌≡◌, inl, inr, ℕ, pos, ◌+◌, ◌/◌, ◌%◌, ◌==◌, ◌&&◌, List, [], ◌∷◌, map}
+use Rattle.std.proofs.Common.{Bool, true, false, None, Some, Option, refl, sym, ap, subst, ◌∙◌, arith, take}
+use Rattle.std.proofs.Common.{length, ◌≤◌}
+use Rattle.std.specs.Prelude.{nat_le, if◌then◌else◌}
+use Rattle.std.specs.List.{All, AllByRecursion, list_all, slice_split}
+use Rattle.std.proofs.lemmas.Bool.{and_from, and_parts, leb-true}
+use Rattle.std.proofs.lemmas.Bool.Decides.{eqb_tells}
+use Rattle.std.proofs.lemmas.List.{take_all}
+use Rattle.std.proofs.lemmas.List.Elements.{All-from_recursion}
+use Rattle.std.proofs.lemmas.List.Splits.{slice_split_none, slice_split_at}
+use Rattle.sqlite.specs.declared.types.Value.{Value}
+use Rattle.sqlite.specs.declared.types.Value.TheVariants.{Int}
+use Rattle.sqlite.specs.Collation.TheVariants.{Binary}
+use Rattle.sqlite_sql.specs.declared.ops.BinaryOp.TheVariants.{Compare}
+use Rattle.sqlite_sql.specs.declared.ops.CompareOp.TheVariants.{Eq}
+use Rattle.sqlite.specs.Ops.{binary, is_true}
+use Rattle.sqlite.specs.Order.{Row, column}
+use Rattle.sqlite_trees.proofs.ListLemmas.{all-append}
+use Rattle.cpi_codes.specs.CodeOf.{code_of}
+use Rattle.cpi_codes.specs.CodeParts.{two_digits, dotted, dashed}
+use Rattle.cpi_codes.specs.CodeText.{text}
+use Rattle.cpi_codes.specs.declared.codes.Code.{Code}
+use Rattle.cpi_codes.proofs.CodeOf.{there}
+use Rattle.cpi_sql_rows.specs.Lists.{and_then, number_in, within, ranged, month_at, month_from, each_of, codes_of}
+use Rattle.cpi_sql_rows.specs.Lists.{revision_from, release_from_key, release_number}
+use Rattle.cpi_sql_rows.specs.ReleaseRows.{carry_text}
+use Rattle.cpi_sql_rows.specs.Shelf.{equals}
+use Rattle.cpi_sql_rows.proofs.Lists.{bound_is, number_is, ranged_is, same_number, equal_number}
+use Rattle.cpi_sql_rows.proofs.Reading.{equality}
+use Rattle.cpi_sql_rows.proofs.QuoteOffice.{same_month}
+
+some_is : {X : Type 0} {x y : X} → ◌≡◌ {A = Option X} (Some x) (Some y) → x ≡ y
+some_is e = cc
+
+-- ---- each stands for something
+
+each_is : {X Y Z : Type 0} (f : Z → Option Y) (g : X → Z) (xs : List X) (ys : List Y)
+    → map (λ x. f (g x)) xs ≡ map Some ys
+    → each_of f (map g xs) ≡ Some ys
+each_is f g [] [] e = refl
+each_is f g [] (y ∷ ys) e = cc
+each_is f g (x ∷ xs) [] e = cc
+each_is f g (x ∷ xs) (y ∷ ys) e =
+    let here : f (g x) ≡ Some y = cc in
+    let later : map (λ z. f (g z)) xs ≡ map Some ys = cc in
+    rw (here, each_is f g xs ys later) refl
+
+-- after the last
+pub each_all : {X Y Z : Type 0} (f : Z → Option Y) (g : X → Z) (xs : List X) (i : ℕ) (ys : List Y) → length xs ≤ i
+    → map (λ x. f (g x)) (take i xs) ≡ map Some ys → each_of f (map g xs) ≡ Some ys
+each_all f g xs i ys last e = each_is f g xs ys (ap (map (λ x. f (g x))) (sym (take_all i xs last)) ∙ e)
+
+-- ---- codes with a space between each two
+
+abbrev is_space : ℕ → Bool
+is_space x = x == 32
+
+above_space : (n : ℕ) → is_space (48 + n) ≡ false
+above_space n = elim (eqb_tells (48 + n) 32) [
+  | inl same ↦ absurd (omega (arith, same.1))
+  | inr apart ↦ apart.0
+]
+
+abbrev HasNoSpace : List ℕ → Type 0
+HasNoSpace bytes = AllByRecursion (λ x. is_space x ≡ false) bytes
+
+two_no_space : (n : ℕ) → HasNoSpace (two_digits n)
+two_no_space n = (above_space (n / 10), (above_space (n % 10), tt))
+
+dotted_no_space : (o : Option ℕ) → HasNoSpace (dotted o)
+dotted_no_space None = tt
+dotted_no_space (Some d) = (refl, (above_space d, tt))
+
+dashed_no_space : (o : Option ℕ) → HasNoSpace (dashed o)
+dashed_no_space None = tt
+dashed_no_space (Some n) = (refl, two_no_space n)
+
+text_no_space : (c : Code) → All (λ x. is_space x ≡ false) (text c)
+text_no_space c =
+    let P = λ (x : ℕ). is_space x ≡ false in
+    let four = all-append P (dotted c.subclass) (dashed c.aggregate) (dotted_no_space c.subclass)
+    (dashed_no_space c.aggregate) in
+    let three = all-append P (dotted c.class) _ (dotted_no_space c.class) four in
+    let two = all-append P (dotted c.group) _ (dotted_no_space c.group) three in
+    All-from_recursion P (text c) (all-append P (two_digits c.division) _ (two_no_space c.division) two)
+
+parts_are : (c : Code) (cs : List Code) → slice_split is_space (carry_text (c ∷ cs)) ≡ map text (c ∷ cs)
+parts_are c [] = slice_split_none is_space (text c) (text_no_space c)
+parts_are c (d ∷ cs) =
+    slice_split_at is_space (text c) 32 (carry_text (d ∷ cs)) (text_no_space c) refl
+    ∙ ap (λ parts. text c ∷ parts) (parts_are d cs)
+
+each_read : (cs : List Code) → each_of code_of (map text cs) ≡ Some cs
+each_read [] = refl
+each_read (c ∷ cs) = rw (there (text c) c refl, each_read cs) refl
+
+-- what a header is written with is what is read from it
+pub carry_read : (carry : List Code) → codes_of (carry_text carry) ≡ Some carry
+carry_read [] = refl
+carry_read (c ∷ []) = ap (each_of code_of) (parts_are c []) ∙ each_read (c ∷ [])
+carry_read (c ∷ d ∷ cs) = ap (each_of code_of) (parts_are c (d ∷ cs)) ∙ each_read (c ∷ d ∷ cs)
+
+-- ---- rows that begin with a release
+
+-- a number is within its limits
+pub within_limits : (low high : ℕ) (v : Value) (n : ℕ) → ranged low high v ≡ Some n → (low ≤ n) × (n ≤ high)
+within_limits low high v n e =
+    let it = bound_is (number_in v) (within low high) n e in
+    at it.0 (nat_le low it.0 && nat_le it.0 high) refl it.2
+  where
+    at : (k : ℕ) (b : Bool) → (nat_le low k && nat_le k high) ≡ b → (if b then Some k else None) ≡ Some n → (low ≤ n)
+        × (n ≤ high)
+    at k true f g =
+        let both = and_parts (nat_le low k) (nat_le k high) f in
+        let same : k ≡ n = some_is g in
+        subst (λ z. (low ≤ z) × (z ≤ high)) same (leb-true low k both.0, leb-true k high both.1)
+    at k false f g = cc
+
+-- the number that stands for a month
+pub record HasMonth (r : Row) (m : ℕ) : Type 0 where
+  pub number : ℕ
+  pub column : column r 1 ≡ Int (pos number)
+  pub is : month_at number ≡ Some m
+
+pub month_of : (r : Row) (m : ℕ) → month_from (column r 1) ≡ Some m → HasMonth r m
+month_of r m e =
+    let it = bound_is (number_in (column r 1)) month_at m e in
+    record { number = it.0; column = number_is (column r 1) it.0 it.1; is = it.2 }
+
+-- the columns that name a release
+pub record HasRelease (r : Row) (number : ℕ) : Type 0 where
+  pub month : ℕ
+  pub revision : ℕ
+  pub is : release_number month revision ≡ number
+  pub named : HasMonth r month
+  pub column : column r 2 ≡ Int (pos revision)
+  pub low : 1 ≤ revision
+  pub high : revision ≤ 9
+
+pub release_of : (r : Row) (number : ℕ) → release_from_key (column r 1) (column r 2) ≡ Some number
+    → HasRelease r number
+release_of r number e =
+    let one = bound_is (month_from (column r 1)) _ _ e in
+    let two = bound_is (revision_from (column r 2)) _ _ one.2 in
+    let limits = within_limits 1 9 (column r 2) two.0 two.1 in
+    record {
+      month = one.0;
+      revision = two.0;
+      is = some_is two.2;
+      named = month_of r one.0 one.1;
+      column = ranged_is 1 9 (column r 2) two.0 two.1;
+      low = limits.0;
+      high = limits.1;
+    }
+
+-- a number is that of one release
+pub one_release : (m v k w : ℕ) → 1 ≤ v → v ≤ 9 → 1 ≤ w → w ≤ 9 → release_number m v ≡ release_number k w
+    → (m ≡ k) × (v ≡ w)
+one_release m v k w a b c d e = (omega (arith, a, b, c, d, e), omega (arith, a, b, c, d, e))
+
+-- the rows of the month with the number `n`, in the revision `v`
+abbrev pub of_release : ℕ → ℕ → Row → Bool
+of_release n v r = equals (column r 1) (Int (pos n)) && equals (column r 2) (Int (pos v))
+
+and_true : (b : Bool) → (b && true) ≡ b
+and_true true = refl
+and_true false = refl
+
+-- as WHERE tests it
+pub release_tested : (r : Row) (n v : ℕ)
+    → list_all (λ t. is_true t) (binary (Compare Eq Binary) (column r 1) (Int (pos n))
+    ∷ binary (Compare Eq Binary) (column r 2) (Int (pos v)) ∷ []) ≡ of_release n v r
+release_tested r n v =
+    ap (λ b. is_true (binary (Compare Eq Binary) (column r 1) (Int (pos n))) && b) (equality (column r 2) (pos v))
+    ∙ ap (λ b. b && equals (column r 2) (Int (pos v))) (sym (and_true _) ∙ equality (column r 1) (pos n))
+
+module _ {X : Type 0} (from : Row → Option X) where
+  abbrev pub release_entry : Row → Option (ℕ × X)
+  release_entry r = and_then (release_from_key (column r 1) (column r 2)) (λ n. and_then (from r) (λ x. Some (n, x)))
+
+  abbrev pub release_stands : Row → Option X
+  release_stands r = and_then (release_from_key (column r 1) (column r 2)) (λ _. from r)
+
+  -- a row that stands beside a release, by its parts
+  pub record IsBeside (r : Row) (number : ℕ) (x : X) : Type 0 where
+    pub release : release_from_key (column r 1) (column r 2) ≡ Some number
+    pub row : from r ≡ Some x
+
+  pub beside : (r : Row) (number : ℕ) (x : X) → release_entry r ≡ Some (number, x) → IsBeside r number x
+  beside r number x e =
+      let one = bound_is (release_from_key (column r 1) (column r 2)) _ _ e in
+      let two = bound_is (from r) _ _ one.2 in
+      let pair : ◌≡◌ {A = ℕ × X} (one.0, two.0) (number, x) = some_is two.2 in
+      record {
+        release = one.1 ∙ ap (λ (p : ℕ × X). Some p.0) pair;
+        row = two.1 ∙ ap (λ (p : ℕ × X). Some p.1) pair;
+      }
+
+  pub stands_beside : (r : Row) (number : ℕ) (x : X) → IsBeside r number x → release_entry r ≡ Some (number, x)
+  stands_beside r number x b =
+      ap (λ o. and_then o (λ k. and_then (from r) (λ w. Some (k, w)))) b.release
+      ∙ ap (λ o. and_then o (λ w. Some (number, w))) b.row
+
+  module _ (n m v : ℕ) (is : month_at n ≡ Some m) (low : 1 ≤ v) (high : v ≤ 9) where
+    pub release_same : (r : Row) (x : X) → of_release n v r ≡ true → release_stands r ≡ Some x
+        → release_entry r ≡ Some (release_number m v, x)
+    release_same r x test e =
+        let it = bound_is (release_from_key (column r 1) (column r 2)) _ _ e in
+        let a = release_of r it.0 it.1 in
+        let both = and_parts _ _ test in
+        let same : a.named.number ≡ n = same_number (column r 1) a.named.number n a.named.column both.0 in
+        let months : a.month ≡ m = some_is (sym a.named.is ∙ ap month_at same ∙ is) in
+        let revisions : a.revision ≡ v = same_number (column r 2) a.revision v a.column both.1 in
+        let numbers : it.0 ≡ release_number m v = sym a.is ∙ ap (λ k. release_number k a.revision) months
+        ∙ ap (release_number m) revisions in
+        stands_beside r (release_number m v) x (record { release = it.1 ∙ ap Some numbers; row = it.2 })
+
+    pub release_back : (r : Row) (x : X) → release_entry r ≡ Some (release_number m v, x)
+        → (of_release n v r ≡ true) × (release_stands r ≡ Some x)
+    release_back r x e =
+        let b = beside r (release_number m v) x e in
+        let a = release_of r (release_number m v) b.release in
+        let key = one_release a.month a.revision m v a.low a.high low high a.is in
+        let same : a.named.number ≡ n = same_month a.named.number n m (a.named.is ∙ ap Some key.0) is in (
+          and_from _ _ (equal_number (column r 1) n (a.named.column ∙ ap (λ k. Int (pos k)) same))
+              (equal_number (column r 2) v (a.column ∙ ap (λ k. Int (pos k)) key.1)),
+          ap (λ o. and_then o (λ _. from r)) b.release ∙ b.row,
+        )

@@ -1,0 +1,116 @@
+-- What is read and tested of the tables that an open finds.
+use Rattle.std.specs.Prelude.{◌≡◌, ◌⊎◌, ℕ, false, List, [], ◌∷◌, Option, Some, None}
+use Rattle.sqlite.specs.declared.types.Value.{Value}
+use Rattle.sqlite.specs.declared.types.Value.TheVariants.{Null, Int, Real, Text, Blob}
+use Rattle.sqlite.specs.Listing.{understood, reads_listing}
+use Rattle.sqlite.specs.Schema.{Schema}
+use Rattle.sqlite.specs.Tree.{Trees}
+use Rattle.sqlite.proofs.Callers.{IsPlain, command_of}
+use Rattle.cpi_sql_rows.specs.declared.rowids.Rowid.{Rowid}
+use Rattle.cpi_sql_rows.specs.Tables.{first_schema, office_schema}
+use Rattle.cpi_sql_rows.specs.Texts.{select}
+use Rattle.std.specs.Ordering.{nat_cmp}
+use Rattle.sqlite.specs.State.{State}
+use Rattle.cpi_sql_rows.specs.Making.{no_schema, HoldsNothing}
+use Rattle.cpi_sql_rows.specs.Numbered.{IsVersion}
+use Rattle.cpi_sql_rows.specs.Lists.{collector_in, outlet_in, item_in, calendar_in, office_in}
+use Rattle.cpi_sql_rows.specs.FirstSchema.{first_office_in}
+use Rattle.cpi_sql_rows.specs.Shelf.{HasRowids, IsKeyed}
+
+abbrev pub rowid_from : Value → Option Rowid
+rowid_from (Int n) = Some (record { number = n })
+rowid_from Null = None
+rowid_from (Real x) = None
+rowid_from (Text t) = None
+rowid_from (Blob b) = None
+
+-- one of the schemas of the office
+abbrev pub IsOfOffice : Schema → Type 0
+IsOfOffice schema = (schema ≡ first_schema) ⊎ (schema ≡ office_schema)
+
+-- under the schema, the text asks for the rowids of the rows of that tree
+pub record AsksRowids (schema : Schema) (text : List ℕ) (tree : ℕ) : Type 0 where
+  pub names : List (List ℕ)
+  pub command : command_of (understood schema text) ≡ select tree [] (0 ∷ []) (0 ∷ []) names
+  pub listing : reads_listing schema text ≡ false
+  pub plain : IsPlain (understood schema text)
+
+-- the rowids are numbers, and no two rows have one, in the tables whose keys rest on that
+pub record HavePlanRowids (trees : Trees) : Type 0 where
+  pub nodes : HasRowids (trees 6)
+  pub places : HasRowids (trees 8)
+  pub calendar : HasRowids (trees 10)
+
+pub record HaveSurveyRowids (trees : Trees) : Type 0 where
+  pub assignments : HasRowids (trees 22)
+  pub quotes : HasRowids (trees 24)
+  pub references : HasRowids (trees 34)
+
+pub record HaveReleaseRowids (trees : Trees) : Type 0 where
+  pub headers : HasRowids (trees 26)
+  pub frozen : HasRowids (trees 28)
+  pub carried : HasRowids (trees 30)
+  pub levels : HasRowids (trees 32)
+
+pub record HaveRowids (trees : Trees) : Type 0 where
+  pub plans : HavePlanRowids trees
+  pub survey : HaveSurveyRowids trees
+  pub releases : HaveReleaseRowids trees
+
+-- no two rows of a small table have one key
+pub record AreKeyed (trees : Trees) : Type 0 where
+  pub collectors : IsKeyed nat_cmp (λ b. b.number) collector_in (trees 1)
+  pub outlets : IsKeyed nat_cmp (λ u. u.number) outlet_in (trees 3)
+  pub items : IsKeyed nat_cmp (λ i. i.code) item_in (trees 4)
+  pub calendar : IsKeyed nat_cmp (λ r. r.month) calendar_in (trees 10)
+
+-- the rows of schema 1 stand in the tables of schema 2
+pub record IsMigrated (old new : Trees) : Type 0 where
+  pub office : office_in new ≡ first_office_in old
+  pub version : IsVersion 2 (new 0)
+
+-- what an open leaves: new tables where there was nothing, the tables of schema 2 as they were, or those of schema 1
+-- migrated; their number is 2
+abbrev pub IsOpened : State → State → Type 0
+IsOpened old new =
+    (((old.now.schema ≡ no_schema) × HoldsNothing new.now.trees)
+    ⊎ (((old.now.schema ≡ office_schema) × (new.now ≡ old.now))
+    ⊎ ((old.now.schema ≡ first_schema) × IsMigrated old.now.trees new.now.trees)))
+    × IsVersion 2 (new.now.trees 0)
+
+abbrev pub IsFirst : Schema → Type 0
+IsFirst schema = schema ≡ first_schema
+
+abbrev pub IsSecond : Schema → Type 0
+IsSecond schema = schema ≡ office_schema
+
+-- over a schema that is so, nothing is committed
+abbrev pub IsQuietOver : (Schema → Type 0) → State → Type 0
+IsQuietOver Fits s = s.in_transaction ≡ false → Fits s.now.schema → ⊥
+
+-- over the tables of the office
+abbrev pub IsQuiet : State → Type 0
+IsQuiet s = IsQuietOver IsOfOffice s
+
+-- what an open may commit: the tables of an office that holds nothing, where nothing was, or schema 1 migrated
+abbrev pub MayBeMade : State → Trees → Type 0
+MayBeMade old db =
+    ((old.now.schema ≡ no_schema) × HoldsNothing db)
+    ⊎ ((old.now.schema ≡ first_schema) × IsMigrated old.now.trees db)
+
+-- the tables that schema 2 took over are as they were
+pub record KeepsLists (old new : Trees) : Type 0 where
+  pub collectors : new 1 ≡ old 1
+  pub outlets : new 3 ≡ old 3
+  pub items : new 4 ≡ old 4
+  pub nodes : new 6 ≡ old 6
+  pub places : new 8 ≡ old 8
+  pub calendar : new 10 ≡ old 10
+
+-- a migration is done
+pub record IsMoved (old new : State) : Type 0 where
+  pub schema : new.now.schema ≡ office_schema
+  pub migrated : IsMigrated old.now.trees new.now.trees
+  pub lists : KeepsLists old.now.trees new.now.trees
+  pub survey : HaveSurveyRowids new.now.trees
+  pub releases : HaveReleaseRowids new.now.trees

@@ -1,0 +1,62 @@
+-- The lists of the office that the rows of schema 1 stand for: each row for what its copy in schema 2 does, which has
+-- the slot's own series, no copied price and revision 1. No plan has a reference month.
+use Rattle.std.specs.Prelude.{pos, List, [], ◌∷◌, map}
+use Rattle.std.specs.Ordering.{nat_cmp}
+use Rattle.sqlite.specs.declared.types.Value.TheVariants.{Null, Int}
+use Rattle.sqlite.specs.Order.{Row, column}
+use Rattle.sqlite.specs.Tree.{Trees}
+use Rattle.cpi_codes.specs.CodeOrder.{code_cmp}
+use Rattle.cpi_rows.specs.Held.{held_cmp, held_key}
+use Rattle.cpi_index.specs.Series.{frozen_serial, carried_serial}
+use Rattle.cpi_release.specs.FrozenMonths.{release_cmp}
+use Rattle.cpi_release.specs.declared.release.Release.{Release}
+use Rattle.cpi_store.specs.Office.{Office}
+use Rattle.cpi_sql_rows.specs.Lists.{listed, assignment_in, quotes_in, header_in, header_key, frozen_in, carried_in}
+use Rattle.cpi_sql_rows.specs.Lists.{level_in, release_from, office_in, plans_of, years, nodes_in, places_in}
+
+-- ---- rows: each is its rowid, and then its columns
+
+-- behind its own columns an assignment has its slot as its series, and no copied price
+abbrev pub assignment_copy : Row → Row
+assignment_copy r =
+    column r 0 ∷ column r 1 ∷ column r 2 ∷ column r 3 ∷ column r 4 ∷ column r 5 ∷ column r 6
+    ∷ column r 1 ∷ column r 2 ∷ Null ∷ []
+
+-- the month of a release was its rowid
+abbrev pub header_copy : Row → Row
+header_copy r = Null ∷ column r 0 ∷ Int (pos 1) ∷ column r 2 ∷ column r 3 ∷ column r 4 ∷ []
+
+-- what a release lists has revision 1 behind its month
+abbrev pub frozen_copy : Row → Row
+frozen_copy r =
+    column r 0 ∷ column r 1 ∷ Int (pos 1) ∷ column r 2 ∷ column r 3 ∷ column r 4 ∷ column r 5 ∷ column r 6
+    ∷ column r 7 ∷ []
+
+abbrev pub carried_copy : Row → Row
+carried_copy r =
+    column r 0 ∷ column r 1 ∷ Int (pos 1) ∷ column r 2 ∷ column r 3 ∷ column r 4 ∷ column r 5 ∷ column r 6
+    ∷ column r 7 ∷ column r 8 ∷ column r 9 ∷ column r 10 ∷ []
+
+abbrev pub level_copy : Row → Row
+level_copy r =
+    column r 0 ∷ column r 1 ∷ Int (pos 1) ∷ column r 2 ∷ column r 3 ∷ column r 4 ∷ column r 5 ∷ column r 6
+    ∷ column r 7 ∷ column r 8 ∷ column r 9 ∷ []
+
+-- ---- lists
+
+unfoldable pub first_releases_in : Trees → List Release
+first_releases_in trees =
+    map (release_from (listed (held_cmp nat_cmp) (held_key frozen_serial) (λ r. frozen_in (frozen_copy r)) (trees 16))
+    (listed (held_cmp nat_cmp) (held_key carried_serial) (λ r. carried_in (carried_copy r)) (trees 18))
+    (listed (held_cmp code_cmp) (held_key (λ l. l.code)) (λ r. level_in (level_copy r)) (trees 20)))
+    (listed release_cmp header_key (λ r. header_in (header_copy r)) (trees 15))
+
+-- the lists of the tables that stay are read as ever
+abbrev pub first_office_in : Trees → Office
+first_office_in trees = record (office_in trees) {
+  assignments =
+      listed (held_cmp nat_cmp) (held_key (λ g. g.assignment.slot)) (λ r. assignment_in (assignment_copy r)) (trees 11);
+  quotes = quotes_in (trees 13);
+  releases = first_releases_in trees;
+  plans = plans_of (years 200) (nodes_in (trees 6)) (places_in (trees 8)) [];
+}

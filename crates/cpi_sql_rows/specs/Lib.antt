@@ -1,0 +1,12 @@
+pub mod Tables
+pub mod Lists
+pub mod FirstSchema
+pub mod Texts
+pub mod Read
+pub mod Shelf
+pub mod Numbered
+pub mod Making
+pub mod Steps
+pub mod Finding
+pub mod LevelTables
+pub mod ReleaseRows

@@ -1,0 +1,178 @@
+-- What contracts see of a book over a database, and what it keeps true.
+use Rattle.std.specs.Prelude.{◌≡◌, ℕ, Bool, false, List, Option, Some, IsTrue, refl}
+use Rattle.std.specs.Coded.{Coded, code_by, coded×, coded_ℕ}
+use Rattle.std.specs.Ordering.{nat_cmp, is_eq}
+use Rattle.std.specs.declared.cmp.Ordering.{Ordering}
+use Rattle.std.specs.declared.cmp.Ordering.TheVariants.{Equal}
+use Rattle.sqlite.specs.declared.types.Value.{Value}
+use Rattle.sqlite.specs.Order.{Row, value_cmp}
+use Rattle.sqlite.specs.Tree.{Trees, rowid}
+use Rattle.sqlite_trees.specs.declared.store.Store.{Ghosts}
+use Rattle.sqlite_trees.specs.View.{is_int}
+use Rattle.sqlite_rules.specs.Lists.{Has}
+use Rattle.sqlite.specs.State.{State, HasCleanDisk, Survives}
+use Rattle.sqlite.specs.Held.{Held, held_code, state}
+use Rattle.cpi_release.specs.State.{State as BookState}
+use Rattle.cpi_release.specs.Cached.{AreKept}
+use Rattle.cpi_release.specs.declared.cached.Cached.{Cached}
+use Rattle.cpi_release.specs.FrozenMonths.{release_cmp}
+use Rattle.cpi_rows.specs.Keyed.{IsInOrder}
+use Rattle.cpi_rows.specs.Held.{held_cmp, held_key}
+use Rattle.cpi_store.specs.declared.bearer.Bearer.{Bearer}
+use Rattle.cpi_store.specs.declared.outlet.Outlet.{Outlet}
+use Rattle.cpi_survey.specs.Public.{PublicPart}
+use Rattle.cpi_survey.specs.Own.{OwnPart}
+use Rattle.cpi_survey.specs.Quote.{quote_cmp, quote_key}
+use Rattle.cpi_store.specs.Office.{Office, Change, changed, public_part, own_part}
+use Rattle.cpi_store.specs.Sources.{office_sources}
+use Rattle.cpi_codes.specs.CodeOrder.{code_cmp}
+use Rattle.cpi_index.specs.Series.{frozen_serial, carried_serial}
+use Rattle.cpi_sql_rows.specs.Tables.{office_schema}
+use Rattle.cpi_sql_rows.specs.Lists.{office_in, collector_in, outlet_in, item_in, calendar_in, assignment_in}
+use Rattle.cpi_sql_rows.specs.Lists.{quote_in, node_in, place_in, reference_row, header_in, header_key, frozen_in, carried_in, level_in}
+use Rattle.cpi_sql_rows.specs.Lists.{collectors_in, outlets_in, headers_in}
+use Rattle.cpi_sql_rows.specs.LevelTables.{ReleaseLevels, AreTablesOf}
+use Rattle.cpi_sql_rows.specs.declared.release_rows.Header.{Header}
+
+pub record Shelf (S : Type 0) : Type 0 where
+  pub held : Held S
+  pub failures : ℕ
+
+abbrev pub shelf_code : {S : Type 0} → Coded S → Coded (Shelf S)
+shelf_code {S} store = code_by (Held S × ℕ) (coded× (held_code store) coded_ℕ) (λ b. (b.held, b.failures))
+    (λ p. record { held = p.0; failures = p.1 }) (λ _. refl)
+
+-- as SQL compares
+abbrev pub equals : Value → Value → Bool
+equals a b = is_eq (value_cmp a b)
+
+-- the rowids are numbers, and no two rows have one
+unfoldable pub HasRowids : List Row → Type 0
+HasRowids rows = ((r : Row) → Has rows r → IsTrue (is_int (rowid r)))
+    × ((r s : Row) → Has rows r → Has rows s → value_cmp (rowid r) (rowid s) ≡ Equal → r ≡ s)
+
+-- no two rows stand for one key with different contents
+unfoldable pub IsKeyed : {X K : Type 0} → (K → K → Ordering) → (X → K) → (Row → Option X) → List Row → Type 0
+IsKeyed {X} cmp key entry rows = (r s : Row) (x y : X) → Has rows r → Has rows s → entry r ≡ Some x → entry s ≡ Some y
+    → cmp (key x) (key y) ≡ Equal → x ≡ y
+
+-- the tables of the plans
+pub record HasPlans (trees : Trees) : Type 0 where
+  pub node_ids : HasRowids (trees 6)
+  pub place_ids : HasRowids (trees 8)
+  pub reference_ids : HasRowids (trees 34)
+  pub nodes : IsKeyed (held_cmp code_cmp) (held_key (λ n. n.code)) node_in (trees 6)
+  pub places : IsKeyed (held_cmp nat_cmp) (held_key (λ p. p.item)) place_in (trees 8)
+  pub references : IsKeyed (held_cmp nat_cmp) (held_key (λ m. m.month)) reference_row (trees 34)
+
+-- the tables of the releases
+pub record HasReleases (trees : Trees) : Type 0 where
+  pub frozen_ids : HasRowids (trees 28)
+  pub carried_ids : HasRowids (trees 30)
+  pub level_ids : HasRowids (trees 32)
+  pub releases : IsKeyed release_cmp header_key header_in (trees 26)
+  pub frozen : IsKeyed (held_cmp nat_cmp) (held_key frozen_serial) frozen_in (trees 28)
+  pub carried : IsKeyed (held_cmp nat_cmp) (held_key carried_serial) carried_in (trees 30)
+  pub levels : IsKeyed (held_cmp code_cmp) (held_key (λ l. l.code)) level_in (trees 32)
+
+-- the tables of the office
+pub record HasTables (s : State) : Type 0 where
+  pub schema : s.now.schema ≡ office_schema
+  pub alone : s.in_transaction ≡ false
+  pub rowids : HasRowids (s.now.trees 24)
+  pub days : HasRowids (s.now.trees 10)
+  pub assignment_ids : HasRowids (s.now.trees 22)
+  pub collectors : IsKeyed nat_cmp (λ b. b.number) collector_in (s.now.trees 1)
+  pub outlets : IsKeyed nat_cmp (λ u. u.number) outlet_in (s.now.trees 3)
+  pub items : IsKeyed nat_cmp (λ i. i.code) item_in (s.now.trees 4)
+  pub calendar : IsKeyed nat_cmp (λ r. r.month) calendar_in (s.now.trees 10)
+  pub assignments : IsKeyed (held_cmp nat_cmp) (held_key (λ g. g.assignment.slot)) assignment_in (s.now.trees 22)
+  pub quotes : IsKeyed (held_cmp quote_cmp) (held_key quote_key) quote_in (s.now.trees 24)
+  pub plans : HasPlans s.now.trees
+  pub releases : HasReleases s.now.trees
+
+-- the disk returned what was written, and the connection wasn't shut by a failure
+pub record IsCleanBook (s : State) : Type 0 where
+  pub disk : HasCleanDisk s
+  pub is_open : IsTrue s.is_open
+
+-- the rows are as they were, and no transaction is open
+pub record IsKept (old new : State) : Type 0 where
+  pub now : new.now ≡ old.now
+  pub alone : new.in_transaction ≡ false
+
+-- nothing has changed, and a crash leaves what it left before
+pub record IsLook (old new : State) : Type 0 where
+  pub clean : IsCleanBook new → IsCleanBook old
+  pub kept : IsCleanBook new → HasTables old → IsKept old new
+  pub crash : Survives old new (λ _. IsCleanBook old → HasTables old → ⊥)
+
+-- a connection that was open is open, unless the disk fell
+abbrev pub StaysOpen : State → State → Type 0
+StaysOpen old new = HasCleanDisk new → IsTrue old.is_open → IsTrue new.is_open
+
+-- what the change makes of the office
+pub record IsDone (change : Change) (old new : State) : Type 0 where
+  pub tables : HasTables new
+  pub office : office_in new.now.trees ≡ changed change (office_in old.now.trees)
+
+-- what is kept of the headers of the releases, where they were read
+abbrev pub HeadersStand : Trees → Bool → List Header → Type 0
+HeadersStand trees has_headers headers = IsTrue has_headers → headers ≡ headers_in (trees 26)
+
+-- what is kept of what everybody may see, where it was read
+abbrev pub PublicStands : Trees → Bool → PublicPart → Type 0
+PublicStands trees has_public public = IsTrue has_public → public ≡ public_part (office_in trees)
+
+-- what a book keeps in memory of the releases, and the samples of the month that is being frozen
+pub record KeptReleases : Type 0 where
+  pub has_headers : Bool
+  pub headers : List Header
+  pub tables : List ReleaseLevels
+  pub samples : Option Cached
+
+-- what is kept of the releases is what the tables hold
+pub record ReleasesStand (trees : Trees) (k : KeptReleases) : Type 0 where
+  pub headers : HeadersStand trees k.has_headers k.headers
+  pub tables : AreTablesOf (office_in trees).releases k.tables
+  pub samples : AreKept (office_sources (office_in trees)) k.samples
+
+-- what a book keeps in memory of what it has read
+pub record Caches : Type 0 where
+  pub has_bearers : Bool
+  pub bearers : List Bearer
+  pub has_outlets : Bool
+  pub outlets : List Outlet
+  pub has_public : Bool
+  pub public : PublicPart
+  pub whose : Option ℕ
+  pub own : OwnPart
+  pub releases : KeptReleases
+
+-- what is kept is what the tables hold
+pub record Stands (s : State) (c : Caches) : Type 0 where
+  pub tables : HasTables s
+  pub bearers : IsTrue c.has_bearers → c.bearers ≡ collectors_in (s.now.trees 1)
+  pub outlets : IsTrue c.has_outlets → c.outlets ≡ outlets_in (s.now.trees 3)
+  pub public : PublicStands s.now.trees c.has_public c.public
+  pub own : (n : ℕ) → c.whose ≡ Some n → c.own ≡ own_part n (office_in s.now.trees)
+  pub releases : ReleasesStand s.now.trees c.releases
+
+pub record IsSound (s : State) (c : Caches) : Type 0 where
+  -- the collectors are in order, whether they are the table's or not
+  pub order : IsInOrder nat_cmp (λ b. b.number) c.bearers
+  pub stands : IsCleanBook s → Stands s c
+
+-- the office that the tables of a database hold, as a book over it shows that
+abbrev pub office_state : State → ℕ → BookState Office
+office_state s failures = record {
+  held = office_in s.now.trees;
+  failures = failures;
+  is_kept = HasCleanDisk s;
+  is_clean = IsCleanBook s;
+  clean_is_kept = λ clean. clean.disk;
+  may_leave = λ office. (db : Trees) × s.may_leave db × (office ≡ office_in db);
+}
+
+abbrev pub book_state : {S : Type 0} → Ghosts S → Shelf S → BookState Office
+book_state store b = office_state (state store b.held) b.failures

@@ -1,0 +1,136 @@
+//! What a value is written as in a column: what is read of it again is the value.
+ghost use Rattle.std.specs.Prelude.{◌≡◌, IfOk, Some, pos};
+ghost use Rattle.std.specs.String.{string_bytes};
+ghost use Rattle.sqlite.specs.declared.types.Value.TheVariants.{Int};
+ghost use Rattle.cpi_codes.specs.Key.{key_of};
+ghost use Rattle.cpi_codes.specs.CodeOf.{code_of};
+ghost use Rattle.cpi_codes.specs.ItemCode.{item_code_of};
+ghost use Rattle.cpi_survey.specs.declared.mark.Mark.TheVariants.{Missing};
+ghost use Rattle.cpi_sql_rows.specs.Lists.{mark_from, mark_word, month_at, name_of, ranged};
+
+use crate::stored::Unread;
+use cpi_codes::{Code, CollectorId, ItemCode, Key, Moment, Month, Name, OutletId, Slot};
+use cpi_plan::{HighTolerance, LowTolerance};
+use cpi_survey::{Mark, Reason};
+use sqlite::types::Value;
+use std::alloc::Global;
+
+/// The key's 32 digits.
+pub fn key_text(alloc: Global, key: Key) -> Result<String, Unread>
+    ensures { IfOk result (λ s. key_of (string_bytes s) ≡ Some key) }
+{
+    let text = format!(in alloc; "{:032x}", key.value()).map_err(|_| Unread)?;
+    if Key::parse(text.as_bytes()) == Some(key) {
+        Ok(text)
+    } else {
+        Err(Unread)
+    }
+}
+
+/// A month as year * 100 + month.
+pub fn month_number(month: Month) -> u32
+    ensures { month_at result ≡ Some month }
+{
+    u32::from(month.year()) * 100 + u32::from(month.month())
+}
+
+/// The number of the collector.
+pub fn collector_number(collector: CollectorId) -> u32
+    ensures value { result ≡ collector }
+    ensures range { ranged 1 9999 (Int (pos collector)) ≡ Some collector }
+{
+    u32::from(collector.number())
+}
+
+/// The number of the outlet.
+pub fn outlet_number(outlet: OutletId) -> u32
+    ensures { ranged 1 999999 (Int (pos result)) ≡ Some outlet }
+{
+    outlet.number()
+}
+
+/// The number of the slot.
+pub fn slot_number(slot: Slot) -> u32
+    ensures value { result ≡ slot }
+    ensures range { ranged 1 400 (Int (pos slot)) ≡ Some slot }
+{
+    u32::from(slot.number())
+}
+
+/// The low tolerance, per mille.
+pub fn low_number(low: LowTolerance) -> u32
+    ensures { ranged 1 1000 (Int (pos result)) ≡ Some low }
+{
+    u32::from(low.per_mille())
+}
+
+/// The high tolerance, per mille.
+pub fn high_number(high: HighTolerance) -> u32
+    ensures { ranged 1000 10000 (Int (pos result)) ≡ Some high }
+{
+    u32::from(high.per_mille())
+}
+
+/// The name as it is.
+pub fn name_text(name: &Name) -> &str
+    ensures value { result.now ≡ name.now }
+    ensures name { name_of name.now ≡ Some name.now }
+{
+    name.as_str()
+}
+
+/// The code of the item.
+pub fn item_text(alloc: Global, code: ItemCode) -> Result<String, Unread>
+    ensures { IfOk result (λ s. item_code_of (string_bytes s) ≡ Some code) }
+{
+    code.text(alloc).map_err(|_| Unread)
+}
+
+/// The code of the node.
+#[tactic(auto, using(crate::proofs::Written::code_read))]
+pub fn code_text(alloc: Global, code: Code) -> Result<String, Unread>
+    ensures { IfOk result (λ s. code_of (string_bytes s) ≡ Some code) }
+{
+    code.text(alloc).map_err(|_| Unread)
+}
+
+fn reason_word(reason: Reason) -> &'static str
+    ensures { result.now ≡ mark_word (Missing reason) }
+{
+    match reason {
+        Reason::Stock => "stock",
+        Reason::Closed => "closed",
+        Reason::Gone => "gone",
+        Reason::Refused => "refused",
+    }
+}
+
+/// The word of the mark; a missing price has the one of its reason.
+pub fn mark_text(mark: Mark) -> &'static str
+    ensures { result.now ≡ mark_word mark }
+{
+    match mark {
+        Mark::Price(_) => "price",
+        Mark::Comparable(_) => "comparable",
+        Mark::Other(_) => "other",
+        Mark::Missing(reason) => reason_word(reason),
+    }
+}
+
+/// The price of the mark in minor units, or 0 where there is none.
+pub fn mark_value(mark: Mark) -> u32
+    ensures { mark_from (mark_word mark) result ≡ Some mark }
+{
+    match mark.observed_price() {
+        Some(price) => price.units(),
+        None => 0,
+    }
+}
+
+/// The moment, in seconds since 1970 UTC.
+pub fn moment_value(moment: Moment) -> Value
+    ensures value { result ≡ Int (pos moment) }
+    ensures range { ranged 0 9999999999 (Int (pos moment)) ≡ Some moment }
+{
+    Value::Int(moment.seconds() as i64)
+}

@@ -1,0 +1,27 @@
+//! What the rows of an office's tables stand for, how they are written and read, and what is said of a text that asks.
+#![tactic(auto)]
+
+mod ask;
+mod columns;
+mod given_rows;
+mod lookup;
+mod reference_months;
+mod release_rows;
+mod rowids;
+mod rows;
+mod stored;
+mod tables;
+
+pub use ask::{run, settle};
+pub use columns::{
+    code_text, collector_number, high_number, item_text, key_text, low_number, mark_text,
+    mark_value, moment_value, month_number, name_text, outlet_number, slot_number,
+};
+pub use given_rows::{GivenRow, given_to, series_ends};
+pub use lookup::by_key;
+pub use reference_months::ReferenceMonth;
+pub use release_rows::Header;
+pub use rowids::scan;
+pub use rows::{read_collector, read_mark, read_month, read_slot};
+pub use stored::{Stored, Unread, list};
+pub use tables::{bearers, calendar, items, outlets};

@@ -1,0 +1,266 @@
+-- A series that is handed over: the former row ends and the new one is put, as a change of the office.
+use Rattle.std.proofs.Common.{◌≡◌, ◌≢◌, ◌⊎◌, inl, inr, ℕ, Bool, true, false, eqb, List, [], ◌∷◌, Some, None}
+use Rattle.std.proofs.Common.{Option, refl, sym, ap, subst, ◌∙◌, arith}
+use Rattle.std.specs.Prelude.{option_map, if◌then◌else◌}
+use Rattle.std.specs.List.{AllByRecursion}
+use Rattle.std.specs.List.Sorted.{IsStrictlySortedBy}
+use Rattle.std.specs.Ordering.{nat_cmp, is_eq}
+use Rattle.std.specs.declared.cmp.Ordering.TheVariants.{Less, Equal}
+use Rattle.std.specs.Cmp.{tied_itself}
+use Rattle.std.proofs.lemmas.Bool.Decides.{eqb_tells}
+use Rattle.std.proofs.lemmas.Cmp.{nat_cmp_total, ranked}
+use Rattle.sqlite_rules.specs.Lists.{Has}
+use Rattle.sqlite_rules.proofs.ProbeLemmas.{has_mapped, mapped_has}
+use Rattle.sqlite.specs.Effect.{Database}
+use Rattle.sqlite.specs.State.{State, HasCleanDisk, Survives}
+use Rattle.sqlite.proofs.StateLemmas.{survives_then}
+use Rattle.cpi_rows.specs.Keyed.{IsInOrder, at}
+use Rattle.cpi_rows.specs.Held.{held_by, held_cmp, held_key}
+use Rattle.cpi_rows.proofs.Found.{at_key}
+use Rattle.cpi_rows.proofs.Places.{put_in_order}
+use Rattle.cpi_store.specs.declared.given.Given.{Given}
+use Rattle.cpi_store.specs.declared.handover.Handover.{Handover}
+use Rattle.cpi_store.specs.Office.{changed, HandsOver, put_given, given_until, row_until, end_given, given_over}
+use Rattle.cpi_store.specs.Office.{hand_over}
+use Rattle.cpi_sql_rows.specs.Lists.{office_in, assignments_in, assignment_in}
+use Rattle.cpi_sql_writes.specs.GivenColumns.{CanHandOver, IsFree, PutsGiven}
+use Rattle.cpi_sql_rows.specs.Shelf.{HasTables, HasRowids, IsDone, IsKeyed}
+use Rattle.cpi_sql_rows.specs.Steps.{IsStep, SameBut, outside}
+use Rattle.cpi_sql_rows.proofs.Listed.{same_in_order, listed_in_order, has_put, put_has, put_keeps}
+use Rattle.cpi_sql_rows.proofs.Lists.{held_total, held_has}
+use Rattle.cpi_sql_writes.proofs.AddPremises.{slot_apart}
+use Rattle.cpi_sql_writes.proofs.PlanOffice.{tables_begun}
+use Rattle.cpi_sql_rows.proofs.QuoteOffice.{first_tied, second_tied}
+use Rattle.cpi_sql_writes.proofs.PlanSteps.{others_then}
+use Rattle.cpi_sql_writes.proofs.Replaced.{one_of}
+use Rattle.cpi_sql_rows.proofs.Unchanged.{same_plans, releases_after, same_releases, releases_kept}
+
+abbrev slot_of : Given → ℕ
+slot_of g = g.assignment.slot
+
+abbrev key : ℕ × Given → ℕ × ℕ
+key = held_key slot_of
+
+abbrev AreInOrder : List (ℕ × Given) → Type 0
+AreInOrder rows = IsInOrder (held_cmp nat_cmp) key rows
+
+-- ---- what ends is put over what stands
+
+-- a row of the slot ends, and every other row stays
+either : (n slot last : ℕ) (r : ℕ × Given)
+    → ((r.0 ≡ n) × (slot_of r.1 ≡ slot) × (row_until n slot last r ≡ (r.0, given_until last r.1)))
+    ⊎ (((r.0 ≡ n) × (slot_of r.1 ≡ slot) → ⊥) × (row_until n slot last r ≡ r))
+either n slot last r = by (eqb_tells r.0 n) (eqb_tells (slot_of r.1) slot)
+  where
+    by : ((eqb r.0 n ≡ true) × (r.0 ≡ n)) ⊎ ((eqb r.0 n ≡ false) × (r.0 ≢ n))
+        → ((eqb (slot_of r.1) slot ≡ true) × (slot_of r.1 ≡ slot)) ⊎ ((eqb (slot_of r.1) slot ≡ false) × (slot_of r.1 ≢ slot))
+        → ((r.0 ≡ n) × (slot_of r.1 ≡ slot) × (row_until n slot last r ≡ (r.0, given_until last r.1)))
+        ⊎ (((r.0 ≡ n) × (slot_of r.1 ≡ slot) → ⊥) × (row_until n slot last r ≡ r))
+    by (inl a) (inl b) = inl (a.1, b.1, rw (a.0, b.0) refl)
+    by (inl a) (inr b) = inr (λ both. b.1 both.1, rw (a.0, b.0) refl)
+    by (inr a) b = inr (λ both. a.1 both.0, rw a.0 refl)
+
+key_until : (n slot last : ℕ) (r : ℕ × Given) → key (row_until n slot last r) ≡ key r
+key_until n slot last r = elim (either n slot last r) [ inl ends ↦ ap key ends.2 | inr stays ↦ ap key stays.1 ]
+
+ended_in_order : (n slot last : ℕ) (rows : List (ℕ × Given)) → AreInOrder rows
+    → AreInOrder (end_given n slot last rows)
+unfolding IsStrictlySortedBy
+ended_in_order n slot last [] sorted = tt
+ended_in_order n slot last (r ∷ rows) sorted = (above rows sorted.0, ended_in_order n slot last rows sorted.1)
+  where
+    above : (rs : List (ℕ × Given)) → AllByRecursion (λ s. held_cmp nat_cmp (key r) (key s) ≡ Less) rs
+        → AllByRecursion (λ s. held_cmp nat_cmp (key (row_until n slot last r)) (key s) ≡ Less)
+        (end_given n slot last rs)
+    above [] all = tt
+    above (s ∷ rs) all = (
+      ap (λ k. held_cmp nat_cmp k (key (row_until n slot last s))) (key_until n slot last r)
+          ∙ ap (λ k. held_cmp nat_cmp (key r) k) (key_until n slot last s) ∙ all.0,
+      above rs all.1,
+    )
+
+row_has : (slot : ℕ) (g : Given) (xs : List Given) → at slot_of slot xs ≡ Some g → Has xs g
+row_has slot g [] e = absurd (let no : ◌≡◌ {A = Option Given} None (Some g) = e in cc)
+row_has slot g (x ∷ xs) e = by (is_eq (nat_cmp (slot_of x) slot)) e (row_has slot g xs)
+  where
+    by : (b : Bool) → (if b then Some x else at slot_of slot xs) ≡ Some g → (at slot_of slot xs ≡ Some g → Has xs g)
+        → Has (x ∷ xs) g
+    by true e rest = inl (let is : ◌≡◌ {A = Option Given} (Some x) (Some g) = e in cc)
+    by false e rest = inr (rest e)
+
+record IsThere (n slot last : ℕ) (g : Given) (rows : List (ℕ × Given)) : Type 0 where
+  pub found : Given
+  pub has : Has rows (n, found)
+  pub slot_is : slot_of found ≡ slot
+  pub ends : given_until last found ≡ g
+
+there : (n slot last : ℕ) (g : Given) (rows : List (ℕ × Given))
+    → option_map (given_until last) (at slot_of slot (held_by n rows)) ≡ Some g → IsThere n slot last g rows
+there n slot last g rows e = by (at slot_of slot (held_by n rows)) refl e
+  where
+    by : (o : Option Given) → at slot_of slot (held_by n rows) ≡ o → option_map (given_until last) o ≡ Some g
+        → IsThere n slot last g rows
+    by None f e = absurd (let no : ◌≡◌ {A = Option Given} None (Some g) = e in cc)
+    by (Some x) f e = record {
+      found = x;
+      has = held_has nat_cmp_total slot_of n x rows (row_has slot x (held_by n rows) f);
+      slot_is = at_key slot_of slot x (held_by n rows) f;
+      ends = let is : ◌≡◌ {A = Option Given} (Some (given_until last x)) (Some g) = e in cc;
+    }
+
+module _ (n : ℕ) (g : Given) (rows : List (ℕ × Given)) (sorted : AreInOrder rows)
+    (stands : option_map (given_until g.assignment.last_month) (at slot_of (slot_of g) (held_by n rows)) ≡ Some g) where
+  abbrev last : ℕ
+  last = g.assignment.last_month
+
+  it : IsThere n (slot_of g) last g rows
+  it = there n (slot_of g) last g rows stands
+
+  -- the one row of the slot
+  one : (r : ℕ × Given) → Has rows r → r.0 ≡ n → slot_of r.1 ≡ slot_of g → r ≡ (n, it.found)
+  one r h mine slot = one_of (held_total nat_cmp_total) key rows r (n, it.found) sorted h it.has
+      (rw (mine, slot, it.slot_is) (tied_itself (held_total nat_cmp_total) (n, slot_of g)))
+
+  apart : (r : ℕ × Given) → ((r.0 ≡ n) × (slot_of r.1 ≡ slot_of g) → ⊥) → held_cmp nat_cmp (key r) (n, slot_of g) ≢ Equal
+  apart r differ tie = differ (
+    ranked r.0 n Equal (sym (first_tied _ _ tie)),
+    ranked (slot_of r.1) (slot_of g) Equal (sym (second_tied _ _ tie)),
+  )
+
+  ended_has : (x : ℕ × Given) → Has (end_given n (slot_of g) last rows) x → Has (put_given n g rows) x
+  ended_has x h =
+      let y = has_mapped (row_until n (slot_of g) last) rows x h in
+      elim (either n (slot_of g) last y.0) [
+        | inl ends ↦
+            let is : x ≡ (n, g) = y.2 ∙ ends.2
+            ∙ ap (λ (r : ℕ × Given). (r.0, given_until last r.1)) (one y.0 y.1 ends.0 ends.1)
+            ∙ ap (λ z. (n, z)) it.ends in
+            subst (Has (put_given n g rows)) (sym is) (has_put (held_total nat_cmp_total) key (n, g) rows)
+        | inr stays ↦
+            subst (Has (put_given n g rows)) (sym (y.2 ∙ stays.1))
+            (put_keeps (held_total nat_cmp_total) key (n, g) rows y.0 y.1 (apart y.0 stays.0))
+      ]
+
+  has_ended : (x : ℕ × Given) → Has (put_given n g rows) x → Has (end_given n (slot_of g) last rows) x
+  has_ended x h = elim (put_has (held_total nat_cmp_total) key (n, g) rows x h) [
+    | inl is ↦
+        let made = mapped_has (row_until n (slot_of g) last) rows (n, it.found) it.has in
+        elim (either n (slot_of g) last (n, it.found)) [
+          | inl ends ↦ subst (Has (end_given n (slot_of g) last rows)) (ends.2 ∙ ap (λ z. (n, z)) it.ends ∙ sym is) made
+          | inr stays ↦ absurd (stays.0 (refl, it.slot_is))
+        ]
+    | inr was ↦
+        let made = mapped_has (row_until n (slot_of g) last) rows x was.0 in
+        elim (either n (slot_of g) last x) [
+          | inl ends ↦ absurd (was.1 (rw (ends.0, ends.1) (tied_itself (held_total nat_cmp_total) (n, slot_of g))))
+          | inr stays ↦ subst (Has (end_given n (slot_of g) last rows)) stays.1 made
+        ]
+  ]
+
+  pub ended_put : end_given n (slot_of g) last rows ≡ put_given n g rows
+  ended_put = same_in_order (held_total nat_cmp_total) key (end_given n (slot_of g) last rows) (put_given n g rows)
+      (ended_in_order n (slot_of g) last rows sorted) (put_in_order (held_total nat_cmp_total) key rows (n, g) sorted)
+      ended_has has_ended
+
+-- ---- the new slot stays free
+
+none_of : (n slot : ℕ) (rows : List (ℕ × Given)) → ((g : Given) → Has rows (n, g) → slot_of g ≡ slot → ⊥)
+    → IsFree n slot rows
+none_of n slot rows none = by (at slot_of slot (held_by n rows)) refl
+  where
+    by : (o : Option Given) → at slot_of slot (held_by n rows) ≡ o → IsFree n slot rows
+    by None e = e
+    by (Some g) e = absurd (none g (held_has nat_cmp_total slot_of n g rows (row_has slot g (held_by n rows) e))
+        (at_key slot_of slot g (held_by n rows) e))
+
+module _ (h : Handover) (rows : List (ℕ × Given)) (can : CanHandOver h rows) where
+  -- no row has the new slot
+  missing : (n slot : ℕ) (g : Given) → Has rows (n, g) → n ≡ h.taker.number → slot_of g ≡ slot
+      → slot ≡ h.assigned.assignment.slot → ⊥
+  missing n slot g has mine is level =
+      slot_apart h.taker.number h.assigned.assignment.slot rows can.free (n, g) has
+      (rw (mine, is, level) (tied_itself (held_total nat_cmp_total) (h.taker.number, h.assigned.assignment.slot)))
+
+  pub free_after : IsFree h.taker.number h.assigned.assignment.slot (put_given h.former.number h.ended rows)
+  free_after = none_of h.taker.number h.assigned.assignment.slot (put_given h.former.number h.ended rows)
+      (λ g has is. elim (put_has (held_total nat_cmp_total) key (h.former.number, h.ended) rows (h.taker.number, g)
+      has) [
+        | inl same ↦
+            let was = there h.former.number (slot_of h.ended) h.ended.assignment.last_month h.ended rows can.stands in
+            let mine : h.former.number ≡ h.taker.number = sym (ap (λ (r : ℕ × Given). r.0) same) in
+            let slot : slot_of h.ended ≡ h.assigned.assignment.slot = sym (ap (λ (r : ℕ × Given). slot_of r.1) same)
+            ∙ is in
+            absurd (missing h.former.number (slot_of h.ended) was.found was.has mine was.slot_is slot)
+        | inr was ↦ absurd (missing h.taker.number (slot_of g) g was.0 refl refl is)
+      ])
+
+-- ---- the two rows
+
+module _ (h : Handover) (a b c : State) (has : HasTables (outside a))
+    (can : CanHandOver h (office_in a.now.trees).assignments)
+    (one : IsStep 22 (PutsGiven h.former.number h.ended) a b)
+    (two : IsStep 22 (PutsGiven h.taker.number (given_over h)) b c) where
+  first : (assignments_in (b.now.trees 22) ≡ put_given h.former.number h.ended (assignments_in (a.now.trees 22)))
+      × IsKeyed (held_cmp nat_cmp) key assignment_in (b.now.trees 22)
+  first = one.rows has.assignments
+
+  second : (assignments_in (c.now.trees 22) ≡ put_given h.taker.number (given_over h) (assignments_in (b.now.trees 22)))
+      × IsKeyed (held_cmp nat_cmp) key assignment_in (c.now.trees 22)
+  second = two.rows first.1
+
+  rows_now : assignments_in (c.now.trees 22) ≡ hand_over h (assignments_in (a.now.trees 22))
+  rows_now = second.0 ∙ ap (put_given h.taker.number (given_over h)) (first.0
+      ∙ sym (ended_put h.former.number h.ended (assignments_in (a.now.trees 22))
+      (listed_in_order (held_total nat_cmp_total) key assignment_in (a.now.trees 22)) can.stands))
+
+  others : SameBut 22 a.now.trees c.now.trees
+  others = others_then 22 a.now.trees b.now.trees c.now.trees one.others two.others
+
+  pub handed_over : IsDone (HandsOver h) (outside a) (outside c)
+  handed_over = record {
+    tables = record {
+      schema = two.schema;
+      alone = refl;
+      plans = same_plans a.now.trees c.now.trees (others.nodes (λ e. absurd (omega (arith, e))))
+          (others.places (λ e. absurd (omega (arith, e))))
+          (others.references (λ e. absurd (omega (arith, e)))) has.plans;
+      releases = releases_kept a.now.trees c.now.trees (releases_after 22 a.now.trees c.now.trees refl others)
+          has.releases;
+      rowids = subst HasRowids (sym (others.quotes (λ e. absurd (omega (arith, e))))) has.rowids;
+      days = subst HasRowids (sym (others.calendar (λ e. absurd (omega (arith, e))))) has.days;
+      assignment_ids = two.rowids;
+      collectors = rw (others.collectors (λ e. absurd (omega (arith, e)))) has.collectors;
+      outlets = rw (others.outlets (λ e. absurd (omega (arith, e)))) has.outlets;
+      items = rw (others.items (λ e. absurd (omega (arith, e)))) has.items;
+      calendar = rw (others.calendar (λ e. absurd (omega (arith, e)))) has.calendar;
+      assignments = second.1;
+      quotes = rw (others.quotes (λ e. absurd (omega (arith, e)))) has.quotes;
+    };
+    office = rw (
+      others.collectors (λ e. absurd (omega (arith, e))),
+      others.outlets (λ e. absurd (omega (arith, e))),
+      others.items (λ e. absurd (omega (arith, e))),
+      others.calendar (λ e. absurd (omega (arith, e))),
+      others.quotes (λ e. absurd (omega (arith, e))),
+      others.nodes (λ e. absurd (omega (arith, e))),
+      others.places (λ e. absurd (omega (arith, e))),
+      others.references (λ e. absurd (omega (arith, e))),
+      same_releases a.now.trees c.now.trees (releases_after 22 a.now.trees c.now.trees refl others),
+      rows_now,
+    ) refl;
+  }
+
+-- what a crash may leave of it
+pub handover_survives : (h : Handover) (a begun b c : State) → begun.now ≡ a.now → Survives a b (λ _. ⊥)
+    → (HasCleanDisk b → HasTables (outside begun) → CanHandOver h (office_in begun.now.trees).assignments
+    → IsDone (HandsOver h) (outside begun) (outside b))
+    → Survives b c (λ db. db ≡ b.now.trees)
+    → Survives a c (λ db. HasTables a → CanHandOver h (office_in a.now.trees).assignments
+    → office_in db ≡ changed (HandsOver h) (office_in a.now.trees))
+handover_survives h a begun b c start one done two =
+    survives_then a b c _ _ _ (λ _ db no. absurd no)
+    (λ clean db is has can.
+    let disk : HasCleanDisk b = omega (arith, two.clean) in
+    let begins = λ (d : Database). CanHandOver h (office_in d.trees).assignments in
+    let put = done disk (tables_begun a begun start has) (subst begins (sym start) can) in
+    ap office_in is ∙ put.office ∙ ap (λ (d : Database). changed (HandsOver h) (office_in d.trees)) start) one two

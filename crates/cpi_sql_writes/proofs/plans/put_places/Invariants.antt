@@ -1,0 +1,19 @@
+use Rattle.std.proofs.Common.{◌≡◌, take, IsTrue}
+use Rattle.sqlite.specs.State.{HasCleanDisk, KeepsCommit, Survives}
+use Rattle.sqlite.specs.Held.{state}
+use Rattle.cpi_sql_rows.specs.Shelf.{HasRowids}
+use Rattle.cpi_sql_rows.specs.Steps.{AddsPlaces, IsStep}
+use Rattle.cpi_sql_rows.specs.Tables.{office_schema}
+use Rattle.cpi_sql_writes.proofs.plans.put_places.Given as goal
+
+abbrev pub invariant-places : goal.invariant-places
+invariant-places g l =
+    let old = state g.S.Store l.fn.tx.conn.now in
+    let now = state g.S.Store l.tx.conn.now in record {
+      same_reference : l.tx.conn.ghost_name ≡ l.fn.tx.conn.ghost_name;
+      survives : Survives old now (λ _. ⊥);
+      kept : HasCleanDisk now → KeepsCommit old now;
+      added : HasCleanDisk now → IsTrue old.in_transaction → old.now.schema ≡ office_schema
+          → HasRowids (old.now.trees 8)
+          → IsStep 8 (AddsPlaces l.fn.year (take l.place-index l.places)) old now;
+    }

@@ -1,0 +1,28 @@
+use Rattle.sqlite.specs.Held.{state}
+use Rattle.cpi_sql_writes.proofs.ReleaseColumns.{on_then}
+use Rattle.cpi_sql_writes.proofs.ReleaseSteps.{add_carried_ran}
+use Rattle.cpi_sql_writes.proofs.release_inserts.insert_carried.Goals as goal
+
+pub returns-clause-added : goal.returns-clause-added
+returns-clause-added g c = λ clean inside schema shaped.
+    on_then c.run_inside.result _ _ (c.run_inside.ensures.ran clean inside)
+    (λ it t n ticks knum number x is. add_carried_ran (state g.S.Store c.args.tx.now.conn.now)
+    (state g.S.Store c.run_inside.new.tx.conn.now) it.0 schema inside
+    c.args.numbers.month c.args.numbers.revision c.args.collector c.args.slot c.args.item.now c.args.last t n
+    c.args.kden c.args.observed
+    c.args.imputed number x is shaped
+    (rw (
+      c.params-to_sql.ensures,
+      c.params-to_sql-2.ensures,
+      c.params-to_sql-3.ensures,
+      c.params-to_sql-4.ensures,
+      c.params-to_sql-5.ensures,
+      c.params-to_sql-6.ensures,
+      c.params-to_sql-7.ensures,
+      c.params-to_sql-8.ensures,
+      c.params-to_sql-9.ensures,
+      c.params-to_sql-10.ensures,
+      c.params-to_sql-11.ensures,
+      ticks,
+      knum,
+    ) at it.1))

@@ -1,0 +1,2 @@
+pub mod GivenColumns
+pub mod ReleaseSteps

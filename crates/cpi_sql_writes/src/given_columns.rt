@@ -1,0 +1,59 @@
+//! What a slot was given, as the columns of its row.
+ghost use Rattle.std.specs.Prelude.{◌≡◌, IfOk, Some};
+ghost use Rattle.cpi_sql_writes.specs.GivenColumns.{copied_column, given_of};
+ghost use Rattle.cpi_sql_rows.specs.Lists.{price_or_none};
+
+use cpi_codes::{CollectorId, Price, SeriesId};
+use cpi_sql_rows::{Unread, collector_number, item_text, month_number, outlet_number, slot_number};
+use cpi_survey::Assignment;
+use std::alloc::Global;
+
+/// The columns of a row of what a slot was given, but for its rowid.
+#[derive(Drop)]
+pub struct GivenColumns {
+    pub collector: u32,
+    pub slot: u32,
+    pub outlet: u32,
+    pub item: String,
+    /// As year * 100 + month.
+    pub first_month: u32,
+    /// As year * 100 + month.
+    pub last_month: u32,
+    pub series_collector: u32,
+    pub series_slot: u32,
+    /// In minor units; NULL where no price was copied.
+    pub copied: Option<u32>,
+}
+
+fn copied_units(copied: Option<Price>) -> Option<u32>
+    ensures { price_or_none (copied_column result) ≡ Some copied }
+{
+    match copied {
+        Some(price) => Some(price.units()),
+        None => None,
+    }
+}
+
+/// The columns that stand for what the collector's slot was given.
+pub fn given_columns(
+    alloc: Global,
+    collector: CollectorId,
+    assignment: &Assignment,
+    series: SeriesId,
+) -> Result<GivenColumns, Unread>
+    ensures { IfOk result (λ c.
+        given_of c ≡ Some (collector, record { assignment = assignment.now; series = series })) }
+{
+    let item = item_text(alloc, assignment.item)?;
+    Ok(GivenColumns {
+        collector: collector_number(collector),
+        slot: slot_number(assignment.slot),
+        outlet: outlet_number(assignment.outlet),
+        item,
+        first_month: month_number(assignment.first_month),
+        last_month: month_number(assignment.last_month),
+        series_collector: collector_number(series.collector),
+        series_slot: slot_number(series.slot),
+        copied: copied_units(assignment.copied),
+    })
+}

@@ -1,0 +1,17 @@
+//! The statements that put rows, a plan, a release and a hand-over into the tables of an office.
+#![tactic(auto)]
+
+mod given_columns;
+mod handovers;
+mod plan_rows;
+mod plans;
+mod put_header;
+mod release_inserts;
+mod release_lists;
+mod releases;
+mod writes;
+
+pub use handovers::put_handover;
+pub use plans::put_plan;
+pub use releases::put_release;
+pub use writes::{put_assignment, put_calendar, put_collector, put_item, put_outlet, put_quote};

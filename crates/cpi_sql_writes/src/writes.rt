@@ -1,0 +1,236 @@
+//! The statements that put one row.
+ghost use Rattle.std.specs.Prelude.{◌≡◌, false, IfOk, IsTrue, OnOk, OnErr, None, Some, pos};
+ghost use Rattle.std.specs.String.{string_bytes};
+ghost use Rattle.sqlite.specs.declared.types.Value.TheVariants.{Int, Text};
+ghost use Rattle.sqlite.specs.Held.{state};
+ghost use Rattle.sqlite.specs.State.{HasCleanDisk, Survives};
+ghost use Rattle.cpi_rows.specs.Keyed.{at};
+ghost use Rattle.cpi_store.specs.Office.{changed, Registers, PutsOutlet, PutsItem, PutsCalendar, Assigns, Quotes};
+ghost use Rattle.cpi_rows.specs.Held.{held_by};
+ghost use Rattle.cpi_sql_rows.specs.Lists.{bearer_from, office_in, month_at};
+ghost use Rattle.cpi_sql_rows.specs.Lists.{calendar_from};
+ghost use Rattle.cpi_sql_rows.specs.Shelf.{IsCleanBook, IsKept, IsDone, HasTables};
+
+use crate::given_columns::given_columns;
+use cpi_codes::SeriesId;
+use cpi_plan::{CalendarRow, Item};
+use cpi_sql_rows::{
+    Unread, collector_number, high_number, item_text, key_text, low_number, mark_text, mark_value,
+    moment_value, month_number, name_text, outlet_number, run, slot_number,
+};
+use cpi_store::{Bearer, Outlet};
+use cpi_survey::{Assigned, Quote};
+use sqlite::{Alter, Connection, params};
+use std::alloc::Global;
+
+// The columns that stand for the bearer.
+fn bearer_columns(alloc: Global, bearer: Bearer) -> Result<(u32, String), Unread>
+    ensures { IfOk result (λ p. bearer_from (Int (pos p.0)) (Text (string_bytes p.1)) ≡ Some bearer) }
+{
+    let key = key_text(alloc, bearer.key)?;
+    Ok((u32::from(bearer.number.number()), key))
+}
+
+const PUT_COLLECTOR: &str = "INSERT INTO collector (number, key) VALUES (?1, ?2)";
+
+/// Puts a new collector.
+pub fn put_collector<S: Alter>(
+    conn: &mut Connection<S>,
+    alloc: Global,
+    bearer: Bearer,
+) -> Result<(), Unread>
+    ensures clean { IsCleanBook (state S.Store conn.new) → IsCleanBook (state S.Store conn.old) }
+    ensures open { HasCleanDisk (state S.Store conn.new) → (state S.Store conn.old).in_transaction ≡ false
+        → OnOk result (IsTrue (state S.Store conn.new).is_open) }
+    ensures done { IsCleanBook (state S.Store conn.new) → HasTables (state S.Store conn.old)
+        → at (λ b. b.number) bearer.number (office_in (state S.Store conn.old).now.trees).collectors ≡ None
+        → OnOk result (IsDone (Registers bearer) (state S.Store conn.old) (state S.Store conn.new)) }
+    ensures kept { IsCleanBook (state S.Store conn.new) → HasTables (state S.Store conn.old)
+        → OnErr result (IsKept (state S.Store conn.old) (state S.Store conn.new)) }
+    ensures crash { Survives (state S.Store conn.old) (state S.Store conn.new) (λ db. HasTables (state S.Store conn.old)
+        → at (λ b. b.number) bearer.number (office_in (state S.Store conn.old).now.trees).collectors ≡ None
+        → office_in db ≡ changed (Registers bearer) (office_in (state S.Store conn.old).now.trees)) }
+{
+    let columns = bearer_columns(alloc, bearer)?;
+    let _count = run(conn, PUT_COLLECTOR, params![columns.0, columns.1.as_str()])?;
+    Ok(())
+}
+
+const PUT_OUTLET: &str = "INSERT INTO outlet (number, name) VALUES (?1, ?2)";
+
+/// Puts a new outlet.
+pub fn put_outlet<S: Alter>(conn: &mut Connection<S>, outlet: &Outlet) -> Result<(), Unread>
+    ensures clean { IsCleanBook (state S.Store conn.new) → IsCleanBook (state S.Store conn.old) }
+    ensures open { HasCleanDisk (state S.Store conn.new) → (state S.Store conn.old).in_transaction ≡ false
+        → OnOk result (IsTrue (state S.Store conn.new).is_open) }
+    ensures done { IsCleanBook (state S.Store conn.new) → HasTables (state S.Store conn.old)
+        → at (λ u. u.number) outlet.now.number (office_in (state S.Store conn.old).now.trees).outlets ≡ None
+        → OnOk result (IsDone (PutsOutlet outlet.now) (state S.Store conn.old) (state S.Store conn.new)) }
+    ensures kept { IsCleanBook (state S.Store conn.new) → HasTables (state S.Store conn.old)
+        → OnErr result (IsKept (state S.Store conn.old) (state S.Store conn.new)) }
+    ensures crash { Survives (state S.Store conn.old) (state S.Store conn.new) (λ db. HasTables (state S.Store conn.old)
+        → at (λ u. u.number) outlet.now.number (office_in (state S.Store conn.old).now.trees).outlets ≡ None
+        → office_in db ≡ changed (PutsOutlet outlet.now) (office_in (state S.Store conn.old).now.trees)) }
+{
+    let number = outlet_number(outlet.number);
+    let name = name_text(&outlet.name);
+    let _count = run(conn, PUT_OUTLET, params![number, name])?;
+    Ok(())
+}
+
+const PUT_ITEM: &str = "INSERT INTO item (code, text, unit, low, high) VALUES (?1, ?2, ?3, ?4, ?5)";
+
+/// Puts a new item.
+pub fn put_item<S: Alter>(
+    conn: &mut Connection<S>,
+    alloc: Global,
+    item: &Item,
+) -> Result<(), Unread>
+    ensures clean { IsCleanBook (state S.Store conn.new) → IsCleanBook (state S.Store conn.old) }
+    ensures open { HasCleanDisk (state S.Store conn.new) → (state S.Store conn.old).in_transaction ≡ false
+        → OnOk result (IsTrue (state S.Store conn.new).is_open) }
+    ensures done { IsCleanBook (state S.Store conn.new) → HasTables (state S.Store conn.old)
+        → at (λ i. i.code) item.now.code (office_in (state S.Store conn.old).now.trees).items ≡ None
+        → OnOk result (IsDone (PutsItem item.now) (state S.Store conn.old) (state S.Store conn.new)) }
+    ensures kept { IsCleanBook (state S.Store conn.new) → HasTables (state S.Store conn.old)
+        → OnErr result (IsKept (state S.Store conn.old) (state S.Store conn.new)) }
+    ensures crash { Survives (state S.Store conn.old) (state S.Store conn.new) (λ db. HasTables (state S.Store conn.old)
+        → at (λ i. i.code) item.now.code (office_in (state S.Store conn.old).now.trees).items ≡ None
+        → office_in db ≡ changed (PutsItem item.now) (office_in (state S.Store conn.old).now.trees)) }
+{
+    let code = item_text(alloc, item.code)?;
+    let text = name_text(&item.text);
+    let unit = name_text(&item.unit);
+    let low = low_number(item.low);
+    let high = high_number(item.high);
+    let _count = run(
+        conn,
+        PUT_ITEM,
+        params![code.as_str(), text, unit, low, high],
+    )?;
+    Ok(())
+}
+
+const PUT_ASSIGNMENT: &str =
+    "INSERT INTO assignment_2 (collector, slot, outlet, item, first_month, last_month, series_collector, series_slot, \
+     copied) VALUES (?1, ?2, ?3, ?4, ?5, ?6, ?7, ?8, ?9)";
+
+/// Puts a new assignment of the collector, which names its own series.
+pub fn put_assignment<S: Alter>(
+    conn: &mut Connection<S>,
+    alloc: Global,
+    bearer: Bearer,
+    assigned: &Assigned,
+) -> Result<(), Unread>
+    ensures clean { IsCleanBook (state S.Store conn.new) → IsCleanBook (state S.Store conn.old) }
+    ensures open { HasCleanDisk (state S.Store conn.new) → (state S.Store conn.old).in_transaction ≡ false
+        → OnOk result (IsTrue (state S.Store conn.new).is_open) }
+    ensures done { IsCleanBook (state S.Store conn.new) → HasTables (state S.Store conn.old)
+        → at (λ g. g.assignment.slot) assigned.now.assignment.slot
+        (held_by bearer.number (office_in (state S.Store conn.old).now.trees).assignments) ≡ None
+        → OnOk result (IsDone (Assigns bearer assigned.now) (state S.Store conn.old) (state S.Store conn.new)) }
+    ensures kept { IsCleanBook (state S.Store conn.new) → HasTables (state S.Store conn.old)
+        → OnErr result (IsKept (state S.Store conn.old) (state S.Store conn.new)) }
+    ensures crash { Survives (state S.Store conn.old) (state S.Store conn.new) (λ db. HasTables (state S.Store conn.old)
+        → at (λ g. g.assignment.slot) assigned.now.assignment.slot
+        (held_by bearer.number (office_in (state S.Store conn.old).now.trees).assignments) ≡ None
+        → office_in db ≡ changed (Assigns bearer assigned.now) (office_in (state S.Store conn.old).now.trees)) }
+{
+    let series = SeriesId {
+        collector: bearer.number,
+        slot: assigned.assignment.slot,
+    };
+    let columns = given_columns(alloc, bearer.number, &assigned.assignment, series)?;
+    let _count = run(
+        conn,
+        PUT_ASSIGNMENT,
+        params![
+            columns.collector,
+            columns.slot,
+            columns.outlet,
+            columns.item.as_str(),
+            columns.first_month,
+            columns.last_month,
+            columns.series_collector,
+            columns.series_slot,
+            columns.copied
+        ],
+    )?;
+    Ok(())
+}
+
+const PUT_QUOTE: &str =
+    "INSERT INTO quote_2 (collector, slot, month, mark, value, receipt) VALUES (?1, ?2, ?3, ?4, ?5, ?6) \
+     ON CONFLICT (collector, slot, month) DO UPDATE SET collector = excluded.collector, slot = excluded.slot, \
+     month = excluded.month, mark = excluded.mark, value = excluded.value, receipt = excluded.receipt";
+
+/// Puts a quote of the collector, over the one of its slot and month if there is one.
+pub fn put_quote<S: Alter>(
+    conn: &mut Connection<S>,
+    bearer: Bearer,
+    quote: Quote,
+) -> Result<(), Unread>
+    ensures clean { IsCleanBook (state S.Store conn.new) → IsCleanBook (state S.Store conn.old) }
+    ensures open { HasCleanDisk (state S.Store conn.new) → (state S.Store conn.old).in_transaction ≡ false
+        → OnOk result (IsTrue (state S.Store conn.new).is_open) }
+    ensures done { IsCleanBook (state S.Store conn.new) → HasTables (state S.Store conn.old)
+        → OnOk result (IsDone (Quotes bearer quote) (state S.Store conn.old) (state S.Store conn.new)) }
+    ensures kept { IsCleanBook (state S.Store conn.new) → HasTables (state S.Store conn.old)
+        → OnErr result (IsKept (state S.Store conn.old) (state S.Store conn.new)) }
+    ensures crash { Survives (state S.Store conn.old) (state S.Store conn.new) (λ db. HasTables (state S.Store conn.old)
+        → office_in db ≡ changed (Quotes bearer quote) (office_in (state S.Store conn.old).now.trees)) }
+{
+    let collector = collector_number(bearer.number);
+    let slot = slot_number(quote.slot);
+    let month = month_number(quote.month);
+    let word = mark_text(quote.mark);
+    let value = mark_value(quote.mark);
+    let receipt = quote.receipt;
+    let _count = run(
+        conn,
+        PUT_QUOTE,
+        params![collector, slot, month, word, value, receipt],
+    )?;
+    Ok(())
+}
+
+// The month's number; what the row's columns are then stands for the row.
+fn day_number(row: CalendarRow) -> u32
+    ensures month { month_at result ≡ Some row.month }
+    ensures is { calendar_from (Int (pos result)) (Int (pos row.opens)) (Int (pos row.closes)) (Int (pos row.publishes))
+        ≡ Some row }
+{
+    let _opens = moment_value(row.opens());
+    let _closes = moment_value(row.closes());
+    let _publishes = moment_value(row.publishes());
+    month_number(row.month())
+}
+
+const PUT_CALENDAR: &str =
+    "INSERT INTO calendar (month, opens, closes, publishes) VALUES (?1, ?2, ?3, ?4) \
+     ON CONFLICT (month) DO UPDATE SET opens = excluded.opens, closes = excluded.closes, \
+     publishes = excluded.publishes";
+
+/// Puts a month's calendar row, over the one that stands if there is one.
+pub fn put_calendar<S: Alter>(conn: &mut Connection<S>, row: CalendarRow) -> Result<(), Unread>
+    ensures clean { IsCleanBook (state S.Store conn.new) → IsCleanBook (state S.Store conn.old) }
+    ensures open { HasCleanDisk (state S.Store conn.new) → (state S.Store conn.old).in_transaction ≡ false
+        → OnOk result (IsTrue (state S.Store conn.new).is_open) }
+    ensures done { IsCleanBook (state S.Store conn.new) → HasTables (state S.Store conn.old)
+        → OnOk result (IsDone (PutsCalendar row) (state S.Store conn.old) (state S.Store conn.new)) }
+    ensures kept { IsCleanBook (state S.Store conn.new) → HasTables (state S.Store conn.old)
+        → OnErr result (IsKept (state S.Store conn.old) (state S.Store conn.new)) }
+    ensures crash { Survives (state S.Store conn.old) (state S.Store conn.new) (λ db. HasTables (state S.Store conn.old)
+        → office_in db ≡ changed (PutsCalendar row) (office_in (state S.Store conn.old).now.trees)) }
+{
+    let month = day_number(row);
+    let opens = moment_value(row.opens());
+    let closes = moment_value(row.closes());
+    let publishes = moment_value(row.publishes());
+    let _count = run(
+        conn,
+        PUT_CALENDAR,
+        params![month, &opens, &closes, &publishes],
+    )?;
+    Ok(())
+}
