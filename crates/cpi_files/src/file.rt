@@ -5,7 +5,7 @@ ghost use Rattle.cpi_files.specs.Database.{IsDoneIn};
 
 use crate::job::BookJob;
 use crate::over::job_over;
-use cpi_store::OpenFault;
+use cpi_sql::OpenFault;
 use sqlite::{Connection, FileFrom, Start};
 use sqlite_disk::Disk;
 use std::io::{Read, Write};

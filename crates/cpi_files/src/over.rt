@@ -4,7 +4,7 @@ ghost use Rattle.sqlite.specs.Held.{state};
 ghost use Rattle.cpi_files.specs.Over.{IsDoneOver};
 
 use crate::job::BookJob;
-use cpi_sql::SqlBook;
+use cpi_sql::{OpenFault, SqlBook};
 use sqlite::{Alter, Connection};
 use std::io::{Read, Write};
 
