@@ -3,7 +3,7 @@ use cpi_rows::Keyed;
 use cpi_survey::Assignment;
 
 /// What a slot of a collector was given: an assignment, and the series that it prices.
-#[derive(Clone, Copy, Debug, PartialEq, Eq)]
+#[derive(Clone, Copy, PartialEq, Eq)]
 pub struct Given {
     /// What the slot is for.
     pub assignment: Assignment,

@@ -5,7 +5,7 @@ use cpi_codes::{ItemCode, Month, Name, OutletId, Price, Slot};
 use cpi_rows::Keyed;
 
 /// What a slot of a collector is for: an item to be priced in an outlet, from the first month to the last.
-#[derive(Clone, Copy, Debug, PartialEq, Eq)]
+#[derive(Clone, Copy, PartialEq, Eq)]
 pub struct Assignment {
     /// The slot of the collector, which is given once and never changes.
     pub slot: Slot,

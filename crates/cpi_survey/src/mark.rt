@@ -4,7 +4,7 @@ ghost use Rattle.cpi_survey.specs.Mark.{checked_price, is_replacement, is_same_m
 use cpi_codes::Price;
 
 /// Why no price was found.
-#[derive(Clone, Copy, Debug, PartialEq, Eq)]
+#[derive(Clone, Copy, PartialEq, Eq)]
 pub enum Reason {
     /// The item was out of stock.
     Stock,
@@ -17,7 +17,7 @@ pub enum Reason {
 }
 
 /// What a collector found for a slot in a month. Prices are in minor units.
-#[derive(Clone, Copy, Debug, PartialEq, Eq)]
+#[derive(Clone, Copy, PartialEq, Eq)]
 pub enum Mark {
     /// The price of the item itself.
     Price(Price),

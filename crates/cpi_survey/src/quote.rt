@@ -6,7 +6,7 @@ use cpi_rows::Keyed;
 use std::marker::Model;
 
 /// A stored quote: what a collector found for a slot in a month, with the receipt that was given for it.
-#[derive(Clone, Copy, Debug, PartialEq, Eq)]
+#[derive(Clone, Copy, PartialEq, Eq)]
 pub struct Quote {
     /// The slot that was priced.
     pub slot: Slot,
