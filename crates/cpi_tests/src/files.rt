@@ -171,12 +171,12 @@ pub(crate) fn number_in<S: Alter + Drop>(
 // ---- the connections of these files: each call at their type stands here
 
 // The database of the files, whatever it holds.
-fn connected(alloc: Global, files: MemoryFiles, frames: usize) -> Option<Database> {
+fn connected(alloc: Global, files: MemoryFiles) -> Option<Database> {
     if !files.may_be_used() {
         return None;
     }
     let mut options = Options::new(7);
-    options.checkpoint_frames = frames;
+    options.checkpoint_frames = FRAMES;
     Connection::open_files(alloc, files, options).ok()
 }
 
@@ -207,11 +207,10 @@ fn let_go(conn: Database, end: End) -> Option<MemoryFiles> {
 fn sent_in(
     alloc: Global,
     files: MemoryFiles,
-    frames: usize,
     end: End,
     records: &str,
 ) -> Option<(Told, MemoryFiles)> {
-    let conn = connected(alloc, files, frames)?;
+    let conn = connected(alloc, files)?;
     let (told, conn) = sent(alloc, conn, records)?;
     Some((told, let_go(conn, end)?))
 }
@@ -219,7 +218,7 @@ fn sent_in(
 /// The database of files that hold so much, to be looked at by another program.
 pub(crate) fn database(alloc: Global, held: &Held) -> Result<Database, Fail> {
     let files = files_of(alloc, held, ENOUGH)?;
-    Ok(connected(alloc, files, FRAMES).ok_or("no database")?)
+    Ok(connected(alloc, files).ok_or("no database")?)
 }
 
 /// The files after statements of another program, with what the log holds copied into the database file.
@@ -227,13 +226,6 @@ pub(crate) fn changed(alloc: Global, held: &Held, statements: &str) -> Result<He
     let mut conn = database(alloc, held)?;
     execute(&mut conn, statements)?;
     let files = let_go(conn, End::Closed).ok_or("not closed")?;
-    held_by(alloc, &files)
-}
-
-/// What the files hold once they were opened as an office, and nothing of the log was copied into the database file.
-pub(crate) fn opened_in_the_log(alloc: Global, held: &Held) -> Result<Held, Fail> {
-    let files = files_of(alloc, held, ENOUGH)?;
-    let (_, files) = sent_in(alloc, files, usize::MAX, End::Process, "").ok_or("no office")?;
     held_by(alloc, &files)
 }
 
@@ -247,7 +239,7 @@ pub(crate) fn run(
     records: &str,
 ) -> Result<Option<Left>, Fail> {
     let files = files_of(alloc, held, calls)?;
-    let Some((told, mut files)) = sent_in(alloc, files, FRAMES, end, records) else {
+    let Some((told, mut files)) = sent_in(alloc, files, end, records) else {
         return Ok(None);
     };
     let written = held_by(alloc, &files)?;

@@ -1,5 +1,5 @@
 //! Files of schema 1: what is left of them where the open that migrates them is stopped.
-use crate::files::{Calls, ENOUGH, End, Held, database, number_in, opened_in_the_log, run};
+use crate::files::{Calls, ENOUGH, End, Held, database, number_in, run};
 use crate::first::first_files;
 use crate::script::{answers, questions};
 use sqlite::{Alter, Connection};
@@ -57,67 +57,6 @@ fn schema_of(alloc: Global, held: &Held) -> Result<Option<i64>, Fail> {
 fn answers_as_ever(alloc: Global, held: &Held) -> Result<bool, Fail> {
     let left = run(alloc, held, ENOUGH, End::Process, questions())?.ok_or("no office")?;
     Ok(left.told.lines.as_slice() == answers())
-}
-
-// How far a file is cut at a time: half a frame of a page of 4,096 bytes.
-const STEP: usize = 2060;
-
-// Files of schema 1 with a first part of the log that migrates them.
-fn cut(alloc: Global, first: &Held, log: &[u8]) -> Result<Held, Fail> {
-    Ok(Held {
-        log: log.to_vec(alloc)?,
-        db: first.db.to_vec(alloc)?,
-    })
-}
-
-#[test]
-fn a_log_that_is_cut_leaves_schema_1_or_schema_2(rt: HostRuntime) -> Result<(), Fail> {
-    let alloc = rt.alloc();
-    let first = first_files(alloc)?;
-    let whole = opened_in_the_log(alloc, &first)?;
-    let (mut len, mut schema) = (0, 1);
-    for _ in 0..1000 {
-        let Some(log) = whole.log.as_slice().get(..len) else {
-            break;
-        };
-        let files = cut(alloc, &first, log)?;
-        let found = schema_of(alloc, &files)?.ok_or("rows of both schemas, or of none")?;
-        if found < schema || !answers_as_ever(alloc, &files)? {
-            return Err(Fail::new(format_args!("a log of {len} bytes")));
-        }
-        schema = found;
-        len = len.saturating_add(STEP);
-    }
-    assert_eq!(rt; schema_of(alloc, &whole)?, Some(2));
-    Ok(())
-}
-
-// The first bytes of one file and the rest of another.
-fn joined(alloc: Global, new: &[u8], old: &[u8], len: usize) -> Result<Vec<u8>, Fail> {
-    let mut joined = new.get(..len).ok_or("a short file")?.to_vec(alloc)?;
-    if let Some(rest) = old.get(len..) {
-        joined.extend_from_slice(rest)?;
-    }
-    Ok(joined)
-}
-
-#[test]
-fn a_log_that_is_copied_in_part_leaves_schema_2(rt: HostRuntime) -> Result<(), Fail> {
-    let alloc = rt.alloc();
-    let first = first_files(alloc)?;
-    let whole = opened_in_the_log(alloc, &first)?;
-    let closed = run(alloc, &first, ENOUGH, End::Closed, "")?.ok_or("no office")?;
-    for place in 0..=closed.files.db.len() / STEP {
-        let len = place.saturating_mul(STEP);
-        let part = Held {
-            log: whole.log.to_vec(alloc)?,
-            db: joined(alloc, &closed.files.db, &first.db, len)?,
-        };
-        if schema_of(alloc, &part)? != Some(2) {
-            return Err(Fail::new(format_args!("a copy of {len} bytes")));
-        }
-    }
-    Ok(())
 }
 
 // Opens files of schema 1 with the log, or the database file, stopping ever later, up to an open that succeeds: what
