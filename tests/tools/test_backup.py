@@ -126,7 +126,9 @@ def test_what_is_renamed_is_on_the_disk_before(
     assert found == ["sync office.db", "sync note", "name x.db", "name x.db.sha256", "sync backup"]
 
 
-@pytest.mark.parametrize("what", ["none", "folder", "empty", "text", "itself", "its log", "destination is a folder"])
+@pytest.mark.parametrize(
+    "what", ["none", "folder", "empty", "text", "itself", "its log", "a pipe", "a folder as destination"]
+)
 def test_what_can_not_be_backed_up_is_one_line_and_leaves_nothing(what: str, cpi: Cpi, tmp_path: Path) -> None:
     office, to = tmp_path / "office.db", tmp_path / "backup" / "office-1.db"
     to.parent.mkdir()
@@ -137,14 +139,17 @@ def test_what_can_not_be_backed_up_is_one_line_and_leaves_nothing(what: str, cpi
         "text": "cpi: database failed (the file is no office, another program holds it, or the disk failed;",
         "itself": f"{office} is the office itself",
         "its log": f"{log_beside(office)} is the office's log",
-        "destination is a folder": f"{to.parent} is a folder: name the file",
+        "a pipe": f"{tmp_path}/pipe is no file, so nothing takes its place",
+        "a folder as destination": f"{to.parent} is a folder: name the file",
     }
     if what == "folder":
         office.mkdir()
     elif what != "none":
         office.write_text("no database\n" * 1000 if what != "empty" else "")
-    dest = {"itself": office, "its log": log_beside(office), "destination is a folder": to.parent}.get(what, to)
-    ran = run(cpi, office, dest, *(["--replace"] if what == "itself" else []))
+    others = {"itself": office, "its log": log_beside(office), "a pipe": tmp_path / "pipe"}
+    os.mkfifo(tmp_path / "pipe")
+    dest = {**others, "a folder as destination": to.parent}.get(what, to)
+    ran = run(cpi, office, dest, *(["--replace"] if what in others else []))
     assert (ran.returncode, ran.stdout, ran.stderr.count("\n")) == (1, "", 1)
     assert ran.stderr.startswith(f"cpi-tools backup: {wanted[what]}")
     assert names(to.parent) == []

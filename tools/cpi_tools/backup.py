@@ -138,6 +138,8 @@ def _look_at(path: Path, to: Path, is_replacing: bool) -> None:
     path.stat()
     if to.is_dir():
         raise BackupFailed(f"{to} is a folder: name the file")
+    if to.exists() and not to.is_file():
+        raise BackupFailed(f"{to} is no file, so nothing takes its place")
     if to.exists() and to.samefile(path):
         raise BackupFailed(f"{to} is the office itself")
     if log_beside(path) in (to.resolve(), note_beside(to).resolve()):
