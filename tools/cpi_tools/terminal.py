@@ -41,9 +41,9 @@ def month_text(month: int) -> str:
     return f"{month // 100:04}-{month % 100:02}"
 
 
-def counted(count: int, one: str, more: Optional[str] = None) -> str:
-    """`1 table`, `25 tables`; `more` is the plural, where it isn't the word with an s."""
-    return f"{count:,} {one if count == 1 else more or one + 's'}"
+def counted(count: int, one: str) -> str:
+    """`1 table`, `25 tables`."""
+    return f"{count:,} {one if count == 1 else one + 's'}"
 
 
 # ---- words of the command line
