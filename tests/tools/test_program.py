@@ -79,7 +79,7 @@ def test_a_fault_is_the_line_of_the_program_with_what_it_means(cpi: Cpi, tmp_pat
 def test_a_fault_has_the_replies_before_it(tmp_path: Path) -> None:
     half = executable(tmp_path / "half")
     half.write_text("#!/bin/sh\ncat > /dev/null\necho '{\"done\":true}'\nprintf '{\"receipt\":1'\nkill -9 $$\n")
-    with pytest.raises(CpiFailed, match="cpi was ended by signal 9") as told:
+    with pytest.raises(CpiFailed, match="cpi was ended by the signal SIGKILL") as told:
         Cpi(half).replay(["a", "b"])
     assert (told.value.status, told.value.replies) == (-9, [{"done": True}])
 

@@ -13,6 +13,7 @@ import io
 import json
 import os
 import shutil
+import signal
 import subprocess
 from collections.abc import Iterable, Iterator, Sequence
 from pathlib import Path
@@ -208,9 +209,17 @@ def replay_words(db: Optional[Path], zone: Optional[str]) -> list[str]:
     return words
 
 
+def name_of_signal(number: int) -> str:
+    """`SIGKILL` of 9; a number that has no name is itself."""
+    try:
+        return signal.Signals(number).name
+    except ValueError:
+        return str(number)
+
+
 def told(status: int, errors: bytes) -> str:
     """One line for a status that isn't 0: the program's own, with what it means; or how it was ended."""
     lines = errors.decode(errors="replace").strip().splitlines()
     if status < 0:
-        return f"cpi was ended by signal {-status}"
+        return f"cpi was ended by the signal {name_of_signal(-status)}"
     return told_fault(lines[-1]) if lines else f"cpi ended with status {status}"
