@@ -242,6 +242,10 @@ def test_what_can_not_be_copied_is_told(tmp_path: Path) -> None:
     with pytest.raises(CopyFailed, match="copy is no file"):
         right_copy(tmp_path / "copy", tmp_path)
     assert [*(tmp_path / "copy").iterdir()] == []
+    (tmp_path / "copy/other.db").write_text("a copy of before")
+    with pytest.raises(CopyFailed, match="other.db: No such file or directory"):
+        right_copy(tmp_path / "other.db", tmp_path / "copy")
+    assert (tmp_path / "copy/other.db").read_text() == "a copy of before"
 
 
 def test_of_a_link_the_file_is_copied_with_the_log_beside_the_file(tmp_path: Path) -> None:

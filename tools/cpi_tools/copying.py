@@ -98,9 +98,12 @@ def right_copy(path: Path, folder: Path, patience: float = PATIENCE, pause: Opti
         if copy.exists() and copy.samefile(path):
             raise CopyFailed(f"{path} can't be copied onto itself")
         with _standing_still(path, pause) if pause is not None else contextlib.nullcontext():
-            _copy_until_quiet(path, copy, patience)
+            try:
+                _copy_until_quiet(path, copy, patience)
+            except BaseException:
+                _remove(copy)
+                raise
     except OSError as fault:
-        _remove(copy)
         raise CopyFailed(because_of(fault)) from fault
     if copy.stat().st_size == 0 and not has_frames(copy):
         _remove(copy)
@@ -131,7 +134,6 @@ def _copy_until_quiet(path: Path, copy: Path, patience: float) -> None:
         if mark_of(path) == before:
             return
         if time.monotonic() - begun > patience:
-            _remove(copy)
             raise CopyFailed(
                 f"{path} is written so fast that it wasn't quiet for one copy in {patience:.0f} seconds (see --pause)"
             )
