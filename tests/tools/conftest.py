@@ -1,0 +1,57 @@
+"""What these tests share: the program that is tested, and an office that it made."""
+
+from __future__ import annotations
+
+import sys
+from pathlib import Path
+
+import pytest
+
+HERE = Path(__file__).resolve().parent
+ROOT = HERE.parents[1]
+
+sys.dont_write_bytecode = True
+sys.path[:0] = [str(HERE), str(ROOT / "tools")]
+
+from cpi_tools.program import Cpi  # noqa: E402
+from offices import lived  # noqa: E402
+
+
+def pytest_addoption(parser: pytest.Parser) -> None:
+    parser.addoption("--program", default=None, help="the program cpi")
+    parser.addoption("--times", type=int, default=20, help="how many backups each test under load makes")
+    parser.addoption("--office", default=None, help="the office of these tests, made before (else it is made)")
+
+
+@pytest.fixture(scope="session")
+def cpi(request: pytest.FixtureRequest) -> Cpi:
+    """The program."""
+    return Cpi(request.config.getoption("--program"))
+
+
+@pytest.fixture(scope="session")
+def times(request: pytest.FixtureRequest) -> int:
+    """How many backups each test under load makes."""
+    found: int = request.config.getoption("--times")
+    return found
+
+
+@pytest.fixture(scope="session")
+def made(cpi: Cpi, request: pytest.FixtureRequest, tmp_path_factory: pytest.TempPathFactory) -> Path:
+    """The file of an office of fifteen months; tests copy it, and none writes to it."""
+    file = tmp_path_factory.mktemp("made") / "office.db"
+    if before := request.config.getoption("--office"):
+        file.write_bytes(Path(before).read_bytes())
+        return file
+    refused = [reply for reply in cpi.replay(lived(), db=file) if "refused" in reply]
+    assert not refused
+    (file.parent / "office.db-wal").unlink(missing_ok=True)
+    return file
+
+
+@pytest.fixture
+def office(made: Path, tmp_path: Path) -> Path:
+    """A test's own file of that office."""
+    file = tmp_path / "office.db"
+    file.write_bytes(made.read_bytes())
+    return file

@@ -1,0 +1,249 @@
+"""`cpi-tools drill`: what is whole passes, what was changed is found, and nothing that is looked at changes."""
+
+from __future__ import annotations
+
+import contextlib
+import shutil
+import sqlite3
+from pathlib import Path
+
+import pytest
+
+from cpi_tools.anew import Months, differing
+from cpi_tools.backup import Note, hash_of, note_beside, note_text
+from cpi_tools.copying import CopyFailed, log_beside
+from cpi_tools.drill import Counts, Drilled, computed_faults, differences, drill, figures_of, note_of, told_line
+from cpi_tools.program import Cpi
+from cpi_tools.stored import Level, stored_office
+from offices import LOAD_KEY, LOAD_MONTH, TABLES
+
+ROWS, CARRIED = 13 * 13 + 2 * 11, 13 * 6 + 2 * 4
+"""Rows of the tables, and carried prices: of 2025 with its revision, and of two months of 2026, which have two nodes
+and two series less; none of the first December. (Two series have no place in a plan.)"""
+
+
+def change(file: Path, *statements: str) -> None:
+    """Changes an office's file by the C library, and leaves no log."""
+    with contextlib.closing(sqlite3.connect(file)) as link:
+        for statement in statements:
+            assert link.execute(statement).rowcount == 1, statement
+        link.commit()
+
+
+def with_note(file: Path) -> Path:
+    """The note on a file as it is now."""
+    note_beside(file).write_text(note_text(Note("office.db", 1_700_000_000, TABLES, 1, hash_of(file)), file.name))
+    return file
+
+
+def test_an_office_passes_and_is_left_as_it_is(cpi: Cpi, office: Path) -> None:
+    with_note(office)
+    before = {path.name: path.read_bytes() for path in office.parent.iterdir()}
+    found = drill(cpi, office)
+    assert found.faults == ()
+    assert (found.tables, found.rows, found.quotes, found.other_quotes) == (TABLES, ROWS, 8 * (TABLES - 1), 0)
+    assert found.carried == CARRIED
+    assert {path.name: path.read_bytes() for path in office.parent.iterdir()} == before
+    assert told_line(Path("office.db"), found) == (
+        f"office.db: nothing is wrong; {TABLES} tables with {ROWS} rows and {CARRIED} carried prices computed"
+        f" anew, {found.quotes} quotes; copied 2023-11-14 22:13 UTC"
+    )
+
+
+PRICE = "UPDATE quote_2 SET value = value + 1 WHERE collector = 1 AND slot = 2 AND month = 202602"
+
+CHANGES = {
+    "a frozen price": (
+        "UPDATE frozen_2 SET value = value + 1 WHERE month = 202602 AND collector = 1 AND slot = 1",
+        ["2026-02 revision 1: 1 carried price other", "2026-02 revision 1: 6 rows of its table other than"],
+    ),
+    "a frozen price of a revision that another one followed": (
+        "UPDATE frozen_2 SET value = value + 1 WHERE month = 202503 AND revision = 1 AND collector = 1 AND slot = 1",
+        ["2025-03 revision 1: 1 carried price other", "2025-03 revision 1: "],
+    ),
+    "a carried price": (
+        "UPDATE carried_2 SET ticks = ticks + 1 WHERE month = 202507 AND collector = 1 AND slot = 3",
+        ["2025-07 revision 1: 1 carried price other than its quotes give, the first of series 1/3"],
+    ),
+    "a scale": (
+        "UPDATE carried_2 SET kden = kden + 1 WHERE month = 202504 AND collector = 1 AND slot = 5",
+        ["2025-04 revision 1: 1 carried price other than its quotes give, the first of series 1/5"],
+    ),
+    "whether a price was observed": (
+        "UPDATE carried_2 SET observed = 0 WHERE month = 202504 AND collector = 1 AND slot = 5",
+        ["2025-04 revision 1: 1 carried price other than its quotes give, the first of series 1/5"],
+    ),
+    "a level": (
+        "UPDATE level_2 SET chained = chained + 1 WHERE month = 202512 AND revision = 1 AND code = '07.2'",
+        ["2025-12 revision 1: 1 row of its table other than its quotes give, the first at 07.2"],
+    ),
+    "a level of a revision that another one followed": (
+        "UPDATE level_2 SET chained = chained + 1 WHERE month = 202503 AND revision = 1 AND code = '00'",
+        ["2025-03 revision 1: 1 row of its table other than its quotes give, the first at 00"],
+    ),
+    "a change on the year": (
+        "UPDATE level_2 SET year_change = NULL WHERE month = 202601 AND code = '00'",
+        ["2026-01 revision 1: 1 row of its table other than its quotes give, the first at 00"],
+    ),
+    "a weight": (
+        "UPDATE node SET weight = weight + 1 WHERE year = 2026 AND code = '01.1.1.1-01'",
+        ["2026-01 revision 1: ", "2026-02 revision 1: "],
+    ),
+    "a title": (
+        "UPDATE level_2 SET title = 'Other' WHERE month = 202602 AND code = '01'",
+        ["2026-02 revision 1: the titles aren't those of the year's plan"],
+    ),
+    "a carry list": (
+        "UPDATE release_2 SET carry = '' WHERE month = 202507",
+        ["2025-07 revision 1: can't be computed from what is stored (ZeroDivisionError"],
+    ),
+}
+
+
+@pytest.mark.parametrize("what", CHANGES)
+def test_what_was_changed_is_found_without_a_note(what: str, office: Path) -> None:
+    """The computation alone finds it; what `cpi` says of such files is another test's."""
+    statement, wanted = CHANGES[what]
+    change(office, statement)
+    found = computed_alone(office)
+    assert len(found) == len(wanted), found
+    for line, begin in zip(found, wanted):
+        assert line.startswith(begin)
+
+
+def computed_alone(file: Path) -> list[str]:
+    """The faults of a file by the computation, without the program."""
+    with stored_office(file) as office:
+        return [fault for faults in computed_faults(office, None, Counts()) for fault in faults]
+
+
+def test_changed_figures_are_found_in_a_drill(cpi: Cpi, office: Path) -> None:
+    """A price, a carried price and a level at once, each told at its place, of a file that `cpi` opens."""
+    change(office, *(CHANGES[what][0] for what in ("a frozen price", "a carried price", "a level")), PRICE)
+    found = drill(cpi, office)
+    assert [fault.partition(":")[0] for fault in found.faults] == [
+        "2025-07 revision 1", "2025-12 revision 1", "2026-02 revision 1", "2026-02 revision 1",
+    ]  # fmt: skip
+    # (A quote that was changed looks as one that was sent again after its month was frozen: this is told, and no fault.
+    # The other one is that whose frozen price was changed.)
+    assert found.other_quotes == 2
+    assert "(2 of them not as frozen last); no note of its SHA-256" in told_line(office, found)
+
+
+def byte_of(file: Path, table: str, where: str, column: str) -> int:
+    """Where in a file the last byte of a number is that one row alone has; the row's number is made known by changing
+    it in a copy, whose one other byte in the table's pages is the place."""
+    other = file.with_name("other.db")
+    shutil.copy(file, other)
+    change(file, f"UPDATE {table} SET {column} = {column} WHERE {where}")
+    change(other, f"UPDATE {table} SET {column} = {column} + 1 WHERE {where}")
+    old, new = file.read_bytes(), other.read_bytes()
+    other.unlink()
+    places = [at for at in range(4096, len(old)) if old[at] != new[at]]
+    assert len(places) == 1, places
+    return places[0]
+
+
+@pytest.mark.parametrize(
+    ("table", "where", "column"),
+    [
+        ("quote_2", "collector = 1 AND slot = 1 AND month = 202602", "value"),
+        ("carried_2", "collector = 1 AND slot = 1 AND month = 202602", "ticks"),
+        ("level_2", "code = '00' AND month = 202602", "chained"),
+    ],
+)
+def test_a_byte_that_changed_is_found_by_the_note(office: Path, table: str, where: str, column: str) -> None:
+    place = byte_of(office, table, where, column)
+    with_note(office)
+    data = bytearray(office.read_bytes())
+    data[place] ^= 1
+    office.write_bytes(data)
+    with contextlib.closing(sqlite3.connect(office)) as link:
+        assert link.execute("PRAGMA integrity_check").fetchall() == [("ok",)]
+    faults: list[str] = []
+    assert note_of(office, faults)
+    assert faults == ["its bytes aren't those of its note office.db.sha256"]
+
+
+def test_rows_that_lack_another_and_pages_that_are_torn_are_found(cpi: Cpi, office: Path) -> None:
+    with contextlib.closing(sqlite3.connect(office)) as link:
+        link.execute("DELETE FROM calendar")
+        link.execute("DELETE FROM item WHERE code = 'PHONE'")
+        link.execute("DELETE FROM quote_2 WHERE collector = 1 AND slot = 1 AND month = 202602")
+        link.commit()
+    found = drill(cpi, office)
+    assert [fault for fault in found.faults if fault.startswith("foreign_key_check: row ")]
+    assert [fault for fault in found.faults if fault == "1 quote that a month was frozen with and that no slot has"]
+
+
+def test_a_torn_file_is_told(cpi: Cpi, office: Path) -> None:
+    data = bytearray(office.read_bytes())
+    for at in range(3 * 4096, len(data), 3 * 4096):
+        data[at : at + 200] = bytes(200)
+    office.write_bytes(data)
+    found = drill(cpi, office)
+    assert any(fault.startswith("cpi: database failed") for fault in found.faults)
+    assert any("integrity_check" in fault or "C library" in fault for fault in found.faults)
+
+
+def test_what_is_no_office_is_told(cpi: Cpi, tmp_path: Path) -> None:
+    text, empty, other = tmp_path / "text", tmp_path / "empty", tmp_path / "other.db"
+    text.write_text("no database\n" * 1000)
+    empty.touch()
+    with contextlib.closing(sqlite3.connect(other)) as link:
+        link.execute("CREATE TABLE release (month)")
+    for path in (text, other):
+        begins = [fault.partition(" (")[0].partition(" read")[0] for fault in drill(cpi, path).faults]
+        assert begins == ["cpi: database failed", "the C library can't"]
+    for path, told in ((empty, "is empty, so it is no office"), (tmp_path, "is no file"), (tmp_path / "x", "No such")):
+        with pytest.raises(CopyFailed, match=told):
+            drill(cpi, path)
+    assert empty.stat().st_size == 0 and not log_beside(empty).exists()
+
+
+def test_a_log_beside_a_copy_belongs_to_it(cpi: Cpi, office: Path, tmp_path: Path) -> None:
+    with cpi.session(office) as session:
+        assert session.ask(f"50,{LOAD_KEY},quote,1,{LOAD_MONTH},price,1000") == {"receipt": 1}
+        (tmp_path / "copy").mkdir()
+        copy = Path(shutil.copy(office, tmp_path / "copy"))
+        shutil.copy(log_beside(office), tmp_path / "copy")
+    found = drill(cpi, copy)
+    assert (found.faults, found.quotes) == ((), 8 * (TABLES - 1) + 1)
+    assert log_beside(copy).stat().st_size > 41
+
+
+def test_a_note_that_is_none_is_told(cpi: Cpi, office: Path) -> None:
+    note_beside(office).write_text("text")
+    assert drill(cpi, office).faults == (f"{note_beside(office)} isn't a note that cpi-tools wrote",)
+
+
+def test_figures_are_read_from_what_is_printed() -> None:
+    text = '00,1000000,99.750000,101.000001,-0.3,,1,"All, ""items"""\n01,5,0.000001,100.000000,0.0,12.3,0,Food\n'
+    levels, titles = figures_of(text)
+    assert levels == {"00": Level(1_000_000, 99_750_000, 101_000_001, -3, None, 1), "01": Level(5, 1, 10**8, 0, 123, 0)}
+    assert titles == {"00": 'All, "items"', "01": "Food"}
+    assert figures_of("") == ({}, {})
+    for other in ("00,1,99.75,1.000000,0.0,,0,x\n", "{'refused': 30}", "00,1\n"):
+        with pytest.raises(ValueError):
+            figures_of(other)
+
+
+def test_a_table_that_is_printed_otherwise_is_a_fault(made: Path) -> None:
+    with stored_office(made, is_settled=True) as office:
+        release = office.releases()[-1]
+        months = Months(office)
+        for each in office.releases():
+            wanted = months.computed(each, office.frozen(each), each[:2] != (202503, 1))
+        printed = {release[:2]: "00,1,1.000000,1.000000,0.0,,0,x\n"}
+        assert [*differences(office, wanted, printed)] == ["cpi prints it in another way than it is stored"]
+        assert [*differences(office, wanted, {release[:2]: "{'refused': 30}"})] == ["cpi prints no table of it"]
+
+
+def test_what_differs() -> None:
+    assert differing({"a": 1, "b": 2}, {"b": 3, "c": 4}) == ["a", "b", "c"]
+    assert differing({"a": 1}, {"a": 1}) == []
+
+
+def test_the_line_tells_faults() -> None:
+    found = Drilled(1, 2, 3, 4, 0, None, ("one",))
+    assert told_line(Path("x"), found).startswith("x: 1 fault; 1 table with 2 rows and 3 carried prices")

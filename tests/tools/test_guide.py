@@ -1,0 +1,74 @@
+"""The commands of docs/RUNNING.md, as they stand."""
+
+from __future__ import annotations
+
+import os
+import re
+import subprocess
+from pathlib import Path
+
+from cpi_tools.program import Cpi
+from conftest import ROOT
+from loads import free_port, served
+
+
+def block_behind(guide: str, words: str) -> str:
+    """The first indented block of a guide behind some words."""
+    text = (ROOT / guide).read_text(encoding="utf-8").partition(words)[2]
+    found = re.search(r"\n\n((?:    .*\n)+)", text)
+    assert found, f"{guide} has no commands behind {words}"
+    return re.sub("^    ", "", found[1], flags=re.M)
+
+
+def ran(commands: str, folder: Path, cpi: Cpi) -> subprocess.CompletedProcess[str]:
+    """Commands in a folder that has the program, the tools and the examples."""
+    for name in ("cpi-tools", "examples"):
+        if not (folder / name).exists():
+            (folder / name).symlink_to(ROOT / name)
+    if not (folder / "cpi").exists():
+        (folder / "cpi").symlink_to(cpi.path)
+    kept = {**os.environ, "CPI": str(cpi.path)}
+    return subprocess.run(["bash", "-ec", commands], cwd=folder, env=kept, capture_output=True, text=True, check=False)
+
+
+def test_an_office_is_backed_up_and_drilled_while_it_is_served(cpi: Cpi, tmp_path: Path) -> None:
+    """The commands of RUNNING, over the office of an example that is being served."""
+    assert ran("./cpi replay --db office.db < examples/table.csv > replies.txt", tmp_path, cpi).returncode == 0
+    commands = "".join(block_behind("docs/RUNNING.md", heading) for heading in ("## A backup", "## A drill"))
+    assert commands.count("./cpi-tools ") == 2
+    with served(cpi, tmp_path / "office.db", free_port()):
+        told = ran(commands, tmp_path, cpi)
+    assert told.returncode == 0, told.stderr
+    assert "backup/office.db: nothing is wrong; 3 tables with 16 rows and 6 carried prices computed" in told.stdout
+
+
+def test_the_commands_of_running_are_those_of_the_tools(cpi: Cpi, office: Path, tmp_path: Path) -> None:
+    """Backup, drill, restore and probe, as the guide has them; what belongs to systemd is left out of it."""
+    for heading in ("## A backup", "## A drill"):
+        told = ran(block_behind("docs/RUNNING.md", heading), tmp_path, cpi)
+        assert (told.returncode, told.stderr) == (0, "")
+    restore = block_behind("docs/RUNNING.md", "## To restore")
+    assert restore.count("systemctl") == 2
+    backup = tmp_path / "backup/office.db"
+    restore = re.sub(r"/var/lib/cpi-backup/office-[0-9-]+\.db", str(backup), restore)
+    restore = restore.replace("/var/lib/cpi ", f"{tmp_path} ").replace("-o cpi -g cpi ", "")
+    commands = [re.sub("^cpi-tools", "./cpi-tools", line) for line in restore.splitlines() if "systemctl" not in line]
+    (tmp_path / "office.db-wal").write_text("an old log")
+    told = ran("\n".join(commands), tmp_path, cpi)
+    assert (told.returncode, told.stderr) == (0, "")
+    assert office.read_bytes() == backup.read_bytes()
+    assert not (tmp_path / "office.db-wal").exists()
+    assert sorted(os.listdir(tmp_path / "before")) == ["office.db", "office.db-wal"]
+    port = free_port()
+    with served(cpi, office, port):
+        probe = block_behind("docs/RUNNING.md", "## A probe").strip()
+        told = ran(f"{probe} --url http://127.0.0.1:{port}", tmp_path, cpi)
+    assert told.stdout.startswith("CPI OK: "), told.stdout
+
+
+def test_each_help_has_an_example_and_narrow_lines() -> None:
+    for words in ([], ["backup"], ["drill"], ["probe"]):
+        told = subprocess.run([ROOT / "cpi-tools", *words, "--help"], capture_output=True, text=True, check=True).stdout
+        assert re.search(r"^example: cpi-tools \w+ .*\boffice\.db\b", told, re.M), told
+        assert [line for line in told.splitlines() if len(line) > 100] == []
+        assert ("exit status" in told) == bool(words)

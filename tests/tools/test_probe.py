@@ -1,0 +1,262 @@
+"""`cpi-tools probe`: what it sees, how it judges, and what it writes."""
+
+from __future__ import annotations
+
+import argparse
+import contextlib
+import http.server
+import os
+import re
+import subprocess
+import threading
+from collections.abc import Iterator
+from pathlib import Path
+from typing import Any
+
+import pytest
+
+from cpi_tools import probe
+from cpi_tools.__main__ import parser
+from cpi_tools.backup import Note, note_beside, note_text
+from cpi_tools.probe import Answer, Backup, Files, Levels, Seen, Table, late_months
+from cpi_tools.program import Cpi
+from cpi_tools.stored import Window
+from cpi_tools.terminal import Fault
+from conftest import ROOT
+from loads import free_port, served
+from offices import TABLES
+
+NOW = 1_800_000_000
+LIST = b'{"tables":[["2025-12",1,1000],["2026-01",1,1799990000],["2026-01",2,1799993600]]}\n'
+TABLES_OF_LIST = (Table(202512, 1, 1000), Table(202601, 1, 1_799_990_000), Table(202601, 2, 1_799_993_600))
+
+
+@contextlib.contextmanager
+def answering(body: bytes, status: int = 200, path: str = "/tables") -> Iterator[str]:
+    """A server that answers one path in one way; its URL."""
+
+    class Handler(http.server.BaseHTTPRequestHandler):
+        """Answers, and logs nothing."""
+
+        def do_GET(self) -> None:
+            self.send_response(status if self.path == path else 404)
+            self.end_headers()
+            self.wfile.write(body)
+
+        def log_message(self, *_: Any) -> None:
+            pass
+
+    with http.server.HTTPServer(("127.0.0.1", 0), Handler) as server:
+        thread = threading.Thread(target=server.serve_forever)
+        thread.start()
+        try:
+            yield f"http://127.0.0.1:{server.server_port}"
+        finally:
+            server.shutdown()
+            thread.join()
+
+
+def chosen(*words: object) -> argparse.Namespace:
+    return parser().parse_args(["probe", *map(str, words)])
+
+
+def ran(capsys: pytest.CaptureFixture[str], *words: object) -> tuple[int, str]:
+    """The status of a probe at a moment, and what it wrote."""
+    status = probe.run(chosen(*words), clock=lambda: NOW)
+    return status, capsys.readouterr().out
+
+
+def backup_of(folder: Path, name: str, copied: int, content: bytes = b"1234") -> Path:
+    """A backup with its note, whatever it holds."""
+    folder.mkdir(exist_ok=True)
+    path = folder / name
+    path.write_bytes(content)
+    note_beside(path).write_text(note_text(Note("office.db", copied, 3, len(content), "a" * 64), name))
+    return path
+
+
+def test_an_office_that_answers_is_well(capsys: pytest.CaptureFixture[str]) -> None:
+    with answering(LIST) as url:
+        status, out = ran(capsys, "--url", url)
+    assert status == 0
+    assert re.fullmatch(
+        r"CPI OK: last table 2026-01 revision 2 \| answer=\d+ms tables=3 latest_month=202601"
+        r" latest_published_seconds=1799993600\n",
+        out,
+    )
+
+
+def test_an_office_behind_a_path_is_asked_there(capsys: pytest.CaptureFixture[str]) -> None:
+    with answering(b'{"tables":[]}', path="/api/tables") as url:
+        assert ran(capsys, "--url", f"{url}/api/")[1].startswith("CPI OK: no table yet | answer=")
+        assert ran(capsys, "--url", url) == (2, f"CPI CRITICAL: {url} answers with status 404\n")
+
+
+@pytest.mark.parametrize(
+    "body", [b"", b"text", b"[]", b'{"tables":1}', b'{"tables":[["2026-13",1,1]]}', b'{"tables":[["2026-01","1",1]]}']
+)
+def test_who_answers_in_another_way_is_no_office(body: bytes, capsys: pytest.CaptureFixture[str]) -> None:
+    with answering(body) as url:
+        assert ran(capsys, "--url", url) == (2, f"CPI CRITICAL: {url} answers, but not as an office does\n")
+
+
+def test_an_office_that_does_not_answer_is_critical(capsys: pytest.CaptureFixture[str]) -> None:
+    url = f"http://127.0.0.1:{free_port()}"
+    status, out = ran(capsys, "--url", url)
+    assert (status, out) == (2, f"CPI CRITICAL: {url} doesn't answer: Connection refused\n")
+
+
+@pytest.mark.parametrize(
+    ("words", "message"),
+    [
+        (["--age", "3"], "3 isn't two whole numbers like 26,50"),
+        (["--url", "ftp://x"], "ftp://x is no address like http://127.0.0.1:8080"),
+        (["--url", "http://x:99999"], "is no address"),
+        (["--timeout", "0"], "0 isn't a whole number from 1 on"),
+        (["--other"], "unrecognized arguments"),
+    ],
+)
+def test_words_that_are_refused_are_unknown_to_nagios(words: list[str], message: str) -> None:
+    ended = subprocess.run([ROOT / "cpi-tools", "probe", *words], capture_output=True, text=True, check=False)
+    assert (ended.returncode, ended.stdout, ended.stderr.count("\n")) == (3, "", 1)
+    assert message in ended.stderr
+
+
+def test_what_is_named_and_not_there_is_unknown(capsys: pytest.CaptureFixture[str], tmp_path: Path) -> None:
+    none, url = tmp_path / "none", f"http://127.0.0.1:{free_port()}"
+    assert ran(capsys, "--url", url, "--file", none) == (3, f"CPI UNKNOWN: {none}: No such file or directory\n")
+    assert ran(capsys, "--url", url, "--backups", none) == (3, f"CPI UNKNOWN: {none} is no folder\n")
+    (tmp_path / "x.db.sha256").write_text("text")
+    status, out = ran(capsys, "--url", url, "--backups", tmp_path)
+    assert (status, out) == (3, f"CPI UNKNOWN: {tmp_path}/x.db.sha256 isn't a note that cpi-tools wrote\n")
+
+
+def test_the_last_backup_is_the_one_that_was_copied_last(tmp_path: Path) -> None:
+    folder = tmp_path / "backups"
+    folder.mkdir()
+    assert probe.last_backup(folder) is None
+    backup_of(folder, "b.db", NOW - 100)
+    last = backup_of(folder, "a.db", NOW - 50, b"12345")
+    for name in ("gone.db", "cut.db"):
+        backup_of(folder, name, NOW)
+    (folder / "gone.db").unlink()
+    (folder / "cut.db").write_bytes(b"123")
+    assert probe.last_backup(folder) == Backup(last, NOW - 50, 5)
+
+
+def window(month: int, publishes: int) -> Window:
+    return Window(month, 0, 1, publishes)
+
+
+def test_a_month_is_late_from_its_moment_on_until_it_has_a_table_of_that_moment() -> None:
+    calendar = [window(202512, 1000), window(202601, 1_799_993_600), window(202602, NOW), window(202603, NOW + 1)]
+    assert late_months(calendar, TABLES_OF_LIST, NOW) == (window(202602, NOW),)
+    # (a month that was reopened, and not frozen again)
+    assert late_months([window(202601, NOW)], TABLES_OF_LIST, NOW) == (window(202601, NOW),)
+    assert late_months([window(202601, NOW)], TABLES_OF_LIST, NOW - 1) == ()
+
+
+def seen(**other: Any) -> Seen:
+    """What a probe sees where all is well."""
+    well = Seen(
+        NOW, Answer(TABLES_OF_LIST, 12), "", Files(9 << 20, 4 << 20, 5 << 30), True,
+        Backup(Path("backup/office.db"), NOW - 3600 * 25, 9 << 20), (),
+    )  # fmt: skip
+    return well._replace(**other)
+
+
+@pytest.mark.parametrize(
+    ("other", "state", "told"),
+    [
+        ({}, 0, ()),
+        ({"answer": Answer((), 1999)}, 0, ()),
+        ({"answer": Answer((), 2000)}, 1, ("it answered after 2000 ms",)),
+        ({"answer": Answer((), 10_000)}, 2, ("it answered after 10000 ms",)),
+        ({"answer": None, "fault": "x doesn't answer"}, 2, ("x doesn't answer",)),
+        ({"late": (window(202602, NOW),)}, 1, ("no table of 2026-02, to be published 2027-01-15 08:00 UTC",)),
+        ({"late": (window(202602, NOW - 86_400),)}, 2, ("no table of 2026-02, to be published 2027-01-14 08:00 UTC",)),
+        ({"files": Files(1, (64 << 20) - 1, 1 << 31)}, 0, ()),
+        ({"files": Files(1, 64 << 20, 1 << 31)}, 1, ("its log has 67,108,864 bytes",)),
+        ({"files": Files(1, 512 << 20, 1 << 31)}, 2, ("its log has 536,870,912 bytes",)),
+        ({"files": Files(1, 0, (1025 << 20))}, 0, ()),
+        ({"files": Files(1, 0, 1 << 30)}, 1, ("1,073,741,824 bytes are left on its disk",)),
+        ({"files": Files(1, 0, 256 << 20)}, 2, ("268,435,456 bytes are left on its disk",)),
+        ({"backup": None}, 2, ("there is no backup",)),
+        ({"backup": None, "is_backup_wanted": False}, 0, ()),
+        ({"backup": Backup(Path("x"), NOW - 26 * 3600, 1)}, 1, ("the last backup is 26 hours old",)),
+        ({"backup": Backup(Path("x"), NOW - 50 * 3600, 1)}, 2, ("the last backup is 50 hours old",)),
+        (
+            {"answer": Answer((), 2000), "backup": None},
+            2,
+            ("there is no backup", "it answered after 2000 ms"),
+        ),
+    ],
+)
+def test_how_it_judges(other: dict[str, Any], state: int, told: tuple[str, ...]) -> None:
+    assert probe.judged(seen(**other), chosen()) == (state, told)
+
+
+def test_levels_are_chosen() -> None:
+    found = probe.judged(seen(answer=Answer((), 12)), chosen("--slow", "12,13", "--age", "25,25"))
+    assert found == (2, ("the last backup is 25 hours old", "it answered after 12 ms"))
+    assert probe.levels("26,50") == Levels(26, 50)
+
+
+def test_the_line_says_the_worst_first_and_the_figures() -> None:
+    one = seen(late=(window(202602, NOW),))
+    assert probe.nagios_line(one, probe.judged(one, chosen())) == (
+        "CPI WARNING: no table of 2026-02, to be published 2027-01-15 08:00 UTC | answer=12ms tables=3"
+        " latest_month=202601 latest_published_seconds=1799993600 late_tables=1 file_bytes=9437184 log_bytes=4194304"
+        " free_bytes=5368709120 backup_copied_seconds=1799910000 backup_age_seconds=90000 backup_bytes=9437184"
+    )
+    none = seen(answer=None, fault="x doesn't answer", files=None, backup=None, is_backup_wanted=False, late=None)
+    assert probe.nagios_line(none, probe.judged(none, chosen())) == "CPI CRITICAL: x doesn't answer"
+
+
+def test_figures_for_prometheus() -> None:
+    text = probe.prometheus_text(seen(), probe.judged(seen(), chosen()))
+    names = []
+    for told, kind, value in zip(*[iter(text.splitlines())] * 3):
+        name = re.fullmatch(r"# HELP (cpi_[a-z_]+) [^\n]+\.", told)
+        assert name and kind == f"# TYPE {name[1]} gauge"
+        assert re.fullmatch(rf"{name[1]} \d+(\.\d+)?", value)
+        names.append(value)
+    assert names[:4] == ["cpi_up 1", "cpi_state 0", "cpi_answer_seconds 0.012", "cpi_tables 3"]
+    assert text.endswith("\n") and len(names) == 13
+    down = seen(answer=None, fault="x", late=None)
+    assert "\ncpi_up 0\n" in probe.prometheus_text(down, probe.judged(down, chosen()))
+
+
+def test_figures_for_prometheus_are_written_wherever_there_are_some(
+    capsys: pytest.CaptureFixture[str], tmp_path: Path
+) -> None:
+    url = f"http://127.0.0.1:{free_port()}"
+    status, out = ran(capsys, "--url", url, "--prometheus")
+    assert status == 0 and "\ncpi_up 0\n" in f"\n{out}"
+    assert ran(capsys, "--url", url, "--prometheus", "--file", tmp_path / "none") == (3, "")
+
+
+@pytest.mark.parametrize("by", ["backup", "file"])
+def test_a_served_office_with_its_backup(
+    by: str, cpi: Cpi, office: Path, tmp_path: Path, capsys: pytest.CaptureFixture[str]
+) -> None:
+    """A late month is found by the calendar of the last backup, or of a copy of the file: here all of the first two
+    months were published, and the one that is open for ever isn't to be."""
+    port, words = free_port(), list[object]()
+    if by == "backup":
+        backup_of(tmp_path / "backups", "office.db", NOW - 3600, office.read_bytes())
+        words = ["--backups", tmp_path / "backups"]
+    before = sorted(os.listdir(tmp_path))
+    with served(cpi, office, port):
+        status, out = ran(capsys, "--url", f"http://127.0.0.1:{port}", "--file", office, *words, "--slow", "9999,99999")
+    assert (status, f"tables={TABLES} latest_month=202602 " in out, " late_tables=0 " in out) == (0, True, True), out
+    assert sorted(os.listdir(tmp_path)) in (before, sorted([*before, "office.db-wal"]))
+
+
+def test_a_calendar_that_can_not_be_read_is_told(tmp_path: Path) -> None:
+    path = backup_of(tmp_path, "office.db", NOW)
+    with pytest.raises(Fault, match=f"the calendar of {path} can't be read: "):
+        probe.calendar_of(Backup(path, NOW, 4), None)
+    assert probe.calendar_of(None, None) is None
+
+

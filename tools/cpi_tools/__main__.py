@@ -1,0 +1,49 @@
+"""The words of the command line: `cpi-tools TOOL ..`, and `python3 -m cpi_tools TOOL ..`."""
+
+from __future__ import annotations
+
+import sys
+from collections.abc import Sequence
+from typing import Optional
+
+from . import backup, drill, probe
+from .terminal import Fault, ToolWords, ends_by_signals
+
+TOOLS = (backup, drill, probe)
+
+
+def parser() -> ToolWords:
+    """The parser of all tools; each module adds its own words."""
+    words = ToolWords(
+        prog="cpi-tools",
+        description="Companions of cpi, the program of a consumer price index office.",
+        epilog="example: cpi-tools backup office.db backup/office.db",
+    )
+    tools = words.add_subparsers(required=True, metavar="TOOL", title="tools", parser_class=ToolWords)
+    for tool in TOOLS:
+        tool.add_words(tools)
+    return words
+
+
+def main(given: Optional[Sequence[str]] = None) -> int:
+    """Runs a tool by its words (those of the command line); its exit status.
+
+    What a tool is known to meet is one line on standard error and status 1; words that aren't its own are 2.
+    """
+    chosen, others = parser().parse_known_args(given)
+    if others:
+        # (told by the tool whose words they were to be, which has its own status for it)
+        chosen.words.error(f"unrecognized arguments: {' '.join(others)}")
+    try:
+        with ends_by_signals():
+            status: int = chosen.run(chosen)
+            return status
+    except Fault as fault:
+        print(f"cpi-tools {chosen.tool}: {fault}", file=sys.stderr)
+        return 1
+    except KeyboardInterrupt:
+        return 130
+
+
+if __name__ == "__main__":
+    sys.exit(main())

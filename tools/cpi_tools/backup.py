@@ -1,0 +1,264 @@
+"""`cpi-tools backup FILE DEST`: one file that `cpi` has opened and put the log into, and a note of its SHA-256 beside.
+
+DEST and its note are written beside and renamed, so each is whole or isn't there.
+"""
+
+from __future__ import annotations
+
+import argparse
+import hashlib
+import os
+import re
+import tempfile
+import time
+from pathlib import Path
+from typing import NamedTuple, Optional
+
+from .copying import PATIENCE, has_frames, log_beside, right_copy
+from .program import LAST_MOMENT, Cpi, CpiFailed, add_program, record
+from .terminal import Fault, Progress, ToolWords, at_least, because_of, counted, time_text
+
+
+class BackupFailed(Fault):
+    """No backup was made, or a note can't be read; one line."""
+
+
+class Note(NamedTuple):
+    """What is written beside a backup: the office's file, the moment at which copying began (seconds since 1970 UTC),
+    how many tables the program found, the backup's size in bytes, and its SHA-256 in hexadecimal."""
+
+    office: str
+    copied: int
+    tables: int
+    size: int
+    sha256: str
+
+
+# ---- the note
+
+
+def note_beside(path: Path) -> Path:
+    """Where the note on a backup lies: `office.db.sha256` of `office.db`."""
+    return path.with_name(path.name + ".sha256")
+
+
+def note_text(note: Note, name: str) -> str:
+    """A note as `sha256sum --check` reads it; what else it tells are comments there."""
+    told = f"# office: {note.office}\n# copied: {note.copied}\n# tables: {note.tables}\n# bytes: {note.size}\n"
+    return f"{told}{note.sha256}  {name}\n"
+
+
+def read_note(path: Path) -> Optional[Note]:
+    """The note beside a backup, None where there is none. Raises BackupFailed where it isn't one."""
+    beside = note_beside(path)
+    try:
+        text = beside.read_text(encoding="utf-8", errors="replace")
+    except FileNotFoundError:
+        return None
+    except OSError as fault:
+        raise BackupFailed(because_of(fault)) from fault
+    told = dict(re.findall(r"^# (office|copied|tables|bytes): (.*)$", text, re.M))
+    sums = re.findall(r"^([0-9a-f]{64})  ", text, re.M)
+    numbers = [told.get(name, "") for name in ("copied", "tables", "bytes")]
+    if len(sums) != 1 or "office" not in told or not all(re.fullmatch("[0-9]{1,18}", each) for each in numbers):
+        raise BackupFailed(f"{beside} isn't a note that cpi-tools wrote")
+    copied, tables, size = map(int, numbers)
+    return Note(told["office"], copied, tables, size, sums[0])
+
+
+def hash_of(path: Path) -> str:
+    """SHA-256 of a file, in hexadecimal."""
+    found = hashlib.sha256()
+    with path.open("rb", buffering=0) as file:
+        while block := file.read(1 << 20):
+            found.update(block)
+    return found.hexdigest()
+
+
+# ---- the backup
+
+
+def settle(cpi: Cpi, copy: Path) -> int:
+    """Lets the program open a copy and end, so that the log is in the file, and removes the log; how many tables it
+    has.
+
+    The program reads and tests every row as it opens the file. Raises CpiFailed where it is no office for the program.
+    """
+    listed = cpi.replay([record(LAST_MOMENT, "public", "tables")], db=copy)[0]
+    if "tables" not in listed:
+        raise CpiFailed(f"cpi doesn't list the tables of the copy: {listed}")
+    remove_log(copy)
+    return len(listed["tables"])
+
+
+def remove_log(copy: Path) -> None:
+    """Removes the log of a copy that the program has closed. Raises CpiFailed where something is left in it."""
+    if has_frames(copy):
+        raise CpiFailed("cpi ended, and its log isn't in the file")
+    log_beside(copy).unlink(missing_ok=True)
+
+
+def back_up(
+    cpi: Cpi,
+    path: Path,
+    to: Path,
+    is_replacing: bool = False,
+    patience: float = PATIENCE,
+    pause: Optional[int] = None,
+    progress: Optional[Progress] = None,
+) -> Note:
+    """Makes the backup `to` of an office's file, and a note of it beside; the note.
+
+    `is_replacing` lets it take the place of what stands there. `patience` (seconds) and `pause` (a process) are those
+    of `right_copy`. Raises BackupFailed, CopyFailed or CpiFailed, and leaves nothing, where it wasn't made.
+    """
+    now = progress.now if progress else lambda _: None
+    try:
+        _look_at(path, to, is_replacing)
+        to.parent.mkdir(mode=0o700, parents=True, exist_ok=True)
+        with tempfile.TemporaryDirectory(prefix=".cpi-backup-", dir=to.parent) as folder:
+            now(f"copying {path}")
+            begun = int(time.time())
+            copy = right_copy(path, Path(folder), patience, pause)
+            now("cpi opens the copy")
+            tables = settle(cpi, copy)
+            now("writing it to the disk")
+            note = Note(path.name, begun, tables, copy.stat().st_size, hash_of(copy))
+            written = Path(folder) / "note"
+            written.write_text(note_text(note, to.name), encoding="utf-8")
+            written.chmod(0o600)
+            _put(copy, written, to, is_replacing)
+    except OSError as fault:
+        raise BackupFailed(because_of(fault)) from fault
+    return note
+
+
+def _look_at(path: Path, to: Path, is_replacing: bool) -> None:
+    """Tells before any work what stands in the way of a backup."""
+    path.stat()
+    if to.is_dir():
+        raise BackupFailed(f"{to} is a folder: name the file")
+    if to.exists() and not to.is_file():
+        raise BackupFailed(f"{to} is no file, so nothing takes its place")
+    if to.exists() and to.samefile(path):
+        raise BackupFailed(f"{to} is the office itself")
+    if log_beside(path) in (to.resolve(), note_beside(to).resolve()):
+        raise BackupFailed(f"{to} is the office's log")
+    for each in () if is_replacing else (to, note_beside(to)):
+        if os.path.lexists(each):
+            raise BackupFailed(f"{each} is there already (--replace puts the backup in its place)")
+
+
+def _put(copy: Path, written: Path, to: Path, is_replacing: bool) -> None:
+    """Puts a backup and its note into their place, each on the disk before it has its name.
+
+    Where one is replaced, the old note goes first: a backup whose note is of another would look like a damaged one.
+    """
+    for each in (copy, written):
+        _sync(each)
+    if is_replacing:
+        note_beside(to).unlink(missing_ok=True)
+        copy.replace(to)
+        written.replace(note_beside(to))
+    else:
+        _rename_to_new(copy, to)
+        try:
+            _rename_to_new(written, note_beside(to))
+        except BaseException:
+            to.unlink()
+            raise
+    _sync(to.parent)
+
+
+def _rename_to_new(path: Path, to: Path) -> None:
+    """Renames a file to a name that nothing has, not even something that came a moment ago."""
+    try:
+        os.link(path, to)
+    except FileExistsError:
+        raise BackupFailed(f"{to} is there already (--replace puts the backup in its place)") from None
+    except OSError:
+        # (a file system without hard links)
+        path.rename(to)
+    else:
+        path.unlink()
+
+
+def _sync(path: Path) -> None:
+    """Waits until a file or a folder is on the disk."""
+    opened = os.open(path, os.O_RDONLY)
+    try:
+        os.fsync(opened)
+    finally:
+        os.close(opened)
+
+
+# ---- words
+
+
+DESCRIPTION = """\
+Copies an office's file with its log, whether cpi runs or not; lets cpi open the copy and put the
+log into it; and writes one file DEST, and beside it DEST.sha256 with its sum, which
+`sha256sum --check` reads too. Both have mode 0600, since the collectors' keys are in the file.
+The office isn't locked, and nothing is written to it. Every command that was answered before the
+copy began is in it. `cpi-tools drill DEST` looks whether it is whole.
+
+To restore, stop the office, look at the backup, put the old file aside with its log (which would
+else be put into the restored file), and copy the backup back:
+
+    cpi-tools drill DEST && mkdir before && mv FILE* before/ && cp DEST FILE
+"""
+
+EPILOG = """\
+example: cpi-tools backup office.db backup/office.db
+
+exit status: 0 where the backup is there; 1 with one line why it isn't, and nothing is left;
+2 where the words are refused
+"""
+
+
+def add_words(tools: argparse._SubParsersAction[ToolWords]) -> None:
+    """The tool `backup`."""
+    words = tools.add_parser(
+        "backup",
+        help="a right copy of an office's file, while cpi runs or not",
+        description=DESCRIPTION,
+        epilog=EPILOG,
+    )
+    words.add_argument("file", type=Path, metavar="FILE", help="the office's file, which is only read")
+    words.add_argument("dest", type=Path, metavar="DEST", help="the backup: a file that isn't there yet")
+    words.add_argument("--replace", action="store_true", help="DEST and its note take the place of what is there")
+    words.add_argument(
+        "--patience",
+        type=at_least(0),
+        default=PATIENCE,
+        metavar="SECONDS",
+        help="how long to wait for a stretch of time in which the log isn't emptied (%(default)s)",
+    )
+    words.add_argument(
+        "--pause",
+        type=at_least(2),
+        metavar="PROCESS",
+        help="the number of the process of cpi: it stands still while the file is read, for a file that is large and is"
+        " written all the time",
+    )
+    add_program(words)
+    words.set_defaults(run=run, tool="backup", words=words)
+
+
+def run(chosen: argparse.Namespace) -> int:
+    """Runs the tool by its words; its exit status."""
+    with Progress("cpi-tools backup") as progress:
+        note = back_up(
+            Cpi(chosen.program),
+            chosen.file,
+            chosen.dest,
+            is_replacing=chosen.replace,
+            patience=chosen.patience,
+            pause=chosen.pause,
+            progress=progress,
+        )
+    print(
+        f"{chosen.dest}: {counted(note.size, 'byte')}, {counted(note.tables, 'table')},"
+        f" copied {time_text(note.copied)}, SHA-256 {note.sha256}"
+    )
+    return 0

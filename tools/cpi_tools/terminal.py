@@ -1,0 +1,147 @@
+"""What the tools share at the terminal: one line for a fault, progress, ends by signals, and how values are written."""
+
+from __future__ import annotations
+
+import argparse
+import contextlib
+import re
+import signal
+import sys
+import threading
+import time
+from collections.abc import Callable, Iterator
+from datetime import datetime, timezone
+from types import FrameType
+from typing import Any, NoReturn, Optional, TextIO
+
+QUIET_SECONDS = 1.0
+"""Work that takes no longer than this is done without a word."""
+
+
+class Fault(Exception):
+    """Ends a tool with its one line and status 1."""
+
+
+def because_of(fault: OSError) -> str:
+    """A fault of the system in one line: the file, and why."""
+    named = f"{fault.filename}: " if fault.filename else ""
+    return f"{named}{fault.strerror or fault}"
+
+
+# ---- values as texts
+
+
+def time_text(moment: int) -> str:
+    """`2026-01-25 09:00 UTC` of seconds since 1970."""
+    return datetime.fromtimestamp(moment, timezone.utc).strftime("%Y-%m-%d %H:%M UTC")
+
+
+def month_text(month: int) -> str:
+    """`2026-01` of 202601."""
+    return f"{month // 100:04}-{month % 100:02}"
+
+
+def counted(count: int, one: str) -> str:
+    """`1 table`, `25 tables`."""
+    return f"{count:,} {one if count == 1 else one + 's'}"
+
+
+# ---- words of the command line
+
+
+class ToolWords(argparse.ArgumentParser):
+    """The parser of a tool's words, whose help is written in lines as it is printed."""
+
+    status_of_error = 2
+    """The exit status where the words are refused."""
+
+    def __init__(self, **named: Any):
+        super().__init__(formatter_class=argparse.RawDescriptionHelpFormatter, **named)
+
+    def error(self, message: str) -> NoReturn:
+        """Tells in one line why the words are refused, and ends the program."""
+        self.exit(self.status_of_error, f"{self.prog}: {message} (see {self.prog} --help)\n")
+
+
+def at_least(least: int) -> Callable[[str], int]:
+    """A type of argparse: a whole number that isn't below `least`."""
+
+    def number(text: str) -> int:
+        if not re.fullmatch(r"[0-9]{1,10}", text) or int(text) < least:
+            raise argparse.ArgumentTypeError(f"{text} isn't a whole number from {least} on")
+        return int(text)
+
+    return number
+
+
+# ---- progress
+
+
+class Progress:
+    """Tells on standard error what is being done, where that is a terminal and the work takes longer than a second.
+
+    A line says the work, how far it is, and its seconds so far; it is written once a second, over the one before, and
+    is gone at the end.
+    """
+
+    def __init__(self, name: str, stream: TextIO = sys.stderr):
+        self.name, self.stream = name, stream
+        self.what = ""
+        self.begun = time.monotonic()
+        self._is_over = threading.Event()
+        self._thread: Optional[threading.Thread] = None
+
+    def now(self, what: str) -> None:
+        """What is done from here on."""
+        self.what = what
+
+    def __enter__(self) -> Progress:
+        if self.stream.isatty():
+            self._thread = threading.Thread(target=self._tell, daemon=True)
+            self._thread.start()
+        return self
+
+    def __exit__(self, *_: object) -> None:
+        self._is_over.set()
+        if self._thread:
+            self._thread.join()
+
+    def _tell(self) -> None:
+        # (signals are the main thread's: it may hold them back for a while)
+        signal.pthread_sigmask(signal.SIG_BLOCK, signal.valid_signals())
+        is_told = False
+        while not self._is_over.wait(QUIET_SECONDS):
+            seconds = int(time.monotonic() - self.begun)
+            self._write(f"\r\x1b[K{self.name}: {self.what}, {seconds} s")
+            is_told = True
+        if is_told:
+            self._write("\r\x1b[K")
+
+    def _write(self, text: str) -> None:
+        self.stream.write(text)
+        self.stream.flush()
+
+
+# ---- signals
+
+ENDING = (signal.SIGTERM, signal.SIGHUP)
+
+
+@contextlib.contextmanager
+def ends_by_signals() -> Iterator[None]:
+    """Meanwhile a signal that asks the program to end does so as an exception, so that nothing half made is left.
+
+    One that is ignored, as by `nohup`, still is.
+    """
+    is_main = threading.current_thread() is threading.main_thread()
+    heeded = [number for number in ENDING if is_main and signal.getsignal(number) is not signal.SIG_IGN]
+    before = {number: signal.signal(number, _end) for number in heeded}
+    try:
+        yield
+    finally:
+        for number, handler in before.items():
+            signal.signal(number, handler)
+
+
+def _end(number: int, _: Optional[FrameType]) -> None:
+    raise SystemExit(128 + number)
