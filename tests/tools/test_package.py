@@ -170,6 +170,12 @@ def test_the_companions_run_where_they_are_installed(installed: Path, tmp_path: 
     assert [path for path in installed.rglob("__pycache__")] == []
 
 
+def test_the_examples_find_the_program_where_they_are_installed(installed: Path, tmp_path: Path) -> None:
+    told = in_root(installed, f"{installed}/usr/share/cpi/examples/isolation --out there", tmp_path)
+    assert "before January's table is out: the same bytes (28 lines)\n" in told
+    assert sorted(os.listdir(tmp_path / "there")) == ["one", "two"]
+
+
 def test_the_user_of_the_office_is_made(installed: Path) -> None:
     needed("systemd-sysusers")
     assert re.search(r"^cpi:x:\d+:\d+:Price index office:/var/lib/cpi:", (installed / "etc/passwd").read_text(), re.M)
