@@ -1,12 +1,18 @@
 """The office of the example as a spreadsheet: what is computed stands there as a formula, and no value of it.
 
-A quotient is rounded as the method has it, in whole numbers: INT((2a + b) / 2b) is a/b with halves going up.
+What is given is blue. A quotient is rounded as the method has it, in whole numbers: INT((2a + b) / 2b) is a/b with
+halves going up.
 """
 
 from collections.abc import Sequence
 from typing import Any, NamedTuple, Optional
 
 from office import REFERENCE, Node, Series
+from openpyxl.styles import Border, Font, Side
+from openpyxl.worksheet.properties import PageSetupProperties
+
+GIVEN, HEAD = Font(color="1F4E9E"), Font(bold=True)
+BEGINS = Border(top=Side(style="thin", color="999999"))
 
 FIRST = 4
 """The column of the first month, counted from 1; the three before it say what a row is."""
@@ -37,20 +43,31 @@ class Sheet:
 
     def __init__(self, sheet: Any, heads: list[str]):
         self.sheet, self.heads, self.row = sheet, heads, 1
+        self.block = ("", "")
         sheet.append(["code", "", "", *heads])
+        for cell in sheet[1]:
+            cell.font = HEAD
         sheet.freeze_panes = f"{letter(FIRST)}2"
+        sheet.page_setup.orientation, sheet.print_title_rows = "landscape", "1:1"
+        sheet.sheet_properties.pageSetUpPr = PageSetupProperties(fitToPage=True)
+        sheet.page_setup.fitToHeight = 0
         for column, width in zip("ABC", (14, 16, 27)):
             sheet.column_dimensions[column].width = width
         for at in range(len(heads)):
             sheet.column_dimensions[letter(FIRST + at)].width = 13
 
     def add(self, code: str, name: str, label: str, cells: Sequence[Any], form: str = "#,##0") -> int:
-        """Adds a row; its number."""
+        """Adds a row; its number. Where another series, aggregate or node begins there is a line above it."""
         self.row += 1
+        is_new, self.block = self.block != (code, name), (code, name)
         for column, value in enumerate([code, name, label, *cells], 1):
             cell = self.sheet.cell(self.row, column, value)
+            if is_new:
+                cell.border = BEGINS
             if column >= FIRST:
                 cell.number_format = form
+                if not str(value).startswith("="):
+                    cell.font = GIVEN
         return self.row
 
 
@@ -191,6 +208,7 @@ def aggregate_rows(sheet: Sheet, code: str, series: list[Series], prices: dict[s
 class Lines(NamedTuple):
     """Where the rows of a node stand in the sheet of the table, in this order."""
 
+    plan: int
     weight: int
     within: int
     link: int
@@ -200,9 +218,9 @@ class Lines(NamedTuple):
     imputed: int
 
 
-TABLE = ("weight in use", "index, link month = 100", "link level", "chained index", "change on the month, percent",
-         "change on the year, percent", "with an imputed price")  # fmt: skip
-FORMS = ("#,##0", "0.000000", "0.000000", "0.000000", "0.0", "0.0", "0")
+TABLE = ("weight of the plan", "weight in use", "index, link month = 100", "link level", "chained index",
+         "change on the month, percent", "change on the year, percent", "with an imputed price")  # fmt: skip
+FORMS = ("#,##0", "#,##0", "0.000000", "0.000000", "0.000000", "0.0", "0.0", "0")
 
 
 def whole(cell: str) -> str:
@@ -216,19 +234,19 @@ def changed(before: str, now: str) -> str:
     return f"=SIGN({difference})*{rounded(f'1000*ABS({difference})', whole(before))}/10"
 
 
-def weight_cell(node: Node, lines: Lines, heads: list[str], at: int) -> object:
+def weight_cell(lines: Lines, heads: list[str], at: int) -> str:
     """The weight in use of an aggregate: as the year's plan has it, or moved by prices from its reference month to the
     December before the year."""
-    year, here = year_of(heads[at]), node.weights[year_of(heads[at])]
+    year, weight = year_of(heads[at]), f"{letter(FIRST + at)}{lines.plan}"
     if year not in REFERENCE:
-        return here
+        return f"={weight}"
     december = letter(FIRST + begins_year(heads, at) - 1)
     then = letter(FIRST + heads.index(REFERENCE[year]))
-    return "=" + rounded(f"{here}*{whole(f'{december}{lines.chained}')}", whole(f"{then}{lines.chained}"))
+    return "=" + rounded(f"{weight}*{whole(f'{december}{lines.chained}')}", whole(f"{then}{lines.chained}"))
 
 
 def table_cells(heads: list[str], at: int, lines: Lines, first: list[object], imputed: str) -> list[object]:
-    """The formulas of a node in the column of a month; `first` are those of its weight and its index."""
+    """The formulas of a node in the column of a month; `first` are its weights and the formula of its index."""
     here, begin, head = letter(FIRST + at), begins_year(heads, at), heads[at]
     link, chained = f"{here}{lines.link}", f"{here}{lines.chained}"
     level = rounded(f"{whole(link)}*{whole(f'{here}{lines.within}')}", "100000000")
@@ -255,14 +273,15 @@ def table_sheet(sheet: Sheet, nodes: list[Node], sums: dict[str, Sums]) -> None:
             if at == 0 or is_base(head):
                 cells.append([None] * count)
                 continue
-            if node.weights:
-                weight, index = weight_cell(node, lines, sheet.heads, at), f"Aggregates!{here}{sums[node.code].dutot}"
+            plan = node.weights.get(year_of(head))
+            if plan:
+                weight, index = weight_cell(lines, sheet.heads, at), f"Aggregates!{here}{sums[node.code].dutot}"
             else:
                 weight = "=" + "+".join(f"{here}{placed[code].weight}" for code in below)
                 product = "+".join(f"{here}{placed[code].weight}*Aggregates!{here}{sums[code].dutot}" for code in below)
                 index = rounded(product, f"{here}{lines.weight}")
             imputed = "=MAX(" + ",".join(f"Aggregates!{here}{sums[code].imputed}" for code in below) + ")"
-            cells.append(table_cells(sheet.heads, at, lines, [weight, f"={index}/1000000"], imputed))
+            cells.append(table_cells(sheet.heads, at, lines, [plan, weight, f"={index}/1000000"], imputed))
         for label, form, line in zip(TABLE, FORMS, zip(*cells)):
             sheet.add(node.code, node.title, label, line, form)
 

@@ -95,7 +95,7 @@ def test_what_is_computed_stands_as_a_formula(tmp_path: Path) -> None:
     subprocess.run([MAKE, tmp_path / "worked.xlsx"], stdout=subprocess.DEVNULL, check=True)
     book = openpyxl.load_workbook(tmp_path / "worked.xlsx")
     assert book.sheetnames == ["Prices", "Aggregates", "Table"]
-    for name, most in (("Aggregates", 0), ("Table", 24)):
+    for name, most in (("Aggregates", 0), ("Table", 2 * 14)):
         cells = [cell.value for row in book[name].iter_rows(min_row=2, min_col=4) for cell in row]
-        # (the weights of the first year's plan are given)
+        # (the weights of both plans are given, month by month)
         assert len([value for value in cells if value is not None and not str(value).startswith("=")]) == most
