@@ -1,0 +1,69 @@
+"""The package as Debian's own tools see it: lintian finds no error, and apt-get installs it in a system of its own."""
+
+from __future__ import annotations
+
+import subprocess
+from collections.abc import Callable
+from pathlib import Path
+
+import pytest
+
+from conftest import ROOT
+
+
+@pytest.fixture(scope="module")
+def package(needed: Callable[[str], str], program: Path, tmp_path_factory: pytest.TempPathFactory) -> Path:
+    needed("dpkg-deb")
+    to = tmp_path_factory.mktemp("package")
+    subprocess.run([ROOT / "tools/package", "--to", to, "--program", program], stdout=subprocess.DEVNULL, check=True)
+    (found,) = to.glob("*.deb")
+    return found
+
+
+def test_lintian_finds_no_error_and_no_warning(needed: Callable[[str], str], package: Path) -> None:
+    """But that nothing is stripped of the program: it has the bytes that were proved, and the package says so."""
+    words = [needed("lintian"), "--allow-root", "--tag-display-limit", "0", str(package)]
+    ran = subprocess.run(words, capture_output=True, text=True, check=False)
+    assert (ran.returncode, ran.stdout) == (0, ""), ran.stderr
+
+
+# A system that has this one's files, and whose own changes lie in memory and go at the end.
+SYSTEM = """
+mount -t tmpfs tmpfs "$1"
+mkdir "$1/changes" "$1/work" "$1/root"
+mount -t overlay overlay -o "lowerdir=/,upperdir=$1/changes,workdir=$1/work" "$1/root"
+mount -t proc proc "$1/root/proc" && mount --bind /dev "$1/root/dev"
+cp "$2" "$1/root/root/"
+chroot "$1/root" bash -euc "$3"
+"""
+
+COMMANDS = """
+cd /root
+apt-get install -y -q --no-install-recommends ./cpi_*.deb > /dev/null
+getent passwd cpi | cut -d : -f 1,5,6
+cd /usr/share/cpi && ./cpi replay < examples/table.csv | sed -n 18,20p
+cpi-tools backup --help | head -n 1 | cut -c 1-23
+man -w cpi cpi-tools
+! ls /etc/systemd/system/*.wants | grep '^cpi'
+apt-get purge -y -q cpi > /dev/null
+ls -d /usr/bin/cpi* /usr/share/cpi /etc/cpi 2> /dev/null | wc -l
+"""
+
+WANTED = """\
+cpi:Price index office:/var/lib/cpi
+{"receipt":2}
+{"refused":47}
+{"done":true}
+usage: cpi-tools backup
+/usr/share/man/man1/cpi.1.gz
+/usr/share/man/man1/cpi-tools.1.gz
+0
+"""
+
+
+def test_apt_get_installs_it_and_takes_it_away(needed: Callable[[str], str], package: Path, tmp_path: Path) -> None:
+    """This asks for root, and for a system that lets it mount."""
+    needed("apt-get")
+    words = [needed("unshare"), "--mount", "bash", "-euc", SYSTEM, "system", str(tmp_path), str(package), COMMANDS]
+    ran = subprocess.run(words, capture_output=True, text=True, check=False)
+    assert (ran.returncode, ran.stdout) == (0, WANTED), ran.stderr

@@ -1,0 +1,237 @@
+"""`tools/package`: the package has what the repository has, is installed in a root of its own, and starts nothing; its
+pages of the manual say the words of the programs."""
+
+from __future__ import annotations
+
+import os
+import re
+import shutil
+import subprocess
+import tarfile
+from collections.abc import Iterator
+from pathlib import Path
+
+import pytest
+
+from cpi_tools.program import Cpi
+from conftest import ROOT
+from test_ops import needed
+
+INPUTS = ["tools", "docs", "ops", "examples", "dist", "README.md", "LICENSE", "CHANGELOG.md"]
+"""All that a package is made of."""
+
+
+def made_package(top: Path, to: Path, cpi: Cpi, **variables: str) -> Path:
+    """The package that `tools/package` of a repository makes of the program under test."""
+    needed("dpkg-deb")
+    kept = {name: value for name, value in os.environ.items() if name != "SOURCE_DATE_EPOCH"}
+    words = [str(top / "tools/package"), "--to", str(to), "--program", str(cpi.path)]
+    ran = subprocess.run(words, capture_output=True, text=True, check=False, env={**kept, **variables})
+    assert (ran.returncode, ran.stderr) == (0, "")
+    (found,) = to.glob("*")
+    assert ran.stdout.startswith(f"{found}: ")
+    return found
+
+
+@pytest.fixture(scope="module")
+def package(cpi: Cpi, tmp_path_factory: pytest.TempPathFactory) -> Path:
+    return made_package(ROOT, tmp_path_factory.mktemp("package"), cpi)
+
+
+@pytest.fixture(scope="module")
+def members(package: Path, tmp_path_factory: pytest.TempPathFactory) -> dict[str, tarfile.TarInfo]:
+    """What the package puts below /, by name."""
+    whole = tmp_path_factory.mktemp("members") / "data.tar"
+    with whole.open("wb") as file:
+        subprocess.run(["dpkg-deb", "--fsys-tarfile", package], stdout=file, check=True)
+    with tarfile.open(whole) as tar:
+        return {member.name[2:]: member for member in tar if member.name != "."}
+
+
+def dpkg(root: Path, *words: object) -> None:
+    """dpkg over a system of its own, in which nothing else is installed."""
+    for name in ("info", "updates", "triggers"):
+        (root / "var/lib/dpkg" / name).mkdir(parents=True, exist_ok=True)
+    (root / "var/lib/dpkg/status").touch()
+    quiet = ["--log=/dev/null", "--path-include=/*", "--force-script-chrootless", "--force-depends"]
+    quiet += ["--force-not-root", "--force-bad-path"]
+    ran = subprocess.run(["dpkg", f"--root={root}", *quiet, *map(str, words)], capture_output=True, check=False)
+    assert ran.returncode == 0, ran.stderr
+
+
+@pytest.fixture(scope="module")
+def installed(package: Path, tmp_path_factory: pytest.TempPathFactory) -> Iterator[Path]:
+    """A root of its own, in which the package is installed."""
+    if os.geteuid() != 0:
+        pytest.skip("dpkg --root asks for root")
+    root = tmp_path_factory.mktemp("root")
+    dpkg(root, "--install", package)
+    yield root
+
+
+def in_root(root: Path, commands: str, folder: Path) -> str:
+    """What commands print in a folder, where the programs of a root come first on the path and nothing names others."""
+    kept = {"PATH": f"{root}/usr/bin:/usr/bin:/bin", "HOME": str(folder)}
+    ran = subprocess.run(["bash", "-ec", commands], cwd=folder, env=kept, capture_output=True, text=True, check=False)
+    assert (ran.returncode, ran.stderr) == (0, "")
+    return ran.stdout
+
+
+# ---- what is in it
+
+
+def test_the_same_inputs_give_the_same_bytes(package: Path, cpi: Cpi, tmp_path: Path) -> None:
+    """A copy of the repository elsewhere, of another time, by a user with another mask, clock and language."""
+    for name in INPUTS:
+        copied = shutil.copytree if (ROOT / name).is_dir() else shutil.copyfile
+        copied(ROOT / name, tmp_path / "there" / name)  # type: ignore[operator]
+    for path in (tmp_path / "there").rglob("*"):
+        path.chmod(0o700 if path.is_dir() or path.stat().st_mode & 0o100 else 0o600)
+        os.utime(path, (1_000_000_000,) * 2)
+    before = os.umask(0o077)
+    try:
+        again = made_package(tmp_path / "there", tmp_path / "to", cpi, TZ="Asia/Tokyo", LC_ALL="C", LANG="de_DE.UTF-8")
+    finally:
+        os.umask(before)
+    assert again.name == package.name
+    assert again.read_bytes() == package.read_bytes()
+
+
+def test_each_file_has_the_time_of_its_version_and_belongs_to_root(members: dict[str, tarfile.TarInfo]) -> None:
+    day = re.search(r"^## [\d.]+, (\S+)$", (ROOT / "CHANGELOG.md").read_text(), re.M)
+    assert day
+    epoch = subprocess.run(["date", "-u", "-d", day[1], "+%s"], capture_output=True, text=True, check=True).stdout
+    assert {member.mtime for member in members.values()} == {int(epoch)}
+    assert {(member.uid, member.gid) for member in members.values()} == {(0, 0)}
+    modes = {name: member.mode for name, member in members.items()}
+    assert {modes[name] for name in ("usr/bin/cpi", "usr/bin/cpi-tools", "usr/lib/cpi/cpi-serve")} == {0o755}
+    assert {modes[name] for name in ("etc/cpi/office.conf", "usr/share/doc/cpi/README.md")} == {0o644}
+
+
+def test_whole_folders_are_in_it(members: dict[str, tarfile.TarInfo]) -> None:
+    """Each file of them that git knows is there, whatever its kind."""
+    listed = subprocess.run(["git", "ls-files", "-z", "tools/cpi_tools", "examples"], cwd=ROOT, capture_output=True)
+    if listed.returncode:
+        pytest.skip("git doesn't know the repository")
+    wanted = {f"usr/share/cpi/{name}" for name in listed.stdout.decode().split("\0") if name}
+    assert "usr/share/cpi/tools/cpi_tools/backup.py" in wanted
+    assert wanted - set(members) == set()
+    assert {f"usr/share/doc/cpi/docs/{path.name}" for path in (ROOT / "docs").glob("*.md")} - set(members) == set()
+    assert [name for name in members if "__pycache__" in name or name.endswith((".pyc", ".db"))] == []
+
+
+def test_each_file_of_ops_has_its_place(members: dict[str, tarfile.TarInfo]) -> None:
+    places = {path.name: {str(Path(name).parent) for name in members if Path(name).name == path.name}
+              for path in (ROOT / "ops").iterdir() if path.name != "cpi.sysusers"}  # fmt: skip
+    units, programs, others = {"usr/lib/systemd/system"}, {"usr/lib/cpi"}, {"usr/share/cpi/ops"}
+    assert places == {
+        "cpi.service": units, "cpi-backup.service": units, "cpi-backup.timer": units, "cpi-serve": programs,
+        "cpi-backup": programs, "nginx.conf": others, "Caddyfile": others, "logrotate-cpi": others,
+        "office.conf": {"etc/cpi"},
+    }  # fmt: skip
+    assert "usr/lib/sysusers.d/cpi.conf" in members
+
+
+def test_nothing_is_started_by_it(package: Path, members: dict[str, tarfile.TarInfo], tmp_path: Path) -> None:
+    assert [name for name in members if ".wants" in name or ".requires" in name] == []
+    subprocess.run(["dpkg-deb", "--control", package, tmp_path / "told"], check=True)
+    assert sorted(os.listdir(tmp_path / "told")) == ["conffiles", "control", "md5sums", "postinst", "prerm"]
+    assert (tmp_path / "told/conffiles").read_text() == "/etc/cpi/office.conf\n"
+    asked = re.findall(r"^  (\S+)", (tmp_path / "told/postinst").read_text(), re.M)
+    assert asked == ["systemd-sysusers"]
+    needs = re.findall(r"^(?:Depends|Recommends): (.*)$", (tmp_path / "told/control").read_text(), re.M)
+    assert needs == ["libc6 (>= 2.34), python3 (>= 3.9)", "python3-jinja2, python3-openpyxl"]
+
+
+def test_the_versions_are_one(package: Path) -> None:
+    found = re.search(r'^version = "(.*)"$', (ROOT / "tools/pyproject.toml").read_text(), re.M)
+    assert found and package.name == f"cpi_{found[1]}_amd64.deb"
+
+
+# ---- where it is installed
+
+
+def test_readmes_example_runs_where_it_is_installed(installed: Path) -> None:
+    readme = (installed / "usr/share/doc/cpi/README.md").read_text()
+    commands, wanted = re.findall(r"^```sh\n(\./cpi .*?)^```\n```text\n(.*?)^```\n", readme, re.S | re.M)[0]
+    assert '{"receipt":2}' in wanted
+    assert in_root(installed, commands, installed / "usr/share/cpi") == wanted
+    assert in_root(installed, re.sub(r"(?m)^\./", "", commands), installed / "usr/share/cpi") == wanted
+
+
+def test_the_companions_run_where_they_are_installed(installed: Path, tmp_path: Path) -> None:
+    told = in_root(
+        installed,
+        f"cpi replay --db office.db < {installed}/usr/share/cpi/examples/table.csv > replies.txt\n"
+        "cpi-tools backup office.db backup/office.db\ncpi-tools drill backup/office.db",
+        tmp_path,
+    )
+    assert "backup/office.db: nothing is wrong; 3 tables with 16 rows and 6 carried prices computed" in told
+    assert [path for path in installed.rglob("__pycache__")] == []
+
+
+def test_the_examples_find_the_program_where_they_are_installed(installed: Path, tmp_path: Path) -> None:
+    told = in_root(installed, f"{installed}/usr/share/cpi/examples/isolation --out there", tmp_path)
+    assert "before January's table is out: the same bytes (28 lines)\n" in told
+    assert sorted(os.listdir(tmp_path / "there")) == ["one", "two"]
+
+
+def test_the_user_of_the_office_is_made(installed: Path) -> None:
+    needed("systemd-sysusers")
+    assert re.search(r"^cpi:x:\d+:\d+:Price index office:/var/lib/cpi:", (installed / "etc/passwd").read_text(), re.M)
+
+
+def test_it_goes_as_it_came(installed: Path, package: Path, tmp_path: Path) -> None:
+    """What it made for itself goes; the settings stay until they are purged."""
+    dpkg(tmp_path, "--install", package)
+    dpkg(tmp_path, "--remove", "cpi")
+    left = {str(path.relative_to(tmp_path)) for path in tmp_path.rglob("*") if path.is_file()}
+    assert "etc/cpi/office.conf" in left and not any(name.startswith("usr/") for name in left)
+    dpkg(tmp_path, "--purge", "cpi")
+    assert not (tmp_path / "etc/cpi").exists() and not (tmp_path / "usr").exists()
+
+
+# ---- its pages of the manual
+
+
+def page(name: str, root: Path) -> str:
+    """A page as it is read; a warning of it fails."""
+    words = [needed("man"), "--warnings", "-l", str(root / f"usr/share/man/man1/{name}.1.gz")]
+    kept = {**os.environ, "MANWIDTH": "100", "LC_ALL": "C.UTF-8", "MAN_KEEP_FORMATTING": ""}
+    ran = subprocess.run(words, capture_output=True, text=True, check=False, env=kept)
+    assert (ran.returncode, ran.stderr) == (0, "")
+    return ran.stdout
+
+
+def options(text: str) -> set[str]:
+    return set(re.findall(r"(?<![\w-])--[a-z][a-z-]+", text))
+
+
+def helps(cpi: Cpi) -> str:
+    """All that the program says of its words."""
+    words = ([str(cpi.path), *command, "--help"] for command in (("replay",), ("serve",), ("table",)))
+    return "".join(subprocess.run(it, capture_output=True, text=True, check=True).stdout for it in words)
+
+
+def test_the_page_of_cpi_has_its_words_and_faults(cpi: Cpi, installed: Path) -> None:
+    told, text = helps(cpi), page("cpi", installed)
+    # (those of systemctl are in the notes)
+    assert options(text) - {"--now"} == options(told)
+    listed = [" ".join(each.split()) for each in re.findall(r"one of: (.*?)(?:;|\n  2 )", told, re.S)]
+    faults = {fault for each in listed for fault in re.sub(r" \([^)]*\)", "", each).split(", ")}
+    assert {"bad zone", "no clock", "no table"} <= faults
+    page_faults = set(re.findall(r"^       ([a-z]+ [a-z]+(?: [a-z]+)?)$", text.partition("DIAGNOSTICS")[2], re.M))
+    assert page_faults == faults
+
+
+def test_each_tool_has_its_page_and_its_line(installed: Path) -> None:
+    head = page("cpi-tools", installed)
+    tools = re.findall(r"^ +cpi-tools-([a-z-]+)\(1\)$", head, re.M)
+    told = subprocess.run([ROOT / "cpi-tools", "--help"], capture_output=True, text=True, check=True).stdout
+    assert {"backup", "drill", "probe"} <= set(tools)
+    assert [name for name in tools if not re.search(rf"^ +{name}\b", told, re.M)] == []
+    for name in tools:
+        said = subprocess.run([ROOT / "cpi-tools", name, "--help"], capture_output=True, text=True, check=True).stdout
+        text = page(f"cpi-tools-{name}", installed)
+        assert options(said) - options(text) == set()
+        assert re.search(rf"^EXAMPLES\n +cpi-tools {name} ", text, re.M) and "\nEXIT STATUS\n" in text
