@@ -119,9 +119,9 @@ def test_a_page_stands_alone_and_its_texts_are_escaped(tmp_path: Path) -> None:
     own = tmp_path / "own"
     own.mkdir()
     (own / "page.html").write_text(
-        '{% extends "base.html" %}{% from "macros.html" import figure, bar_of %}{% block title %}{{ name }}{% endblock %}'
-        '{% block main %}{{ figure(name, "percent", picture, figures=[("May", "1.0")]) }}{{ bar_of(bar, "1.00") }}'
-        "{% endblock %}"
+        '{% extends "base.html" %}{% from "macros.html" import figure, bar_of %}'
+        '{% block title %}{{ name }}{% endblock %}{% block main %}'
+        '{{ figure(name, "percent", picture, figures=[("May", "1.0")]) }}{{ bar_of(bar, "1.00") }}{% endblock %}'
     )
     picture = charts.columns(Picture("c", "<script>", "<b>"), MONTHS[:1], [1.0])
     bar = charts.track([1.0]).bars[0]
