@@ -45,7 +45,9 @@ def decimal(over: int, under: int, digits: int) -> str:
 
 
 def points(millionths: int, digits: int = 6) -> str:
-    """Millionths of a point as points with 1 to 6 decimals: `105.7` of 105,714,286."""
+    """Millionths of a point (not below 0) as points with 1 to 6 decimals: `105.7` of 105,714,286."""
+    if digits == 6:
+        return f"{millionths // 1_000_000}.{millionths % 1_000_000:06}"
     return decimal(millionths, 10**6, digits)
 
 

@@ -78,11 +78,17 @@ class Contributions:
         self.series = series
         self.unexplained = frozenset(series.unexplained())
 
+    def to_month(self, month: str, code: str, to: str) -> Optional[Ratio]:
+        """What a node gives to the change on the month before of one at or above it."""
+        return None if (month, False) in self.unexplained else month_contribution(self.series, month, code, to)
+
+    def to_year(self, month: str, code: str, to: str) -> Optional[Ratio]:
+        """What a node gives to the change on the year before of one at or above it."""
+        return None if (month, True) in self.unexplained else year_contribution(self.series, month, code, to)
+
     def of(self, month: str, code: str, to: str) -> Contribution:
-        """What a node gives to one at or above it."""
-        monthly = None if (month, False) in self.unexplained else month_contribution(self.series, month, code, to)
-        annual = None if (month, True) in self.unexplained else year_contribution(self.series, month, code, to)
-        return Contribution(code, to, monthly, annual)
+        """What a node gives to both changes of one at or above it."""
+        return Contribution(code, to, self.to_month(month, code, to), self.to_year(month, code, to))
 
     def below(self, month: str, to: str) -> list[Contribution]:
         """Those of all nodes next below one in a month, also of such as left in the year before."""
@@ -106,9 +112,8 @@ class Contributions:
 
 def average(series: Series, code: str, year: int) -> Optional[Ratio]:
     """The mean of a node's twelve levels in a year; None where one is missing."""
-    rows = [series.row(f"{year:04}-{number:02}", code) for number in range(1, 13)]
-    levels = [row.chained for row in rows if row]
-    return Ratio(sum(levels), 12 * 10**6) if len(levels) == 12 else None
+    total = _twelve(series, code, [f"{year:04}-{number:02}" for number in range(1, 13)])
+    return None if total is None else Ratio(total, 12 * 10**6)
 
 
 def average_change(series: Series, code: str, year: int) -> Optional[Ratio]:
@@ -125,14 +130,19 @@ def full_years(series: Series) -> list[int]:
 
 def twelve_month_rate(series: Series, month: str, code: str) -> Optional[Ratio]:
     """The mean level of the twelve months up to this one against that of the twelve before, in percent."""
-    levels = []
-    for by in range(24):
-        row = series.row(before(month, by), code)
+    now, then = (_twelve(series, code, [before(month, by) for by in months]) for months in (range(12), range(12, 24)))
+    return Ratio(100 * (now - then), then) if now and then else None
+
+
+def _twelve(series: Series, code: str, months: list[str]) -> Optional[int]:
+    """The sum of a node's levels in some months, in millionths; None where one is missing."""
+    total = 0
+    for month in months:
+        row = series.row(month, code)
         if row is None:
             return None
-        levels.append(row.chained)
-    now, then = sum(levels[:12]), sum(levels[12:])
-    return Ratio(100 * (now - then), then)
+        total += row.chained
+    return total
 
 
 # ---- another reference period, in points

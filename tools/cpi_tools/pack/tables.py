@@ -8,6 +8,7 @@ wouldn't is none.
 from __future__ import annotations
 
 import csv
+import functools
 import io
 import re
 import sys
@@ -97,23 +98,28 @@ def table_of(published: Published) -> Table:
 # ---- months
 
 
+@functools.lru_cache(maxsize=None)
 def before(month: str, by: int = 1) -> str:
     """The month so many months before."""
     at = int(month[:4]) * 12 + int(month[5:]) - 1 - by
     return f"{at // 12:04}-{at % 12 + 1:02}"
 
 
+@functools.lru_cache(maxsize=None)
 def link_of(month: str) -> str:
     """December of the year before."""
     return f"{int(month[:4]) - 1:04}-12"
 
 
+@functools.lru_cache(maxsize=None)
 def iso(moment: int) -> str:
     """`2026-01-28T09:30:00Z` of seconds since 1970."""
     return datetime.fromtimestamp(moment, timezone.utc).strftime("%Y-%m-%dT%H:%M:%SZ")
 
 
 # ---- all tables
+
+NO_ROWS: Mapping[str, Row] = {}
 
 
 class Series:
@@ -133,6 +139,7 @@ class Series:
             raise NotATable("no table with rows is published yet")
         found = {row.code: row.title for month in self.months for row in self.latest[month].rows.values()}
         self.titles = dict(sorted(found.items()))
+        self._rows = {month: table.rows for month, table in self.latest.items()}
         self._children: dict[str, list[str]] = {}
         for code in self.titles:
             above = parent_of(code)
@@ -156,8 +163,7 @@ class Series:
 
     def row(self, month: str, code: str) -> Optional[Row]:
         """The row of a node in the latest revision of a month."""
-        table = self.latest.get(month)
-        return table.rows.get(code) if table else None
+        return self._rows.get(month, NO_ROWS).get(code)
 
     def rows(self, code: str) -> list[Optional[Row]]:
         """The rows of a node in all months."""
