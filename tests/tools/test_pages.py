@@ -74,22 +74,28 @@ def test_a_picture_has_a_name_and_all_of_it_lies_within(drawn: str) -> None:
     assert root.get("aria-labelledby") == f"{title.get('id')} {says.get('id')}"
     for text in root.iter(SVG + "text"):
         assert 8 <= float(text.get("y", "")) <= charts.HEIGHT and 0 <= float(text.get("x", "")) <= charts.WIDTH
-    for box in root.iter(SVG + "rect"):
-        left, top, wide, high = (float(box.get(name, "")) for name in ("x", "y", "width", "height"))
+    boxes = [box for kind in ("bar", "bar down", "bar last", "bar down last") for box in drawn_bars(root, kind)]
+    assert bool(boxes) == ("Change" in title.text or "Nothing" in title.text)
+    for left, top, wide, high in boxes:
         assert charts.LEFT <= left and left + wide <= charts.WIDTH
         assert charts.TOP - 1 <= top and top + high <= charts.HEIGHT - charts.FOOT + 1
 
 
-def test_columns_begin_at_zero_and_tell_their_values() -> None:
-    root = parts_of(charts.columns(Picture("c", "Change", "Both ways."), MONTHS[:2], [2.0, -1.0]))
-    up, down = root.iter(SVG + "rect")
+def drawn_bars(root: ElementTree.Element, kind: str) -> list[tuple[float, float, float, float]]:
+    """The columns of a class: left, top, width, height."""
+    path = next((it.get("d", "") for it in root.iter(SVG + "path") if it.get("class") == kind), "")
+    form = r"M([\d.]+) ([\d.]+)h([\d.]+)v([\d.]+)h-[\d.]+z"
+    return [(float(left), float(top), float(wide), float(high)) for left, top, wide, high in re.findall(form, path)]
+
+
+def test_columns_begin_at_zero() -> None:
+    root = parts_of(charts.columns(Picture("c", "Change", "Both ways."), MONTHS[:3], [2.0, -1.0, 2.0]))
+    ((_, top, _, high),), ((_, foot, _, low),) = (drawn_bars(root, kind) for kind in ("bar", "bar down"))
     zero = next(it for it in root.iter(SVG + "path") if it.get("class") == "zero")
     at = float(re.findall(r"[\d.]+", zero.get("d", ""))[1])
-    assert float(up.get("y", "")) + float(up.get("height", "")) == pytest.approx(at, abs=0.11)
-    assert float(down.get("y", "")) == pytest.approx(at, abs=0.11)
-    assert float(up.get("height", "")) == pytest.approx(2 * float(down.get("height", "")), abs=0.11)
-    titles = [it.findtext(SVG + "title") for it in (up, down)]
-    assert titles == ["January 2025: +2.0 percent", "February 2025: \u22121.0 percent"]
+    assert top + high == pytest.approx(at, abs=0.11) and foot == pytest.approx(at, abs=0.11)
+    assert high == pytest.approx(2 * low, abs=0.11)
+    assert [box[1:] for box in drawn_bars(root, "bar last")] == [(top, *drawn_bars(root, "bar")[0][2:])]
 
 
 def test_a_gap_in_a_line_is_a_gap() -> None:

@@ -159,25 +159,22 @@ def _line(frame: Frame, line: Line) -> Iterator[str]:
     yield f'<text class="end value" x="{x + 5:.1f}" y="{written:.1f}">{value:.1f}</text>'
 
 
-def columns(
-    picture: Picture, months: Sequence[str], values: Sequence[Optional[float]], are_changes: bool = True
-) -> Markup:
-    """A column for each month, from zero up or down; each tells its value in words. At least one has to be known."""
+def columns(picture: Picture, months: Sequence[str], values: Sequence[Optional[float]]) -> Markup:
+    """A column for each month, from zero up or down, the last one darker. At least one value has to be known."""
     months, values = months[-MOST_MONTHS:], values[-MOST_MONTHS:]
     known = [value for value in values if value is not None]
     frame = Frame(months, steps(min(0.0, *known, 0.0), max(0.0, *known, 0.0)))
     last = max(at for at, value in enumerate(values) if value is not None)
-    parts = [*frame.axes()]
     wide = (WIDTH - LEFT - RIGHT) / len(months) * 0.66
+    drawn: dict[str, str] = {}
     for at, value in enumerate(values):
         if value is None:
             continue
         top, foot = sorted((frame.y(value), frame.y(0)))
         kind = "bar" + (" down" if value < 0 else "") + (" last" if at == last else "")
-        told = f"{month_name(months[at])}: {signed(value) if are_changes else f'{value:.1f}'} percent"
-        place = f'x="{frame.x(at) - wide / 2:.1f}" y="{top:.1f}" width="{wide:.1f}" height="{max(foot - top, 0.6):.1f}"'
-        parts.append(f'<rect class="{kind}" {place}><title>{escape(told)}</title></rect>')
-    return svg(picture, parts)
+        place = f"M{frame.x(at) - wide / 2:.1f} {top:.1f}h{wide:.1f}v{max(foot - top, 0.6):.1f}h-{wide:.1f}z"
+        drawn[kind] = drawn.get(kind, "") + place
+    return svg(picture, [*frame.axes(), *(f'<path class="{kind}" d="{path}"/>' for kind, path in drawn.items())])
 
 
 # ---- bars in the rows of a table

@@ -59,6 +59,9 @@ class Pack(NamedTuple):
 
 def write_pack(pack: Pack, folder: Path, now: Now) -> None:
     """Writes all files of a pack into an empty folder."""
+    # (here, since the packages of its pages needn't be there for the other tools)
+    from .pack.site import Site
+
     series, config, previous = pack
     contributions = Contributions(series)
     data = folder / "data"
@@ -72,7 +75,10 @@ def write_pack(pack: Pack, folder: Path, now: Now) -> None:
     write_structure(series, config, data / "structure.sdmx.xml")
     now("the workbook")
     write_workbook(series, contributions, config, data / "cpi.xlsx")
+    site = Site(series, contributions, config, folder)
     (folder / MANIFEST).write_text(manifest_text(series, previous), encoding="utf-8")
+    site.write(lambda done, of: now(f"pages, {done} of {of}"))
+    now("sums")
     write_sums(folder)
 
 
