@@ -135,7 +135,7 @@ def test_a_page_stands_alone_and_its_texts_are_escaped(tmp_path: Path) -> None:
     text = (tmp_path / "x.html").read_text(encoding="utf-8")
     assert text.count("&lt;i&gt;&amp;") == 2 and "<i>&" not in text and "<script>" not in text
     assert "--accent" in text and "<link rel=\"stylesheet\"" not in text
-    assert 'viewBox="0 0 400 220"' in text
+    assert 'viewBox="0 0 400 224"' in text
 
 
 def test_a_page_that_fails_leaves_nothing(tmp_path: Path) -> None:

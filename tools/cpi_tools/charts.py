@@ -13,8 +13,8 @@ from typing import NamedTuple, Optional
 
 from markupsafe import Markup, escape
 
-WIDTH, HEIGHT = 400, 220
-LEFT, RIGHT, TOP, FOOT = 40, 14, 16, 38
+WIDTH, HEIGHT = 400, 224
+LEFT, RIGHT, TOP, FOOT = 40, 14, 16, 41
 
 MOST_MONTHS = 61
 """Months that a picture shows at most: the last ones, five years and the month that they are against."""
@@ -106,7 +106,7 @@ class Frame(NamedTuple):
             yield f'<path class="grid" d="M{x} {HEIGHT - FOOT}v4"/>'
             yield f'<text class="middle" x="{x}" y="{HEIGHT - FOOT + 17}">{month_name(month)[:3]}</text>'
             if is_first or month.endswith("-01"):
-                yield f'<text class="middle year" x="{x}" y="{HEIGHT - FOOT + 31}">{month[:4]}</text>'
+                yield f'<text class="middle year" x="{x}" y="{HEIGHT - FOOT + 34}">{month[:4]}</text>'
             is_first = False
 
 
