@@ -11,6 +11,7 @@ import hashlib
 import io
 import json
 import subprocess
+import sys
 import zipfile
 from collections.abc import Callable, Iterator
 from decimal import Decimal
@@ -30,6 +31,8 @@ from cpi_tools.pack.sdmx import KNOWN_IDS
 from cpi_tools.pack.tables import Series
 from cpi_tools.program import Cpi
 from cpi_tools.publish import CannotPublish, check, publish
+from conftest import ROOT
+from loads import free_port, served
 from published import HIDDEN_REVISION, LAST, LONG_AFTER, REVISED, Office, lived, shown
 
 INI = """\
@@ -406,6 +409,42 @@ def test_ids_of_an_office_take_the_place_of_ours(published: list[Published], tmp
         text = (tmp_path / "public/data" / name).read_text(encoding="utf-8")
         assert all(own in text for own in ("PRODUCT", "IDX", "PRICES"))
         assert not [name for name in ("COICOP18", '"CPI"', ",CPI,", "DF_CPI") if name in text]
+
+
+def test_texts_that_xml_cannot_have_do_no_harm(tmp_path: Path) -> None:
+    """A title with a character that XML forbids, with what ends its sections, and with what formulas begin with."""
+    title = "=1+1 \uffff ]]> <b> & \u2028"
+    row = f"00,1000000,99.750000,99.750000,-0.3,,0,{title}\n"
+    published = [Published(Listed("2025-12", 1, 1), b""), Published(Listed("2026-01", 1, 2), row.encode())]
+    publish(published, CONFIG._replace(title="Prices \x07", reference=""), tmp_path / "public", None, quiet)
+    data = tmp_path / "public/data"
+    told = title.replace("\uffff", "\ufffd")
+    names = [it.text for it in ElementTree.parse(data / "structure.sdmx.xml").iter(COMMON + "Name")]
+    assert told in names and "Prices \ufffd" in names
+    assert openpyxl.load_workbook(data / "cpi.xlsx")["Index"]["B2"].value == told
+    assert [row["title"] for row in rows_of(data / "cpi.csv")] == [title]
+
+
+def test_a_served_office_gives_the_same_pack(cpi: Cpi, public_office: Office, pack: Path, tmp_path: Path) -> None:
+    (tmp_path / "office.ini").write_text(INI)
+    (tmp_path / "served.db").write_bytes(public_office.file.read_bytes())
+    port = free_port()
+    with served(cpi, tmp_path / "served.db", port):
+        words = ["publish", "--url", f"http://127.0.0.1:{port}", "--config", str(tmp_path / "office.ini")]
+        assert main([*words, "--check", str(pack)]) == 0
+
+
+def test_without_its_package_one_line_says_so_and_other_tools_go_on(tmp_path: Path) -> None:
+    """Python leaves Debian's packages away by -S."""
+    (tmp_path / "office.ini").write_text(INI)
+    named = {"env": {"PYTHONPATH": str(ROOT / "tools"), "PYTHONDONTWRITEBYTECODE": "1"}, "capture_output": True}
+    words = [sys.executable, "-S", "-m", "cpi_tools"]
+    source = ["publish", "--url", "http://127.0.0.1:1", "--config", str(tmp_path / "office.ini"), "--out", "public"]
+    told = subprocess.run([*words, *source], **named, text=True, check=False)
+    assert (told.returncode, told.stdout, told.stderr.count("\n")) == (1, "", 1)
+    assert "has no jinja2: Debian's python3-jinja2 has it" in told.stderr
+    told = subprocess.run([*words, "backup", str(tmp_path / "no.db"), str(tmp_path / "to.db")], **named, check=False)
+    assert told.returncode == 1 and b"no.db: No such file" in told.stderr
 
 
 def test_words_that_do_not_go_together_are_refused(capsys: pytest.CaptureFixture[str], tmp_path: Path) -> None:

@@ -21,12 +21,12 @@ import csv
 from collections.abc import Iterator, Mapping
 from pathlib import Path
 from typing import NamedTuple
-from xml.sax.saxutils import escape, quoteattr
 
 from ..exact import ALL_ITEMS
 from . import figures
 from .config import Config
 from .figures import Figure
+from .markup import attributes_of
 from .measures import Contributions
 from .tables import Series, Table, iso
 
@@ -168,15 +168,10 @@ SPACES = f'xmlns:message="{SCHEMAS}message" xmlns:common="{SCHEMAS}common"'
 PROLOGUE = '<?xml version="1.0" encoding="UTF-8"?>\n'
 
 
-def attributes_of(named: Mapping[str, str]) -> str:
-    """Attributes of an element, each behind a space; what is empty is left out."""
-    return "".join(f" {name}={quoteattr(value)}" for name, value in named.items() if value)
-
-
 def message_header(series: Series, config: Config, name: str, structure: str = "") -> str:
     """The header: it was prepared when the last table was published, so the same tables give the same bytes."""
     return (
-        f"<message:Header>\n<message:ID>{escape(config.id(name))}_{series.months[-1]}</message:ID>\n"
+        f"<message:Header>\n<message:ID>{config.id(name)}_{series.months[-1]}</message:ID>\n"
         f"<message:Test>false</message:Test>\n<message:Prepared>{iso(series.moment)}</message:Prepared>\n"
         f"<message:Sender{attributes_of({'id': config.agency})}/>\n{structure}</message:Header>\n"
     )
@@ -195,10 +190,10 @@ def _data_head(series: Series, config: Config) -> str:
     )
     return (
         f"{PROLOGUE}<message:StructureSpecificData {SPACES}"
-        f' xmlns:ss="{SCHEMAS}data/structurespecific" xmlns:own={quoteattr(space)}'
+        f' xmlns:ss="{SCHEMAS}data/structurespecific" xmlns:own="{space}"'
         ' xmlns:xsi="http://www.w3.org/2001/XMLSchema-instance">\n'
         f"{message_header(series, config, FLOW, structure)}"
-        f'<message:DataSet ss:structureRef={quoteattr(definition)} xsi:type="own:DataSetType"'
+        f'<message:DataSet ss:structureRef="{definition}" xsi:type="own:DataSetType"'
         ' ss:dataScope="DataStructure" action="Information">\n'
     )
 

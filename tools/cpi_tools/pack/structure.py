@@ -4,9 +4,9 @@ from __future__ import annotations
 
 from collections.abc import Iterator, Mapping
 from pathlib import Path
-from xml.sax.saxutils import escape
 
 from .config import Config
+from .markup import attributes_of, text_of
 from .sdmx import (
     CONCEPTS,
     DEFINITION,
@@ -24,7 +24,6 @@ from .sdmx import (
     VALUE,
     VERSION,
     message_header,
-    attributes_of,
     item_id,
 )
 from .tables import Series
@@ -56,7 +55,7 @@ def element(name: str, body: str = "", **attributes: str) -> str:
 
 def _named(name: str, title: str, body: str = "", **attributes: str) -> str:
     """An element that has a name for readers."""
-    return element(name, f'<common:Name xml:lang="en">{escape(title)}</common:Name>\n{body}', **attributes)
+    return element(name, f'<common:Name xml:lang="en">{text_of(title)}</common:Name>\n{body}', **attributes)
 
 
 def _kept(config: Config, name: str) -> dict[str, str]:

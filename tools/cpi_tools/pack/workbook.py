@@ -10,11 +10,11 @@ import zipfile
 from collections.abc import Iterable, Iterator, Sequence
 from pathlib import Path
 from typing import NamedTuple
-from xml.sax.saxutils import escape, quoteattr
 
 from . import figures
 from .config import Config
 from .figures import Figure
+from .markup import attributes_of, text_of
 from .measures import Contributions
 from .tables import Series, iso
 
@@ -73,7 +73,7 @@ def column_name(number: int) -> str:
 
 def text_cell(place: str, text: str, style: int = PLAIN) -> str:
     """A cell with a text, also where it begins as a formula would."""
-    kept = f'<is><t xml:space="preserve">{escape(text)}</t></is>'
+    kept = f'<is><t xml:space="preserve">{text_of(text)}</t></is>'
     return f'<c r="{place}" s="{style}" t="inlineStr">{kept}</c>'
 
 
@@ -164,7 +164,8 @@ def _relations(targets: Sequence[tuple[str, str]]) -> str:
 
 def _workbook() -> str:
     sheets = "".join(
-        f'<sheet name={quoteattr(name)} sheetId="{number}" r:id="rId{number}"/>' for number, name in enumerate(NAMES, 1)
+        f"<sheet{attributes_of({'name': name, 'sheetId': str(number), 'r:id': f'rId{number}'})}/>"
+        for number, name in enumerate(NAMES, 1)
     )
     return f'{PROLOGUE}<workbook xmlns="{MAIN}" xmlns:r="{RELATIONS}"><sheets>{sheets}</sheets></workbook>\n'
 
