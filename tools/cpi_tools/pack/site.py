@@ -9,6 +9,7 @@ from __future__ import annotations
 import json
 import shutil
 from collections.abc import Callable, Sequence
+from fractions import Fraction
 from pathlib import Path
 from typing import NamedTuple, Optional
 
@@ -20,7 +21,7 @@ from .config import Config
 from .measures import Contributions, reference_level
 from .pictures import of_imputed, of_node
 from .public import Published
-from .tables import Row, Series, Table, before
+from .tables import Row, Series, Table
 from .tidy import HEAD, figure_row, write_rows
 from .wording import FILTERS, day, page_of, share
 
@@ -79,7 +80,6 @@ class Site:
             base=series.base,
             share=share,
             depth_of=depth_of,
-            before=before,
         )
 
     def write(self, told: Told) -> None:
@@ -115,7 +115,7 @@ class Site:
         parts = self.contributions.below(month, to)
         values = [(it.code, it.to_year if is_annual else it.to_month) for it in parts]
         found = [(code, value) for code, value in values if value is not None]
-        found.sort(key=lambda it: (-it[1].over / it[1].under, it[0]))
+        found.sort(key=lambda it: (-Fraction(*it[1]), it[0]))
         track = charts.track([value.over / value.under for _, value in found])
         rows = [
             Given(code, self.series.titles[code], self.series.row(month, code), value, bar)
