@@ -17,6 +17,9 @@ MONTHS = [f"{at // 12:04}-{at % 12 + 1:02}" for at in range(2024 * 12 + 11, 2027
 """2024-12 to 2027-06."""
 
 REVISED, HIDDEN_REVISION, LAST = "2026-03", "2027-04", "2027-06"
+NOW = 1_700_000_000
+"""A moment that every clock has passed; all but what is under embargo is published long before it."""
+
 LONG_AFTER = 9_000_000_000
 """A moment that no clock shows in the lifetime of these tests: what is published then is under embargo now."""
 
@@ -105,4 +108,4 @@ def made(cpi: Cpi, file: Path) -> Office:
     """The office in a file; nothing of it is refused."""
     refused = [reply for reply in cpi.replay(lived(), db=file) if "refused" in reply]
     assert not refused
-    return Office(file, LONG_AFTER - 1, [(HIDDEN_REVISION, 2), (LAST, 1), (LAST, 2)])
+    return Office(file, NOW, [(HIDDEN_REVISION, 2), (LAST, 1), (LAST, 2)])

@@ -315,6 +315,21 @@ def test_the_command_writes_checks_and_tells(
     assert told.err == f"cpi-tools publish: {out}: 3 files not as written now\n"
 
 
+def test_a_moment_that_is_still_to_come_is_a_draft(
+    cpi: Cpi, public_office: Office, tmp_path: Path, capsys: pytest.CaptureFixture[str]
+) -> None:
+    (tmp_path / "office.ini").write_text(INI)
+    source = ["publish", "--program", str(cpi.path), "--db", str(public_office.file), "--at", str(LONG_AFTER)]
+    words = [*source, "--config", str(tmp_path / "office.ini"), "--out", str(tmp_path / "draft")]
+    assert main(words) == 1
+    told = capsys.readouterr()
+    assert "--at 9000000000 is 2255-03-14 16:00 UTC, which is still to come" in told.err and told.err.count("\n") == 1
+    assert not (tmp_path / "draft").exists()
+    assert main([*words, "--draft"]) == 0
+    assert (tmp_path / "draft").stat().st_mode & 0o777 == 0o700
+    assert (tmp_path / f"draft/data/tables/{LAST}-r1.csv").is_file()
+
+
 def test_a_chain_of_manifests(published: list[Published], tmp_path: Path) -> None:
     """Each has the sum of the one before; over the same tables it stays as it is."""
     out, first = tmp_path / "public", [it for it in published if it.listed.month < "2026-01"]

@@ -9,6 +9,7 @@ from __future__ import annotations
 import argparse
 import contextlib
 import tempfile
+import time
 from collections.abc import Callable
 from pathlib import Path
 from typing import NamedTuple, Optional
@@ -33,7 +34,7 @@ from .pack.tidy import write_all
 from .pack.workbook import write_workbook
 from .probe import address
 from .program import Cpi, add_program
-from .terminal import Fault, Progress, ToolWords, at_least, because_of, counted, needs
+from .terminal import Fault, Progress, ToolWords, at_least, because_of, counted, needs, time_text
 
 Now = Callable[[str], None]
 """Is told what is being done."""
@@ -82,11 +83,19 @@ def write_pack(pack: Pack, folder: Path, now: Now) -> None:
     write_sums(folder)
 
 
-def publish(published: list[Published], config: Config, out: Path, before: Optional[Path], now: Now) -> Series:
+def publish(
+    published: list[Published],
+    config: Config,
+    out: Path,
+    before: Optional[Path],
+    now: Now,
+    is_draft: bool = False,
+) -> Series:
     """Writes a pack beside the folder `out` and puts it in its place; its tables.
 
-    `before` is the manifest before, else that of `out` where a pack stands there. Raises Fault, and leaves `out` as it
-    is, where a table that was published is another one now, or is there no more.
+    A draft is readable for its owner alone. `before` is the manifest before, else that of `out` where a pack stands
+    there. Raises Fault, and leaves `out` as it is, where a table that was published is another one now, or is there no
+    more.
     """
     series = Series(published)
     _look_at(out)
@@ -101,6 +110,8 @@ def publish(published: list[Published], config: Config, out: Path, before: Optio
             new = Path(folder) / "pack"
             new.mkdir()
             write_pack(Pack(series, config, previous_of(last, series)), new, now)
+            if is_draft:
+                new.chmod(0o700)
             _put(new, out, Path(folder) / "old")
     except OSError as fault:
         raise CannotPublish(because_of(fault)) from fault
@@ -158,10 +169,11 @@ Reads the published tables as the public does, and writes into FOLDER what users
 home: CSV, SDMX, XLSX, and a website without a server. A table under embargo isn't answered to the
 public, so it can't be in it. The same tables give the same bytes, whenever they are written.
 
-With --db FILE the file is copied first, as it stands, and cpi may run meanwhile. A pack that
-stands in FOLDER is replaced as a whole, but where one of its tables is another one now, or isn't
-there any more. manifest.json has the SHA-256 of each table and of the manifest before: that of
-the pack that stands in FOLDER, or --previous.
+With --db FILE the file is copied first, as it stands, and cpi may run meanwhile; a moment that is
+still to come is refused, but with --draft. A pack that stands in FOLDER is replaced as a whole,
+but where one of its tables is another one now, or isn't there any more. manifest.json has the
+SHA-256 of each table and of the manifest before: that of the pack that stands in FOLDER, or
+--previous.
 """
 
 EPILOG = """\
@@ -185,6 +197,7 @@ def add_words(tools: argparse._SubParsersAction[ToolWords]) -> None:
     source.add_argument("--url", type=address, help="the address of an office that is served: what is out now")
     source.add_argument("--db", type=Path, metavar="FILE", help="an office's file, which is only read")
     add("--at", type=at_least(0), metavar="SECONDS", help="with --db: what is out at this moment, seconds since 1970")
+    add("--draft", action="store_true", help="take a moment that is still to come: FOLDER is then for its owner alone")
     add("--config", type=Path, required=True, metavar="FILE", help="who publishes, under which names")
     to = words.add_mutually_exclusive_group(required=True)
     to.add_argument("--out", type=Path, metavar="FOLDER", help="where the pack is written")
@@ -198,6 +211,8 @@ def run(chosen: argparse.Namespace) -> int:
     """Runs the tool by its words; its exit status."""
     if (chosen.db is None) != (chosen.at is None):
         chosen.words.error("--db and --at go together")
+    if chosen.at is not None:
+        _refuse_what_is_to_come(chosen)
     needs("jinja2", "python3-jinja2")
     config = read_config(chosen.config, KNOWN_IDS)
     with Progress("cpi-tools publish") as progress:
@@ -205,12 +220,21 @@ def run(chosen: argparse.Namespace) -> int:
         if chosen.check:
             found = check(published, config, chosen.check, chosen.previous, progress.now)
         else:
-            series = publish(published, config, chosen.out, chosen.previous, progress.now)
+            series = publish(published, config, chosen.out, chosen.previous, progress.now, chosen.draft)
     if chosen.check:
         return _told(chosen.check, found)
     of = f"{counted(len(series.vintages), 'table')} up to {series.months[-1]}, {counted(len(series.titles), 'item')}"
     print(f"{chosen.out}: {of}")
     return 0
+
+
+def _refuse_what_is_to_come(chosen: argparse.Namespace) -> None:
+    """A slip in the moment would write what is under embargo now; a draft says that it is meant."""
+    if chosen.at > time.time() and not chosen.draft:
+        raise CannotPublish(
+            f"--at {chosen.at} is {time_text(chosen.at)}, which is still to come: its tables may be under embargo now"
+            " (--draft writes them for the owner of the folder alone)"
+        )
 
 
 def _read(chosen: argparse.Namespace, progress: Progress) -> list[Published]:
