@@ -1,7 +1,8 @@
-"""What these tests share: the program that is tested, and the programs of others that they need."""
+"""What the tests with programs of others share."""
 
 from __future__ import annotations
 
+import importlib.util
 import os
 import shutil
 import sys
@@ -10,15 +11,18 @@ from pathlib import Path
 
 import pytest
 
-ROOT = Path(__file__).resolve().parents[2]
+HERE = Path(__file__).resolve().parent
+ROOT = HERE.parents[1]
 
 sys.dont_write_bytecode = True
-sys.path[:0] = [str(ROOT / "tools")]
+sys.path[:0] = [str(HERE), str(ROOT / "tests" / "tools"), str(ROOT / "tools")]
+
+from cpi_tools.program import Cpi  # noqa: E402
 
 
 def pytest_addoption(parser: pytest.Parser) -> None:
     parser.addoption("--program", default=None, help="the program cpi")
-    parser.addoption("--leave-out", action="append", default=[], help="a program that isn't here")
+    parser.addoption("--leave-out", action="append", default=[], help="what isn't here on purpose")
 
 
 @pytest.fixture(scope="session")
@@ -28,15 +32,22 @@ def program(request: pytest.FixtureRequest) -> Path:
 
 
 @pytest.fixture(scope="session")
+def cpi(program: Path) -> Cpi:
+    """The program, to be run."""
+    return Cpi(program)
+
+
+@pytest.fixture(scope="session")
 def needed(request: pytest.FixtureRequest) -> Callable[[str], str]:
-    """Where a program of others is. A test fails where it isn't there, or is left out where that was told."""
+    """Where a program of others, or a package of Python, is; a test fails where it isn't there and isn't left out."""
     left_out = request.config.getoption("--leave-out")
 
     def found(name: str) -> str:
-        path = shutil.which(name, path=f"{os.environ['PATH']}:/usr/sbin:/sbin")
         if name in left_out:
             pytest.skip(f"{name} is left out")
-        assert path, f"there is no {name} (--leave-out {name} leaves out what needs it)"
-        return path
+        path = shutil.which(name, path=f"{os.environ['PATH']}:/usr/sbin:/sbin")
+        if path is None and importlib.util.find_spec(name) is None:
+            pytest.fail(f"there is no {name} (--leave-out {name} leaves out what needs it)", pytrace=False)
+        return path or name
 
     return found

@@ -14,7 +14,9 @@ sys.dont_write_bytecode = True
 sys.path[:0] = [str(HERE), str(ROOT / "tools")]
 
 from cpi_tools.program import Cpi  # noqa: E402
+from cpi_tools.pack.public import Published, from_file  # noqa: E402
 from offices import lived  # noqa: E402
+from published import Office, made as made_public  # noqa: E402
 
 
 def pytest_addoption(parser: pytest.Parser) -> None:
@@ -55,3 +57,15 @@ def office(made: Path, tmp_path: Path) -> Path:
     file = tmp_path / "office.db"
     file.write_bytes(made.read_bytes())
     return file
+
+
+@pytest.fixture(scope="session")
+def public_office(cpi: Cpi, tmp_path_factory: pytest.TempPathFactory) -> Office:
+    """An office with 31 months of tables, some under embargo; no test writes to its file."""
+    return made_public(cpi, tmp_path_factory.mktemp("published") / "office.db")
+
+
+@pytest.fixture(scope="session")
+def published(cpi: Cpi, public_office: Office) -> list[Published]:
+    """What the public reads of it."""
+    return from_file(cpi, public_office.file, public_office.at)

@@ -1,0 +1,504 @@
+"""`cpi-tools publish`: each figure of each format is one that the program printed, and the embargo holds.
+
+The figures are read with the standard library and openpyxl, which the tool doesn't use, and compared with what
+`cpi table` prints, which is another way than that of the tool.
+"""
+
+from __future__ import annotations
+
+import csv
+import hashlib
+import io
+import json
+import subprocess
+import sys
+import zipfile
+from collections.abc import Callable, Iterator
+from decimal import Decimal
+from fractions import Fraction
+from pathlib import Path
+from typing import NamedTuple, Optional
+from xml.etree import ElementTree
+
+import openpyxl
+import pytest
+
+from cpi_tools.__main__ import main
+from cpi_tools.pack.config import BadConfig, Config, read_config
+from cpi_tools.pack.manifest import manifest_text, previous_of, read_manifest
+from cpi_tools.pack.public import Listed, Published, from_file
+from cpi_tools.pack.sdmx import KNOWN_IDS
+from cpi_tools.pack.tables import Series
+from cpi_tools.program import Cpi
+from cpi_tools.publish import CannotPublish, check, publish
+from conftest import ROOT
+from loads import free_port, served
+from published import HIDDEN_REVISION, LAST, LONG_AFTER, REVISED, Office, lived, shown
+
+INI = """\
+[office]
+agency = NSO
+area = XX
+office = Office <of> prices
+country = Exampleland
+reference = 2025
+currency = crowns
+"""
+CONFIG = Config("NSO", "XX", "Office <of> prices", country="Exampleland", reference="2025", currency="crowns")
+
+Rows = dict[tuple[str, int], list[list[str]]]
+"""The printed rows of each table, by month and revision."""
+
+
+def quiet(_: str) -> None:
+    pass
+
+
+def again(published: list[Published], out: Path, before: Optional[Path] = None, config: Config = CONFIG) -> list[str]:
+    return check(published, config, out, before, quiet)
+
+
+@pytest.fixture(scope="module")
+def pack(published: list[Published], tmp_path_factory: pytest.TempPathFactory) -> Path:
+    out = tmp_path_factory.mktemp("pack") / "public"
+    publish(published, CONFIG, out, None, quiet)
+    return out
+
+
+@pytest.fixture(scope="module")
+def printed(cpi: Cpi, public_office: Office) -> Rows:
+    """The rows of each published table, as `cpi table` prints them."""
+    found = {}
+    for month, revision in shown():
+        text = cpi.table(public_office.file, month, "csv", public_office.at, revision).decode()
+        found[month, revision] = list(csv.reader(io.StringIO(text, newline="")))
+    return found
+
+
+def latest(printed: Rows) -> dict[tuple[str, str], list[str]]:
+    """The printed row of each month and code in the latest revision."""
+    return {(month, row[0]): row for (month, _), rows in sorted(printed.items()) for row in rows}
+
+
+def rows_of(path: Path) -> list[dict[str, str]]:
+    with path.open(encoding="utf-8", newline="") as file:
+        return list(csv.DictReader(file))
+
+
+# ---- each figure
+
+
+FIELDS = ("code", "weight", "index", "chained", "month_change", "year_change", "imputed", "title")
+
+
+def test_the_tidy_file_has_the_digits_of_the_tables(pack: Path, printed: Rows) -> None:
+    wanted = latest(printed)
+    rows = rows_of(pack / "data/cpi.csv")
+    assert {(row["month"], row["code"]): [row[name] for name in FIELDS] for row in rows} == wanted
+    assert len(rows) == len(wanted)
+    assert {row["revision"] for row in rows if row["month"] == REVISED} == {"2"}
+    assert {(row["code"], row["level"]) for row in rows} >= {("00", "0"), ("01.1", "2"), ("01.1.1.1-01", "5")}
+    # the moments of tests are counted from 1970: the month's number in thousands of seconds, and 900
+    assert {row["published"] for row in rows if row["month"] == "2025-01"} == {"1970-01-01T00:31:40Z"}
+
+
+def test_vintages_have_every_revision(pack: Path, printed: Rows) -> None:
+    found: Rows = {}
+    for row in rows_of(pack / "data/vintages.csv"):
+        found.setdefault((row["month"], int(row["revision"])), []).append([row[name] for name in FIELDS])
+    assert found == {key: rows for key, rows in printed.items() if rows}
+    assert found[REVISED, 1] != found[REVISED, 2]
+
+
+def test_tables_are_the_bytes_of_the_program(cpi: Cpi, public_office: Office, pack: Path) -> None:
+    names = {f"{month}-r{revision}.csv": (month, revision) for month, revision in shown()}
+    assert {path.name for path in (pack / "data/tables").iterdir()} == {*names}
+    for name, (month, revision) in names.items():
+        text = cpi.table(public_office.file, month, "csv", public_office.at, revision)
+        assert (pack / "data/tables" / name).read_bytes() == text
+
+
+class Wanted(NamedTuple):
+    """An observation: measure, transformation, item, month, figure, whether a price was imputed, and the revision."""
+
+    measure: str
+    transformation: str
+    item: str
+    month: str
+    value: str
+    imputed: str
+    revision: str
+
+
+PLACES = {("CPI", "N"): 3, ("CPI", "G1"): 4, ("CPI", "GY"): 5, ("CPIW", "N"): 1}
+"""Where the figure of a measure stands in a printed row, by FORMATS."""
+
+
+def id_of(code: str) -> str:
+    """The id of a node, as PUBLISHING says it."""
+    return "_T" if code == "00" else "CP" + code.replace(".", "")
+
+
+def wanted_observations(printed: Rows) -> list[Wanted]:
+    """All figures of the latest tables."""
+    revisions = {month: str(revision) for month, revision in sorted(printed)}
+    return sorted(
+        Wanted(*name, id_of(code), month, row[place], row[6], revisions[month])
+        for (month, code), row in latest(printed).items()
+        for name, place in PLACES.items()
+        if row[place]
+    )
+
+
+def in_csv(path: Path) -> Iterator[Wanted]:
+    for row in rows_of(path):
+        names = ("MEASURE", "TRANSFORMATION", "COICOP18", "TIME_PERIOD", "OBS_VALUE", "IMPUTED_PRICES", "REVISION")
+        yield Wanted(*(row[name] for name in names))
+
+
+def in_xml(path: Path) -> Iterator[Wanted]:
+    for found in ElementTree.parse(path).iter("Series"):
+        key = [found.get(name, "") for name in ("MEASURE", "TRANSFORMATION", "COICOP18")]
+        for obs in found.iter("Obs"):
+            names = ("TIME_PERIOD", "OBS_VALUE", "IMPUTED_PRICES", "REVISION")
+            yield Wanted(*key, *(obs.get(name, "") for name in names))
+
+
+@pytest.mark.parametrize(("name", "read"), [("cpi.sdmx.csv", in_csv), ("cpi.sdmx.xml", in_xml)])
+def test_sdmx_has_each_figure_once(
+    pack: Path, printed: Rows, name: str, read: Callable[[Path], Iterator[Wanted]]
+) -> None:
+    found = sorted(read(pack / "data" / name))
+    assert [it for it in found if it.measure != "CTR"] == wanted_observations(printed)
+    given = {
+        (row["month"], id_of(row["code"]), kind): row[column]
+        for row in rows_of(pack / "data/contributions.csv")
+        for kind, column in (("G1", "contribution_month"), ("GY", "contribution_year"))
+        if row["of"] == "00" and row[column]
+    }
+    assert {(it.month, it.item, it.transformation): it.value for it in found if it.measure == "CTR"} == given
+
+
+def test_the_head_of_sdmx_csv(pack: Path) -> None:
+    first, second = (pack / "data/cpi.sdmx.csv").read_text(encoding="utf-8").splitlines()[:2]
+    assert first.startswith("STRUCTURE,STRUCTURE_ID,ACTION,FREQ,REF_AREA,MEASURE,UNIT_MEASURE,COICOP18,TRANSFORMATION,")
+    assert second.startswith("dataflow,NSO:DF_CPI(1.0),I,M,XX,CPI,IX,_T,N,2025-01,")
+
+
+STRUCTURE = "{http://www.sdmx.org/resources/sdmxml/schemas/v2_1/structure}"
+COMMON = "{http://www.sdmx.org/resources/sdmxml/schemas/v2_1/common}"
+
+
+def test_the_structure_has_each_id_that_the_data_use(pack: Path) -> None:
+    root = ElementTree.parse(pack / "data/structure.sdmx.xml")
+    codes = {it.get("id"): {code.get("id") for code in it} for it in root.iter(STRUCTURE + "Codelist")}
+    listed = {it.get("id", "") for it in root.iter(STRUCTURE + "Dimension") if it.get("position")}
+    attributes = {it.get("id", "") for it in root.iter(STRUCTURE + "Attribute")}
+    head, *rows = csv.reader((pack / "data/cpi.sdmx.csv").open(encoding="utf-8", newline=""))
+    assert {*head[3:]} == listed | attributes | {"TIME_PERIOD", "OBS_VALUE"}
+    for at, name in enumerate(head):
+        used = {row[at] for row in rows} - {""}
+        if f"CL_{name}" in codes:
+            assert used <= codes[f"CL_{name}"] and used, name
+    titles = {it.get("id"): it.findtext(COMMON + "Name") for it in root.iter(STRUCTURE + "Code")}
+    assert titles["CP01112-01"] == "Flour & <meal>"
+
+
+SHEETS = {"Index": 3, "Monthly change": 4, "Annual change": 5, "Weights": 1}
+
+
+def test_the_workbook_has_each_figure_as_a_number(pack: Path, printed: Rows) -> None:
+    book = openpyxl.load_workbook(pack / "data/cpi.xlsx")
+    assert book.sheetnames == ["Read me", *SHEETS, "Contributions"]
+    for name, place in SHEETS.items():
+        found = figures_of(book[name])
+        assert found == {key: Decimal(row[place]) for key, row in latest(printed).items() if row[place]}
+        assert book[name].freeze_panes == "C2" and book[name]["A1"].font.b and not book[name]["A2"].font.b
+    given = rows_of(pack / "data/contributions.csv")
+    wanted = {(row["month"], row["code"]): row["contribution_year"] for row in given if row["of"] == "00"}
+    assert figures_of(book["Contributions"]) == {key: Decimal(it) for key, it in wanted.items() if it}
+    assert book["Index"]["A2"].value == "00" and book["Index"]["A2"].data_type == "s"
+    assert "=Mobile" in [cell.value for cell in book["Index"]["B"] if cell.data_type == "s"]
+    assert (book["Index"]["C2"].number_format, book["Weights"]["C2"].number_format) == ("0.0", "#,##0")
+
+
+def figures_of(sheet: openpyxl.worksheet.worksheet.Worksheet) -> dict[tuple[str, str], Decimal]:
+    """The numbers of a sheet by month and code."""
+    head, *rows = sheet.iter_rows(values_only=True)
+    return {
+        (month, row[0]): Decimal(str(value))
+        for row in rows
+        for month, value in zip(head[2:], row[2:])
+        if value is not None
+    }
+
+
+def test_members_of_the_workbook_have_no_time(pack: Path) -> None:
+    with zipfile.ZipFile(pack / "data/cpi.xlsx") as book:
+        assert {member.date_time for member in book.infolist()} == {(1980, 1, 1, 0, 0, 0)}
+
+
+def test_averages_and_other_reference_periods(pack: Path, printed: Rows) -> None:
+    level = {key: Fraction(row[3]) for key, row in latest(printed).items()}
+    codes = {code for month, code in level if month[:4] == "2025"}
+    means = {code: sum(level[f"2025-{it:02}", code] for it in range(1, 13)) / 12 for code in codes}
+    half = Fraction(1, 2 * 10**6)
+    first = [row for row in rows_of(pack / "data/averages.csv") if row["year"] == "2025"]
+    assert {row["code"] for row in first} == codes and {row["change"] for row in first} == {""}
+    assert all(abs(Fraction(row["average"]) - means[row["code"]]) <= half for row in first)
+    rows = rows_of(pack / "data/rereferenced.csv")
+    assert {(row["month"], row["code"]) for row in rows} == {key for key in level if key[1] in codes}
+    for row in rows:
+        wanted = 100 * level[row["month"], row["code"]] / means[row["code"]]
+        assert abs(Fraction(row["rereferenced"]) - wanted) <= half
+
+
+# ---- the embargo
+
+
+def texts(folder: Path) -> Iterator[tuple[str, bytes]]:
+    """Each file's bytes, and those of a workbook's members."""
+    for path in sorted(folder.rglob("*")):
+        if path.suffix == ".xlsx":
+            with zipfile.ZipFile(path) as book:
+                yield from ((f"{path.name}/{name}", book.read(name)) for name in book.namelist())
+        elif path.is_file():
+            yield path.name, path.read_bytes()
+
+
+def test_no_embargoed_figure_is_anywhere(cpi: Cpi, public_office: Office, pack: Path, printed: Rows) -> None:
+    known = {row[at] for rows in printed.values() for row in rows for at in (2, 3)}
+    hidden = set()
+    for month, revision in public_office.hidden:
+        text = cpi.table(public_office.file, month, "csv", LONG_AFTER + 1, revision).decode()
+        hidden |= {row[at] for row in csv.reader(io.StringIO(text)) for at in (2, 3)}
+    hidden -= known
+    assert len(hidden) > 15
+    forms = [form.encode() for it in hidden for form in (it, it.replace(".", ""))]
+    for name, data in texts(pack):
+        assert not [it for it in forms if it in data], name
+        assert LAST.encode() not in data and f"{HIDDEN_REVISION}-r2".encode() not in data, name
+
+
+def test_the_pack_of_a_moment_is_the_same_before_and_after_what_comes_later(
+    cpi: Cpi, public_office: Office, pack: Path, tmp_path: Path
+) -> None:
+    early = tmp_path / "early.db"
+    until = next(at for at, line in enumerate(lived()) if f"freeze,{LAST}" in line)
+    cpi.replay(lived()[:until], db=early)
+    assert again(from_file(cpi, early, public_office.at), pack) == []
+
+
+# ---- one pack after the other
+
+
+def test_the_command_writes_checks_and_tells(
+    cpi: Cpi, public_office: Office, pack: Path, tmp_path: Path, capsys: pytest.CaptureFixture[str]
+) -> None:
+    (tmp_path / "office.ini").write_text(INI)
+    source = ["publish", "--program", str(cpi.path), "--db", str(public_office.file), "--at", str(public_office.at)]
+    words = [*source, "--config", str(tmp_path / "office.ini")]
+    out = tmp_path / "new" / "public"
+    assert main([*words, "--out", str(out)]) == 0
+    assert capsys.readouterr().out == f"{out}: 31 tables up to 2027-05, 18 items\n"
+    assert {name for name, _ in texts(out)} == {name for name, _ in texts(pack)}
+    assert [(name, data) for name, data in texts(out)] == [(name, data) for name, data in texts(pack)]
+    assert main([*words, "--check", str(out)]) == 0
+    assert capsys.readouterr().out == f"{out}: every file is as it is written now\n"
+    (out / "data/cpi.csv").write_text("changed")
+    (out / "data/averages.csv").unlink()
+    (out / "more").write_text("")
+    assert main([*words, "--check", str(out)]) == 1
+    told = capsys.readouterr()
+    lines = ["data/averages.csv is missing", "more is too much", "data/cpi.csv differs"]
+    assert told.out == "".join(f"{out}: {line}\n" for line in lines)
+    assert told.err == f"cpi-tools publish: {out}: 3 files not as written now\n"
+
+
+def test_a_moment_that_is_still_to_come_is_a_draft(
+    cpi: Cpi, public_office: Office, tmp_path: Path, capsys: pytest.CaptureFixture[str]
+) -> None:
+    (tmp_path / "office.ini").write_text(INI)
+    source = ["publish", "--program", str(cpi.path), "--db", str(public_office.file), "--at", str(LONG_AFTER)]
+    words = [*source, "--config", str(tmp_path / "office.ini"), "--out", str(tmp_path / "draft")]
+    assert main(words) == 1
+    told = capsys.readouterr()
+    assert "--at 9000000000 is 2255-03-14 16:00 UTC, which is still to come" in told.err and told.err.count("\n") == 1
+    assert not (tmp_path / "draft").exists()
+    assert main([*words, "--draft"]) == 0
+    assert (tmp_path / "draft").stat().st_mode & 0o777 == 0o700
+    assert (tmp_path / f"draft/data/tables/{LAST}-r1.csv").is_file()
+
+
+def test_a_chain_of_manifests(published: list[Published], tmp_path: Path) -> None:
+    """Each has the sum of the one before; over the same tables it stays as it is."""
+    out, first = tmp_path / "public", [it for it in published if it.listed.month < "2026-01"]
+    publish(first, CONFIG, out, None, quiet)
+    one = (out / "manifest.json").read_bytes()
+    assert json.loads(one)["previous"] is None
+    publish(first, CONFIG._replace(title="Prices"), out, None, quiet)
+    assert (out / "manifest.json").read_bytes() == one
+    publish(published, CONFIG, out, None, quiet)
+    two = (out / "manifest.json").read_bytes()
+    assert json.loads(two)["previous"] == hashlib.sha256(one).hexdigest()
+    assert again(published, out) == []
+    (tmp_path / "kept.json").write_bytes(one)
+    publish(published, CONFIG, tmp_path / "elsewhere", tmp_path / "kept.json", quiet)
+    assert (tmp_path / "elsewhere/manifest.json").read_bytes() == two
+    assert again(published, out, tmp_path / "kept.json") == []
+    assert again(published, out, out / "manifest.json") == []
+    (tmp_path / "kept.json").write_bytes(one.replace(b"null", b'"x"'))
+    assert again(published, out, tmp_path / "kept.json") == ["SHA256SUMS differs", "manifest.json differs"]
+
+
+def test_a_published_table_does_not_change_silently(published: list[Published], tmp_path: Path) -> None:
+    out = tmp_path / "public"
+    publish(published[:3], CONFIG, out, None, quiet)
+    before = {name: data for name, data in texts(out)}
+    other = [*published[:2], Published(published[2].listed, published[2].table.replace(b"Petrol", b"Diesel"))]
+    later = [*published[:2], published[2]._replace(listed=Listed(published[2].listed.month, 1, 5))]
+    for changed in (other, later):
+        with pytest.raises(CannotPublish, match="2025-02, revision 1, isn't the one that was published"):
+            publish(changed, CONFIG, out, None, quiet)
+    with pytest.raises(CannotPublish, match="2025-02, revision 1, was published and isn't there any more"):
+        publish(published[:2], CONFIG, out, None, quiet)
+    with pytest.raises(CannotPublish, match="isn't the one that was published"):
+        publish(other, CONFIG, tmp_path / "elsewhere", out / "manifest.json", quiet)
+    assert {name: data for name, data in texts(out)} == before
+    assert sorted(it.name for it in tmp_path.iterdir()) == ["public"]
+
+
+def test_a_folder_that_is_no_pack_is_left_alone(published: list[Published], tmp_path: Path) -> None:
+    (tmp_path / "mine").mkdir()
+    (tmp_path / "mine/letter").write_text("")
+    with pytest.raises(CannotPublish, match="is there already, and is no pack"):
+        publish(published[:2], CONFIG, tmp_path / "mine", None, quiet)
+    assert [it.name for it in (tmp_path / "mine").iterdir()] == ["letter"]
+
+
+def test_the_sums_are_those_of_the_files(pack: Path) -> None:
+    told = subprocess.run(["sha256sum", "--check", "--quiet", "SHA256SUMS"], cwd=pack, capture_output=True, check=False)
+    assert (told.returncode, told.stdout, told.stderr) == (0, b"", b"")
+    listed = {line.split("  ")[1] for line in (pack / "SHA256SUMS").read_text().splitlines()}
+    assert listed == {it.relative_to(pack).as_posix() for it in pack.rglob("*") if it.is_file()} - {"SHA256SUMS"}
+    tables = json.loads((pack / "manifest.json").read_text())["tables"]
+    assert [(it["month"], it["revision"]) for it in tables] == shown()
+    for it in tables:
+        data = (pack / f"data/tables/{it['month']}-r{it['revision']}.csv").read_bytes()
+        assert it["sha256"] == hashlib.sha256(data).hexdigest()
+
+
+# ---- words
+
+
+@pytest.mark.parametrize(
+    ("text", "because"),
+    [
+        ("", "has no section"),
+        ("[office]\narea = XX\noffice = O\n", "agency is missing"),
+        ("[office]\nagency = 1\narea = XX\noffice = O\n", "agency: 1 is no id"),
+        ("[office]\nagency = A\narea = X X\noffice = O\n", "area: X X is no code"),
+        ("[office]\nagency = A\narea = X\noffice = O\nreference = 25\n", "reference: 25 is neither"),
+        ("[office]\nagency = A\narea = X\noffice = O\nminor_digits = 5\n", "minor_digits: 5 isn't 0 to 4"),
+        ("[office]\nagency = A\narea = X\noffice = O\ncolour = red\n", "colour is no word of"),
+        ("[office]\nagency = A\narea = X\noffice = O\n[sdmx]\nX = Y\n", "X is no id that"),
+        ("[office]\nagency = A\narea = X\noffice = O\n[sdmx]\nCPI = a.b\n", "CPI = a.b: no id of SDMX"),
+        ("[office]\nagency = A\narea = X\noffice = O\n[site]\n", "there is no section .site"),
+        ("agency = A\n", "File contains no section headers"),
+        ("\udce9", "can't decode byte"),
+    ],
+)
+def test_a_configuration_with_a_fault_is_one_line(text: str, because: str, tmp_path: Path) -> None:
+    path = tmp_path / "office.ini"
+    path.write_bytes(text.encode(errors="surrogateescape"))
+    with pytest.raises(BadConfig, match=because) as told:
+        read_config(path, KNOWN_IDS)
+    assert "\n" not in str(told.value)
+
+
+def test_ids_of_an_office_take_the_place_of_ours(published: list[Published], tmp_path: Path) -> None:
+    (tmp_path / "office.ini").write_text(INI + "[sdmx]\nCOICOP18 = PRODUCT\nCPI = IDX\nDF_CPI = PRICES\n")
+    config = read_config(tmp_path / "office.ini", KNOWN_IDS)
+    publish(published[:2], config, tmp_path / "public", None, quiet)
+    for name in ("cpi.sdmx.csv", "cpi.sdmx.xml", "structure.sdmx.xml"):
+        text = (tmp_path / "public/data" / name).read_text(encoding="utf-8")
+        assert all(own in text for own in ("PRODUCT", "IDX", "PRICES"))
+        assert not [name for name in ("COICOP18", '"CPI"', ",CPI,", "DF_CPI") if name in text]
+
+
+def test_texts_that_xml_cannot_have_do_no_harm(tmp_path: Path) -> None:
+    """A title with a character that XML forbids, with what ends its sections, and with what formulas begin with."""
+    title = "=1+1 \uffff ]]> <b> & \u2028"
+    row = f"00,1000000,99.750000,99.750000,-0.3,,0,{title}\n"
+    published = [Published(Listed("2025-12", 1, 1), b""), Published(Listed("2026-01", 1, 2), row.encode())]
+    publish(published, CONFIG._replace(title="Prices \x07", reference=""), tmp_path / "public", None, quiet)
+    data = tmp_path / "public/data"
+    told = title.replace("\uffff", "\ufffd")
+    names = [it.text for it in ElementTree.parse(data / "structure.sdmx.xml").iter(COMMON + "Name")]
+    assert told in names and "Prices \ufffd" in names
+    assert openpyxl.load_workbook(data / "cpi.xlsx")["Index"]["B2"].value == told
+    assert [row["title"] for row in rows_of(data / "cpi.csv")] == [title]
+
+
+def test_a_served_office_gives_the_same_pack(cpi: Cpi, public_office: Office, pack: Path, tmp_path: Path) -> None:
+    (tmp_path / "office.ini").write_text(INI)
+    (tmp_path / "served.db").write_bytes(public_office.file.read_bytes())
+    port = free_port()
+    with served(cpi, tmp_path / "served.db", port):
+        words = ["publish", "--url", f"http://127.0.0.1:{port}", "--config", str(tmp_path / "office.ini")]
+        assert main([*words, "--check", str(pack)]) == 0
+
+
+def test_without_its_package_one_line_says_so_and_other_tools_go_on(tmp_path: Path) -> None:
+    """Python leaves Debian's packages away by -S."""
+    (tmp_path / "office.ini").write_text(INI)
+    named = {"env": {"PYTHONPATH": str(ROOT / "tools"), "PYTHONDONTWRITEBYTECODE": "1"}, "capture_output": True}
+    words = [sys.executable, "-S", "-m", "cpi_tools"]
+    source = ["publish", "--url", "http://127.0.0.1:1", "--config", str(tmp_path / "office.ini"), "--out", "public"]
+    told = subprocess.run([*words, *source], **named, text=True, check=False)
+    assert (told.returncode, told.stdout, told.stderr.count("\n")) == (1, "", 1)
+    assert "has no jinja2: Debian's python3-jinja2 has it" in told.stderr
+    told = subprocess.run([*words, "backup", str(tmp_path / "no.db"), str(tmp_path / "to.db")], **named, check=False)
+    assert told.returncode == 1 and b"no.db: No such file" in told.stderr
+
+
+def test_words_that_do_not_go_together_are_refused(capsys: pytest.CaptureFixture[str], tmp_path: Path) -> None:
+    for words in (
+        ["--db", "office.db", "--config", "office.ini", "--out", "public"],
+        ["--url", "http://h", "--at", "5", "--config", "office.ini", "--out", "public"],
+        ["--url", "http://h", "--config", "office.ini"],
+        ["--url", "http://h", "--config", "office.ini", "--out", "public", "--check", "public"],
+        ["--db", "office.db", "--url", "http://h", "--config", "office.ini", "--out", "public"],
+    ):
+        with pytest.raises(SystemExit) as ended:
+            main(["publish", *words])
+        assert ended.value.code == 2
+        assert capsys.readouterr().err.count("\n") == 1
+
+
+def test_what_is_not_there_is_one_line(cpi: Cpi, capsys: pytest.CaptureFixture[str], tmp_path: Path) -> None:
+    (tmp_path / "office.ini").write_text(INI)
+    (tmp_path / "no.json").write_text("[]")
+    config = ["--config", str(tmp_path / "office.ini")]
+    served = ["--url", "http://127.0.0.1:1"]
+    filed = ["--program", str(cpi.path), "--db", str(tmp_path / "no.db"), "--at", "5"]
+    for words, because in (
+        ([*served, *config, "--out", str(tmp_path / "public")], "http://127.0.0.1:1/tables can't be read"),
+        ([*served, "--config", str(tmp_path / "x.ini"), "--out", "public"], "x.ini: No such file"),
+        ([*filed, *config, "--out", str(tmp_path / "public")], "no.db: No such file"),
+    ):
+        assert main(["publish", *words]) == 1
+        told = capsys.readouterr()
+        assert because in told.err and told.err.count("\n") == 1 and told.out == ""
+    assert sorted(it.name for it in tmp_path.iterdir()) == ["no.json", "office.ini"]
+
+
+def test_what_is_no_manifest_is_one_line(published: list[Published], tmp_path: Path) -> None:
+    (tmp_path / "no.json").write_text("[]")
+    with pytest.raises(Exception, match="no.json is no manifest that cpi-tools publish wrote"):
+        read_manifest(tmp_path / "no.json")
+    with pytest.raises(Exception, match="manifest.json: No such file"):
+        again(published, tmp_path / "nowhere")
+    series = Series(published)
+    (tmp_path / "m.json").write_text(manifest_text(series, "a" * 64))
+    assert previous_of(read_manifest(tmp_path / "m.json"), series) == "a" * 64

@@ -1,0 +1,205 @@
+"""The website of `cpi-tools publish`: what its pages say, where they lead, and the calculator's sums."""
+
+from __future__ import annotations
+
+import html
+import json
+import re
+import shutil
+import subprocess
+from html.parser import HTMLParser
+from pathlib import Path
+from typing import Optional
+
+import pytest
+
+from cpi_tools.pack.config import Config
+from cpi_tools.pack.public import Published
+from cpi_tools.publish import publish
+from published import CODES
+from test_measures import two_years
+
+CONFIG = Config("NSO", "XX", "Office <of> prices", country="Exampleland", reference="2025", currency="crowns")
+
+
+@pytest.fixture(scope="module")
+def site(published: list[Published], tmp_path_factory: pytest.TempPathFactory) -> Path:
+    """The site of an office with a revision, a node that left, one that came, and embargoed tables."""
+    out = tmp_path_factory.mktemp("site") / "public"
+    publish(published, CONFIG, out, None, lambda _: None)
+    return out
+
+
+@pytest.fixture(scope="module")
+def by_hand(tmp_path_factory: pytest.TempPathFactory) -> Path:
+    """The site of the two years of coffee, tea and milk that were worked by hand, up to January 2027."""
+    out = tmp_path_factory.mktemp("by-hand") / "public"
+    publish(two_years()[:14], CONFIG._replace(reference=""), out, None, lambda _: None)
+    return out
+
+
+def words_of(path: Path) -> str:
+    """The words of a page without its elements, each space once."""
+    text = re.sub(r"<(style|script).*?</\1>", "", path.read_text(encoding="utf-8"), flags=re.S)
+    return " ".join(html.unescape(re.sub(r"<[^>]*>", " ", text)).split())
+
+
+# ---- what pages say
+
+
+def test_the_first_page_says_what_happened(by_hand: Path) -> None:
+    """Coffee gave 740/133 of 1260/133 percentage points, milk 420/133, and tea, which left, 100/133."""
+    told = words_of(by_hand / "index.html")
+    assert "In January 2027 consumer prices were 9.5 percent higher than a year before" in told
+    assert "Most came from title of 01 (+5.56 percentage points). Against the month before, prices rose by 4.0" in told
+    assert "Against the year before +9.5 % Against the month before +4.0 %" in told
+    assert "Index, December 2025 = 100 109.2" in told
+    page = (by_hand / "index.html").read_text(encoding="utf-8")
+    assert re.findall(r'<th scope="row"><a href="node/(\d\d)\.html">', page) == ["01", "03", "02"]
+    assert "Title of 01 50.00 % +8.2 % +5.56 Title of 03 50.00 % \u2013 +3.16" in told
+    assert "Title of 02 \u2013 \u2013 +0.75" in told
+    assert "Title of 00 100.00 % +9.5 % +9.47" in told
+
+
+def test_a_fall_is_told_as_one(tmp_path: Path) -> None:
+    """January 2026: coffee 0.75 * -2 points, tea 0.25 * 5; there is no year before."""
+    publish(two_years()[:2], CONFIG._replace(reference=""), tmp_path / "public", None, lambda _: None)
+    told = words_of(tmp_path / "public/index.html")
+    assert "In January 2026 consumer prices fell by 0.3 percent against the month before" in told
+    assert "Most came from title of 01 (\u22121.50 percentage points); title of 02 worked against it (+1.25)" in told
+
+
+def test_the_imputed_share_says_what_it_is_of(site: Path, published: list[Published]) -> None:
+    rows = [line.split(",") for line in published[-1].table.decode().splitlines()]
+    aggregates = {row[0]: (int(row[1]), row[6]) for row in rows if "-" in row[0]}
+    assert {code for code, (_, imputed) in aggregates.items() if imputed == "1"} == {"01.1.1.1-01"}
+    # rice has 390,000 of 1,000,000
+    told = words_of(site / "index.html")
+    assert "at least one price was imputed in elementary aggregates that have 39 percent of all weight" in told
+    assert "That isn't the share of imputed prices" in told
+
+
+def test_a_node_has_its_page_and_its_file(site: Path) -> None:
+    told = words_of(site / "node/01.html")
+    assert told.count("All items") >= 2 and "What it is made of" in told and "Food, \"proper\"" in told
+    head, *rows = (site / "node/01.csv").read_text(encoding="utf-8").splitlines()
+    assert head.startswith("month,revision,published,code,level,title,weight,index,chained,")
+    whole = (site / "data/cpi.csv").read_text(encoding="utf-8").splitlines()
+    assert rows == [line for line in whole if line.split(",")[3] == "01"] and len(rows) == 29
+
+
+def test_a_node_that_left_says_so(site: Path) -> None:
+    told = words_of(site / "node/01.1.1.2-01.html")
+    assert "This item isn't in the index of 2027; its last figure is of December 2025." in told
+    assert "Items that left the index" in words_of(site / "nodes.html")
+
+
+def test_titles_are_escaped(site: Path) -> None:
+    for page in site.rglob("*.html"):
+        text = page.read_text(encoding="utf-8")
+        assert "<meal>" not in text and "<of>" not in text, page
+    assert "Flour &amp; &lt;meal&gt;" in (site / "node/01.1.1.2-01.html").read_text(encoding="utf-8")
+
+
+def test_revisions_and_what_is_against_an_embargoed_one_are_told(site: Path) -> None:
+    told = words_of(site / "revisions.html")
+    assert "March 2026, revision 2 Published" in told and "6 of 16 levels differ." in told
+    assert "May 2027: the change on the month before" in told and "the change on the year before" not in told
+    assert "data/tables/2026-03-r1.csv" in (site / "revisions.html").read_text(encoding="utf-8")
+
+
+def test_nodes_without_the_reference_period_are_listed(site: Path) -> None:
+    told = words_of(site / "data.html")
+    assert "Without a level in 2025" in told and "08 , 08.1 , 08.1.1 , 08.1.1.1 , 08.1.1.1-01 ." in told
+
+
+# ---- where they lead
+
+
+class Links(HTMLParser):
+    """What a page points at, its ids, what has no name, and whether each field has a label."""
+
+    def __init__(self) -> None:
+        super().__init__()
+        self.links: list[str] = []
+        self.ids: list[str] = []
+        self.named: list[str] = []
+        self.fields: list[str] = []
+        self.unnamed = 0
+
+    def handle_starttag(self, tag: str, attrs: list[tuple[str, Optional[str]]]) -> None:
+        found = {name: value or "" for name, value in attrs}
+        self.links += [found[name] for name in ("href", "src") if name in found]
+        self.ids += [found["id"]] if "id" in found else []
+        self.named += [found["for"]] if tag == "label" and "for" in found else []
+        if tag in ("input", "select") and found.get("type") != "radio":
+            self.fields.append(found.get("id", ""))
+        self.unnamed += tag == "svg" and "aria-labelledby" not in found
+        self.unnamed += found.get("role") == "region" and not found.get("aria-label")
+
+
+def test_pages_lead_to_what_is_there_and_to_nothing_else(site: Path) -> None:
+    pages = sorted(site.rglob("*.html"))
+    assert len(pages) == 6 + CODES
+    for page in pages:
+        links = Links()
+        links.feed(page.read_text(encoding="utf-8"))
+        for link in links.links:
+            if not link.startswith(("#", "data:,")):
+                assert "//" not in link
+                assert (page.parent / link).resolve().is_file(), (page.name, link)
+        assert len(links.ids) == len(set(links.ids)) and links.unnamed == 0, page
+        assert {*links.fields} <= {*links.named}, page
+
+
+def test_a_page_asks_nothing_of_another_machine(site: Path) -> None:
+    for path in [*site.rglob("*.html"), *site.glob("assets/*")]:
+        text = path.read_text(encoding="utf-8")
+        reaching = r"@import|url\(|fetch\(|XMLHttpRequest|WebSocket|document\.cookie|localStorage"
+        assert not re.findall(reaching, text), path
+
+
+# ---- the calculator, by the file that the page loads
+
+
+@pytest.mark.skipif(shutil.which("node") is None, reason="node isn't there")
+def test_the_calculator_by_hand(site: Path) -> None:
+    """Amount, levels in millionths, decimals of the levels, and the new amount; halves go up."""
+    sums = [
+        # 1000 * 103.7 / 101.3 = 1023.6920..
+        ("1000.00", 101_300_000, 103_700_000, 1, "1 023.69"),
+        # 1234.56 * 106.491446 / 100.721902 = 1305.2784..
+        ("1 234.56", 100_721_902, 106_491_446, 6, "1 305.28"),
+        # half a minor unit goes up
+        ("0.01", 200_000_000, 100_000_000, 6, "0.01"),
+        # more digits than a float has
+        ("999999999999999.99", 100_000_000, 100_000_001, 6, "1 000 000 009 999 999.99"),
+        # 100.04 is 100.0 with one decimal, 100.05 is 100.1
+        ("1000", 100_040_000, 100_050_000, 1, "1 001.00"),
+        # a comma could be a point or none, and there are two decimals
+        ("1,234", 1, 1, 6, None),
+        ("1.234", 1, 1, 6, None),
+        ("-5", 1, 1, 6, None),
+        ("", 1, 1, 6, None),
+    ]
+    program = """const c = require(process.argv[1]);
+    const told = JSON.parse(process.argv[2]).map(([text, then, now, decimals]) => {
+      const amount = c.amountOf(text, 2);
+      const [first, second] = [then, now].map((level) => c.levelUsed(level, decimals));
+      return amount === null ? null : c.moneyText(c.clause(amount, first, second), 2).replaceAll("\\u202f", " ");
+    });
+    console.log(JSON.stringify(told));"""
+    words = ["node", "-e", program, str(site / "assets/contract.js"), json.dumps([it[:4] for it in sums])]
+    told = subprocess.run(words, capture_output=True, text=True, check=True).stdout
+    assert json.loads(told) == [it[4] for it in sums]
+
+
+def test_the_calculator_has_the_published_levels(site: Path, published: list[Published]) -> None:
+    text = (site / "assets/levels.js").read_text(encoding="utf-8")
+    data = json.loads(text[len("window.LEVELS = ") : -2])
+    assert data["items"].keys() == {"00", "01", "01.1", "07", "07.2", "08", "08.1"}
+    last = {row.split(",")[0]: row.split(",")[3] for row in published[-1].table.decode().splitlines()}
+    for code, item in data["items"].items():
+        assert item["levels"][-1] == int(last[code].replace(".", ""))
+    assert data["items"]["08"]["levels"][:12] == [None] * 12
+    assert data["revisions"][data["months"].index("2026-03")] == 2 and data["sums"][-1] == published[-1].sha256

@@ -1,0 +1,207 @@
+"""Pictures as SVG, and bars for the rows of a table. Floats are made here alone, and no figure is read off a picture.
+
+Each picture has a title and a description, which a screen reader reads out. It is 400 units wide and is shown at 300 to
+560 pixels, so that its letters stay readable on a telephone. Names of things stand outside of the picture, in the page:
+so none can cross an axis. A month is a text like `2026-01`; colours and letters are those of `templates/style.css`.
+"""
+
+from __future__ import annotations
+
+from collections.abc import Iterable, Iterator, Sequence
+from math import floor
+from typing import NamedTuple, Optional
+
+from markupsafe import Markup, escape
+
+WIDTH, HEIGHT = 400, 224
+LEFT, RIGHT, TOP, FOOT = 40, 14, 16, 41
+
+MOST_MONTHS = 61
+"""Months that a picture shows at most: the last ones, five years and the month that they are against."""
+
+MONTHS = "January February March April May June July August September October November December".split()
+
+OWN, OTHER = "own", "other"
+"""The classes of a line: what the picture is of, and what stands beside it, which is broken."""
+
+
+def month_name(month: str) -> str:
+    """`January 2026` of `2026-01`."""
+    return f"{MONTHS[int(month[5:]) - 1]} {month[:4]}"
+
+
+def signed(value: float) -> str:
+    """`+0.3`, `0.0` or `−0.3`."""
+    text = f"{value:.1f}".replace("-", "\u2212")
+    return text.replace("\u22120.0", "0.0") if value <= 0 or text == "0.0" else f"+{text}"
+
+
+class Picture(NamedTuple):
+    """What a picture is: a key that no other picture of the page has, its title, and what it shows in words."""
+
+    key: str
+    title: str
+    says: str
+
+
+class Line(NamedTuple):
+    """A line of a picture: OWN or OTHER, and a value for each month, None where there is a gap."""
+
+    kind: str
+    values: Sequence[Optional[float]]
+
+
+# ---- the axes
+
+
+def steps(low: float, high: float, most: int = 6) -> list[float]:
+    """Round numbers that span a range, at most so many: 1, 2 or 5 times a power of ten apart."""
+    size = 0.1
+    for factor in (2, 2.5, 2) * 6:
+        if (high - low) / size <= most - 2:
+            break
+        size *= factor
+    first, last = floor(low / size + 1e-9), -floor(-high / size + 1e-9)
+    return [size * at for at in range(first, max(last, first + 1) + 1)]
+
+
+def ticked(value: float) -> str:
+    """The number behind a mark of an axis: `0`, `2.5`, `−1`."""
+    text = f"{value:.1f}".replace("-", "\u2212")
+    text = text[:-2] if text.endswith(".0") else text
+    return "0" if text == "\u22120" else text
+
+
+class Frame(NamedTuple):
+    """The axes of a picture: months from left to right, and the marks of the values from below to above."""
+
+    months: Sequence[str]
+    marks: Sequence[float]
+
+    def x(self, at: float) -> float:
+        """Where the middle of a month is; `at` counts months."""
+        return LEFT + (WIDTH - LEFT - RIGHT) * (at + 0.5) / len(self.months)
+
+    def y(self, value: float) -> float:
+        """Where a value is."""
+        low, high = self.marks[0], self.marks[-1]
+        return TOP + (HEIGHT - TOP - FOOT) * (high - value) / (high - low)
+
+    def axes(self) -> Iterator[str]:
+        """The lines of the marks, and the months below all of them."""
+        for mark in self.marks:
+            kind = "zero" if abs(mark) < 1e-9 else "grid"
+            yield f'<path class="{kind}" d="M{LEFT} {self.y(mark):.1f}H{WIDTH - RIGHT}"/>'
+            yield f'<text class="end" x="{LEFT - 6}" y="{self.y(mark) + 4:.1f}">{ticked(mark)}</text>'
+        yield from self._months()
+
+    def _months(self) -> Iterator[str]:
+        count = len(self.months)
+        every = 1 if count <= 3 else 3 if count <= 14 else 6 if count <= 36 else 12
+        is_first = True
+        for at, month in enumerate(self.months):
+            if (int(month[5:]) - 1) % every:
+                continue
+            x = f"{self.x(at):.1f}"
+            yield f'<path class="grid" d="M{x} {HEIGHT - FOOT}v4"/>'
+            yield f'<text class="middle" x="{x}" y="{HEIGHT - FOOT + 17}">{month_name(month)[:3]}</text>'
+            if is_first or month.endswith("-01"):
+                yield f'<text class="middle year" x="{x}" y="{HEIGHT - FOOT + 34}">{month[:4]}</text>'
+            is_first = False
+
+
+def svg(picture: Picture, parts: Iterable[str]) -> Markup:
+    """A picture of its parts, with its title and its description."""
+    key = escape(picture.key)
+    return Markup(
+        f'<svg viewBox="0 0 {WIDTH} {HEIGHT}" role="img" aria-labelledby="{key}-title {key}-says">'
+        f'<title id="{key}-title">{escape(picture.title)}</title>'
+        f'<desc id="{key}-says">{escape(picture.says)}</desc>{"".join(parts)}</svg>'
+    )
+
+
+# ---- lines and columns over months
+
+
+def lines(picture: Picture, months: Sequence[str], drawn: Sequence[Line], has_zero: bool = False) -> Markup:
+    """Lines over months, the last value of the picture's own written beside it.
+
+    `has_zero` begins the axis at zero, or crosses it there. At least one value has to be known.
+    """
+    months = months[-MOST_MONTHS:]
+    drawn = [Line(kind, values[-MOST_MONTHS:]) for kind, values in drawn]
+    known = [value for line in drawn for value in line.values if value is not None]
+    known += [0.0] if has_zero else []
+    room = (max(known) - min(known)) / 10
+    frame = Frame(months, steps(min(known) - room, max(known) + room))
+    parts = [*frame.axes()]
+    for line in sorted(drawn, key=lambda it: it.kind, reverse=True):
+        parts += _line(frame, line)
+    return svg(picture, parts)
+
+
+def _line(frame: Frame, line: Line) -> Iterator[str]:
+    path, is_begun = [], False
+    for at, value in enumerate(line.values):
+        if value is not None:
+            path.append(f"{'L' if is_begun else 'M'}{frame.x(at):.1f} {frame.y(value):.1f}")
+        is_begun = value is not None
+    yield f'<path class="line {line.kind}" d="{"".join(path)}"/>'
+    ends = [(at, value) for at, value in enumerate(line.values) if value is not None]
+    if not ends or line.kind != OWN:
+        return
+    at, value = ends[-1]
+    before = next((earlier for _, earlier in reversed(ends[:-1]) if earlier != value), value)
+    x, y = frame.x(at), frame.y(value)
+    # (above where the line came from below, below where it came from above; within the picture)
+    written = max(y - 9, TOP - 2) if value >= before else min(y + 19, HEIGHT - FOOT - 4)
+    yield f'<circle class="dot" cx="{x:.1f}" cy="{y:.1f}" r="3.5"/>'
+    yield f'<text class="end value" x="{x + 5:.1f}" y="{written:.1f}">{value:.1f}</text>'
+
+
+def columns(picture: Picture, months: Sequence[str], values: Sequence[Optional[float]]) -> Markup:
+    """A column for each month, from zero up or down, the last one darker. At least one value has to be known."""
+    months, values = months[-MOST_MONTHS:], values[-MOST_MONTHS:]
+    known = [value for value in values if value is not None]
+    frame = Frame(months, steps(min(0.0, *known, 0.0), max(0.0, *known, 0.0)))
+    last = max(at for at, value in enumerate(values) if value is not None)
+    wide = (WIDTH - LEFT - RIGHT) / len(months) * 0.66
+    drawn: dict[str, str] = {}
+    for at, value in enumerate(values):
+        if value is None:
+            continue
+        top, foot = sorted((frame.y(value), frame.y(0)))
+        kind = "bar" + (" down" if value < 0 else "") + (" last" if at == last else "")
+        place = f"M{frame.x(at) - wide / 2:.1f} {top:.1f}h{wide:.1f}v{max(foot - top, 0.6):.1f}h-{wide:.1f}z"
+        drawn[kind] = drawn.get(kind, "") + place
+    return svg(picture, [*frame.axes(), *(f'<path class="{kind}" d="{path}"/>' for kind, path in drawn.items())])
+
+
+# ---- bars in the rows of a table
+
+
+class Bar(NamedTuple):
+    """A bar of a row: where it begins and how long it is, in percent of the track that all rows share."""
+
+    start: str
+    width: str
+    is_down: bool
+
+
+class Track(NamedTuple):
+    """The bars of a table's rows, in their order, and where zero is, in percent of the track."""
+
+    zero: str
+    bars: list[Bar]
+
+
+def track(values: Sequence[float]) -> Track:
+    """The bars of some values, all on one scale; names and figures stand in cells of their own beside them."""
+    low, high = min(0.0, *values, 0.0), max(0.0, *values, 0.0)
+    span = (high - low) or 1.0
+
+    def place(value: float) -> str:
+        return f"{100 * value / span:.2f}"
+
+    bars = [Bar(place(min(value, 0.0) - low), place(abs(value)), value < 0) for value in values]
+    return Track(place(abs(low)), bars)

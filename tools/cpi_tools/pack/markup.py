@@ -1,0 +1,20 @@
+"""Texts and attributes of XML, whatever a title has in it."""
+
+from __future__ import annotations
+
+import re
+from collections.abc import Mapping
+from xml.sax.saxutils import escape, quoteattr
+
+FORBIDDEN = re.compile("[^\t\n\r\x20-\ud7ff\ue000-\ufffd\U00010000-\U0010ffff]")
+"""What XML 1.0 can't have in it, not even escaped; titles and configurations can."""
+
+
+def text_of(text: str) -> str:
+    """A text as it stands between elements; what XML can't have is the character of replacement."""
+    return escape(FORBIDDEN.sub("\ufffd", text))
+
+
+def attributes_of(named: Mapping[str, str]) -> str:
+    """Attributes of an element, each behind a space; what is empty is left out."""
+    return "".join(f" {name}={quoteattr(FORBIDDEN.sub(chr(0xFFFD), value))}" for name, value in named.items() if value)

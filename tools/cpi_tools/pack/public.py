@@ -1,0 +1,120 @@
+"""The published tables, by the public way alone.
+
+Only the records `tables` and `table,MONTH,csv,REVISION` of the caller `public` are sent, by one replay over a private
+copy; or the same two pages are got. A table under embargo is never answered, so nothing that is written from here can
+hold one. Of the modules of `cpi-tools publish` this is the only one that reaches an office.
+"""
+
+from __future__ import annotations
+
+import hashlib
+import http.client
+import json
+import re
+import urllib.error
+import urllib.request
+from collections.abc import Callable
+from pathlib import Path
+from typing import Any, NamedTuple
+
+from ..copying import private_copy
+from ..program import Cpi, record
+from ..terminal import Fault
+
+TIMEOUT = 60.0
+"""Seconds that a page may take."""
+
+MONTH = re.compile(r"2[01][0-9]{2}-(0[1-9]|1[0-2])")
+
+Told = Callable[[int, int], None]
+"""Is told how many of how many are done."""
+
+
+def untold(_: int, __: int) -> None:
+    """Tells nobody."""
+
+
+class NotPublic(Fault):
+    """The office gave no list of tables, or not a table that it lists; one line."""
+
+
+class Listed(NamedTuple):
+    """A published table as the office lists it: month like `2026-01`, revision, moment in seconds since 1970 UTC."""
+
+    month: str
+    revision: int
+    moment: int
+
+
+class Published(NamedTuple):
+    """A table as it was published: where it is listed, and its bytes as CSV."""
+
+    listed: Listed
+    table: bytes
+
+    @property
+    def sha256(self) -> str:
+        """The sum of its bytes, in hexadecimal."""
+        return hashlib.sha256(self.table).hexdigest()
+
+    @property
+    def name(self) -> str:
+        """The name of its file, `2026-01-r1.csv`."""
+        return f"{self.listed.month}-r{self.listed.revision}.csv"
+
+
+def listed_in(reply: Any) -> list[Listed]:
+    """The tables of a reply, by month and revision. Raises NotPublic where it is no such list."""
+    rows = reply.get("tables") if isinstance(reply, dict) else None
+    if not isinstance(rows, list) or not all(_is_listed(row) for row in rows):
+        raise NotPublic(f"the office doesn't list its tables: {str(reply)[:100]}")
+    return sorted(Listed(*row) for row in rows)
+
+
+def _is_listed(row: Any) -> bool:
+    """Whether a row of the list is month, revision and moment (the month becomes the name of a file)."""
+    is_row = isinstance(row, list) and [type(each) for each in row] == [str, int, int]
+    return is_row and MONTH.fullmatch(row[0]) is not None and 1 <= row[1] <= 9 and 0 <= row[2]
+
+
+def from_file(cpi: Cpi, path: Path, at: int, told: Told = untold) -> list[Published]:
+    """What the public reads at the moment `at` of the office of a file, by one run of the program over a copy.
+
+    Raises NotPublic, CopyFailed or CpiFailed.
+    """
+    with private_copy(path) as copy, cpi.session(copy) as office:
+        listed = listed_in(office.ask(record(at, "public", "tables")))
+        found = []
+        for each in listed:
+            reply = office.ask(record(at, "public", "table", each.month, "csv", each.revision))
+            if not isinstance(reply.get("table"), str):
+                raise NotPublic(f"the table of {each.month}, revision {each.revision}, isn't answered: {reply}")
+            found.append(Published(each, reply["table"].encode()))
+            told(len(found), len(listed))
+    return found
+
+
+def from_url(url: str, told: Told = untold) -> list[Published]:
+    """What the public reads now at the address of an office, such as `http://127.0.0.1:8080`. Raises NotPublic."""
+    base = url.rstrip("/")
+    try:
+        listed = listed_in(json.loads(_got(f"{base}/tables")))
+    except ValueError as fault:
+        raise NotPublic(f"{base}/tables isn't the list of an office's tables") from fault
+    found = []
+    for each in listed:
+        found.append(Published(each, _got(f"{base}/table/{each.month}/csv/{each.revision}")))
+        told(len(found), len(listed))
+    return found
+
+
+def _got(address: str) -> bytes:
+    """The body of a page."""
+    try:
+        with urllib.request.urlopen(address, timeout=TIMEOUT) as answer:
+            body: bytes = answer.read()
+            return body
+    except urllib.error.HTTPError as fault:
+        raise NotPublic(f"{address} was answered with status {fault.code}") from fault
+    except (OSError, http.client.HTTPException, ValueError) as fault:
+        raise NotPublic(f"{address} can't be read: {getattr(fault, 'reason', fault)}") from fault

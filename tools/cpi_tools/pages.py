@@ -1,0 +1,74 @@
+"""HTML pages from templates: every text is escaped, and a page needs no network.
+
+`templates/base.html` is what all pages stand on, with `templates/style.css`. A tool with templates of its own names
+their folder, which is searched first.
+"""
+
+from __future__ import annotations
+
+import os
+from collections.abc import Callable, Mapping
+from pathlib import Path
+from typing import Any, Optional
+
+import jinja2
+from markupsafe import Markup
+
+from . import charts, exact
+
+TEMPLATES = Path(__file__).resolve().parent / "templates"
+
+NO_FIGURE = "\u2013"
+"""What a page shows where there is none."""
+
+
+def percent(change: Optional[int]) -> str:
+    """`+0.3 %` of 3 tenths of a percent, or a dash where there is no change."""
+    return NO_FIGURE if change is None else f"{exact.with_sign(exact.tenths(change))}\u202f%"
+
+
+def size(change: int) -> str:
+    """How great a change in tenths of a percent is, as `0.3`, whatever its sign."""
+    return exact.tenths(abs(change))
+
+
+FILTERS: Mapping[str, Callable[..., Any]] = {
+    "percent": percent,
+    "size": size,
+    "points": exact.points,
+    "month_name": charts.month_name,
+}
+"""What a template of any tool can write figures with."""
+
+
+def style() -> Markup:
+    """The style of all pages as one text, for a page that stands alone."""
+    return Markup((TEMPLATES / "style.css").read_text(encoding="utf-8"))
+
+
+def environment(own: Optional[Path] = None) -> jinja2.Environment:
+    """The templates of a tool, whose own stand in a folder; a name that isn't handed in is a fault."""
+    folders = [TEMPLATES] if own is None else [own, TEMPLATES]
+    made = jinja2.Environment(
+        loader=jinja2.FileSystemLoader([str(folder) for folder in folders]),
+        autoescape=True,
+        undefined=jinja2.StrictUndefined,
+        trim_blocks=True,
+        lstrip_blocks=True,
+        auto_reload=False,
+    )
+    made.filters.update(FILTERS)
+    made.globals["style"] = style
+    return made
+
+
+def write_page(pages: jinja2.Environment, template: str, to: Path, **named: object) -> None:
+    """Writes a page of a template, whole or not at all."""
+    text = pages.get_template(template).render(**named)
+    beside = to.with_name(f".{to.name}.part")
+    try:
+        beside.write_bytes(text.encode())
+        os.replace(beside, to)
+    except BaseException:
+        beside.unlink(missing_ok=True)
+        raise
