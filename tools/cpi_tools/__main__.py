@@ -6,10 +6,10 @@ import sys
 from collections.abc import Sequence
 from typing import Optional
 
-from . import backup, drill, probe
+from . import backup, drill, probe, take_in
 from .terminal import Fault, ToolWords, ends_by_signals
 
-TOOLS = (backup, drill, probe)
+TOOLS = (backup, drill, probe, take_in)
 
 
 def parser() -> ToolWords:
