@@ -13,7 +13,7 @@ from typing import NamedTuple
 from cpi_tools.__main__ import main
 from cpi_tools.program import Cpi, record
 
-KEY_7, KEY_8 = "7" * 32, "8" * 32
+KEY_7, KEY_8 = "a7" * 16, "b8" * 16
 
 Sheets = dict[str, list[list[str]]]
 """Rows of cells by the sheet's name; the first names the columns."""

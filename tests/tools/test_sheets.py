@@ -152,6 +152,12 @@ def test_an_error_in_a_cell_is_told(tmp_path: Path) -> None:
     assert told.origin == Origin("outlets.xlsx", 2, "A") and "#REF!" in told.because
 
 
+def test_a_number_of_which_digits_are_lost_is_told(tmp_path: Path) -> None:
+    as_book(tmp_path / "outlets.xlsx", x=[["outlet", "name"], [10, 999_999_999_999_999], [11, float("7" * 32)]])
+    told = fault_of(tmp_path)
+    assert told.origin == Origin("outlets.xlsx", 3, "B") and "keeps 15 digits" in told.because
+
+
 # ---- numbers
 
 

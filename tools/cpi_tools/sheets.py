@@ -155,6 +155,9 @@ def sheet_of(file: str, texts: Texts) -> Sheet:
     return Sheet(file, heads, tuple(rows), tuple(faults))
 
 
+MOST_DIGITS = 10**15
+"""The least number that a spreadsheet may have changed, such as a key whose characters are all digits."""
+
 UNNAMED = "name the column in the first row, or put quotation marks round a text that has the separator in it"
 
 # ---- CSV
@@ -241,6 +244,10 @@ def text_of_cell(cell: Any, file: str) -> str:
     if isinstance(value, bool):
         return "TRUE" if value else "FALSE"
     if isinstance(value, (int, float)):
+        if abs(value) >= MOST_DIGITS:
+            origin = Origin(file, cell.row, cell.column_letter)
+            because = f"the cell is the number {value!r}, and a spreadsheet keeps 15 digits of it"
+            raise BadSheet(origin, because, "give the column the format of text, and write the cell again")
         return Numeral(int(value) if value == int(value) else repr(value))
     if isinstance(value, datetime):
         return time_of_cell(value, "h" in cell.number_format.lower())
