@@ -23,9 +23,6 @@ from .stored import Assignment, Quote, Release, Series, Slot, StoredOffice, Wind
 from .take_in import write_rows
 from .terminal import Fault, Progress, ToolWords, because_of, month_text
 
-AGGREGATE_LENGTH = len("01.1.1.1-01")
-"""The length of an elementary aggregate's code: the plan has a weight of its own there."""
-
 Line = Sequence[object]
 Held = dict[Series, list[Assignment]]
 """The assignments of each series, from its first holder to its last."""
@@ -62,8 +59,8 @@ def rows_of_handovers(held: Held) -> Iterator[Line]:
 def rows_of_classification(stored: StoredOffice) -> Iterator[Line]:
     """Titles and weights as they were sent; a node above has no weight of its own."""
     for plan in stored.plans():
-        for code, title in plan.titles.items():
-            yield plan.year, code, title, plan.weights[code] if len(code) == AGGREGATE_LENGTH else ""
+        weights = plan.aggregates()
+        yield from ((plan.year, code, title, weights.get(code, "")) for code, title in plan.titles.items())
 
 
 def rows_of_places(stored: StoredOffice) -> Iterator[Line]:
@@ -207,10 +204,11 @@ def take_out(cpi: Cpi, file: Path, folder: Path) -> dict[str, int]:
 # ---- words
 
 DESCRIPTION = """\
-Writes an office's file as CSV files that cpi-tools take-in reads, into a new folder: items, outlets,
-collectors, series, classification, places, plans, handovers, calendar, prices, releases. Prices are
-in minor units, weights in parts per million, moments in seconds since 1970 UTC. Taken in again they
-give the same tables, of all revisions. FILE is copied, while cpi runs or not, and isn't changed.
+Writes an office's file as CSV files that cpi-tools take-in reads, into a new folder: items,
+outlets, collectors, series, classification, places, plans, handovers, calendar, prices, releases.
+Prices are in minor units, weights in parts per million, moments in seconds since 1970 UTC. Taken in
+again they give the same tables, of all revisions. FILE is copied, while cpi runs or not, and isn't
+changed.
 
 The collectors' keys are in collectors.csv, and all prices in prices.csv: the files have mode 0600.
 """
