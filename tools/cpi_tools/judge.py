@@ -156,7 +156,7 @@ class Judge:
                 yield from self._plan_problems(bundle, reply)
             else:
                 column = next(odd) or row.own if is_unread(bundle, reply) else row.column(reply["refused"])
-                words = words_of(row, reply)
+                words = words_of(row, reply, column)
                 yield Problem(row.origin.at(column), number_of(reply), words.because, words.do)
 
     def _plan_problems(self, plan: Bundle, reply: Reply) -> Iterator[Problem]:
@@ -183,13 +183,14 @@ def number_of(reply: Reply) -> str:
     return f"{reply['refused']}{fault}"
 
 
-def words_of(row: Sent, reply: Reply) -> Words:
-    """Why a row was refused, with what the reply tells beside, and what to do."""
+def words_of(row: Sent, reply: Reply, column: str) -> Words:
+    """Why a row was refused at a column, with what the reply tells beside, and what to do."""
     because, do = refusal_words(reply, COLLECTOR if row.word == "quote" else DESK, row.word)
     if reply["refused"] == 10:
         because = row.hint or because
         if any(text != text.strip() for text in row.fields):
             because += "; a blank stands before or behind a text"
+        do = f"see what the column {column} takes (docs/CHANGING-OVER.md)"
     elif reply["refused"] == 26:
         because += f": {row.fields[4]} after {reply['last']}, where {reply['low']} to {reply['high']} are inside"
         do = "look again; mend it, or confirm it: by a column confirm, or all that are outside by --confirm-history"

@@ -241,6 +241,6 @@ def run(chosen: argparse.Namespace) -> int:
         raise Fault(because_of(fault)) from fault
     except sqlite3.Error as fault:
         raise Fault(f"{chosen.file} can't be read: {fault}") from fault
-    print(f"{chosen.folder}: " + ", ".join(f"{name} {count:,}" for name, count in counts.items()))
     print(f"cpi-tools take-out: {chosen.folder / 'collectors.csv'} has the collectors' keys", file=sys.stderr)
+    print(f"{chosen.folder}: " + ", ".join(f"{name} {count:,}" for name, count in counts.items()))
     return 0

@@ -14,6 +14,9 @@ from .terminal import counted
 MOST_SHOWN = 200
 """Rows of a list that the page shows; the files beside it have all."""
 
+LONG = 25
+"""Characters of a text that has a column of some width, also on a phone."""
+
 STYLE = """\
 body { font: 16px/1.5 system-ui, sans-serif; color: #1b1b1b; margin: 0 auto; padding: 1rem; max-width: 75rem; }
 h1, h2 { line-height: 1.25; }
@@ -22,6 +25,7 @@ h1, h2 { line-height: 1.25; }
 table { border-collapse: collapse; }
 caption { text-align: left; padding: .3rem 0; color: #4a4a4a; }
 th, td { text-align: left; vertical-align: top; padding: .25rem .9rem .25rem 0; border-bottom: 1px solid #d0d0d0; }
+td.words { min-width: 16rem; }
 td.number, th.number { text-align: right; font-variant-numeric: tabular-nums; }
 .refused { color: #a40000; }
 """
@@ -62,8 +66,8 @@ def page(name: str, over: str, taken: Taken, judged: Judged) -> str:
         f"<h1>{escape(name)}</h1>",
         f"<p>Judged by cpi over {escape(over)}. Nothing was written to an office.</p>",
         f"<p{css}><strong>{verdict}</strong></p>",
-        f"<p>What is taken: {escape(summary(judged))}.</p>",
-        *listed("To be told", taken.notes),
+        f"<p>What cpi takes of it: {escape(summary(judged))}.</p>",
+        *listed("Notes", taken.notes),
         *problems(judged.problems),
         *months(judged),
         *weights(taken.weighed),
@@ -90,13 +94,15 @@ def table(title: str, heads: Sequence[str], rows: Sequence[Sequence[object]], nu
     """A table of texts that scrolls by itself where it is wide; `numbers` are the columns of numbers."""
     right = {*numbers}
 
-    def cell(tag: str, at: int, value: object) -> str:
-        return f"<{tag}{' class=number' if at in right else ''}>{escape(str(value))}</{tag}>"
+    def cell(at: int, value: object) -> str:
+        kind = " class=number" if at in right else " class=words" if len(str(value)) > LONG else ""
+        return f"<td{kind}>{escape(str(value))}</td>"
 
     shown = rows[:MOST_SHOWN]
-    lines = ["".join(cell("td", at, value) for at, value in enumerate(row)) for row in shown]
+    lines = ["".join(cell(at, value) for at, value in enumerate(row)) for row in shown]
     more = f"<caption>The first {MOST_SHOWN} of {len(rows):,}.</caption>" if len(rows) > MOST_SHOWN else ""
-    head = "".join(cell("th scope=col", at, name).replace("</th scope=col>", "</th>") for at, name in enumerate(heads))
+    marks = [" class=number" if at in right else "" for at in range(len(heads))]
+    head = "".join(f"<th scope=col{mark}>{escape(name)}</th>" for mark, name in zip(marks, heads))
     body = "\n".join(f"<tr>{line}</tr>" for line in lines)
     return (
         f'<h2>{escape(title)}</h2>\n<div class="scroll" tabindex="0" role="region" aria-label="{escape(title)}">'
