@@ -1,10 +1,11 @@
-"""What these tests share with those of tests/tools, and what of others they need."""
+"""What these tests share: the program that is tested, and the programs of others that they need."""
 
 from __future__ import annotations
 
+import importlib.util
 import shutil
-import subprocess
 import sys
+from collections.abc import Callable
 from pathlib import Path
 
 import pytest
@@ -13,31 +14,14 @@ HERE = Path(__file__).resolve().parent
 ROOT = HERE.parents[1]
 
 sys.dont_write_bytecode = True
-sys.path[:0] = [str(HERE), str(ROOT / "tests/tools"), str(ROOT / "tools")]
+sys.path[:0] = [str(HERE), str(ROOT / "tests" / "tools"), str(ROOT / "tools")]
 
 from cpi_tools.program import Cpi  # noqa: E402
-
-PROGRAMS = {"libreoffice": ("soffice", "libreoffice-calc")}
-"""By the name of `--leave-out` the program that a test calls, and Debian's package that has it."""
 
 
 def pytest_addoption(parser: pytest.Parser) -> None:
     parser.addoption("--program", default=None, help="the program cpi")
     parser.addoption("--leave-out", action="append", default=[], help="what isn't there on purpose")
-
-
-def pytest_configure(config: pytest.Config) -> None:
-    config.addinivalue_line("markers", "needs(name): the test calls a program of others")
-
-
-def pytest_runtest_setup(item: pytest.Item) -> None:
-    for mark in item.iter_markers("needs"):
-        (name,) = mark.args
-        program, package = PROGRAMS[name]
-        if name in item.config.getoption("--leave-out"):
-            pytest.skip(f"without {name}, as was told")
-        if shutil.which(program) is None:
-            pytest.fail(f"there is no {program}: apt-get install {package}, or --leave-out {name}", pytrace=False)
 
 
 @pytest.fixture(scope="session")
@@ -47,17 +31,16 @@ def cpi(request: pytest.FixtureRequest) -> Cpi:
 
 
 @pytest.fixture(scope="session")
-def nation(cpi: Cpi, tmp_path_factory: pytest.TempPathFactory) -> Path:
-    """The file of the example of national size; tests copy it, and none writes to it."""
-    folder = tmp_path_factory.mktemp("nation")
-    words = [
-        ROOT / "examples/national/run",
-        "--db",
-        folder / "office.db",
-        "--program",
-        cpi.path,
-        "--out",
-        folder / "out",
-    ]
-    subprocess.run(words, check=True, capture_output=True)
-    return folder / "office.db"
+def needed(request: pytest.FixtureRequest) -> Callable[[str], str]:
+    """Where a program of others, or a package of Python, is; a test fails where it isn't there and isn't left out."""
+    left_out = request.config.getoption("--leave-out")
+
+    def found(name: str) -> str:
+        if name in left_out:
+            pytest.skip(f"{name} is left out")
+        path = shutil.which(name)
+        if path is None and importlib.util.find_spec(name) is None:
+            pytest.fail(f"there is no {name} (--leave-out {name} leaves out what needs it)", pytrace=False)
+        return path or name
+
+    return found

@@ -4,7 +4,7 @@ from __future__ import annotations
 
 import os
 import subprocess
-from collections.abc import Sequence
+from collections.abc import Callable, Sequence
 from pathlib import Path
 
 import pytest
@@ -13,7 +13,11 @@ from cpi_tools.program import Cpi
 from cpi_tools.sheets import Source
 from spreadsheets import Sheets, replayed, run, sheets, tables, written
 
-pytestmark = pytest.mark.needs("libreoffice")
+
+@pytest.fixture(autouse=True)
+def soffice(needed: Callable[[str], str]) -> str:
+    """LibreOffice, of Debian's libreoffice-calc."""
+    return needed("soffice")
 
 
 def converted(home: Path, form: str, to: Path, files: Sequence[Path]) -> None:

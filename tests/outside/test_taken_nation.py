@@ -2,6 +2,7 @@
 
 from __future__ import annotations
 
+import subprocess
 from pathlib import Path
 
 import pytest
@@ -12,8 +13,19 @@ from test_take_in import sums
 from wide import in_percent, rewrite, wide_prices
 
 
+EXAMPLE = Path(__file__).resolve().parents[2] / "examples/national/run"
+
 Tables = dict[str, str]
 """By month the table as CSV."""
+
+
+@pytest.fixture(scope="module")
+def nation(cpi: Cpi, tmp_path_factory: pytest.TempPathFactory) -> Path:
+    """The file of the example's office, which no test writes to; beside it, in out, what the example wrote."""
+    folder = tmp_path_factory.mktemp("nation")
+    words = [EXAMPLE, "--db", folder / "office.db", "--program", cpi.path, "--out", folder / "out"]
+    subprocess.run(words, check=True, capture_output=True)
+    return folder / "office.db"
 
 
 @pytest.fixture(scope="module")

@@ -16,7 +16,7 @@ from datetime import datetime
 from pathlib import Path
 from typing import Any, NamedTuple, Optional
 
-from .terminal import Fault, because_of
+from .terminal import Fault, because_of, needs
 
 
 class Origin(NamedTuple):
@@ -212,13 +212,9 @@ def texts_of_workbook(path: Path, title: str) -> Texts:
 
 def opened(path: Path, is_formula: bool) -> Any:
     """A workbook of openpyxl, with the values that stand for formulas or with these. Raises BadSheet or Fault."""
-    try:
-        from openpyxl import load_workbook
-    except ImportError:
-        raise Fault(
-            f"{path} is a workbook, and Python's openpyxl isn't there to read it:"
-            " apt-get install python3-openpyxl, or save its sheets as CSV"
-        ) from None
+    needs("openpyxl", "python3-openpyxl")
+    from openpyxl import load_workbook
+
     try:
         return load_workbook(path, read_only=True, data_only=not is_formula)
     except (OSError, KeyError, ValueError, TypeError, zipfile.BadZipFile) as fault:

@@ -4,6 +4,7 @@ from __future__ import annotations
 
 import argparse
 import contextlib
+import importlib.util
 import re
 import signal
 import sys
@@ -145,3 +146,15 @@ def ends_by_signals() -> Iterator[None]:
 
 def _end(number: int, _: Optional[FrameType]) -> None:
     raise SystemExit(128 + number)
+
+
+# ---- packages of Python
+
+
+def needs(module: str, package: str) -> None:
+    """Raises Fault where this Python hasn't a package that one tool needs, with what to install."""
+    if importlib.util.find_spec(module) is None:
+        raise Fault(
+            f"{sys.executable} has no {module}: Debian's {package} has it for /usr/bin/python3,"
+            " which CPI_PYTHON=/usr/bin/python3 lets cpi-tools take"
+        )
