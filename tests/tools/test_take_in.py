@@ -218,7 +218,7 @@ def test_history_outside_the_tolerance_is_confirmed_and_listed(cpi: Cpi, tmp_pat
     assert run(cpi, *words, "--check").status == 0
     page = (folder / "check" / "report.html").read_text(encoding="utf-8")
     confirmed = page.partition("Confirmed outside the tolerance")[2]
-    assert "<td>prices.csv</td><td class=number>5</td><td>value</td><td class=number>2100</td>" in confirmed
+    assert "<td>prices.csv, row 5, value</td><td class=number>2100</td><td class=number>200</td>" in confirmed
     assert run(cpi, *words, "--write", tmp_path / "records").status == 0
     lines = (tmp_path / "records" / "records-01.csv").read_text(encoding="utf-8").splitlines()
     assert [line for line in lines if "confirm" in line] == [f'1000,{KEY_7},import,"quote,1,2026-01,price,2100,confirm']

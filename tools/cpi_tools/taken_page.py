@@ -9,6 +9,7 @@ from .judge import Judged
 from .numbers_of_texts import decimal
 from .office_files import Taken, Weighed
 from .sent import Problem
+from .sheets import Origin
 from .terminal import counted
 
 MOST_SHOWN = 200
@@ -25,9 +26,15 @@ h1, h2 { line-height: 1.25; }
 table { border-collapse: collapse; }
 caption { text-align: left; padding: .3rem 0; color: #4a4a4a; }
 th, td { text-align: left; vertical-align: top; padding: .25rem .9rem .25rem 0; border-bottom: 1px solid #d0d0d0; }
-td.words { min-width: 16rem; }
+td, th { white-space: nowrap; }
+td.words { min-width: 16rem; white-space: normal; }
 td.number, th.number { text-align: right; font-variant-numeric: tabular-nums; }
 .refused { color: #a40000; }
+@media (max-width: 40rem) {
+  .stacked thead { display: none; }
+  .stacked tr { display: block; border-bottom: 1px solid #d0d0d0; padding: .4rem 0; }
+  .stacked td { display: block; border: 0; padding: 0; white-space: normal; }
+}
 """
 
 NAMES = {
@@ -90,8 +97,11 @@ def listed(title: str, texts: Sequence[str]) -> Iterable[str]:
             yield f"<p>And {len(texts) - MOST_SHOWN:,} more of this kind.</p>"
 
 
-def table(title: str, heads: Sequence[str], rows: Sequence[Sequence[object]], numbers: Iterable[int] = ()) -> str:
-    """A table of texts that scrolls by itself where it is wide; `numbers` are the columns of numbers."""
+def table(
+    title: str, heads: Sequence[str], rows: Sequence[Sequence[object]], numbers: Iterable[int] = (), css: str = "plain"
+) -> str:
+    """A table of texts that scrolls by itself where it is wide; `numbers` are the columns of numbers, and with the
+    class `stacked` its cells stand below each other on a phone."""
     right = {*numbers}
 
     def cell(at: int, value: object) -> str:
@@ -106,15 +116,21 @@ def table(title: str, heads: Sequence[str], rows: Sequence[Sequence[object]], nu
     body = "\n".join(f"<tr>{line}</tr>" for line in lines)
     return (
         f'<h2>{escape(title)}</h2>\n<div class="scroll" tabindex="0" role="region" aria-label="{escape(title)}">'
-        f"<table>{more}<thead><tr>{head}</tr></thead>\n<tbody>{body}</tbody></table></div>"
+        f'<table class="{css}">{more}<thead><tr>{head}</tr></thead>\n<tbody>{body}</tbody></table></div>'
     )
 
 
 def problems(found: Sequence[Problem]) -> Iterable[str]:
     """What is refused; all of it stands in problems.csv."""
-    rows = [(*it.origin, it.number, it.because, it.do) for it in found]
+    rows = [(place(it.origin), it.number, it.because, it.do) for it in found]
     if rows:
-        yield table("Refused", ("file", "row", "column", "number", "because", "do"), rows, (1,))
+        yield table("Refused", ("where", "number", "because", "do"), rows, css="stacked")
+
+
+def place(origin: Origin) -> str:
+    """`prices.csv, row 5, value` of a cell."""
+    parts = [origin.file, f"row {origin.row}" if origin.row else "", origin.column]
+    return ", ".join(part for part in parts if part)
 
 
 def months(judged: Judged) -> Iterable[str]:
@@ -148,7 +164,7 @@ def weights(weighed: Sequence[Weighed]) -> Iterable[str]:
 
 def confirmed(judged: Judged) -> Iterable[str]:
     """Prices outside the tolerance that were confirmed."""
-    rows = [(it.origin.file, it.origin.row, it.origin.column, *it[1:]) for it in judged.confirmed]
+    rows = [(place(it.origin), *it[1:]) for it in judged.confirmed]
     if rows:
-        heads = ("file", "row", "column", "price", "last price", "lowest inside", "highest inside")
-        yield table("Confirmed outside the tolerance", heads, rows, (1, 3, 4, 5, 6))
+        heads = ("where", "price", "last price", "lowest inside", "highest inside")
+        yield table("Confirmed outside the tolerance", heads, rows, (1, 2, 3, 4))
