@@ -10,9 +10,11 @@ from typing import Optional
 import openpyxl
 import pytest
 
+from cpi_tools.judge import Judge
+from cpi_tools.office_files import NOTHING, SHEETS, OfficeFiles, Options
 from cpi_tools.program import Cpi, record
 from cpi_tools.sent import Bundle, Sent, bundled
-from cpi_tools.sheets import Origin
+from cpi_tools.sheets import Origin, Source
 from cpi_tools.stored import stored_office
 from cpi_tools.take_in import parted
 from spreadsheets import (
@@ -273,6 +275,15 @@ def test_prices_by_outlet_and_item_in_a_column_a_month(cpi: Cpi, tmp_path: Path)
     assert tables(cpi, office)["2026-01", 1].startswith("00,1000000,104.545455,")
 
 
+def test_of_two_windows_of_a_month_the_later_row_stands_and_is_told(cpi: Cpi, tmp_path: Path) -> None:
+    of = sheets()
+    of["calendar"].insert(2, ["2026-01", "1000", "1500", "3000"])
+    folder = written(tmp_path / "office", of)
+    told = "calendar.csv row 4 has the month 2026-01 of row 3 again: the later row stands"
+    ran = run(cpi, "take-in", folder, "--check")
+    assert (ran.status, ran.err) == (0, f"cpi-tools take-in: {told}\n")
+
+
 def test_an_item_whose_series_cannot_be_told_apart(cpi: Cpi, tmp_path: Path) -> None:
     of = sheets()
     add("series", "8", "3", "10", "RICE", "2026-01", "2026-12")(of)
@@ -487,6 +498,19 @@ def test_a_zone_that_is_none_is_one_line(cpi: Cpi, tmp_path: Path) -> None:
 
 
 # ---- sizes
+
+
+def test_more_records_than_one_run_takes(cpi: Cpi, tmp_path: Path) -> None:
+    """Two bundles a run: what several runs say is what one says."""
+    of = sheets()
+    put("prices", 6, "value", "8400")(of)
+    source = Source(written(tmp_path / "office", of), SHEETS)
+    told = []
+    for most in (1_000_000, 2):
+        taken = OfficeFiles(source, Options(), NOTHING, lambda _: {}, is_new=True).in_order()
+        assert len(taken.bundles) > 10
+        told.append(Judge(cpi, "UTC0", False, ()).judge(taken, most=most))
+    assert told[0] == told[1] and [it.number for it in told[0].problems] == ["26", "49 fault 2", "46"]
 
 
 def test_imports_and_files_are_cut_at_their_limits() -> None:

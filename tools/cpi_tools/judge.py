@@ -13,11 +13,14 @@ from .odd_cells import odd_columns
 from .office_files import Taken
 from .plan_faults import faulty_cells, has_too_many_rows
 from .program import LAST_MOMENT, Cpi, Reply, Session, record
-from .sent import DESK, MOST_ROWS, Bundle, Problem, Sent, bundled
+from .sent import DESK, MOST_RECORDS, MOST_ROWS, Bundle, Problem, Sent, bundled
 from .sheets import Origin
 from .stored import stored_office
 from .terminal import month_text
 from .words import COLLECTOR, Words, refusal_words
+
+MOST_BUNDLES = MOST_RECORDS // 3
+"""Bundles of one run: beside its record one may be sent again with `confirm`, and a table be asked for."""
 
 # ---- moments
 
@@ -93,14 +96,19 @@ class Judge:
         self._refused: list[tuple[Bundle, Sent, Reply]] = []
         self._told = Judged()
 
-    def judge(self, taken: Taken, db: Optional[Path] = None) -> Judged:
+    def judge(self, taken: Taken, db: Optional[Path] = None, most: int = MOST_BUNDLES) -> Judged:
         """What the program says to all of it, over an office in memory, or over a copy that is changed by that.
 
-        Where a price was confirmed, its row in `taken` is with `confirm` from then on.
+        Where a price was confirmed, its row in `taken` is with `confirm` from then on. A run of the program gets at
+        most so many bundles; where it takes several runs the office is a file that is thrown away.
         """
-        with self._cpi.session(db=db, zone=self._zone) as session:
-            for bundle in taken.bundles:
-                self._send(session, bundle)
+        parts = [taken.bundles[start : start + most] for start in range(0, len(taken.bundles), most)]
+        with tempfile.TemporaryDirectory(prefix="cpi-tools-") as folder:
+            file = db or (Path(folder) / "judged.db" if len(parts) > 1 else None)
+            for part in parts:
+                with self._cpi.session(db=file, zone=self._zone) as session:
+                    for bundle in part:
+                        self._send(session, bundle)
         self._told.problems = [*taken.problems, *self._problems()]
         return self._told
 

@@ -124,7 +124,7 @@ class OfficeFiles:
         self._sheets: dict[str, Optional[Sheet]] = {}
         for name in SHEETS:
             self._sheets[name] = self._read(name, is_new)
-        self._windows = {row["month"]: row for row in self._rows("calendar")}
+        self._windows = self._calendar_rows()
         rows = [*self._windows.values(), *self._rows("releases")]
         self._seconds = clock({row[name] for row in rows for name in (*WINDOW, "frozen_at")})
         self._mended: dict[Origin, str] = {}
@@ -187,6 +187,17 @@ class OfficeFiles:
         found: dict[str, list[Row]] = defaultdict(list)
         for row in self._rows(name):
             found[row["month"]].append(row)
+        return found
+
+    def _calendar_rows(self) -> dict[str, Row]:
+        """The row of each month; of two the later one stands, and that is told."""
+        found: dict[str, Row] = {}
+        for row in self._rows("calendar"):
+            origin, above = row.origin, found.get(row["month"])
+            if above:
+                told = f"{origin.file} row {origin.row} has the month {row['month']} of row {above.origin.row} again"
+                self.taken.notes.append(f"{told}: the later row stands")
+            found[row["month"]] = row
         return found
 
     def _tell_unread(self) -> None:
