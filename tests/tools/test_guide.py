@@ -67,8 +67,9 @@ def test_the_commands_of_running_are_those_of_the_tools(cpi: Cpi, office: Path, 
 
 
 def test_each_help_has_an_example_and_narrow_lines() -> None:
-    for words in ([], ["backup"], ["drill"], ["probe"], ["publish"]):
+    tools = ("backup", "drill", "probe", "publish", "take-in", "take-out", "next-year")
+    for words in ([], *([tool] for tool in tools)):
         told = subprocess.run([ROOT / "cpi-tools", *words, "--help"], capture_output=True, text=True, check=True).stdout
-        assert re.search(r"^example: cpi-tools \w+ .*\boffice\.db\b", told, re.M), told
+        assert re.search(r"^example: cpi-tools [\w-]+ .*\boffice\.db\b", told, re.M), told
         assert [line for line in told.splitlines() if len(line) > 100] == []
         assert ("exit status" in told) == bool(words)

@@ -66,6 +66,54 @@ class Window(NamedTuple):
     publishes: int
 
 
+class Item(NamedTuple):
+    """An item: its code, its text and unit, the tolerance in thousandths of the last price."""
+
+    code: str
+    text: str
+    unit: str
+    low: int
+    high: int
+
+
+Slot = tuple[int, int]
+"""A collector and a slot of that collector's, whichever series is in it."""
+
+
+class Assignment(NamedTuple):
+    """What a slot prices from its first to its last month, and the series that this is."""
+
+    collector: int
+    slot: int
+    outlet: int
+    item: str
+    first_month: int
+    last_month: int
+    series: Series
+
+
+class Plan(NamedTuple):
+    """A year's plan: by code the titles of its nodes and their weights in parts per million, as sent and added up;
+    by item its aggregate; the reference month, if there is one."""
+
+    year: int
+    titles: dict[str, str]
+    weights: dict[str, int]
+    places: dict[str, str]
+    reference: Optional[int]
+
+    def aggregates(self) -> dict[str, int]:
+        """The weights of the elementary aggregates, whose codes are like `01.1.1.1-01`."""
+        return {code: weight for code, weight in self.weights.items() if "-" in code}
+
+
+class Quote(NamedTuple):
+    """What was found: a mark and the price in minor units, or the reason why there is none and 0."""
+
+    mark: str
+    value: int
+
+
 class StoredOffice:
     """The rows of an office's file."""
 
@@ -126,6 +174,54 @@ class StoredOffice:
     def calendar(self) -> list[Window]:
         """The calendar, by month."""
         return [Window(*row) for row in self.ask("SELECT month, opens, closes, publishes FROM calendar ORDER BY month")]
+
+    # ---- what was registered and planned
+
+    def keys(self) -> dict[int, str]:
+        """The key of each collector; it is never printed."""
+        return dict(self.ask("SELECT number, key FROM collector ORDER BY number"))  # type: ignore[arg-type]
+
+    def outlets(self) -> dict[int, str]:
+        """The name of each outlet."""
+        return dict(self.ask("SELECT number, name FROM outlet ORDER BY number"))  # type: ignore[arg-type]
+
+    def items(self) -> list[Item]:
+        """The items, by code."""
+        return [Item(*row) for row in self.ask("SELECT code, text, unit, low, high FROM item ORDER BY code")]
+
+    def assignments(self) -> list[Assignment]:
+        """All slots, in the order in which each series went from one to the next."""
+        rows = self.ask(
+            "SELECT collector, slot, outlet, item, first_month, last_month, series_collector, series_slot"
+            " FROM assignment_2 ORDER BY series_collector, series_slot, first_month"
+        )
+        return [Assignment(*row[:6], (row[6], row[7])) for row in rows]  # type: ignore[call-arg]
+
+    def plans(self) -> list[Plan]:
+        """The plans, by year."""
+        references: dict[int, int] = dict(self.ask("SELECT year, month FROM plan_ref"))  # type: ignore[arg-type]
+        found: dict[int, Plan] = {}
+        for year, code, title, weight in self.ask("SELECT year, code, title, weight FROM node ORDER BY year, code"):
+            plan = found.setdefault(year, Plan(year, {}, {}, {}, references.get(year)))
+            plan.titles[code] = title
+            plan.weights[code] = weight
+        for year, item, code in self.ask("SELECT year, item, code FROM plan_item ORDER BY year, item"):
+            found[year].places[item] = code
+        return [*found.values()]
+
+    def frozen_moments(self) -> dict[tuple[int, int], tuple[int, int]]:
+        """By month and revision, when it was frozen and when it is published, in seconds since 1970 UTC."""
+        rows = self.ask("SELECT month, revision, frozen_at, publishes FROM release_2")
+        return {(month, revision): (frozen_at, publishes) for month, revision, frozen_at, publishes in rows}
+
+    def quotes(self, month: int) -> dict[Slot, Quote]:
+        """The stored quotes of a month, by the collector and the slot that they were sent for."""
+        text = "SELECT collector, slot, mark, value FROM quote_2 WHERE month = ?"
+        return {(row[0], row[1]): Quote(row[2], row[3]) for row in self.ask(text, month)}
+
+    def months_of_quotes(self) -> list[int]:
+        """The months of which there is a stored quote."""
+        return [month for (month,) in self.ask("SELECT DISTINCT month FROM quote_2 ORDER BY month")]
 
     # ---- series and quotes
 

@@ -1,0 +1,193 @@
+"""`cpi_tools.sheets`: spreadsheets as texts that know their file, row and column; and numbers as offices write them."""
+
+from __future__ import annotations
+
+import re
+from collections.abc import Sequence
+from datetime import datetime
+from fractions import Fraction
+from pathlib import Path
+from typing import Optional
+from zipfile import ZipFile
+
+import openpyxl
+import pytest
+
+from cpi_tools.numbers_of_texts import Numbers, decimal
+from cpi_tools.sheets import BadSheet, Numeral, Origin, Sheet, SheetFault, Source
+from cpi_tools.terminal import Fault
+
+NAMES = ("outlets", "prices")
+
+
+def read(path: Path, name: str = "outlets") -> Sheet:
+    found = Source(path, NAMES).sheet(name)
+    assert found is not None
+    return found
+
+
+def fault_of(path: Path, name: str = "outlets") -> SheetFault:
+    with pytest.raises(BadSheet) as told:
+        Source(path, NAMES).sheet(name)
+    return told.value.fault
+
+
+def as_book(path: Path, **sheets: Sequence[Sequence[object]]) -> Path:
+    """A workbook with some sheets."""
+    book = openpyxl.Workbook()
+    book.remove(book.active)
+    for title, rows in sheets.items():
+        sheet = book.create_sheet(title)
+        for row in rows:
+            sheet.append(row)
+    book.save(path)
+    return path
+
+
+# ---- CSV
+
+
+@pytest.mark.parametrize("delimiter", [",", ";", "\t"])
+def test_a_csv_file_of_each_separator(tmp_path: Path, delimiter: str) -> None:
+    lines = ["\ufeffOutlet , NAME", '10,"Corner shop"', ",", "", '11,"Hall, ""old"""', '12,"two\nlines"', "13,x"]
+    cells = [re.sub(',(?=(?:[^"]*"[^"]*")*[^"]*$)', delimiter, line) for line in lines]
+    (tmp_path / "outlets.csv").write_text("\r\n".join(cells), encoding="utf-8", newline="")
+    sheet = read(tmp_path)
+    assert sheet.columns == ("outlet", "name")
+    found = [(row.origin.row, row["outlet"], row["name"]) for row in sheet.rows]
+    # (a spreadsheet counts rows, not lines: an empty one counts, and two lines of one cell are one row)
+    assert found == [(2, "10", "Corner shop"), (5, "11", 'Hall, "old"'), (6, "12", "two\nlines"), (7, "13", "x")]
+    assert sheet.rows[0].origin == Origin("outlets.csv", 2) and sheet.rows[0]["other"] == ""
+
+
+@pytest.mark.parametrize(
+    ("content", "row", "because"),
+    [
+        ("outlet,name\n10,Café\n".encode("latin-1"), 2, "isn't UTF-8"),
+        (b'outlet,name\n10,x\n11,"x"y\n', 3, "no CSV"),
+        (b'outlet,name\n10,x\n11,"x\n12,y\n', 3, "no CSV"),
+        (b"", 1, "first row is empty"),
+        (b",\n1,2\n", 1, "first row is empty"),
+        (b"outlet,name,Outlet\n10,x,11\n", 1, "column outlet is there twice"),
+    ],
+)
+def test_a_csv_file_that_is_no_table(tmp_path: Path, content: bytes, row: int, because: str) -> None:
+    (tmp_path / "outlets.csv").write_bytes(content)
+    told = fault_of(tmp_path)
+    assert told.origin[:2] == ("outlets.csv", row) and because in told.because and told.do
+
+
+def test_a_cell_in_no_named_column_is_told_and_nothing_is_lost_without_a_word(tmp_path: Path) -> None:
+    (tmp_path / "outlets.csv").write_text("outlet,,name\n10,,Shop\n11,,Shop, red\n12,x,Shop\n13,,Shop,,\n")
+    told = read(tmp_path).faults
+    assert [it.origin for it in told] == [Origin("outlets.csv", 3), Origin("outlets.csv", 4)]
+
+
+# ---- where a sheet is found
+
+
+def test_a_sheet_is_found_by_its_name_and_only_once(tmp_path: Path) -> None:
+    (tmp_path / "Shops-OUTLETS.csv").write_text("outlet,name\n10,x\n")
+    as_book(tmp_path / "prices.xlsx", Sheet1=[["month", "value"], ["2025-12", 5]], notes=[["x"]])
+    for name in ("~$prices.xlsx", ".#outlets.csv"):
+        (tmp_path / name).write_text("x")
+    for name in ("price.csv", "read me.txt"):
+        (tmp_path / name).write_text("x")
+    source = Source(tmp_path, NAMES)
+    outlets, prices = source.sheet("outlets"), source.sheet("prices")
+    assert outlets and prices and prices.rows[0]["value"] == "5"
+    assert (outlets.file, prices.file) == ("Shops-OUTLETS.csv", "prices.xlsx:Sheet1")
+    assert source.unread == ["price.csv", "prices.xlsx:notes"]
+    (tmp_path / "outlets.csv").write_text("outlet,name\n11,x\n")
+    assert fault_of(tmp_path).because == "outlets is there twice: Shops-OUTLETS.csv and outlets.csv"
+
+
+def test_a_workbook_whose_sheets_have_the_names(tmp_path: Path) -> None:
+    path = as_book(tmp_path / "office.xlsx", Outlets=[["outlet", "name"], [10, "x"]], prices=[["month", "value"]])
+    sheet = read(path)
+    assert (sheet.file, sheet.rows[0].origin.row, sheet.rows[0]["outlet"]) == ("office.xlsx:Outlets", 2, "10")
+    assert read(tmp_path).rows == sheet.rows
+
+
+@pytest.mark.parametrize("name", ["nothing", "words.txt", "broken.xlsx"])
+def test_what_is_no_folder_and_no_workbook(tmp_path: Path, name: str) -> None:
+    for each in ("words.txt", "broken.xlsx"):
+        (tmp_path / each).write_text("x")
+    with pytest.raises(Fault, match=name):
+        Source(tmp_path / name, NAMES)
+
+
+# ---- cells of workbooks
+
+
+def test_cells_are_the_texts_that_csv_has(tmp_path: Path) -> None:
+    cells = [5, 2.5, 210.0, "01.1", True, datetime(2025, 12, 1), datetime(2025, 12, 5), datetime(2026, 1, 1), None, 0]
+    path = as_book(tmp_path / "outlets.xlsx", x=[[f"c{at}" for at in range(len(cells))], cells])
+    book = openpyxl.load_workbook(path)
+    book["x"]["F2"].number_format = "yyyy-mm"
+    book["x"]["H2"].number_format = 'yyyy-mm-dd"T"hh:mm'
+    book.save(path)
+    (row,) = read(path.parent).rows
+    texts = ["5", "2.5", "210", "01.1", "TRUE", "2025-12", "2025-12-05T00:00", "2026-01-01T00:00", "", "0"]
+    assert [*row.cells.values()] == texts
+    assert [isinstance(cell, Numeral) for cell in row.cells.values()] == [it in (0, 1, 2, 9) for it in range(10)]
+
+
+def test_a_formula_without_a_value_is_told(tmp_path: Path) -> None:
+    as_book(tmp_path / "outlets.xlsx", x=[["outlet", "name"], [10, "x"], ["=A2+1", "y"]])
+    told = fault_of(tmp_path)
+    assert told.origin == Origin("outlets.xlsx", 3, "A") and "no value" in told.because
+
+
+def test_an_error_in_a_cell_is_told(tmp_path: Path) -> None:
+    path = as_book(tmp_path / "outlets.xlsx", x=[["outlet", "name"], [10, "x"]])
+    with ZipFile(path) as parts:
+        kept = {name: parts.read(name) for name in parts.namelist()}
+    sheet = kept["xl/worksheets/sheet1.xml"]
+    kept["xl/worksheets/sheet1.xml"] = re.sub(rb'<c r="A2"[^>]*>.*?</c>', b'<c r="A2" t="e"><v>#REF!</v></c>', sheet)
+    with ZipFile(path, "w") as parts:
+        for name, data in kept.items():
+            parts.writestr(name, data)
+    told = fault_of(tmp_path)
+    assert told.origin == Origin("outlets.xlsx", 2, "A") and "#REF!" in told.because
+
+
+def test_a_number_of_which_digits_are_lost_is_told(tmp_path: Path) -> None:
+    as_book(tmp_path / "outlets.xlsx", x=[["outlet", "name"], [10, 999_999_999_999_999], [11, float("7" * 32)]])
+    told = fault_of(tmp_path)
+    assert told.origin == Origin("outlets.xlsx", 3, "B") and "keeps 15 digits" in told.because
+
+
+# ---- numbers
+
+
+@pytest.mark.parametrize(
+    ("sign", "text", "wanted"),
+    [
+        (".", "2.10", Fraction(21, 10)),
+        (".", " 1 234.5 ", Fraction(2469, 2)),
+        (".", "1\u202f234", Fraction(1234)),
+        (".", "-3", Fraction(-3)),
+        (",", "2,10", Fraction(21, 10)),
+        (",", "1'234,5", Fraction(2469, 2)),
+        # (a point may part thousands there: a price must not become a thousandth)
+        (",", "1.234", None),
+        (",", Numeral("1.25"), Fraction(5, 4)),
+        (".", Numeral("1e-05"), Fraction(1, 100_000)),
+        (".", "2,10", None),
+        (".", "1,234.5", None),
+        (".", "", None),
+        (".", "dear", None),
+        (".", "NaN", None),
+        (".", "1/3", None),
+        (".", "\u0663", None),
+    ],
+)
+def test_numbers_with_a_decimal_sign(sign: str, text: str, wanted: Optional[Fraction]) -> None:
+    assert Numbers(sign).of(text) == wanted
+
+
+def test_numbers_as_texts() -> None:
+    found = [decimal(Fraction(n, 10_000)) for n in (4, 5, -4, -5, 12_345_675)]
+    assert found == ["0.000", "0.001", "0.000", "-0.001", "1,234.568"]
+    assert [decimal(Fraction(n), "+") for n in (1, 0, -1)] == ["+1.000", "+0.000", "-1.000"]

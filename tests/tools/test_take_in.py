@@ -1,0 +1,530 @@
+"""`cpi-tools take-in`: spreadsheets become an office, and each cell that the program refuses is told."""
+
+from __future__ import annotations
+
+import hashlib
+import os
+from pathlib import Path
+from typing import Optional
+
+import openpyxl
+import pytest
+
+from cpi_tools.judge import Judge
+from cpi_tools.office_files import NOTHING, SHEETS, OfficeFiles, Options
+from cpi_tools.program import Cpi, record
+from cpi_tools.sent import Bundle, Sent, bundled
+from cpi_tools.sheets import Origin, Source
+from cpi_tools.stored import stored_office
+from cpi_tools.take_in import parted
+from spreadsheets import (
+    KEY_7,
+    KEY_8,
+    Change,
+    Ran,
+    add,
+    drop,
+    put,
+    replayed,
+    rows_of,
+    run,
+    sheets,
+    tables,
+    without,
+    written,
+)
+
+Cell = tuple[str, int, str, str]
+"""File, row, column and number of a problem."""
+
+MOST_TITLE = 400
+AGGREGATES = "01.1.1.1-01", "01.1.1.2-01"
+
+FAULTS: list[tuple[Change, Cell]] = [
+    (put("items", 2, "item", "rice!"), ("items.csv", 2, "item", "10")),
+    (put("items", 2, "text", ""), ("items.csv", 2, "text", "10")),
+    (put("items", 2, "text", "x" * (MOST_TITLE + 1)), ("items.csv", 2, "text", "10")),
+    (put("items", 2, "unit", "1\nkg"), ("items.csv", 2, "unit", "10")),
+    (put("items", 2, "low", "0"), ("items.csv", 2, "low", "10")),
+    (put("items", 2, "low", "0500"), ("items.csv", 2, "low", "10")),
+    (put("items", 3, "high", "20000"), ("items.csv", 3, "high", "10")),
+    (add("items", "RICE", "Rice, long", "1 kg", "500", "2000"), ("items.csv", 4, "item", "40")),
+    (put("outlets", 2, "outlet", "0"), ("outlets.csv", 2, "outlet", "10")),
+    (add("outlets", "10", "Other shop"), ("outlets.csv", 4, "outlet", "40")),
+    (put("collectors", 2, "key", "secret"), ("collectors.csv", 2, "key", "10")),
+    (put("collectors", 2, "collector", "10000"), ("collectors.csv", 2, "collector", "10")),
+    (add("collectors", "7", "6" * 32), ("collectors.csv", 4, "key", "40")),
+    (add("collectors", "9", KEY_8), ("collectors.csv", 4, "key", "40")),
+    (put("series", 2, "slot", "401"), ("series.csv", 2, "slot", "10")),
+    (put("series", 2, "first", "2025-13"), ("series.csv", 2, "first", "10")),
+    (put("series", 2, "last", "2025-11"), ("series.csv", 2, "last", "10")),
+    (put("series", 3, "slot", "1"), ("series.csv", 3, "slot", "40")),
+    (put("series", 2, "item", "TEA"), ("series.csv", 2, "item", "41")),
+    (put("series", 2, "outlet", "12"), ("series.csv", 2, "outlet", "42")),
+    (put("series", 2, "collector", "6"), ("series.csv", 2, "collector", "43")),
+    (put("classification", 3, "year", "1999"), ("classification.csv", 3, "year", "10")),
+    (put("classification", 3, "code", "15"), ("classification.csv", 3, "code", "10")),
+    (put("classification", 3, "title", ""), ("classification.csv", 3, "title", "10")),
+    (put("classification", 7, "weight", "2000000"), ("classification.csv", 7, "weight", "10")),
+    (add("classification", "2026", "01", "Food", ""), ("classification.csv", 10, "code", "44 fault 1")),
+    (add("classification", "2026", "01.1.1.2-01", "Flour", "1"), ("classification.csv", 10, "code", "44 fault 1")),
+    (put("classification", 8, "weight", "1"), ("classification.csv", 8, "code", "44 fault 2")),
+    (put("places", 3, "code", "01.1.1.2"), ("places.csv", 3, "code", "44 fault 2")),
+    (put("classification", 7, "weight", "0"), ("classification.csv", 7, "weight", "44 fault 3")),
+    (put("classification", 7, "weight", "599999"), ("classification.csv", 9, "weight", "44 fault 4")),
+    (drop("classification", 4), ("classification.csv", 6, "code", "44 fault 5")),
+    (put("places", 3, "item", "TEA"), ("places.csv", 3, "item", "44 fault 6")),
+    (put("places", 3, "item", "RICE"), ("places.csv", 3, "item", "44 fault 7")),
+    (put("places", 3, "code", "01.1.1.3-01"), ("places.csv", 3, "code", "44 fault 8")),
+    (put("plans", 2, "reference", "2026-01"), ("plans.csv", 2, "reference", "44 fault 10")),
+    (add("plans", "2026", "2025-06"), ("releases.csv", 3, "month", "49 fault 5")),
+    (put("plans", 2, "reference", "June"), ("plans.csv", 2, "reference", "10")),
+    (put("calendar", 4, "closes", "2000"), ("calendar.csv", 4, "closes", "10")),
+    (put("calendar", 4, "publishes", "3999"), ("calendar.csv", 4, "publishes", "10")),
+    (put("calendar", 4, "opens", "soon"), ("calendar.csv", 4, "opens", "10")),
+    (put("calendar", 4, "opens", "2026-02-30T06:00"), ("calendar.csv", 4, "opens", "10")),
+    (put("handovers", 2, "slot", "3"), ("handovers.csv", 2, "slot", "20")),
+    (put("handovers", 2, "to_slot", "1"), ("handovers.csv", 2, "to_slot", "40")),
+    (put("handovers", 2, "to", "6"), ("handovers.csv", 2, "to", "43")),
+    (put("handovers", 2, "month", "2025-12"), ("handovers.csv", 2, "month", "22")),
+    (put("prices", 5, "collector", "6"), ("prices.csv", 5, "collector", "11")),
+    (put("prices", 5, "slot", "9"), ("prices.csv", 5, "slot", "20")),
+    (put("prices", 5, "month", "2026-05"), ("prices.csv", 5, "month", "21")),
+    (add("prices", "2026-02", "8", "1", "price", "250", ""), ("prices.csv", 10, "month", "22")),
+    (put("prices", 2, "mark", "comparable"), ("prices.csv", 2, "mark", "25")),
+    (put("prices", 5, "value", "2100"), ("prices.csv", 5, "value", "26")),
+    (put("prices", 5, "value", "0"), ("prices.csv", 5, "value", "10")),
+    (put("prices", 5, "value", "210.5"), ("prices.csv", 5, "value", "10")),
+    (put("prices", 5, "value", "210,5"), ("prices.csv", 5, "value", "10")),
+    (put("prices", 5, "value", "dear"), ("prices.csv", 5, "value", "10")),
+    (put("prices", 5, "mark", "sale"), ("prices.csv", 5, "mark", "10")),
+    (put("prices", 5, "confirm", "yes"), ("prices.csv", 5, "confirm", "10")),
+    (put("prices", 8, "value", "snow"), ("prices.csv", 8, "value", "10")),
+    (put("releases", 3, "frozen_at", "1999"), ("releases.csv", 3, "frozen_at", "47")),
+    (put("releases", 3, "frozen_at", "late"), ("releases.csv", 3, "frozen_at", "10")),
+    (put("releases", 3, "carry", "01.1.1.9-01"), ("releases.csv", 3, "carry", "44 fault 8")),
+    (put("releases", 4, "carry", ""), ("releases.csv", 4, "month", "49 fault 2")),
+    (put("releases", 4, "carry", "01.1.1.1-01 01.1"), ("releases.csv", 4, "carry", "10")),
+    (put("releases", 3, "month", "2026-03"), ("releases.csv", 3, "month", "46")),
+    (drop("releases", 2), ("releases.csv", 2, "month", "46")),
+    (add("releases", "2026-02", "2", "2000", "4000", "5000", "4000", ""), ("releases.csv", 5, "month", "50")),
+    (drop("places", 3), ("releases.csv", 3, "month", "49 fault 1")),
+    (without("calendar"), ("calendar.csv", 0, "", "")),
+    (put("items", 1, "unit", "measure"), ("items.csv", 1, "unit", "")),
+    (put("prices", 1, "value", "price"), ("prices.csv", 1, "value", "")),
+    (add("outlets", "12", "Shop", "at the corner"), ("outlets.csv", 4, "", "")),
+]
+
+
+def problems(folder: Path) -> list[Cell]:
+    """The cells that the last check told."""
+    told = rows_of(folder / "check" / "problems.csv")
+    assert all(it["because"] and it["do"] for it in told)
+    return [(it["file"], int(it["row"]), it["column"], it["number"]) for it in told]
+
+
+def names(fault: tuple[Change, Cell]) -> str:
+    return "-".join(map(str, fault[1])).replace(".csv", "").replace(" ", "")
+
+
+@pytest.mark.parametrize(("change", "wanted"), FAULTS, ids=map(names, FAULTS))
+def test_a_planted_fault_is_told_by_its_cell(cpi: Cpi, tmp_path: Path, change: Change, wanted: Cell) -> None:
+    of = sheets()
+    change(of)
+    folder = written(tmp_path / "office", of)
+    ran = run(cpi, "take-in", folder, "--check")
+    assert (ran.status, ran.out) == (1, "")
+    assert wanted in problems(folder)
+    assert ran.err.endswith(f": {folder / 'check' / 'problems.csv'}\n")
+
+
+def test_a_fault_without_consequences_is_told_alone(cpi: Cpi, tmp_path: Path) -> None:
+    """No cell beside those that are wrong is told; and all rows of one kind are."""
+    of = sheets()
+    del of["releases"]
+    for change in (
+        put("prices", 5, "value", "0"),
+        put("prices", 6, "value", "x"),
+        put("items", 1, "unit", "Unit"),
+        add("outlets", "0", "x"),
+        add("outlets", "12", "x\x01"),
+    ):
+        change(of)
+    folder = written(tmp_path / "office", of)
+    assert run(cpi, "take-in", folder, "--check").status == 1
+    assert problems(folder) == [
+        ("outlets.csv", 4, "outlet", "10"),
+        ("outlets.csv", 5, "name", "10"),
+        ("prices.csv", 5, "value", "10"),
+        ("prices.csv", 6, "value", "10"),
+    ]
+
+
+def test_words_of_a_problem(cpi: Cpi, tmp_path: Path) -> None:
+    of = sheets()
+    for change in (
+        put("prices", 5, "value", "2100"),
+        put("prices", 6, "value", "84.5"),
+        put("classification", 7, "weight", "599999"),
+        put("items", 2, "unit", " 1 kg"),
+        add("outlets", " 12", "x"),
+    ):
+        change(of)
+    folder = written(tmp_path / "office", of)
+    assert run(cpi, "take-in", folder, "--check").status == 1
+    told = {(it["file"], it["row"]): it["because"] for it in rows_of(folder / "check" / "problems.csv")}
+    assert told["prices.csv", "5"].endswith(": 2100 after 200, where 100 to 400 are inside")
+    assert told["prices.csv", "6"] == "84.5 isn't whole in minor units (--minor)"
+    assert told["classification.csv", "9"] == "the plan of 2026: the weights don't add up to 1,000,000, but to 999,999"
+    assert told["outlets.csv", "4"].endswith("; a blank stands before or behind a text")
+    assert "releases.csv" in {file for file, _ in told}
+
+
+# ---- an office that is right
+
+
+def test_an_office_is_checked_and_its_records_are_written(cpi: Cpi, tmp_path: Path) -> None:
+    folder = written(tmp_path / "office", sheets())
+    summary = "2 items, 2 outlets, 2 collectors, 3 series, 1 plan, 3 windows, 1 hand-over, 8 quotes, 3 freezes\n"
+    assert run(cpi, "take-in", folder, "--check") == Ran(0, summary, "")
+    assert problems(folder) == []
+    assert sorted(os.listdir(tmp_path)) == ["office"]
+    ran = run(cpi, "take-in", folder, "--write", tmp_path / "records")
+    command = f"cpi replay --db office.db < {tmp_path / 'records' / 'records-01.csv'}\n"
+    assert ran == Ran(0, summary + command, "")
+    assert os.listdir(tmp_path / "records") == ["records-01.csv"]
+    assert (tmp_path / "records" / "records-01.csv").stat().st_mode & 0o777 == 0o600
+    office = replayed(cpi, tmp_path / "records", tmp_path / "office.db")
+    # by hand: rice (210 + 246) / (200 + 240) = 103.636364, flour 84 / 80 = 105; all items 103.636364 * 0.6 + 105 * 0.4
+    assert tables(cpi, office)["2026-01", 1].splitlines()[0] == "00,1000000,104.181818,104.181818,4.2,,0,All items"
+    again = run(cpi, "take-in", folder, "--write", tmp_path / "records")
+    assert again == Ran(
+        1, "", f"cpi-tools take-in: {tmp_path / 'records'} is there already: name a folder that isn't\n"
+    )
+
+
+def test_nothing_is_written_where_a_row_is_refused(cpi: Cpi, tmp_path: Path) -> None:
+    of = sheets()
+    put("prices", 5, "value", "2100")(of)
+    folder = written(tmp_path / "office", of)
+    assert run(cpi, "take-in", folder, "--write", tmp_path / "records").status == 1
+    assert sorted(os.listdir(tmp_path)) == ["office"]
+    assert problems(folder) == [("prices.csv", 5, "value", "26")]
+
+
+def test_history_outside_the_tolerance_is_confirmed_and_listed(cpi: Cpi, tmp_path: Path) -> None:
+    of = sheets()
+    put("prices", 5, "value", "2100")(of)
+    folder = written(tmp_path / "office", of)
+    words = ("take-in", folder, "--confirm-history")
+    assert run(cpi, *words, "--check").status == 0
+    page = (folder / "check" / "report.html").read_text(encoding="utf-8")
+    confirmed = page.partition("Confirmed outside the tolerance")[2]
+    assert "<td>prices.csv, row 5, value</td><td class=number>2100</td><td class=number>200</td>" in confirmed
+    assert run(cpi, *words, "--write", tmp_path / "records").status == 0
+    lines = (tmp_path / "records" / "records-01.csv").read_text(encoding="utf-8").splitlines()
+    assert [line for line in lines if "confirm" in line] == [f'1000,{KEY_7},import,"quote,1,2026-01,price,2100,confirm']
+    replayed(cpi, tmp_path / "records", tmp_path / "office.db")
+
+
+def test_of_two_prices_of_a_slot_the_later_row_stands_and_is_told(cpi: Cpi, tmp_path: Path) -> None:
+    of = sheets()
+    put("prices", 5, "value", "2100")(of)
+    add("prices", "2026-01", "7", "1", "price", "210", "")(of)
+    folder = written(tmp_path / "office", of)
+    ran = run(cpi, "take-in", folder, "--confirm-history", "--write", tmp_path / "records")
+    told = "prices.csv row 10 has the slot and the month 2026-01 of row 5 again: the later row stands"
+    assert (ran.status, ran.err) == (0, f"cpi-tools take-in: {told}\n")
+    office = replayed(cpi, tmp_path / "records", tmp_path / "office.db")
+    assert tables(cpi, office)["2026-01", 1].startswith("00,1000000,104.181818,")
+
+
+def test_prices_by_outlet_and_item_in_a_column_a_month(cpi: Cpi, tmp_path: Path) -> None:
+    """Semicolons, decimal commas, weights in money, no slots, no keys, no places but the codes of items."""
+    of = sheets()
+    del of["places"], of["plans"], of["handovers"]
+    of["collectors"] = [["collector"], ["7"], ["8"]]
+    of["series"] = [[cell for at, cell in enumerate(row) if at != 1] for row in of["series"]]
+    of["items"] = [[*row, code] for row, code in zip(of["items"], ["code", *AGGREGATES])]
+    of["prices"] = [
+        ["outlet", "item", "2025-12", "2026-01", "2026-02"],
+        ["10", "RICE", "2,00", "2,10", "stock"],
+        ["10", "FLOUR", "0,80", "0,84", "0,90"],
+        ["11", "RICE", "2,40", "comparable 2,46", "."],
+    ]
+    of["classification"][6][3], of["classification"][8][3] = "1000,5", "2001"
+    folder = written(tmp_path / "office", of, ";")
+    words = ("take-in", folder, "--minor", 100, "--decimal", ",", "--weights", "money")
+    assert run(cpi, *words, "--check").status == 0
+    weights = [[*row.values()] for row in rows_of(folder / "check" / "weights.csv")]
+    assert weights == [
+        ["2026", "01.1.1.1-01", "1000,5", "333333.333", "333333", "-0.333"],
+        ["2026", "01.1.1.2-01", "2001", "666666.667", "666667", "0.333"],
+    ]
+    assert run(cpi, *words, "--write", tmp_path / "records").status == 0
+    keys = tmp_path / "records" / "keys.csv"
+    assert keys.stat().st_mode & 0o777 == 0o600
+    drawn = {row["collector"]: row["key"] for row in rows_of(keys)}
+    assert [*drawn] == ["7", "8"] and len({*drawn.values()}) == 2 and all(len(key) == 32 for key in drawn.values())
+    office = replayed(cpi, tmp_path / "records", tmp_path / "office.db")
+    with stored_office(office) as stored:
+        assert stored.keys() == {int(number): key for number, key in drawn.items()}
+        assert [it[:4] for it in stored.assignments()] == [(7, 1, 10, "RICE"), (7, 2, 10, "FLOUR"), (8, 1, 11, "RICE")]
+        assert stored.plans()[0].places == {"FLOUR": "01.1.1.2-01", "RICE": "01.1.1.1-01"}
+    # (103.636364 * 333,333 + 105 * 666,667) / 1,000,000
+    assert tables(cpi, office)["2026-01", 1].startswith("00,1000000,104.545455,")
+
+
+def test_of_two_windows_of_a_month_the_later_row_stands_and_is_told(cpi: Cpi, tmp_path: Path) -> None:
+    of = sheets()
+    of["calendar"].insert(2, ["2026-01", "1000", "1500", "3000"])
+    folder = written(tmp_path / "office", of)
+    told = "calendar.csv row 4 has the month 2026-01 of row 3 again: the later row stands"
+    ran = run(cpi, "take-in", folder, "--check")
+    assert (ran.status, ran.err) == (0, f"cpi-tools take-in: {told}\n")
+
+
+def test_an_item_whose_series_cannot_be_told_apart(cpi: Cpi, tmp_path: Path) -> None:
+    of = sheets()
+    add("series", "8", "3", "10", "RICE", "2026-01", "2026-12")(of)
+    of["prices"] = [["outlet", "item", "2025-12", "2026-01"], ["10", "RICE", "200", "210"], ["12", "RICE", "5", "."]]
+    folder = written(tmp_path / "office", of)
+    assert run(cpi, "take-in", folder, "--check").status == 1
+    told = {(it["file"], it["row"], it["column"]): it["because"] for it in rows_of(folder / "check" / "problems.csv")}
+    assert told["prices.csv", "2", "item"] == "more than one slot prices that item in that outlet in 2026-01"
+    assert told["prices.csv", "3", "item"] == "no slot prices that item in that outlet in 2025-12"
+
+
+def test_a_price_after_a_hand_over_goes_to_the_new_slot(cpi: Cpi, tmp_path: Path) -> None:
+    of = sheets()
+    of["prices"] = [
+        ["outlet", "item", *(row[0] for row in of["calendar"][1:])],
+        ["10", "RICE", "200", "210", "stock"],
+        ["10", "FLOUR", "80", "84", "90"],
+        ["11", "RICE", "240", "comparable 246", ""],
+    ]
+    assert run(cpi, "take-in", written(tmp_path / "wide", of), "--write", tmp_path / "records").status == 0
+    assert run(cpi, "take-in", written(tmp_path / "long", sheets()), "--write", tmp_path / "others").status == 0
+    wide, long = (replayed(cpi, tmp_path / it, tmp_path / f"{it}.db") for it in ("records", "others"))
+    assert tables(cpi, wide) == tables(cpi, long)
+
+
+def test_civil_times_by_the_clock_of_the_program(cpi: Cpi, tmp_path: Path) -> None:
+    """Windows of an hour, one of them in the hour that the clock shows twice; freezes at their ends."""
+    of = sheets()
+    of["calendar"] = [
+        ["month", "opens", "closes", "publishes"],
+        ["2025-12", "2025-10-26T02:00", "2025-10-26T03:00", "2025-12-28T09:30"],
+        ["2026-01", "2026-01-01T06:00", "2026-01-01T06:01", "2026-01-28T09:30"],
+        ["2026-02", "2026-03-29T02:30", "2026-03-29T03:31", "2026-03-29T09:30"],
+    ]
+    of["releases"] = [["month", "carry"], ["2025-12", ""], ["2026-01", ""], ["2026-02", "01.1.1.1-01"]]
+    folder = written(tmp_path / "office", of)
+    zone = "CET-1CEST,M3.5.0,M10.5.0/3"
+    ran = run(cpi, "take-in", folder, "--zone", zone, "--write", tmp_path / "records")
+    assert ran.status == 0, (folder / "check" / "problems.csv").read_text()
+    assert ran.out.splitlines()[1].startswith(f"cpi replay --zone {zone} --db office.db < ")
+    office = replayed(cpi, tmp_path / "records", tmp_path / "office.db", zone)
+    with stored_office(office) as stored:
+        # 02:00 CEST and 03:00 CET of 2025-10-26; 03:30 and 03:31 CEST of 2026-03-29, since the clock leaves 02:30 out
+        assert [it[1:3] for it in stored.calendar()] == [
+            (1_761_436_800, 1_761_444_000),
+            (1_767_243_600, 1_767_243_660),
+            (1_774_747_800, 1_774_747_860),
+        ]
+        assert stored.frozen_moments()[202512, 1][0] == 1_761_444_000
+
+
+# ---- what isn't read
+
+
+def test_what_is_not_read_is_told(cpi: Cpi, tmp_path: Path) -> None:
+    of = sheets()
+    of["price"] = of.pop("prices")
+    of["items"] = [[*row, "x"] for row in of["items"]]
+    of["items"][0][5] = "remark"
+    folder = written(tmp_path / "office", of)
+    ran = run(cpi, "take-in", folder, "--check")
+    told = ["not read: price.csv", "items.csv: columns that aren't read: remark"]
+    assert ran.err.splitlines()[:2] == [f"cpi-tools take-in: {it}" for it in told]
+
+
+def test_codes_that_a_spreadsheet_took_for_numbers(cpi: Cpi, tmp_path: Path) -> None:
+    folder = written(tmp_path / "office", sheets())
+    book = openpyxl.Workbook()
+    for row in sheets()["classification"]:
+        year, code, title, weight = row
+        number = {"00": 0, "01": 1, "01.1": 1.1}.get(code, code.replace("01.1", "1.1"))
+        book.active.append([year, number if row[0] != "year" else "code", title, weight])
+    book.save(folder / "classification.xlsx")
+    (folder / "classification.csv").unlink()
+    ran = run(cpi, "take-in", folder, "--write", tmp_path / "records")
+    assert ran.status == 0
+    told = "8 codes of the classification lacked the first zero, as 0 in classification.xlsx row 2: it is read as 00\n"
+    assert ran.err == f"cpi-tools take-in: {told}"
+
+
+def test_weights_that_do_not_add_up_to_all_are_told(cpi: Cpi, tmp_path: Path) -> None:
+    of = sheets()
+    of["classification"][6][3], of["classification"][8][3] = "60", "39"
+    ran = run(cpi, "take-in", written(tmp_path / "office", of), "--check", "--weights", "percent")
+    told = "the weights of 2026 add up to 99.000, not to 100: they are scaled all the same"
+    assert (ran.status, ran.err) == (0, f"cpi-tools take-in: {told}\n")
+
+
+def test_the_page_has_texts_as_texts_and_no_key(cpi: Cpi, tmp_path: Path) -> None:
+    of = sheets()
+    put("prices", 5, "value", '<script>"&')(of)
+    of["<img>"] = [["x"]]
+    folder = written(tmp_path / "office", of)
+    run(cpi, "take-in", folder, "--check")
+    page = (folder / "check" / "report.html").read_text(encoding="utf-8")
+    assert "&lt;script&gt;&quot;&amp; is no number" in page and "<script" not in page
+    assert "&lt;img&gt;.csv" in page and "<img" not in page
+    assert KEY_7 not in page and "1 cell to look at; nothing is taken in." in page
+    for name in ("problems.csv", "report.html"):
+        assert (folder / "check" / name).stat().st_mode & 0o777 == 0o600
+
+
+def test_the_page_tells_each_month(cpi: Cpi, tmp_path: Path) -> None:
+    folder = written(tmp_path / "office", sheets())
+    run(cpi, "take-in", folder, "--check")
+    page = (folder / "check" / "report.html").read_text(encoding="utf-8")
+    row = page[page.index("<tr><td>2026-02") :].partition("</tr>")[0].replace(" class=number", "")
+    cells = row.replace("<tr><td>", "").replace("</td>", "").split("<td>")
+    # flour 90 / 80 = 112.5; rice is carried: 103.636364 * 0.6 + 112.5 * 0.4
+    assert cells == ["2026-02", "1", "0", "0", "1", "0", "1", "frozen 01.1.1.1-01", "107.181818"]
+
+
+# ---- onto an office
+
+
+@pytest.fixture
+def standing(cpi: Cpi, tmp_path: Path) -> Path:
+    """The office of the spreadsheets, in a file."""
+    assert run(cpi, "take-in", written(tmp_path / "before", sheets()), "--write", tmp_path / "records").status == 0
+    return replayed(cpi, tmp_path / "records", tmp_path / "office.db")
+
+
+def sums(file: Path) -> dict[str, str]:
+    """The SHA-256 of a file and of what lies beside it under its name."""
+    return {it.name: hashlib.sha256(it.read_bytes()).hexdigest() for it in file.parent.glob(f"{file.name}*")}
+
+
+def test_more_is_added_to_an_office_whose_file_keeps_its_bytes(cpi: Cpi, standing: Path, tmp_path: Path) -> None:
+    """An outlet, a series whose slot and key the office has or draws, a month and its prices."""
+    of = {
+        "outlets": [["outlet", "name"], ["12", "Kiosk"]],
+        "collectors": [["collector"], ["8"], ["9"]],
+        "series": [["collector", "outlet", "item", "first", "last"],
+                   ["8", "12", "RICE", "2026-03", "2026-12"], ["9", "12", "FLOUR", "2026-03", "2026-12"]],
+        "calendar": [["month", "opens", "closes", "publishes"], ["2026-03", "4000", "5000", "6000"]],
+        "prices": [["outlet", "item", "2026-03"], ["10", "RICE", "220"], ["10", "FLOUR", "91"], ["12", "RICE", "300"]],
+    }  # fmt: skip
+    before = sums(standing)
+    folder = written(tmp_path / "more", of)
+    assert run(cpi, "take-in", folder, "--onto", standing, "--check").status == 0
+    assert sums(standing) == before
+    page = (folder / "check" / "report.html").read_text(encoding="utf-8")
+    assert f"Judged by cpi over a copy of {standing}." in page
+    ran = run(cpi, "take-in", folder, "--onto", standing, "--write", tmp_path / "added")
+    assert sums(standing) == before
+    assert ran.out.splitlines()[1] == f"cpi replay --db {standing} < {tmp_path / 'added' / 'records-01.csv'}"
+    assert [row["collector"] for row in rows_of(tmp_path / "added" / "keys.csv")] == ["9"]
+    with stored_office(replayed(cpi, tmp_path / "added", standing)) as stored:
+        assert stored.quotes(202603) == {(7, 1): ("price", 220), (8, 2): ("price", 91), (8, 3): ("price", 300)}
+        assert stored.keys()[8] == KEY_8
+
+
+def test_what_an_office_has_is_done_again(cpi: Cpi, standing: Path, tmp_path: Path) -> None:
+    """The same spreadsheets without freezes: slots that aren't named are those that stand, and so are keys."""
+    of = sheets()
+    del of["releases"], of["handovers"], of["prices"]
+    of["collectors"] = [["collector"], ["7"], ["8"]]
+    of["series"] = [[cell for at, cell in enumerate(row) if at != 1] for row in of["series"] if row[3] != "FLOUR"]
+    before = sums(standing)
+    assert run(cpi, "take-in", written(tmp_path / "again", of), "--onto", standing, "--check").status == 0
+    assert sums(standing) == before
+
+
+@pytest.mark.parametrize(
+    ("change", "wanted"),
+    [
+        (add("classification", "2026", "02", "Drinks", ""), None),
+        (put("classification", 7, "weight", "599998"), ("classification.csv", 9, "weight", "44 fault 4")),
+        (put("classification", 7, "title", "Rice!"), ("classification.csv", 2, "year", "45")),
+        (put("calendar", 3, "publishes", "9000"), ("calendar.csv", 3, "month", "50")),
+        (put("calendar", 4, "publishes", "4500"), ("calendar.csv", 4, "month", "50")),
+        (add("handovers", "2026-02", "7", "1", "8", "9"), ("handovers.csv", 3, "month", "50")),
+        (add("handovers", "2026-03", "8", "2", "7", "9"), ("handovers.csv", 3, "month", "51")),
+        (put("items", 2, "text", "Rice, white"), ("items.csv", 2, "item", "40")),
+        (put("outlets", 2, "name", "Shop"), ("outlets.csv", 2, "outlet", "40")),
+        (put("collectors", 2, "key", "9" * 32), ("collectors.csv", 2, "key", "40")),
+    ],
+)
+def test_what_an_office_refuses(
+    cpi: Cpi, standing: Path, tmp_path: Path, change: Change, wanted: Optional[Cell]
+) -> None:
+    sent = [
+        record(0, "desk", "calendar", "2026-03", 4000, 5000, 6000),
+        record(4500, KEY_8, "quote", 2, "2026-03", "price", 91),
+    ]
+    assert not [it for it in cpi.replay(sent, db=standing) if "refused" in it]
+    of = sheets()
+    del of["releases"], of["series"], of["prices"]
+    change(of)
+    folder = written(tmp_path / "again", of)
+    ran = run(cpi, "take-in", folder, "--onto", standing, "--check")
+    assert (ran.status, problems(folder)) == ((1, [wanted]) if wanted else (0, []))
+
+
+def test_a_file_that_is_no_office_is_one_line(cpi: Cpi, tmp_path: Path) -> None:
+    (tmp_path / "no.db").write_text("no office")
+    ran = run(cpi, "take-in", written(tmp_path / "office", sheets()), "--onto", tmp_path / "no.db", "--check")
+    assert ran.status == 1 and ran.err.startswith("cpi-tools take-in: cpi: database failed (")
+    assert (ran.out, ran.err.count("\n")) == ("", 1)
+
+
+@pytest.mark.parametrize("words", [[], ["--check", "--write", "x"], ["--check", "--minor", "0"], ["--check", "--zone"]])
+def test_words_that_are_not_the_tools(cpi: Cpi, tmp_path: Path, words: list[str]) -> None:
+    with pytest.raises(SystemExit) as told:
+        run(cpi, "take-in", tmp_path, *words)
+    assert told.value.code == 2
+
+
+def test_a_zone_that_is_none_is_one_line(cpi: Cpi, tmp_path: Path) -> None:
+    ran = run(cpi, "take-in", written(tmp_path / "office", sheets()), "--check", "--zone", "Mars")
+    assert (ran.status, ran.out) == (1, "") and ran.err.startswith("cpi-tools take-in: cpi: bad zone (")
+
+
+# ---- sizes
+
+
+def test_more_records_than_one_run_takes(cpi: Cpi, tmp_path: Path) -> None:
+    """Two bundles a run: what several runs say is what one says."""
+    of = sheets()
+    put("prices", 6, "value", "8400")(of)
+    source = Source(written(tmp_path / "office", of), SHEETS)
+    told = []
+    for most in (1_000_000, 2):
+        taken = OfficeFiles(source, Options(), NOTHING, lambda _: {}, is_new=True).in_order()
+        assert len(taken.bundles) > 10
+        told.append(Judge(cpi, "UTC0", False, ()).judge(taken, most=most))
+    assert told[0] == told[1] and [it.number for it in told[0].problems] == ["26", "49 fault 2", "46"]
+
+
+def test_imports_and_files_are_cut_at_their_limits() -> None:
+    rows = [Sent(["outlet", str(at), "x"], Origin("outlets.csv", at), ("outlet", "name")) for at in range(40_001)]
+    assert [len(it.rows) for it in bundled(0, "desk", rows)] == [20_000, 20_000, 1]
+    assert [[*it] for it in parted("abcde", 2)] == [["a", "b"], ["c", "d"], ["e"]]
+    assert Bundle(5, "desk", rows[:1], is_single=True).line() == "5,desk,outlet,0,x"
+
+
+def test_a_plan_with_too_many_rows_is_told(cpi: Cpi, tmp_path: Path) -> None:
+    of = sheets()
+    of["classification"] += [["2026", "02", "Drinks", ""]] * 20_000
+    folder = written(tmp_path / "office", of)
+    assert run(cpi, "take-in", folder, "--check").status == 1
+    told = rows_of(folder / "check" / "problems.csv")[0]
+    assert (told["file"], told["row"], told["number"]) == ("classification.csv", "2", "10")
+    assert told["because"] == "the plan of 2026 has 20,012 rows, and 20,000 are the most"

@@ -1,0 +1,207 @@
+"""The judge of what was taken in: the program itself, over an office in memory or over a copy. No rule stands here."""
+
+from __future__ import annotations
+
+import tempfile
+from collections import Counter, defaultdict
+from collections.abc import Collection, Iterable, Iterator
+from dataclasses import dataclass, field
+from pathlib import Path
+from typing import NamedTuple, Optional
+
+from .odd_cells import odd_columns
+from .office_files import Taken
+from .plan_faults import faulty_cells, has_too_many_rows
+from .program import LAST_MOMENT, Cpi, Reply, Session, record
+from .sent import DESK, MOST_RECORDS, MOST_ROWS, Bundle, Problem, Sent, bundled
+from .sheets import Origin
+from .stored import stored_office
+from .terminal import month_text
+from .words import COLLECTOR, Words, refusal_words
+
+MOST_BUNDLES = MOST_RECORDS // 3
+"""Bundles of one run: beside its record one may be sent again with `confirm`, and a table be asked for."""
+
+# ---- moments
+
+
+def moments_of(cpi: Cpi, texts: Iterable[str], zone: str) -> dict[str, int]:
+    """The moments of civil times, in seconds since 1970 UTC, as the program reads them by the rule of a clock.
+
+    Each is sent as the opening of a window of a month of its own, in an office that is thrown away. What the program
+    can't read is left out.
+    """
+    civil = sorted(text for text in set(texts) if "T" in text)
+    months = [f"{year:04}-{month:02}" for year in range(2000, 2200) for month in range(1, 13)]
+    found: dict[str, int] = {}
+    for start in range(0, len(civil), len(months)):
+        asked = dict(zip(months, civil[start : start + len(months)]))
+        sent = [record(0, DESK, "calendar", it, text, LAST_MOMENT, LAST_MOMENT) for it, text in asked.items()]
+        with tempfile.TemporaryDirectory(prefix="cpi-tools-") as folder:
+            clock = Path(folder) / "clock.db"
+            cpi.replay(sent, db=clock, zone=zone)
+            with stored_office(clock) as stored:
+                found.update((asked[month_text(it.month)], it.opens) for it in stored.calendar())
+    return found
+
+
+# ---- what became of it
+
+
+class Confirmed(NamedTuple):
+    """A price outside the tolerance that was confirmed, in minor units as its last price and the two bounds are."""
+
+    origin: Origin
+    price: str
+    last: int
+    low: int
+    high: int
+
+
+@dataclass
+class Month:
+    """What would be done in a month: quotes taken by their marks, hand-overs, rows refused, and what each freeze was
+    told. The level of all items is in millionths of a point, None where no table has rows."""
+
+    quotes: Counter[str] = field(default_factory=Counter)
+    handed: int = 0
+    refused: int = 0
+    freezes: list[str] = field(default_factory=list)
+    level: Optional[str] = None
+
+
+@dataclass
+class Judged:
+    """What the program said: problems in the order in which rows are sent, the rows that were taken by their words, the
+    prices that were confirmed, and the months."""
+
+    problems: list[Problem] = field(default_factory=list)
+    taken: Counter[str] = field(default_factory=Counter)
+    confirmed: list[Confirmed] = field(default_factory=list)
+    months: dict[str, Month] = field(default_factory=lambda: defaultdict(Month))
+
+
+MONTH_OF = {"quote": 2, "calendar": 1, "handover": 5, "freeze": 1}
+"""Which field of a record is its month."""
+
+
+class Judge:
+    """Sends what was taken, record by record, and keeps what the program says to each row."""
+
+    def __init__(self, cpi: Cpi, zone: str, is_confirmed: bool, items: Collection[str]):
+        """`is_confirmed` lets prices outside the tolerance be sent again with `confirm`; `items` are those that the
+        office has before."""
+        self._cpi, self._zone, self._is_confirmed = cpi, zone, is_confirmed
+        self._items = {*items}
+        self._refused: list[tuple[Bundle, Sent, Reply]] = []
+        self._told = Judged()
+
+    def judge(self, taken: Taken, db: Optional[Path] = None, most: int = MOST_BUNDLES) -> Judged:
+        """What the program says to all of it, over an office in memory, or over a copy that is changed by that.
+
+        Where a price was confirmed, its row in `taken` is with `confirm` from then on. A run of the program gets at
+        most so many bundles; where it takes several runs the office is a file that is thrown away.
+        """
+        parts = [taken.bundles[start : start + most] for start in range(0, len(taken.bundles), most)]
+        with tempfile.TemporaryDirectory(prefix="cpi-tools-") as folder:
+            file = db or (Path(folder) / "judged.db" if len(parts) > 1 else None)
+            for part in parts:
+                with self._cpi.session(db=file, zone=self._zone) as session:
+                    for bundle in part:
+                        self._send(session, bundle)
+        self._told.problems = [*taken.problems, *self._problems()]
+        return self._told
+
+    def _send(self, session: Session, bundle: Bundle) -> None:
+        outside = []
+        for row, reply in bundle.answered(session.ask(bundle.line())):
+            if reply.get("refused") == 26 and row.is_confirmable and self._is_confirmed:
+                outside.append(row)
+                bounds = (reply[name] for name in ("last", "low", "high"))
+                self._told.confirmed.append(Confirmed(row.origin.at(row.column(26)), row.fields[4], *bounds))
+            else:
+                self._note(bundle, row, reply)
+        for row in outside:
+            row.fields.append("confirm")
+        for again in bundled(0, bundle.caller, outside):
+            again.at = bundle.at
+            self._send(session, again)
+        if bundle.is_single and bundle.rows[0].word == "freeze":
+            self._look_at_table(session, bundle.rows[0].fields[1])
+
+    def _note(self, bundle: Bundle, row: Sent, reply: Reply) -> None:
+        """Counts a row by its reply, or keeps its refusal."""
+        month = None if bundle.year or row.word not in MONTH_OF else self._told.months[row.fields[MONTH_OF[row.word]]]
+        is_refused = "refused" in reply
+        if is_refused:
+            self._refused.append((bundle, row, reply))
+        else:
+            self._told.taken["plan" if bundle.year else row.word] += 1
+            self._items |= {row.fields[1]} if row.word == "item" else set()
+        if month is None:
+            return
+        month.refused += is_refused
+        if row.word == "freeze":
+            month.freezes.append(number_of(reply) if is_refused else " ".join(["frozen", *row.fields[2:]]))
+        elif row.word == "quote" and not is_refused:
+            month.quotes[row.fields[3]] += 1
+        elif row.word == "handover" and not is_refused:
+            month.handed += 1
+
+    def _look_at_table(self, session: Session, month: str) -> None:
+        """Notes the level of all items in the month's table."""
+        table = session.ask(record(LAST_MOMENT, "public", "table", month, "csv")).get("table", "")
+        if table:
+            self._told.months[month].level = table.split(",", 4)[3]
+
+    # ---- refusals at their cells
+
+    def _problems(self) -> Iterator[Problem]:
+        """Each refusal with the cells that it speaks of."""
+        odd = iter(odd_columns(self._cpi, [row for bundle, row, reply in self._refused if is_unread(bundle, reply)]))
+        for bundle, row, reply in self._refused:
+            if bundle.year:
+                yield from self._plan_problems(bundle, reply)
+            else:
+                column = next(odd) or row.own if is_unread(bundle, reply) else row.column(reply["refused"])
+                words = words_of(row, reply, column)
+                yield Problem(row.origin.at(column), number_of(reply), words.because, words.do)
+
+    def _plan_problems(self, plan: Bundle, reply: Reply) -> Iterator[Problem]:
+        words = refusal_words(reply, DESK, "plan")
+        because = f"the plan of {plan.year}: {words.because}"
+        if "found" in reply:
+            because += f", but to {reply['found']:,}"
+        if "code" in reply:
+            because += f": {reply['code']}"
+        if reply["refused"] == 10 and has_too_many_rows(plan):
+            because = f"the plan of {plan.year} has {len(plan.rows):,} rows, and {MOST_ROWS:,} are the most"
+        for origin in faulty_cells(self._cpi, plan, reply, self._items):
+            yield Problem(origin, number_of(reply), because, words.do)
+
+
+def is_unread(bundle: Bundle, reply: Reply) -> bool:
+    """Whether a row was refused since it is no record; a plan is looked at as a whole."""
+    return not bundle.year and reply["refused"] == 10
+
+
+def number_of(reply: Reply) -> str:
+    """The number of a refusal with its fault, as the guides write it: `26`, `49 fault 2`."""
+    fault = f" fault {reply['fault']}" if "fault" in reply else ""
+    return f"{reply['refused']}{fault}"
+
+
+def words_of(row: Sent, reply: Reply, column: str) -> Words:
+    """Why a row was refused at a column, with what the reply tells beside, and what to do."""
+    because, do = refusal_words(reply, COLLECTOR if row.word == "quote" else DESK, row.word)
+    if reply["refused"] == 10:
+        because = row.hint or because
+        if any(text != text.strip() for text in row.fields):
+            because += "; a blank stands before or behind a text"
+        do = f"see what the column {column} takes (docs/CHANGING-OVER.md)"
+    elif reply["refused"] == 26:
+        because += f": {row.fields[4]} after {reply['last']}, where {reply['low']} to {reply['high']} are inside"
+        do = "look again; mend it, or confirm it: by a column confirm, or all that are outside by --confirm-history"
+    elif "code" in reply:
+        because += f": {reply['code']}"
+    return Words(because, do)
