@@ -160,6 +160,28 @@ def test_a_fault_without_consequences_is_told_alone(cpi: Cpi, tmp_path: Path) ->
     ]
 
 
+@pytest.mark.parametrize(
+    ("changes", "wanted"),
+    [
+        ([put("places", 3, "item", "TEA")], ("places.csv", 3, "item", "44 fault 6")),
+        (
+            [put("plans", 2, "reference", "2025-12"), add("plans", "2026", "2025-12")],
+            ("plans.csv", 3, "reference", "44 fault 10"),
+        ),
+        ([put("places", 3, "code", "01.1.1.2")], ("places.csv", 3, "code", "44 fault 2")),
+        ([put("prices", 5, "mark", "sale"), put("prices", 5, "value", "x")], ("prices.csv", 5, "mark", "10")),
+    ],
+)
+def test_of_rows_of_a_kind_the_faulty_alone(cpi: Cpi, tmp_path: Path, changes: list[Change], wanted: Cell) -> None:
+    of = sheets()
+    del of["releases"]
+    for change in changes:
+        change(of)
+    folder = written(tmp_path / "office", of)
+    assert run(cpi, "take-in", folder, "--check").status == 1
+    assert problems(folder) == [wanted]
+
+
 def test_words_of_a_problem(cpi: Cpi, tmp_path: Path) -> None:
     of = sheets()
     for change in (
@@ -445,6 +467,20 @@ def test_what_an_office_has_is_done_again(cpi: Cpi, standing: Path, tmp_path: Pa
     before = sums(standing)
     assert run(cpi, "take-in", written(tmp_path / "again", of), "--onto", standing, "--check").status == 0
     assert sums(standing) == before
+
+
+def test_two_series_that_are_alike_keep_their_slots(cpi: Cpi, standing: Path, tmp_path: Path) -> None:
+    """An office may have two prices of one item in one outlet."""
+    alike = ["8", "11", "FLOUR", "2026-03", "2026-12"]
+    of = {"series": [["collector", "outlet", "item", "first", "last"], alike, alike]}
+    folder = written(tmp_path / "more", of)
+    for number, slots in enumerate(([1, 2, 3, 4], [1, 2, 3, 4])):
+        records = tmp_path / f"added-{number}"
+        assert run(cpi, "take-in", folder, "--onto", standing, "--write", records).status == 0
+        with stored_office(replayed(cpi, records, standing)) as stored:
+            assert sorted(it.slot for it in stored.assignments() if it.collector == 8) == slots
+    lines = [(tmp_path / f"added-{number}/records-01.csv").read_text(encoding="utf-8") for number in range(2)]
+    assert lines[0] == lines[1]
 
 
 @pytest.mark.parametrize(

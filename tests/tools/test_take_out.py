@@ -49,6 +49,8 @@ def test_out_and_in_again(cpi: Cpi, office: Path, tmp_path: Path) -> None:
     )
     assert ran.out.startswith(f"{tmp_path / 'files'}: items 4, outlets 1, collectors 3, series 208, ")
     assert {stat.S_IMODE(it.stat().st_mode) for it in (tmp_path / "files").iterdir()} == {0o600}
+    corrected = [row for row in rows_of(tmp_path / "files/prices.csv") if row["revision"] == "2"]
+    assert [(row["month"], row["slot"]) for row in corrected] == [("2025-03", "1"), ("2025-03", "2")]
     other = again(cpi, tmp_path / "files")
     assert len(tables(cpi, other)) == TABLES and tables(cpi, other) == tables(cpi, office)
     # (of an earlier revision the window isn't stored, and where it is the last one's nothing differs)

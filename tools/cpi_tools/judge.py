@@ -115,7 +115,7 @@ class Judge:
     def _send(self, session: Session, bundle: Bundle) -> None:
         outside = []
         for row, reply in bundle.answered(session.ask(bundle.line())):
-            if reply.get("refused") == 26 and row.is_confirmable and self._is_confirmed:
+            if reply.get("refused") == 26 and self._is_confirmed:
                 outside.append(row)
                 bounds = (reply[name] for name in ("last", "low", "high"))
                 self._told.confirmed.append(Confirmed(row.origin.at(row.column(26)), row.fields[4], *bounds))

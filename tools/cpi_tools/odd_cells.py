@@ -41,7 +41,7 @@ def are_read(cpi: Cpi, rows: Sequence[Sequence[str]]) -> list[bool]:
 
 
 def tried(row: Sent) -> Iterator[tuple[str, list[str]]]:
-    """The column of each cell, with the row up to it; a mark is tried with a price and with a reason."""
+    """The name of each field, with the row up to it; a mark is tried with a price and with a reason."""
     good, given = GOOD[row.word], row.fields[1:]
     names = FIELDS[row.word]
     for at in range(len(given)):
@@ -61,8 +61,8 @@ def odd_columns(cpi: Cpi, rows: Sequence[Sent]) -> list[str]:
         can: dict[str, bool] = {}
         for name, _ in own:
             is_read = next(read)
-            # (one of the two trials of a mark is enough, but each code of a carry list counts)
-            can[name] = can.get(name, False) or is_read if name == "mark" else can.get(name, True) and is_read
+            # (of the two trials of a mark one is enough)
+            can[name] = is_read or (name == "mark" and can.get(name, False))
         odd = next((name for name, is_read in can.items() if not is_read), "")
         found.append(row.named(odd) if odd else "")
     return found

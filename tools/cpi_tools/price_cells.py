@@ -172,13 +172,11 @@ class PriceCells:
             value, hint = self._price(value)
         confirm = [cell.row["confirm"]] if cell.row["confirm"] else []
         columns = (column, cell.month_column, mark_column, cell.text_column, "confirm")
-        is_confirmable = mark in (PRICE, COMPARABLE) and not confirm
         return Sent(
             ["quote", slot, cell.month, mark, value.strip(), *confirm],
             cell.row.origin,
             columns,
             "collector" if column == "slot" else "item",
-            is_confirmable,
             hint,
         )
 

@@ -85,15 +85,13 @@ class Sent:
     """A row of an import or a plan, or a record by itself: its word and fields, where it came from, and the name of the
     column that each field came from.
 
-    `own` is the column that tells who sends it, or when. `is_confirmable` says that a price may be sent again with
-    `confirm` where it is outside the tolerance. `hint` is what is known of a text that the program can't read.
+    `own` is the column that tells who sends it, or when; `hint` is what is known of a text that the program can't read.
     """
 
     fields: list[str]
     origin: Origin
     columns: tuple[str, ...]
     own: str = ""
-    is_confirmable: bool = False
     hint: str = ""
 
     @property
