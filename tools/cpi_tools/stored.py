@@ -11,8 +11,19 @@ from collections.abc import Iterator
 from pathlib import Path
 from typing import Any, NamedTuple, Optional
 
+from .terminal import Fault
+
 Series = tuple[int, int]
 """The collector and the slot that a series was first given to."""
+
+COMPARABLE = ("price", "comparable")
+"""The marks of a price that is compared with the one before."""
+
+OBSERVED = (*COMPARABLE, "other")
+"""The marks of a price."""
+
+REASONS = ("stock", "closed", "gone", "refused")
+"""The marks of a missing price."""
 
 
 class Release(NamedTuple):
@@ -64,6 +75,50 @@ class Window(NamedTuple):
     opens: int
     closes: int
     publishes: int
+
+
+class Item(NamedTuple):
+    """An item: its code, its text and unit, the tolerance in thousandths of the last price."""
+
+    code: str
+    text: str
+    unit: str
+    low: int
+    high: int
+
+
+Slot = tuple[int, int]
+"""A collector and a slot of that collector's, whichever series is in it."""
+
+
+class Assignment(NamedTuple):
+    """What a slot prices from its first to its last month, and the series that this is."""
+
+    collector: int
+    slot: int
+    outlet: int
+    item: str
+    first_month: int
+    last_month: int
+    series: Series
+
+
+class Plan(NamedTuple):
+    """A year's plan: by code the titles of its nodes and their weights in parts per million, as sent and added up;
+    by item its aggregate; the reference month, if there is one."""
+
+    year: int
+    titles: dict[str, str]
+    weights: dict[str, int]
+    places: dict[str, str]
+    reference: Optional[int]
+
+
+class Quote(NamedTuple):
+    """What was found: a mark and the price in minor units, or the reason why there is none and 0."""
+
+    mark: str
+    value: int
 
 
 class StoredOffice:
@@ -127,6 +182,54 @@ class StoredOffice:
         """The calendar, by month."""
         return [Window(*row) for row in self.ask("SELECT month, opens, closes, publishes FROM calendar ORDER BY month")]
 
+    # ---- what was registered and planned
+
+    def keys(self) -> dict[int, str]:
+        """The key of each collector; it is never printed."""
+        return dict(self.ask("SELECT number, key FROM collector ORDER BY number"))  # type: ignore[arg-type]
+
+    def outlets(self) -> dict[int, str]:
+        """The name of each outlet."""
+        return dict(self.ask("SELECT number, name FROM outlet ORDER BY number"))  # type: ignore[arg-type]
+
+    def items(self) -> list[Item]:
+        """The items, by code."""
+        return [Item(*row) for row in self.ask("SELECT code, text, unit, low, high FROM item ORDER BY code")]
+
+    def assignments(self) -> list[Assignment]:
+        """All slots, in the order in which each series went from one to the next."""
+        rows = self.ask(
+            "SELECT collector, slot, outlet, item, first_month, last_month, series_collector, series_slot"
+            " FROM assignment_2 ORDER BY series_collector, series_slot, first_month"
+        )
+        return [Assignment(*row[:6], (row[6], row[7])) for row in rows]  # type: ignore[call-arg]
+
+    def plans(self) -> list[Plan]:
+        """The plans, by year."""
+        references: dict[int, int] = dict(self.ask("SELECT year, month FROM plan_ref"))  # type: ignore[arg-type]
+        found: dict[int, Plan] = {}
+        for year, code, title, weight in self.ask("SELECT year, code, title, weight FROM node ORDER BY year, code"):
+            plan = found.setdefault(year, Plan(year, {}, {}, {}, references.get(year)))
+            plan.titles[code] = title
+            plan.weights[code] = weight
+        for year, item, code in self.ask("SELECT year, item, code FROM plan_item ORDER BY year, item"):
+            found[year].places[item] = code
+        return [*found.values()]
+
+    def frozen_moments(self) -> dict[tuple[int, int], tuple[int, int]]:
+        """By month and revision, when it was frozen and when it is published, in seconds since 1970 UTC."""
+        rows = self.ask("SELECT month, revision, frozen_at, publishes FROM release_2")
+        return {(month, revision): (frozen_at, publishes) for month, revision, frozen_at, publishes in rows}
+
+    def quotes(self, month: int) -> dict[Slot, Quote]:
+        """The stored quotes of a month, by the collector and the slot that they were sent for."""
+        text = "SELECT collector, slot, mark, value FROM quote_2 WHERE month = ?"
+        return {(row[0], row[1]): Quote(row[2], row[3]) for row in self.ask(text, month)}
+
+    def months_of_quotes(self) -> list[int]:
+        """The months of which there is a stored quote."""
+        return [month for (month,) in self.ask("SELECT DISTINCT month FROM quote_2 ORDER BY month")]
+
     # ---- series and quotes
 
     def series(self) -> dict[Series, tuple[str, int]]:
@@ -158,6 +261,60 @@ class StoredOffice:
             """
         )
         return lost, other
+
+    # ---- what stands for a month
+
+    def receipts(self, month: int) -> dict[Slot, int]:
+        """The receipt of each stored quote of a month, by the slot that it was sent for."""
+        text = "SELECT collector, slot, receipt FROM quote_2 WHERE month = ?"
+        return {(collector, slot): receipt for collector, slot, receipt in self.ask(text, month)}
+
+    def copied_prices(self) -> dict[Slot, int]:
+        """The price that each slot was handed over with, where there was one, in minor units."""
+        text = "SELECT collector, slot, copied FROM assignment_2 WHERE copied IS NOT NULL"
+        return {(collector, slot): copied for collector, slot, copied in self.ask(text)}
+
+    def last_prices(self, month: int) -> dict[Slot, int]:
+        """The last price of each slot before a month, in minor units, where it has one."""
+        text = "SELECT collector, slot, value, max(month) FROM quote_2 WHERE month < ? AND value > 0"
+        rows = self.ask(f"{text} GROUP BY collector, slot", month)
+        return {**self.copied_prices(), **{(collector, slot): value for collector, slot, value, _ in rows}}
+
+    def months_of_last_prices(self, month: int) -> dict[Series, int]:
+        """The latest month before this one in which each series was observed, whoever had it."""
+        rows = self.ask(
+            "SELECT a.series_collector, a.series_slot, max(q.month) FROM quote_2 AS q"
+            " JOIN assignment_2 AS a ON a.collector = q.collector AND a.slot = q.slot"
+            " WHERE q.month < ? AND q.value > 0 GROUP BY a.series_collector, a.series_slot",
+            month,
+        )
+        return {(collector, slot): latest for collector, slot, latest in rows}
+
+    def latest_quotes(self, month: int) -> dict[Slot, tuple[int, str]]:
+        """Month and mark of the latest quote of each slot up to a month, where it has one."""
+        text = "SELECT collector, slot, mark, max(month) FROM quote_2 WHERE month <= ? GROUP BY collector, slot"
+        return {(collector, slot): (latest, mark) for collector, slot, mark, latest in self.ask(text, month)}
+
+
+class NotAnOffice(Fault):
+    """A file without the tables of an office; one line."""
+
+
+SCHEMA = 2
+"""The tables that are read here."""
+
+
+@contextlib.contextmanager
+def read_copy(copy: Path) -> Iterator[StoredOffice]:
+    """The rows of a copy that nothing else has open. Raises NotAnOffice where it isn't the file of an office."""
+    try:
+        with stored_office(copy) as office:
+            versions = office.ask("SELECT number FROM version")
+            if versions != [(SCHEMA,)]:
+                raise NotAnOffice(f"{copy.name} has tables of an earlier cpi: open it once with this one")
+            yield office
+    except sqlite3.Error as fault:
+        raise NotAnOffice(f"{copy.name} can't be read as an office: {fault}") from fault
 
 
 @contextlib.contextmanager
