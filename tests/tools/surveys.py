@@ -13,7 +13,7 @@ import io
 import random
 from collections.abc import Iterator
 from pathlib import Path
-from typing import NamedTuple
+from typing import NamedTuple, Optional
 
 from cpi_tools.__main__ import main
 from cpi_tools.program import Cpi, Reply, Session, record
@@ -40,11 +40,12 @@ class Ran(NamedTuple):
     err: str
 
 
-def run(cpi: Cpi, *words: object) -> Ran:
-    """Runs cpi-tools in this process, with the program that is tested."""
+def run(cpi: Optional[Cpi], *words: object) -> Ran:
+    """Runs cpi-tools in this process, with the program that is tested where the tool runs one."""
     out, err = io.StringIO(), io.StringIO()
+    program = ["--program", str(cpi.path)] if cpi else []
     with contextlib.redirect_stdout(out), contextlib.redirect_stderr(err):
-        status = main([*map(str, words), "--program", str(cpi.path)])
+        status = main([*map(str, words), *program])
     return Ran(status, out.getvalue(), err.getvalue())
 
 

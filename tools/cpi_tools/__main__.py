@@ -6,10 +6,10 @@ import sys
 from collections.abc import Sequence
 from typing import Optional
 
-from . import backup, desk, drill, probe
+from . import backup, desk, drill, explain, probe
 from .terminal import Fault, ToolWords, ends_by_signals
 
-TOOLS = (backup, desk, drill, probe)
+TOOLS = (backup, desk, drill, explain, probe)
 
 
 def parser() -> ToolWords:

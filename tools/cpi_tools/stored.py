@@ -290,6 +290,24 @@ class StoredOffice:
         )
         return {(collector, slot): latest for collector, slot, latest in rows}
 
+    def frozen_of(self, series: Series) -> dict[tuple[int, int], Frozen]:
+        """What was frozen of a series, by month and revision."""
+        text = "SELECT month, revision, item, last_month, mark, value FROM frozen_2 WHERE collector = ? AND slot = ?"
+        return {(row[0], row[1]): Frozen(*row[2:]) for row in self.ask(text, *series)}
+
+    def carried_of(self, series: Series) -> dict[tuple[int, int], Carried]:
+        """What a series counted as, by month and revision."""
+        text = (
+            "SELECT month, revision, item, last_month, ticks, knum, kden, observed, imputed FROM carried_2"
+            " WHERE collector = ? AND slot = ?"
+        )
+        return {(row[0], row[1]): Carried(*row[2:]) for row in self.ask(text, *series)}
+
+    def quotes_of_slot(self, slot: Slot) -> dict[int, tuple[str, int, int]]:
+        """Mark, price and receipt of each quote of a slot, by month."""
+        text = "SELECT month, mark, value, receipt FROM quote_2 WHERE collector = ? AND slot = ?"
+        return {month: (mark, value, receipt) for month, mark, value, receipt in self.ask(text, *slot)}
+
     def latest_quotes(self, month: int) -> dict[Slot, tuple[int, str]]:
         """Month and mark of the latest quote of each slot up to a month, where it has one."""
         text = "SELECT collector, slot, mark, max(month) FROM quote_2 WHERE month <= ? GROUP BY collector, slot"
