@@ -11,8 +11,19 @@ from collections.abc import Iterator
 from pathlib import Path
 from typing import Any, NamedTuple, Optional
 
+from .terminal import Fault
+
 Series = tuple[int, int]
 """The collector and the slot that a series was first given to."""
+
+COMPARABLE = ("price", "comparable")
+"""The marks of a price that is compared with the one before."""
+
+OBSERVED = (*COMPARABLE, "other")
+"""The marks of a price."""
+
+REASONS = ("stock", "closed", "gone", "refused")
+"""The marks of a missing price."""
 
 
 class Release(NamedTuple):
@@ -254,6 +265,78 @@ class StoredOffice:
             """
         )
         return lost, other
+
+    # ---- what stands for a month
+
+    def receipts(self, month: int) -> dict[Slot, int]:
+        """The receipt of each stored quote of a month, by the slot that it was sent for."""
+        text = "SELECT collector, slot, receipt FROM quote_2 WHERE month = ?"
+        return {(collector, slot): receipt for collector, slot, receipt in self.ask(text, month)}
+
+    def copied_prices(self) -> dict[Slot, int]:
+        """The price that each slot was handed over with, where there was one, in minor units."""
+        text = "SELECT collector, slot, copied FROM assignment_2 WHERE copied IS NOT NULL"
+        return {(collector, slot): copied for collector, slot, copied in self.ask(text)}
+
+    def last_prices(self, month: int) -> dict[Slot, int]:
+        """The last price of each slot before a month, in minor units, where it has one."""
+        text = "SELECT collector, slot, value, max(month) FROM quote_2 WHERE month < ? AND value > 0"
+        rows = self.ask(f"{text} GROUP BY collector, slot", month)
+        return {**self.copied_prices(), **{(collector, slot): value for collector, slot, value, _ in rows}}
+
+    def months_of_last_prices(self, month: int) -> dict[Series, int]:
+        """The latest month before this one in which each series was observed, whoever had it."""
+        rows = self.ask(
+            "SELECT a.series_collector, a.series_slot, max(q.month) FROM quote_2 AS q"
+            " JOIN assignment_2 AS a ON a.collector = q.collector AND a.slot = q.slot"
+            " WHERE q.month < ? AND q.value > 0 GROUP BY a.series_collector, a.series_slot",
+            month,
+        )
+        return {(collector, slot): latest for collector, slot, latest in rows}
+
+    def frozen_of(self, series: Series) -> dict[tuple[int, int], Frozen]:
+        """What was frozen of a series, by month and revision."""
+        text = "SELECT month, revision, item, last_month, mark, value FROM frozen_2 WHERE collector = ? AND slot = ?"
+        return {(row[0], row[1]): Frozen(*row[2:]) for row in self.ask(text, *series)}
+
+    def carried_of(self, series: Series) -> dict[tuple[int, int], Carried]:
+        """What a series counted as, by month and revision."""
+        text = (
+            "SELECT month, revision, item, last_month, ticks, knum, kden, observed, imputed FROM carried_2"
+            " WHERE collector = ? AND slot = ?"
+        )
+        return {(row[0], row[1]): Carried(*row[2:]) for row in self.ask(text, *series)}
+
+    def quotes_of_slot(self, slot: Slot) -> dict[int, tuple[str, int, int]]:
+        """Mark, price and receipt of each quote of a slot, by month."""
+        text = "SELECT month, mark, value, receipt FROM quote_2 WHERE collector = ? AND slot = ?"
+        return {month: (mark, value, receipt) for month, mark, value, receipt in self.ask(text, *slot)}
+
+    def latest_quotes(self, month: int) -> dict[Slot, tuple[int, str]]:
+        """Month and mark of the latest quote of each slot up to a month, where it has one."""
+        text = "SELECT collector, slot, mark, max(month) FROM quote_2 WHERE month <= ? GROUP BY collector, slot"
+        return {(collector, slot): (latest, mark) for collector, slot, mark, latest in self.ask(text, month)}
+
+
+class NotAnOffice(Fault):
+    """A file without the tables of an office; one line."""
+
+
+SCHEMA = 2
+"""The tables that are read here."""
+
+
+@contextlib.contextmanager
+def read_copy(copy: Path) -> Iterator[StoredOffice]:
+    """The rows of a copy that nothing else has open. Raises NotAnOffice where it isn't the file of an office."""
+    try:
+        with stored_office(copy) as office:
+            versions = office.ask("SELECT number FROM version")
+            if versions != [(SCHEMA,)]:
+                raise NotAnOffice(f"{copy.name} has tables of an earlier cpi: open it once with this one")
+            yield office
+    except sqlite3.Error as fault:
+        raise NotAnOffice(f"{copy.name} can't be read as an office: {fault}") from fault
 
 
 @contextlib.contextmanager

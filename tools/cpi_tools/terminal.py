@@ -42,6 +42,21 @@ def month_text(month: int) -> str:
     return f"{month // 100:04}-{month % 100:02}"
 
 
+def month_before(month: int) -> int:
+    """202512 of 202601."""
+    return month - 1 if month % 100 > 1 else month - 89
+
+
+def link_month(month: int) -> int:
+    """December of the year before: 202512 of 202606."""
+    return month // 100 * 100 - 88
+
+
+def slot_text(slot: tuple[int, int]) -> str:
+    """`7/2` of a collector's slot, or of the series that was first given to it."""
+    return f"{slot[0]}/{slot[1]}"
+
+
 def counted(count: int, one: str) -> str:
     """`1 table`, `25 tables`."""
     return f"{count:,} {one if count == 1 else one + 's'}"
@@ -73,6 +88,32 @@ def at_least(least: int) -> Callable[[str], int]:
         return int(text)
 
     return number
+
+
+def a_month(text: str) -> int:
+    """A type of argparse: 202601 of `2026-01`."""
+    if not re.fullmatch(r"2[01][0-9]{2}-(0[1-9]|1[0-2])", text):
+        raise argparse.ArgumentTypeError(f"{text} isn't a month like 2026-01")
+    return int(text[:4]) * 100 + int(text[5:])
+
+
+def a_moment(text: str) -> int:
+    """A type of argparse: seconds since 1970, as they are, or of a time in UTC like `2026-01-25T09:00`."""
+    if re.fullmatch(r"[0-9]{1,10}", text):
+        return int(text)
+    try:
+        found = datetime.strptime(text.rstrip("Z"), "%Y-%m-%dT%H:%M").replace(tzinfo=timezone.utc)
+    except ValueError as fault:
+        raise argparse.ArgumentTypeError(f"{text} is no time like 2026-01-25T09:00, and no seconds") from fault
+    return int(found.timestamp())
+
+
+def a_slot(text: str) -> tuple[int, int]:
+    """A type of argparse: (7, 2) of `7/2`, a collector and a slot."""
+    if not re.fullmatch(r"[1-9][0-9]{0,3}/[1-9][0-9]{0,2}", text):
+        raise argparse.ArgumentTypeError(f"{text} isn't COLLECTOR/SLOT, like 7/2")
+    collector, _, slot = text.partition("/")
+    return int(collector), int(slot)
 
 
 # ---- progress

@@ -1,0 +1,330 @@
+"""`cpi-tools explain`: each line is true, by a second evaluator that shares no code with the tool's, and the last lines
+are the stored figures."""
+
+from __future__ import annotations
+
+import ast
+import contextlib
+import operator
+import re
+import sqlite3
+from collections.abc import Iterator
+from fractions import Fraction
+from pathlib import Path
+
+import pytest
+
+import surveys
+from cpi_tools.__main__ import main
+from cpi_tools.explain.expressions import NoExpression, value_of
+from cpi_tools.explain.lines import change_expression
+from cpi_tools.program import Cpi
+from surveys import Life, bytes_of, key_of, number_of, run
+
+Whole = tuple[Path, Life]
+
+
+@pytest.fixture(scope="module")
+def whole(cpi: Cpi, tmp_path_factory: pytest.TempPathFactory) -> Whole:
+    """The long office, all of its months frozen; no test writes to its file."""
+    path = tmp_path_factory.mktemp("whole") / "office.db"
+    life = surveys.long(cpi, path)
+    path.with_name("office.db-wal").unlink(missing_ok=True)
+    return path, life
+
+
+@pytest.fixture
+def small(cpi: Cpi, tmp_path: Path) -> Path:
+    return surveys.small(cpi, tmp_path)
+
+
+@pytest.fixture
+def changed(whole: Whole, tmp_path: Path) -> Path:
+    """A test's own file of the long office."""
+    path = tmp_path / "changed.db"
+    path.write_bytes(whole[0].read_bytes())
+    return path
+
+
+# ---- a second evaluator
+
+OPERATIONS = {ast.Add: operator.add, ast.Sub: operator.sub, ast.Mult: operator.mul, ast.Div: operator.truediv}
+CONSTANTS = {1, 1000, 10_000, 10**8}
+
+
+def second(node: ast.AST) -> Fraction:
+    """The value of an expression by Python's own reader of expressions, in fractions."""
+    if isinstance(node, ast.Expression):
+        return second(node.body)
+    if isinstance(node, ast.Constant):
+        return Fraction(node.value)
+    if isinstance(node, ast.UnaryOp):
+        return -second(node.operand)
+    if isinstance(node, ast.Call):
+        assert isinstance(node.func, ast.Name) and node.func.id == "round"
+        return Fraction((second(node.args[0]) + Fraction(1, 2)).__floor__())
+    assert isinstance(node, ast.BinOp)
+    return Fraction(OPERATIONS[type(node.op)](second(node.left), second(node.right)))
+
+
+def lines_of(text: str) -> Iterator[tuple[str, str, str]]:
+    """Name, expression and value of each line that has a value; a line that is given has no expression."""
+    for line in text.splitlines():
+        if line.startswith(("  ", "! ")):
+            sides = line[2:].split("    # ")[0].split(" = ")
+            if len(sides) == 3:
+                yield sides[0], sides[1], sides[2]
+            elif len(sides) == 2:
+                yield sides[0], "", sides[1]
+
+
+def stored(path: Path, month: str, revision: int) -> dict[str, tuple[int, ...]]:
+    """Index, level, both changes and weight of each row of a table."""
+    text = "SELECT code, within, chained, month_change, year_change, weight FROM level_2"
+    with contextlib.closing(sqlite3.connect(path)) as link:
+        rows = link.execute(f"{text} WHERE month = ? AND revision = ?", (number_of(month), revision)).fetchall()
+    return {code: tuple(row) for code, *row in rows}
+
+
+def look_at_node(path: Path, month: str, code: str, revision: int, row: tuple[int, ...]) -> int:
+    """Values each line of a node by the second evaluator, and compares its figures with those that are stored.
+
+    Each number of the expressions that lead to a figure is the value of a line, or a constant of the rules. How many
+    lines were valued.
+    """
+    ran = run(None, "explain", path, month, code, "--revision", revision)
+    assert (ran.status, ran.err) == (0, "")
+    found = [*lines_of(ran.out)]
+    valued = [line for line in found if line[1]]
+    for name, expression, value in valued:
+        assert second(ast.parse(expression, mode="eval")) == Fraction(value), (code, name)
+    last = {name: int(value) for name, _, value in found if re.fullmatch(r"-?\d+", value)}
+    figures = ("index", "chained level", "monthly change", "annual change")
+    assert tuple(last.get(name) for name in figures) == row[:4]
+    known = {Fraction(value) for _, _, value in found} | CONSTANTS
+    used = {int(it) for name, text, _ in valued if name in (*figures, "moved to") for it in re.findall(r"\d+", text)}
+    assert used <= known, (code, used - known)
+    return len(valued)
+
+
+NAMES = ("2026-01", "2026-03", "2026-09", "2026-12", "2027-01", "2027-02")
+MONTHS = [*((month, 1) for month in NAMES), (surveys.REVISED, 2)]
+"""A January, a month with replacements and a carry list, both revisions of one, a December, and beyond a link."""
+
+
+@pytest.mark.parametrize(("month", "revision"), MONTHS)
+def test_every_line_of_every_node_is_true(whole: Whole, month: str, revision: int) -> None:
+    rows = stored(whole[0], month, revision)
+    assert len(rows) > 15
+    assert sum(look_at_node(whole[0], month, code, revision, row) for code, row in rows.items()) > 200
+
+
+def test_what_the_months_have(whole: Whole) -> None:
+    """The months of the test above have each kind of line."""
+    told = "".join(run(None, "explain", whole[0], month, code).out for month in NAMES for code in ("00", *CODES))
+    for line in (
+        r"scale of \d/\d = \d+ / \d+ = ",
+        r"movement = 1 / 1 = 1    # nothing is matched; the freeze's carry list has the aggregate",
+        r"comparable; not observed in the month before, so not matched",
+        r"carried price of 9/\d|carried price of 3/\d",
+        r"weight of 07\.2\.2\.2-01 = round\(250000 \* \d+ / \d+\) = \d+    # .*; moved by its prices from 2026-06",
+        r"base of \d/\d = \d+    # .*; not observed in 2026-12: its carried price of that month",
+        r"price of \d/\d    # nothing was sent by collector \d, slot \d",
+        r"monthly change = -round\(",
+    ):
+        assert re.search(line, told), line
+
+
+CODES = [code for code in surveys.AGGREGATES if code not in ("11.1.1.1-01", "12.1.1.1-01")]
+
+
+def test_a_new_node_is_linked_at_100(cpi: Cpi, tmp_path: Path) -> None:
+    path = tmp_path / "office.db"
+    surveys.long(cpi, path, is_moved=False)
+    told = run(None, "explain", path, "2027-01", "12.1.1.1-01")
+    assert told.status == 0
+    assert "link level = 100000000    # 100: the table of 2026-12 has no row of it" in told.out
+    assert "annual change    # none: the table of 2026-01 has no row of it" in told.out
+    assert "weight of 12.1.1.1-01 = 150000 = 150000" in run(None, "explain", path, "2027-01", "12").out
+    assert run(None, "explain", path, "2027-01", "all").status == 0
+
+
+def test_the_small_office_by_hand(small: Path) -> None:
+    before = bytes_of(small)
+    told = run(None, "explain", small, "2026-01", "01.1.1.1-01")
+    assert told.status == 0 and bytes_of(small) == before
+    for line in (
+        "base of 7/1 = 10000 * 200 = 2000000    # RICE Rice, 1 kg; Corner shop; price in 2025-12 by collector 7, slot"
+        " 1, receipt 1",
+        "price of 8/1 = 246    # price, by collector 8, slot 1, receipt 2",
+        "carried price of 7/1 = round(210 * 10000 / 1) = 2100000    # matched",
+        "moved to = 2100000 + 2460000 = 4560000",
+        "index = round(100000000 * 4560000 / 4400000) = 103636364",
+        "monthly change = round(1000 * (103636364 - 100000000) / 100000000) = 36",
+    ):
+        assert f"  {line}" in told.out
+    top = run(None, "explain", small, "2026-01", "00").out
+    for line in (
+        "sum of weight * index = 600000 * 103636364 + 400000 * 105000000 = 104181818400000",
+        "index = round(104181818400000 / 1000000) = 104181818",
+        "contribution of 01.1.1.1-01 = round(100000000 * 600000 * (103636364 - 100000000) / (1000000 * 100000000)) ="
+        " 2181818",
+    ):
+        assert f"  {line}" in top
+
+
+def test_a_quote_that_was_replaced_since_the_freeze_is_told(cpi: Cpi, small: Path) -> None:
+    sent = ["4000,desk,freeze,2026-02,01.1.1.2-01", f"3900,{key_of(8)},quote,1,2026-02,price,264"]
+    assert cpi.replay(sent, db=small) == [{"done": True}, {"receipt": 4}]
+    told = run(None, "explain", small, "2026-02", "01.1.1.1-01").out
+    assert "price of 8/1 = 252    # price, by collector 8, slot 1; since the freeze price 264 stands, receipt 4" in told
+    assert "price of 7/1    # missing, stock, by collector 7, slot 1, receipt 5" in told
+    assert "carried price of 7/1 = round(2100000 * 2520000 / 2460000) = 2151220    # imputed by the movement" in told
+    assert "On the carry list: 01.1.1.2-01." in run(None, "explain", small, "2026-02", "01.1").out
+
+
+def test_hand_overs_are_told(whole: Whole) -> None:
+    told = run(None, "explain", whole[0], "2027-01", "07.2.2.2-01").out
+    words = r"Series 3/\d+: Handed over from collector 3, slot \d+ to collector 9, slot \d+ from 2026-06 on, with the"
+    assert re.search(words, told)
+
+
+# ---- what isn't true
+
+CHANGED = [
+    ("carried_2 SET ticks = ticks + 1", "collector = 1 AND slot = 1", "carried_2 (202608, 1, 1, 1)"),
+    ("frozen_2 SET value = value + 1", "collector = 1 AND slot = 1", "carried_2 (202608, 1, 1, 1)"),
+    ("level_2 SET within = within + 1", "code = '01.1.1.1-01'", "level_2 (202608, 1, 01.1.1.1-01)"),
+    ("level_2 SET month_change = month_change + 1", "code = '07'", "level_2 (202608, 1, 07)"),
+    ("level_2 SET weight = weight + 1", "code = '00'", "level_2 (202608, 1, 00)"),
+    ("level_2 SET chained = chained - 1", "code = '03'", "level_2 (202608, 1, 03)"),
+]
+
+
+@pytest.mark.parametrize(("change", "where", "row"), CHANGED, ids=range(len(CHANGED)))
+def test_a_changed_row_shows_where_it_stops_being_true(changed: Path, change: str, where: str, row: str) -> None:
+    with contextlib.closing(sqlite3.connect(changed)) as link:
+        assert link.execute(f"UPDATE {change} WHERE month = 202608 AND {where}").rowcount == 1
+        link.commit()
+    told = run(None, "explain", changed, "2026-08", "all")
+    assert told.status == 1
+    assert row in told.err
+    assert "not true: " in told.err and ", 0 untrue" not in told.out
+
+
+def test_rows_that_are_gone_are_one_line(changed: Path) -> None:
+    with contextlib.closing(sqlite3.connect(changed)) as link:
+        assert link.execute("DELETE FROM carried_2 WHERE month = 202607 AND collector = 1 AND slot = 1").rowcount == 1
+        link.commit()
+    told = run(None, "explain", changed, "2026-08", "all")
+    assert (told.status, told.out) == (1, "")
+    assert told.err.startswith("cpi-tools explain: 01.1.1.1-01: a row that it comes from isn't there, or can't be")
+    assert told.err.count("\n") == 1
+
+
+def test_a_carry_list_that_lacks_an_aggregate_is_told(changed: Path) -> None:
+    with contextlib.closing(sqlite3.connect(changed)) as link:
+        assert link.execute("UPDATE release_2 SET carry = '' WHERE month = 202603").rowcount == 1
+        link.commit()
+    told = run(None, "explain", changed, "2026-03", "01.1.1.2-01")
+    assert told.status == 1
+    assert "movement: release_2 (202603, 1) hasn't 01.1.1.2-01 on its carry list" in told.err
+    assert "! movement = 1 / 1 = 1    # nothing is matched, and a movement is needed" in told.out
+
+
+# ---- words, series, pages
+
+
+def test_words_that_name_nothing_are_told(whole: Whole, tmp_path: Path) -> None:
+    path, _ = whole
+    for words, because in (
+        ((path, "2027-03", "00"), "2027-03 isn't frozen; 2025-12 to 2027-02 are"),
+        ((path, "2025-12", "00"), "2025-12 has no table: it is the first month, which later ones begin at"),
+        ((path, "2026-09", "00", "--revision", 3), "2026-09 has no revision 3; it has 1, 2"),
+        ((path, "2026-09", "02"), "02 is no node of 2026-09, whose table has"),
+        ((path, "2026-09", "--series", "9/399"), "9/399 is no slot of the office"),
+        ((tmp_path / "none.db", "2026-09", "00"), "No such file or directory"),
+    ):
+        told = run(None, "explain", *words)
+        assert (told.status, told.out, told.err.count("\n")) == (1, "", 1)
+        assert because in told.err
+    for words in ((path, "2026-09"), (path, "2026-09", "00", "--series", "1/1"), (path, "2026-9", "00")):
+        with pytest.raises(SystemExit) as ended:
+            run(None, "explain", *words)
+        assert ended.value.code == 2
+
+
+def test_the_life_of_a_series_goes_through_its_hand_over(whole: Whole) -> None:
+    path, life = whole
+    slot = next(slot for collector, slot in life.slots if collector == 9)
+    told = run(None, "explain", path, "2026-07", "--series", f"9/{slot}")
+    lines = told.out.splitlines()
+    assert told.status == 0 and lines[0].startswith("Series 3/")
+    assert lines[1].startswith("Handed over from collector 3, slot ") and "from 2026-06 on, with the last" in lines[1]
+    months = [re.split(r"\s\s+", line.strip()) for line in lines if re.match("  20", line)]
+    assert [row[0] for row in months] == surveys.MONTHS[:8]
+    assert [row[2][:2] for row in months] == ["3/"] * 6 + ["9/"] * 2
+
+
+def test_replacements_and_imputed_months_of_a_series(cpi: Cpi, small: Path) -> None:
+    sent = [
+        "4000,desk,freeze,2026-02,01.1.1.2-01",
+        "0,desk,calendar,2026-03,4000,6000,7000",
+        f"4500,{key_of(7)},quote,1,2026-03,other,420",
+        f"4500,{key_of(8)},quote,1,2026-03,price,252",
+        "6000,desk,freeze,2026-03,01.1.1.2-01",
+    ]
+    assert not [reply for reply in cpi.replay(sent, db=small) if "refused" in reply]
+    lines = run(None, "explain", small, "2026-03", "--series", "7/1").out.splitlines()
+    assert lines[1:3] == ["Replaced in 2026-03 (other).", "Imputed in 2 months: 2026-02, 2026-03."]
+    assert lines[-1].split() == "2026-03 1 7/1 other 420 7 2151220 2151220/420 imputed 01.1.1.1-01".split()
+
+
+def test_the_page_is_escaped_and_private(small: Path, tmp_path: Path) -> None:
+    page = tmp_path / "flour.html"
+    assert run(None, "explain", small, "2026-01", "01.1.1.2-01", "--html", page).status == 0
+    text = page.read_text(encoding="utf-8")
+    assert "Flour, &lt;b&gt;wheat&lt;/b&gt;, 1 kg" in text and "<b>wheat" not in text
+    assert "every line holds" in text and "http" not in text and "<a href=" not in text.replace('<a class="skip"', "")
+    assert page.stat().st_mode & 0o777 == 0o600
+    # (the aggregate is on the page of its subclass)
+    assert "<h1>Flour " in text and '<section id="01.1.1.2-01"' in text
+
+
+def test_all_pages_are_linked_and_one_is_a_subclass(whole: Whole, tmp_path: Path) -> None:
+    path, out = whole[0], tmp_path / "pages"
+    told = run(None, "explain", path, "2026-09", "all", "--html", out)
+    assert told.status == 0
+    assert re.fullmatch(r"2026-09, revision 2: \d+ nodes, [\d,]+ expressions, 0 untrue\n", told.out)
+    rows = stored(path, "2026-09", 2)
+    assert {page.name for page in out.iterdir()} == {f"{code}.html" for code in rows if len(code) != 11}
+    assert out.stat().st_mode & 0o777 == 0o700
+    links = 0
+    for page in out.iterdir():
+        for name, anchor in re.findall(r'href="([^"#]+\.html)#([^"]+)"', page.read_text(encoding="utf-8")):
+            assert f'id="{anchor}"' in (out / name).read_text(encoding="utf-8")
+            links += 1
+    assert links >= 2 * (len(rows) - 5)
+
+
+def test_an_expression_is_read_whole_or_not_at_all() -> None:
+    assert value_of("-round((2 + 3 * 4) / 4) - 1") == -5
+    assert value_of("round(7 / 2) + round(5 / 2)") == 7
+    for text in ("", "1 +", "(1", "1 1", "round 2", "2 ** 3", "x", "1)"):
+        with pytest.raises(NoExpression):
+            value_of(text)
+
+
+def test_a_fall_is_rounded_as_a_rise_of_its_size() -> None:
+    """From 100 to 99.95 is -0.1 percent, from 100 to 99.950001 is 0.0: the half goes away from zero."""
+    for now, wanted in ((99_950_000, -1), (99_950_001, 0), (100_050_000, 1), (100_049_999, 0)):
+        expression = change_expression(100_000_000, now)
+        assert second(ast.parse(expression, mode="eval")) == value_of(expression) == wanted
+
+
+def test_the_help_has_an_example(capsys: pytest.CaptureFixture[str]) -> None:
+    with pytest.raises(SystemExit):
+        main(["explain", "--help"])
+    told = capsys.readouterr().out
+    assert re.search(r"^example: cpi-tools explain office\.db", told, re.M) and "exit status: 0" in told
+    assert not [line for line in told.splitlines() if len(line) > 100]

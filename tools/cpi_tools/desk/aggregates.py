@@ -1,0 +1,170 @@
+"""Aggregates to look at: small ones, imputed ones, those on the carry list, and those that may not be homogeneous.
+
+What a series counts as is read from a copy that the program froze. Beside it stand shares, and geometric means of the
+same prices, which aren't published.
+"""
+
+from __future__ import annotations
+
+from collections import Counter
+from collections.abc import Iterable, Mapping, Sequence
+from math import prod
+from typing import Optional
+
+from ..exact import decimal
+from ..sections import Cell, Section, columns
+from ..stored import OBSERVED, Frozen, Series
+from .facts import Facts
+from .response import PLACE, SILENT, percent
+
+Pairs = Sequence[tuple[int, int]]
+"""What each of some series counts as now, and what it counted as then, in ticks."""
+
+
+# ---- small, imputed, carried
+
+
+def small(facts: Facts, least: int) -> Section:
+    rows: list[list[Cell]] = []
+    for code, sample in facts.samples.items():
+        priced = [it for it in sample if facts.carried[it].observed]
+        outlets = {facts.holder[it].outlet for it in priced}
+        if len(priced) < least or len(outlets) < least:
+            weight = facts.rows[code].weight
+            rows.append([code, facts.title(code), weight, len(sample), len(priced), len(outlets)])
+    note = f"Fewer than {least} priced series or outlets: one shop can move them, and the published index tells of it."
+    heads = columns("=aggregate", "title", "#weight", "#series", "#priced", "#outlets")
+    return Section("small", "Small aggregates", note, heads, rows, is_open=False)
+
+
+def imputed_parts(facts: Facts, codes: Iterable[str]) -> tuple[int, int]:
+    """Parts of the weight in use whose prices are imputed, in millionths, and the weight in all: each aggregate by the
+    imputed share of what its series count as."""
+    parts = weight = 0
+    for code in codes:
+        carried = [facts.carried[it] for it in facts.samples[code]]
+        moved = sum(it.ticks for it in carried if it.imputed)
+        parts += facts.rows[code].weight * moved * 10**6 // sum(it.ticks for it in carried)
+        weight += facts.rows[code].weight
+    return parts, weight
+
+
+def imputed_percent(facts: Facts, codes: Iterable[str]) -> str:
+    """The imputed share by weight, in percent with one decimal."""
+    parts, weight = imputed_parts(facts, codes)
+    return percent(parts, weight * 10**6)
+
+
+def imputed(facts: Facts) -> Section:
+    rows: list[list[Cell]] = []
+    for division in sorted({code[:2] for code in facts.samples}):
+        codes = [code for code in facts.samples if code[:2] == division]
+        series = [facts.carried[it] for code in codes for it in facts.samples[code]]
+        count = sum(it.imputed for it in series)
+        counts: list[Cell] = [len(series), count, percent(count, len(series))]
+        weight = facts.rows[division].weight
+        rows.append([division, facts.title(division), *counts, weight, imputed_percent(facts, codes)])
+    note = "By weight: each aggregate's weight in use, by the imputed share of what its series count as."
+    heads = columns("=division", "title", "#series", "#imputed", "#percent", "#weight", "#percent by weight")
+    return Section("imputed", "Imputed prices", note, heads, rows)
+
+
+def carry(facts: Facts, codes: Iterable[str]) -> Section:
+    rows: list[list[Cell]] = []
+    for code in codes:
+        sample = facts.samples.get(code, [])
+        then, now = (marks_of(sample, quotes) for quotes in (facts.frozen_before, facts.frozen))
+        outlets = {facts.holder[it].outlet for it in sample}
+        rows.append([code, facts.title(code), facts.rows[code].weight, len(sample), len(outlets), then, now])
+    note = "Nothing in them can be compared with the month before: the freeze is refused until each is listed."
+    heads = columns("=aggregate", "title", "#weight", "#series", "#outlets", "month before", "now")
+    return Section("carry", "The carry list", note, heads, rows, "Empty: the freeze needs none.")
+
+
+def carry_series(facts: Facts, codes: Iterable[str]) -> Section:
+    rows: list[list[Cell]] = []
+    for code in codes:
+        for series in facts.samples.get(code, []):
+            place = facts.place_cells(facts.holder[series])
+            then, now = facts.frozen_before.get(series), facts.frozen.get(series)
+            rows.append([place[0], code, *place[2:], mark_text(then), mark_text(now)])
+    note = "What was found of each. A price that is still to come for one of them can spare the entry."
+    heads = columns(*PLACE, "month before", "now")
+    return Section("carry-series", "Series of the carry list", note, heads, rows, is_open=False)
+
+
+def marks_of(sample: Iterable[Series], quotes: Mapping[Series, Frozen]) -> str:
+    """`2 price, 8 stock` of some series."""
+    found = Counter(quotes[it].mark if it in quotes else SILENT for it in sample)
+    return ", ".join(f"{count} {mark}" for mark, count in sorted(found.items(), key=lambda it: (-it[1], it[0])))
+
+
+def mark_text(quote: Optional[Frozen]) -> str:
+    """`price 210`, `stock`, or `silent`."""
+    if quote is None:
+        return SILENT
+    return f"{quote.mark} {quote.value}" if quote.mark in OBSERVED else quote.mark
+
+
+# ---- homogeneity
+
+ONE, ONE_DIGITS = 10**8, 8
+"""A ratio of 1, as means are computed before they are rounded."""
+
+
+def homogeneity(facts: Facts) -> Section:
+    found = [(code, sample, *pairs_of(facts, code, sample)) for code, sample in facts.samples.items()]
+    rows: list[list[Cell]] = []
+    for code, sample, month, year in sorted(found, key=lambda it: -abs(gap(it[3]) or 0)):
+        ticks = [facts.carried[it].ticks for it in sample]
+        spread = decimal(max(ticks), min(ticks), 1)
+        rows.append([code, facts.title(code), len(sample), len(month), spread, *means(month), *means(year)])
+    note = (
+        "Computed beside the index, and not published: how prices moved by the geometric mean of their ratios (Jevons),"
+        " and how far the ratio of sums that counts (Dutot) lies from it. A wide spread of prices with a wide gap says"
+        " that the aggregate isn't homogeneous: part it in the next plan."
+    )
+    heads = columns(
+        *("=aggregate", "title", "#series", "#matched", "#dearest / cheapest"),
+        *("#Dutot, month", "#Jevons, month", "#gap, month", "#Dutot, year", "#Jevons, year", "#gap, year"),
+    )
+    return Section("homogeneity", "Dutot beside Jevons", note, heads, rows, is_open=False, shown=25)
+
+
+def pairs_of(facts: Facts, code: str, sample: Sequence[Series]) -> tuple[Pairs, Pairs]:
+    """What the matched series count as, beside the month before; and the whole sample beside its bases."""
+    now, then, bases = facts.carried, facts.counted_before, facts.bases
+    month = [(now[it].ticks, then[it]) for it in facts.matched(code) if it in then]
+    return month, [(now[it].ticks, bases[it]) for it in sample if it in bases]
+
+
+def dutot(pairs: Pairs) -> int:
+    """The ratio of sums in parts of ONE, rounded down."""
+    return ONE * sum(now for now, _ in pairs) // sum(then for _, then in pairs)
+
+
+def jevons(pairs: Pairs) -> int:
+    """The geometric mean of the ratios in parts of ONE, rounded down."""
+    over, under, count = prod(now for now, _ in pairs), prod(then for _, then in pairs), len(pairs)
+    wanted = over * 10 ** (ONE_DIGITS * count) // under
+    low, high = 0, 1 << (wanted.bit_length() // count + 1)
+    while high - low > 1:
+        middle = (low + high) // 2
+        if pow(middle, count) <= wanted:
+            low = middle
+        else:
+            high = middle
+    return low
+
+
+def gap(pairs: Pairs) -> Optional[int]:
+    """How far Dutot lies from Jevons."""
+    return dutot(pairs) - jevons(pairs) if pairs else None
+
+
+def means(pairs: Pairs) -> list[str]:
+    """Dutot's and Jevons' changes and the gap between them, in percent."""
+    if not pairs:
+        return ["", "", ""]
+    sums, geometric = dutot(pairs), jevons(pairs)
+    return [decimal(100 * change, ONE, 2) for change in (sums - ONE, geometric - ONE, sums - geometric)]

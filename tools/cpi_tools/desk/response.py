@@ -1,0 +1,194 @@
+"""Who answered: slots priced, missing by reason and silent, by collector, outlet and division; who is missing for long.
+
+Nothing here depends on a freeze.
+"""
+
+from __future__ import annotations
+
+from collections import Counter, defaultdict
+from collections.abc import Callable, Iterable, Iterator
+from typing import Optional, TypeVar
+
+from ..exact import decimal
+from ..sections import Cell, Section, columns
+from ..stored import OBSERVED, REASONS, Assignment, Quote
+from ..terminal import month_before, month_text
+from .facts import NO_PLACE, Facts
+
+SILENT = "silent"
+"""Stands for the mark of a slot for which nothing was sent."""
+
+Key = TypeVar("Key", int, str)
+
+
+def percent(part: int, whole: int) -> str:
+    """A share in percent with one decimal; empty where there is no whole."""
+    return decimal(100 * part, whole, 1) if whole else ""
+
+
+class Count:
+    """How many slots there are, and what was sent for them."""
+
+    def __init__(self) -> None:
+        self.slots = 0
+        self.marks: Counter[str] = Counter()
+
+    def add(self, quote: Optional[Quote]) -> None:
+        """Counts a slot."""
+        self.slots += 1
+        self.marks[quote.mark if quote else SILENT] += 1
+
+    @property
+    def priced(self) -> int:
+        """Slots with a price, of a replacement too."""
+        return sum(self.marks[mark] for mark in OBSERVED)
+
+    @property
+    def missing(self) -> int:
+        """Slots that were sent as missing, with a reason."""
+        return sum(self.marks[reason] for reason in REASONS)
+
+    def cells(self) -> list[Cell]:
+        """The cells under RESPONSE."""
+        replaced = [self.marks["comparable"], self.marks["other"]]
+        return [self.slots, self.priced, percent(self.priced, self.slots), *replaced, self.missing, self.marks[SILENT]]
+
+
+RESPONSE = ("#slots", "#priced", "#percent", "#comparable", "#other", "#missing", "#silent")
+
+
+def counts(facts: Facts, key: Callable[[Assignment], Key]) -> dict[Key, Count]:
+    """The counts of the slots by something of them, in its order."""
+    found: dict[Key, Count] = defaultdict(Count)
+    for it in facts.slots:
+        found[key(it)].add(facts.quote(it))
+    return dict(sorted(found.items()))
+
+
+def in_all(facts: Facts) -> Count:
+    """The count of all slots."""
+    return counts(facts, lambda it: 0).get(0, Count())
+
+
+def weighted(facts: Facts, codes: Iterable[str]) -> tuple[int, int]:
+    """Parts of the plan's weight that are priced, in millionths, and the weight in all: each aggregate by the share of
+    its slots that have a price."""
+    by_code, weights = counts(facts, lambda it: facts.code(it.item)), facts.plan.weights if facts.plan else {}
+    known = [(weights[code], by_code[code]) for code in codes if code in by_code and code in weights]
+    parts = sum(weight * count.priced * 10**6 // count.slots for weight, count in known)
+    return parts, sum(weight for weight, _ in known)
+
+
+def weighted_percent(facts: Facts, codes: Iterable[str]) -> str:
+    """The priced share by weight, in percent with one decimal."""
+    parts, weight = weighted(facts, codes)
+    return percent(parts, weight * 10**6)
+
+
+def most_silent(rows: list[list[Cell]]) -> list[list[Cell]]:
+    """Rows that end with RESPONSE, those with most silent slots first, then those with most missing."""
+    return sorted(rows, key=lambda row: (-int(row[-1] or 0), -int(row[-2] or 0), str(row[0]).zfill(9)))
+
+
+# ---- sections
+
+
+def by_collector(facts: Facts) -> Section:
+    rows: list[list[Cell]] = [[number, *it.cells()] for number, it in counts(facts, lambda it: it.collector).items()]
+    heads = columns("#collector", *RESPONSE)
+    return Section("collectors", "Response by collector", "Most silent slots first.", heads, most_silent(rows))
+
+
+def by_outlet(facts: Facts) -> Section:
+    found = counts(facts, lambda it: it.outlet)
+    rows: list[list[Cell]] = [[number, facts.outlets[number], *it.cells()] for number, it in found.items()]
+    heads = columns("#outlet", "name", *RESPONSE)
+    note = "Most silent slots first."
+    return Section("outlets", "Response by outlet", note, heads, most_silent(rows), is_open=False, shown=30)
+
+
+def by_division(facts: Facts) -> Section:
+    found = counts(facts, lambda it: facts.code(it.item)[:2])
+    codes = {facts.code(it.item) for it in facts.slots} - {NO_PLACE}
+    rows: list[list[Cell]] = [
+        [code, facts.title(code), *it.cells(), weighted_percent(facts, [each for each in codes if each[:2] == code])]
+        for code, it in found.items()
+    ]
+    note = (
+        "A slot counts in the division in which the year's plan places its item. By weight: each aggregate's weight in"
+        " the plan, by the share of its slots that have a price."
+    )
+    heads = columns("=division", "title", *RESPONSE, "#percent by weight")
+    return Section("divisions", "Response by division", note, heads, rows)
+
+
+def by_reason(facts: Facts) -> Section:
+    found = counts(facts, lambda it: facts.code(it.item)[:2])
+    rows: list[list[Cell]] = [
+        [code, facts.title(code), *(it.marks[reason] for reason in REASONS), it.missing]
+        for code, it in found.items()
+        if it.missing
+    ]
+    heads = columns("=division", "title", *(f"#{reason}" for reason in REASONS), "#all")
+    return Section("missing", "Missing, by reason", "What was sent where there was no price.", heads, rows)
+
+
+PLACE = ("slot", "=aggregate", "item", "outlet")
+
+
+def silent(facts: Facts) -> Section:
+    rows: list[list[Cell]] = [
+        [*facts.place_cells(it), facts.last.get(it[:2])] for it in facts.slots if facts.quote(it) is None
+    ]
+    note = "Slots for which nothing was sent. At the freeze they count as missing."
+    heads = columns(*PLACE, "#last price")
+    return Section("silent", "Still silent", note, heads, rows, "Something was sent for every slot.", is_open=False)
+
+
+def long_missing(facts: Facts) -> Section:
+    """Slots without a price now and in the month before, with the month in which their series was observed last."""
+    before, seen = month_before(facts.month), facts.office.months_of_last_prices(facts.month)
+    rows: list[list[Cell]] = []
+    for it in facts.slots:
+        quote, last = facts.quote(it), seen.get(it.series, 0)
+        is_new = it.first_month == facts.month and it.series == it[:2]
+        if not facts.is_priced(it) and last < before and not is_new:
+            now = quote.mark if quote else SILENT
+            rows.append([*facts.place_cells(it), now, month_text(last) if last else "never"])
+    rows.sort(key=lambda row: (row[-1] != "never", str(row[-1])))
+    note = "No price in this month and in the month before. Ask for a replacement, or let the series end."
+    heads = columns(*PLACE, "now", "last priced")
+    return Section("long-missing", "Missing two months and more", note, heads, rows, is_open=False)
+
+
+def gone(facts: Facts) -> Section:
+    """Slots whose latest word is `gone`: nothing took the place of what went."""
+    rows: list[list[Cell]] = [[*facts.place_cells(it), month_text(month)] for it, month in gone_slots(facts)]
+    note = "The last that was sent of them is 'gone', and no replacement since."
+    heads = columns(*PLACE, "sent for")
+    return Section("gone", "Gone without a replacement", note, heads, rows, is_open=False)
+
+
+def gone_slots(facts: Facts) -> Iterator[tuple[Assignment, int]]:
+    """Each of them, and the month of the word."""
+    latest = facts.office.latest_quotes(facts.month)
+    for it in facts.slots:
+        month, mark = latest.get(it[:2], (0, ""))
+        if mark == "gone":
+            yield it, month
+
+
+def replacements(facts: Facts) -> Section:
+    rows: list[list[Cell]] = []
+    for it in facts.slots:
+        quote = facts.quote(it)
+        if quote and quote.mark in ("comparable", "other"):
+            carried = facts.carried.get(it.series)
+            scale = decimal(carried.knum, carried.kden * 10_000, 4) if carried else ""
+            rows.append([*facts.place_cells(it), facts.last.get(it[:2]), quote.mark, quote.value, scale])
+    note = (
+        "A replacement marked 'other' enters without moving the index; its scale says what a minor unit of its price"
+        " counts as."
+    )
+    heads = columns(*PLACE, "#last price", "mark", "#price", "#scale")
+    return Section("replacements", "Replacements", note, heads, rows, is_open=False)

@@ -1,0 +1,95 @@
+"""`cpi-tools desk what-if`: the table of a month beside the one that it would have if some quotes were others.
+
+Both are frozen by the program, on two copies. Of the last frozen month it is what a further revision would change.
+"""
+
+from __future__ import annotations
+
+import csv
+import io
+from collections.abc import Iterator, Sequence
+from pathlib import Path
+from typing import NamedTuple, Optional
+
+from ..copying import private_copy
+from ..program import Cpi
+from ..sections import Cell, Section, columns
+from ..stored import StoredOffice, Window, read_copy
+from ..terminal import Fault, month_text, slot_text
+from ..trial import Frozen, Record, as_frozen, freeze_on_copy, reopened, state_of
+
+Place = tuple[int, int]
+"""A collector and a slot."""
+
+
+class Tried(NamedTuple):
+    """What is tried: slots without a price and for which reason, prices of slots in minor units, codes to carry."""
+
+    missing: Sequence[Place]
+    reason: str
+    prices: Sequence[tuple[Place, int]]
+    carry: Sequence[str]
+
+
+class Beside(NamedTuple):
+    """A month as it stands, and as it would be."""
+
+    as_is: Frozen
+    tried: Frozen
+
+
+class NotTried(Fault):
+    """Something that can't be tried; one line."""
+
+
+def what_if(cpi: Cpi, office_copy: Path, month: int, at: int, tried: Tried) -> Beside:
+    """Freezes a month twice. Raises Refused where the program refuses a freeze or a quote."""
+    with read_copy(office_copy) as office:
+        state = state_of(office, month)
+        carry = next((each.carry for each in reversed(office.releases()) if each.month == month), ())
+        after, calendar = reopened(state) if state.is_frozen else (state, None)
+        quotes = [*quotes_of(office, after.window, tried)]
+    moment = max(at, state.window.closes)
+    with private_copy(office_copy) as copy:
+        as_is = as_frozen(cpi, copy, state, carry) if state.is_frozen else freeze_on_copy(cpi, copy, state, moment)
+    with private_copy(office_copy) as copy:
+        sent = [calendar, *quotes] if calendar else quotes
+        return Beside(as_is, freeze_on_copy(cpi, copy, after, moment, tried.carry, sent))
+
+
+def quotes_of(office: StoredOffice, window: Window, tried: Tried) -> Iterator[Record]:
+    """What the collectors would send, within the window. Raises NotTried where nobody has such a slot."""
+    keys, known = office.keys(), {it[:2] for it in office.assignments()}
+    sent: list[tuple[Place, list[object]]] = [(place, ["missing", tried.reason]) for place in tried.missing]
+    sent += [(place, ["price", price, "confirm"]) for place, price in tried.prices]
+    for place, fields in sent:
+        if place not in known:
+            raise NotTried(f"nobody has slot {slot_text(place)}: give COLLECTOR/SLOT")
+        yield [window.opens, keys[place[0]], "quote", place[1], month_text(window.month), *fields]
+
+
+# ---- the nodes that differ
+
+
+def differences(beside: Beside) -> Section:
+    """The rows of the two tables that differ, side by side."""
+    one, other = rows_of(beside.as_is.table), rows_of(beside.tried.table)
+    rows: list[list[Cell]] = []
+    for code in sorted(one.keys() | other.keys()):
+        if one.get(code) != other.get(code):
+            title = (other.get(code) or one[code])[-1]
+            rows.append([code, *figures(one.get(code)), *figures(other.get(code)), title])
+    heads = columns(
+        *("=code", "#index", "#month %", "#year %", "#what if: index", "#what if: month %", "#what if: year %", "title")
+    )
+    return Section("what-if", "Nodes that differ", "", heads, rows, "None: the tables are the same.")
+
+
+def rows_of(table: bytes) -> dict[str, list[str]]:
+    """The rows of a table by their codes."""
+    return {row[0]: row for row in csv.reader(io.StringIO(table.decode(), newline=""))}
+
+
+def figures(row: Optional[Sequence[str]]) -> list[Cell]:
+    """Index and both changes."""
+    return ["", "", ""] if row is None else [row[2], row[4], row[5]]

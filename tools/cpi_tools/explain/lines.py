@@ -1,0 +1,128 @@
+"""The lines of an explanation: `name = expression = value`, in parts with titles.
+
+Units: prices in minor units of money, carried prices and bases in ticks (10,000 a minor unit), indices and levels in
+millionths of a point, changes in tenths of a percent.
+"""
+
+from __future__ import annotations
+
+from collections.abc import Iterable, Iterator
+from fractions import Fraction
+from functools import cached_property
+from typing import NamedTuple, Optional, Union
+
+from ..sections import Section
+from .expressions import value_of
+
+Value = Union[int, Fraction, None]
+
+
+class Line:
+    """A figure: its name, the expression that gives it (none where it is given), and its value (None where there is
+    none); what it is in words, the row of the file that holds the value, whether it is what is published, and what is
+    wrong with it where that is no matter of a value."""
+
+    def __init__(
+        self,
+        name: str,
+        expression: str,
+        value: Value,
+        says: str = "",
+        row: str = "",
+        is_result: bool = False,
+        wrong: str = "",
+    ):
+        self.name, self.expression, self.value, self.says = name, expression, value, says
+        self.row, self.is_result, self.wrong = row, is_result, wrong
+
+    @cached_property
+    def is_true(self) -> bool:
+        """Whether the value is that of the expression."""
+        if self.wrong or not self.expression:
+            return not self.wrong
+        return self.value is None or value_of(self.expression) == self.value
+
+    @property
+    def value_text(self) -> str:
+        """The value as a text; empty where there is none."""
+        return "" if self.value is None else str(self.value)
+
+    @property
+    def fault(self) -> str:
+        """What isn't true about the line, and which row of the file says otherwise."""
+        if self.wrong:
+            return f"{self.name}: {self.row} {self.wrong}"
+        given = value_of(self.expression)
+        return f"{self.name}: {self.row or 'the file'} says {self.value}, the rows that it comes from give {given}"
+
+    @property
+    def text(self) -> str:
+        """The line as it is printed."""
+        sides = " = ".join(filter(None, (self.name, self.expression, self.value_text)))
+        return f"{'  ' if self.is_true else '! '}{sides}{f'    # {self.says}' if self.says else ''}"
+
+
+class Part(NamedTuple):
+    """Some lines under a title, with what they are in a note."""
+
+    title: str
+    note: str
+    lines: list[Line]
+
+    @property
+    def is_true(self) -> bool:
+        """Whether each of them is."""
+        return all(line.is_true for line in self.lines)
+
+
+class Figure(NamedTuple):
+    """A figure of a table's row: its name and its text."""
+
+    name: str
+    text: str
+
+
+class Explanation(NamedTuple):
+    """All that is told of a node in a release of a month."""
+
+    code: str
+    title: str
+    month: str
+    revision: int
+    figures: list[Figure]
+    facts: list[str]
+    glance: Section
+    parts: list[Part]
+
+    @property
+    def lines(self) -> Iterator[Line]:
+        """All lines."""
+        for part in self.parts:
+            yield from part.lines
+
+    @property
+    def untrue(self) -> list[Line]:
+        """Those that don't hold."""
+        return [line for line in self.lines if not line.is_true]
+
+    @property
+    def text(self) -> str:
+        """The explanation as it is printed: a line a step."""
+        figures = ", ".join(f"{it.name} {it.text}" for it in self.figures)
+        head = f"{self.code} {self.title}: {self.month}, revision {self.revision}"
+        blocks = ["\n".join([head, figures, *self.facts])]
+        for part in self.parts:
+            blocks.append("\n".join([f"{part.title}. {part.note}", *(line.text for line in part.lines)]))
+        return "\n\n".join(blocks)
+
+
+def summed(numbers: Iterable[int]) -> str:
+    """`1 + 2 + 3`."""
+    return " + ".join(map(str, numbers))
+
+
+def change_expression(before: int, now: int) -> str:
+    """A change in tenths of a percent; a fall is rounded as a rise of its size."""
+    if now >= before:
+        return f"round(1000 * ({now} - {before}) / {before})"
+    return f"-round(1000 * ({before} - {now}) / {before})"

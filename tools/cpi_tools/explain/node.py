@@ -1,0 +1,87 @@
+"""A node above: the mean of the elementary indices by their weights in use, and what each of them adds."""
+
+from __future__ import annotations
+
+from fractions import Fraction
+
+from ..exact import HUNDRED, at_and_above, decimal, points, tenths
+from ..sections import Cell, Section, columns
+from ..terminal import link_month, month_text
+from .expressions import value_of
+from .lines import Line, Part, summed
+from .sources import Sources
+
+MOST_CONTRIBUTIONS = 5
+
+
+def below(sources: Sources, node: str) -> list[str]:
+    """The elementary aggregates below a node."""
+    return [code for code in sources.aggregates if node in at_and_above(code)]
+
+
+def weight_line(sources: Sources, code: str) -> Line:
+    """The weight in use of an aggregate: as the plan has it, or moved by prices from the plan's reference month."""
+    sent, now, row = sources.plan.weights[code], sources.own.levels[code].weight, sources.row("level_2", code)
+    name, title, reference = f"weight of {code}", sources.plan.titles[code], sources.plan.reference
+    if reference is None:
+        return Line(name, f"{sent}", now, f"{title}; as the plan has it", row)
+    then = sources.latest(reference)
+    levels = then.levels if then else {}
+    span = f"from {month_text(reference)} to {month_text(link_month(sources.month))}"
+    if code not in levels or code not in sources.link.levels:
+        return Line(name, "0", now, f"{title}; one of the tables {span} has no row of it", row)
+    expression = f"round({sent} * {sources.link.levels[code].chained} / {levels[code].chained})"
+    return Line(name, expression, now, f"{title}; moved by its prices {span}", row)
+
+
+def adds_line(sources: Sources, node: str, code: str) -> Line:
+    """What an aggregate adds to the monthly change of a node's index, in millionths of a percentage point."""
+    own, whole = sources.own.levels[code], sources.own.levels[node]
+    then = HUNDRED if sources.is_january else sources.before.levels[code].within
+    whole_then = HUNDRED if sources.is_january else sources.before.levels[node].within
+    change = f"({own.within} - {then})" if own.within >= then else f"({then} - {own.within})"
+    expression = f"round({HUNDRED} * {own.weight} * {change} / ({whole.weight} * {whole_then}))"
+    expression = expression if own.within >= then else f"-{expression}"
+    return Line(f"contribution of {code}", expression, value_of(expression), sources.plan.titles[code])
+
+
+def contributions(sources: Sources, node: str) -> list[tuple[Fraction, str, Line]]:
+    """What each aggregate below a node adds, the greatest first."""
+    lines = [(code, adds_line(sources, node, code)) for code in below(sources, node)]
+    found = [(Fraction(line.value or 0), code, line) for code, line in lines]
+    return sorted(found, key=lambda it: (-abs(it[0]), it[1]))
+
+
+def node_parts(sources: Sources, node: str) -> list[Part]:
+    """The parts of a node above aggregates."""
+    codes = below(sources, node)
+    rows = [sources.own.levels[code] for code in codes]
+    weight, total = sum(it.weight for it in rows), sum(it.weight * it.within for it in rows)
+    products = " + ".join(f"{it.weight} * {it.within}" for it in rows)
+    own, row = sources.own.levels[node], sources.row("level_2", node)
+    mean = [
+        Line("sum of weights", summed(it.weight for it in rows), own.weight, "weights in use", row),
+        Line("sum of weight * index", products, total, "each aggregate's weight in use times its index"),
+        Line("index", f"round({total} / {weight})", own.within, "within the year; the link month is 100", row, True),
+    ]
+    titles = sources.plan.titles
+    indices = [Line(f"index of {code}", "", it.within, titles[code]) for code, it in zip(codes, rows)]
+    adds = [line for _, _, line in contributions(sources, node)[:MOST_CONTRIBUTIONS]]
+    return [
+        Part("Mean", "Always of the elementary indices, by their weights in use, and rounded once.", mean),
+        Part("The greatest contributions", "In millionths of a percentage point of the index's monthly change.", adds),
+        Part("Elementary indices", "Each goes on down to its receipts, where it is asked for by its code.", indices),
+        Part("Weights in use", "Of the aggregates below.", [weight_line(sources, code) for code in codes]),
+    ]
+
+
+def node_glance(sources: Sources, node: str) -> Section:
+    """The aggregates below a node in one table, those that add most to the month first."""
+    rows: list[list[Cell]] = []
+    for added, code, _ in contributions(sources, node):
+        it = sources.own.levels[code]
+        figures: list[Cell] = [it.weight, points(it.within, 2), tenths(it.month_change)]
+        rows.append([code, sources.plan.titles[code], *figures, decimal(added.numerator, 10**6, 4)])
+    heads = columns("=aggregate", "title", "#weight in use", "#index", "#month %", "#adds")
+    note = "Those first that add most to the index's monthly change, in percentage points."
+    return Section("glance", "The aggregates below at a glance", note, heads, rows, "None.", shown=30)

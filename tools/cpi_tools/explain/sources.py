@@ -1,0 +1,197 @@
+"""A release with all that it was computed from: each earlier month in its latest revision."""
+
+from __future__ import annotations
+
+from functools import cached_property
+from typing import NamedTuple, Optional
+
+from ..exact import depth_of
+from ..stored import (
+    COMPARABLE,
+    OBSERVED,
+    Assignment,
+    Carried,
+    Frozen,
+    Item,
+    Level,
+    Plan,
+    Quote,
+    Release,
+    Series,
+    StoredOffice,
+)
+from ..terminal import Fault, link_month, month_before, month_text
+
+AGGREGATE = 5
+"""The depth of an elementary aggregate."""
+
+WHOLE_SCALE = (10_000, 1)
+"""The scale of a price that nothing replaced: ticks per minor unit."""
+
+
+class NotExplained(Fault):
+    """A month, a node or a series that the file doesn't have; one line."""
+
+
+class Sent(NamedTuple):
+    """A quote that stands now: who had the slot, the quote and its receipt."""
+
+    slot: Assignment
+    quote: Quote
+    receipt: int
+
+
+class Month:
+    """What is stored of a release: carried prices, frozen quotes and the rows of its table."""
+
+    def __init__(self, office: StoredOffice, release: Release):
+        self._office, self.release = office, release
+
+    @cached_property
+    def carried(self) -> dict[Series, Carried]:
+        return dict(sorted(self._office.carried(self.release).items()))
+
+    @cached_property
+    def frozen(self) -> dict[Series, Frozen]:
+        return self._office.frozen(self.release)
+
+    @cached_property
+    def levels(self) -> dict[str, Level]:
+        return dict(sorted(self._office.levels(self.release).items()))
+
+    def is_observed(self, series: Series) -> bool:
+        """Whether a series had a price."""
+        return series in self.frozen and self.frozen[series].mark in OBSERVED
+
+
+class Sources:
+    """A release of a month, the months that it was computed from, and the survey.
+
+    Raises NotExplained where the month isn't frozen, hasn't that revision, or has no table.
+    """
+
+    def __init__(self, office: StoredOffice, month: int, revision: Optional[int] = None):
+        self.office, self.month = office, month
+        self.releases = office.releases()
+        self._latest = {release.month: release for release in self.releases}
+        own = [it for it in self.releases if it.month == month and revision in (None, it.revision)]
+        if not own:
+            raise NotExplained(self._no_release(revision))
+        self.own = Month(office, own[-1])
+        plan = next((plan for plan in office.plans() if plan.year == month // 100), None)
+        if plan is None or not self.own.levels:
+            raise NotExplained(f"{month_text(month)} has no table: it is the first month, which later ones begin at")
+        self.plan: Plan = plan
+        self.outlets = office.outlets()
+        self.items: dict[str, Item] = {it.code: it for it in office.items()}
+
+    def _no_release(self, revision: Optional[int]) -> str:
+        known = [it.revision for it in self.releases if it.month == self.month]
+        if known:
+            return f"{month_text(self.month)} has no revision {revision}; it has {', '.join(map(str, known))}"
+        months = [it.month for it in self.releases]
+        span = f"{month_text(months[0])} to {month_text(months[-1])} are" if months else "no month is"
+        return f"{month_text(self.month)} isn't frozen; {span}"
+
+    @property
+    def is_january(self) -> bool:
+        return self.month % 100 == 1
+
+    def latest(self, month: int) -> Optional[Month]:
+        """The latest release of a month, if it has one."""
+        return Month(self.office, self._latest[month]) if month in self._latest else None
+
+    def _known(self, month: int) -> Month:
+        found = self.latest(month)
+        if found is None:
+            raise NotExplained(f"{month_text(month)}, which {month_text(self.month)} is computed from, isn't there")
+        return found
+
+    @cached_property
+    def link(self) -> Month:
+        """The link month."""
+        return self._known(link_month(self.month))
+
+    @cached_property
+    def before(self) -> Month:
+        """The month before."""
+        return self.link if self.is_january else self._known(month_before(self.month))
+
+    @cached_property
+    def year_before(self) -> dict[str, Level]:
+        """The table of twelve months before; empty where there is none."""
+        found = self.latest(self.month - 100)
+        return found.levels if found else {}
+
+    # ---- samples and series
+
+    @cached_property
+    def aggregates(self) -> list[str]:
+        """The elementary aggregates of the year."""
+        return [code for code in self.plan.weights if depth_of(code) == AGGREGATE]
+
+    @cached_property
+    def samples(self) -> dict[str, list[Series]]:
+        """The series of each aggregate's sample, as the rows of carried prices have them."""
+        found: dict[str, list[Series]] = {code: [] for code in self.aggregates}
+        for series, it in self.own.carried.items():
+            found.setdefault(self.plan.places.get(it.item, ""), []).append(series)
+        return found
+
+    @cached_property
+    def held(self) -> dict[Series, list[Assignment]]:
+        """The assignments of each series, from the first to the last who has it."""
+        found: dict[Series, list[Assignment]] = {}
+        for it in self.office.assignments():
+            found.setdefault(it.series, []).append(it)
+        return found
+
+    def holder(self, series: Series, month: int) -> Assignment:
+        """Who prices a series in a month, or had it last before."""
+        own = self.held[series]
+        return next((it for it in reversed(own) if it.first_month <= month), own[0])
+
+    @cached_property
+    def copied(self) -> dict[tuple[int, int], int]:
+        """The price that each slot was handed over with."""
+        return self.office.copied_prices()
+
+    @cached_property
+    def sent(self) -> dict[tuple[Series, int], Sent]:
+        """The quotes that stand now for the month and for the link month, by series and month."""
+        found: dict[tuple[Series, int], Sent] = {}
+        for month in (self.month, link_month(self.month)):
+            quotes, receipts = self.office.quotes(month), self.office.receipts(month)
+            for own in self.held.values():
+                for it in own:
+                    if it[:2] in quotes and it.first_month <= month <= it.last_month:
+                        found[it.series, month] = Sent(it, quotes[it[:2]], receipts[it[:2]])
+        return found
+
+    # ---- what a series counted as
+
+    def base(self, series: Series) -> tuple[int, tuple[int, int]]:
+        """The base of a series in ticks, and its scale."""
+        if self.link.is_observed(series):
+            return self.link.frozen[series].value * WHOLE_SCALE[0], WHOLE_SCALE
+        it = self.link.carried[series]
+        return it.ticks, (it.knum, it.kden)
+
+    def then(self, series: Series) -> tuple[int, tuple[int, int]]:
+        """What a series counted as in the month before in ticks, and its scale; in January its base."""
+        if self.is_january:
+            return self.base(series)
+        it = self.before.carried[series]
+        return it.ticks, (it.knum, it.kden)
+
+    def is_comparable(self, series: Series) -> bool:
+        """Whether a series has a comparable price."""
+        return series in self.own.frozen and self.own.frozen[series].mark in COMPARABLE
+
+    def is_matched(self, series: Series) -> bool:
+        """Whether it has one, and was observed in the month before."""
+        return self.is_comparable(series) and self.before.is_observed(series)
+
+    def row(self, table: str, key: object) -> str:
+        """How a row of the release is named."""
+        return f"{table} ({self.month}, {self.own.release.revision}, {key})"

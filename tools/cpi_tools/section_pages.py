@@ -1,0 +1,22 @@
+"""Pages of sections: the templates of a tool with those of all pages, and a style for tables and lines."""
+
+from __future__ import annotations
+
+from pathlib import Path
+
+import jinja2
+from markupsafe import Markup
+
+from . import pages
+
+
+def style() -> Markup:
+    """The style of all pages, and what sections have beside it."""
+    return pages.style() + Markup((pages.TEMPLATES / "sections.css").read_text(encoding="utf-8"))
+
+
+def environment(own: Path) -> jinja2.Environment:
+    """The templates of a tool whose pages are made of sections; its own stand in a folder."""
+    made = pages.environment(own)
+    made.globals["style"] = style
+    return made
