@@ -6,9 +6,11 @@ import contextlib
 import csv
 import io
 import math
+import os
 import random
 import re
 import sqlite3
+import subprocess
 from collections.abc import Iterator
 from fractions import Fraction
 from pathlib import Path
@@ -19,6 +21,7 @@ import surveys
 from cpi_tools.__main__ import main
 from cpi_tools.desk import aggregates, unusual
 from cpi_tools.program import Cpi, record
+from conftest import ROOT
 from loads import free_port, served
 from surveys import bytes_of, closes, key_of, number_of, opens, publishes, rows_of, run
 
@@ -482,3 +485,12 @@ def test_each_help_has_an_example_and_narrow_lines(capsys: pytest.CaptureFixture
         told = capsys.readouterr().out
         assert re.search(rf"^example: cpi-tools {' '.join(words)} .*\boffice\.db\b", told, re.M), told
         assert "exit status: 0" in told and not [line for line in told.splitlines() if len(line) > 100]
+
+
+def test_who_reads_no_further_ends_the_tool_without_a_traceback(cpi: Cpi, small: Path) -> None:
+    words = [ROOT / "cpi-tools", "explain", small, "2026-01", "01.1.1.1-01"]
+    reads, writes = os.pipe()
+    os.close(reads)
+    ran = subprocess.run(words, stdout=writes, stderr=subprocess.PIPE, text=True, check=False)
+    os.close(writes)
+    assert (ran.returncode, ran.stderr) == (1, "")
