@@ -322,6 +322,7 @@ def test_what_is_decided_is_noted(cpi: Cpi, small: Path, monkeypatch: pytest.Mon
 def test_a_carry_list_that_is_given_is_all_of_it(cpi: Cpi, small: Path) -> None:
     words = ("desk", "close", small, "2026-02", "--at", 4000, "--carry")
     assert run(cpi, *words, "01.1.1.2-01").out == "4000,desk,freeze,2026-02,01.1.1.2-01\n"
+    assert run(cpi, *words, "01.1.1.1-01,01.1.1.2-01").out == "4000,desk,freeze,2026-02,01.1.1.2-01\n"
     other = run(cpi, *words, "01.1.1.1-01")
     assert (other.status, other.out) == (1, "")
     assert "nothing can be compared in 01.1.1.2-01 either: name it too, or wait for a price" in other.err
