@@ -6,9 +6,11 @@ import contextlib
 import csv
 import io
 import math
+import os
 import random
 import re
 import sqlite3
+import subprocess
 from collections.abc import Iterator
 from fractions import Fraction
 from pathlib import Path
@@ -19,6 +21,7 @@ import surveys
 from cpi_tools.__main__ import main
 from cpi_tools.desk import aggregates, unusual
 from cpi_tools.program import Cpi, record
+from conftest import ROOT
 from loads import free_port, served
 from surveys import bytes_of, closes, key_of, number_of, opens, publishes, rows_of, run
 
@@ -319,6 +322,7 @@ def test_what_is_decided_is_noted(cpi: Cpi, small: Path, monkeypatch: pytest.Mon
 def test_a_carry_list_that_is_given_is_all_of_it(cpi: Cpi, small: Path) -> None:
     words = ("desk", "close", small, "2026-02", "--at", 4000, "--carry")
     assert run(cpi, *words, "01.1.1.2-01").out == "4000,desk,freeze,2026-02,01.1.1.2-01\n"
+    assert run(cpi, *words, "01.1.1.1-01,01.1.1.2-01").out == "4000,desk,freeze,2026-02,01.1.1.2-01\n"
     other = run(cpi, *words, "01.1.1.1-01")
     assert (other.status, other.out) == (1, "")
     assert "nothing can be compared in 01.1.1.2-01 either: name it too, or wait for a price" in other.err
@@ -482,3 +486,12 @@ def test_each_help_has_an_example_and_narrow_lines(capsys: pytest.CaptureFixture
         told = capsys.readouterr().out
         assert re.search(rf"^example: cpi-tools {' '.join(words)} .*\boffice\.db\b", told, re.M), told
         assert "exit status: 0" in told and not [line for line in told.splitlines() if len(line) > 100]
+
+
+def test_who_reads_no_further_ends_the_tool_without_a_traceback(cpi: Cpi, small: Path) -> None:
+    words = [ROOT / "cpi-tools", "explain", small, "2026-01", "01.1.1.1-01"]
+    reads, writes = os.pipe()
+    os.close(reads)
+    ran = subprocess.run(words, stdout=writes, stderr=subprocess.PIPE, text=True, check=False)
+    os.close(writes)
+    assert (ran.returncode, ran.stderr) == (1, "")

@@ -2,6 +2,7 @@
 
 from __future__ import annotations
 
+import os
 import sys
 from collections.abc import Sequence
 from typing import Optional
@@ -37,9 +38,14 @@ def main(given: Optional[Sequence[str]] = None) -> int:
     try:
         with ends_by_signals():
             status: int = chosen.run(chosen)
+            sys.stdout.flush()
             return status
     except Fault as fault:
         print(f"cpi-tools {chosen.tool}: {fault}", file=sys.stderr)
+        return 1
+    except BrokenPipeError:
+        # (who read the output has gone, so the rest of it goes nowhere)
+        os.dup2(os.open(os.devnull, os.O_WRONLY), sys.stdout.fileno())
         return 1
     except KeyboardInterrupt:
         return 130

@@ -5,14 +5,13 @@ The month is frozen on a copy, which names every code. Nothing is sent to the of
 
 from __future__ import annotations
 
-import sys
 from collections.abc import Callable, Iterator, Sequence
 from pathlib import Path
 from typing import NamedTuple, Optional
 
 from ..copying import private_copy
 from ..program import Cpi, record
-from ..sections import Section, text_of
+from ..sections import Section
 from ..stored import read_copy
 from ..terminal import Fault, counted, month_text, time_text
 from ..trial import freeze_on_copy, state_of
@@ -22,8 +21,26 @@ from .facts import Facts
 Answer = Callable[[str], str]
 """Shows a question, and gives the line that answers it."""
 
-SHOWN_SERIES = 40
-"""Series of an aggregate that are shown at most."""
+
+class Named(NamedTuple):
+    """An aggregate in which nothing can be compared: what was found of its series in few words, and of each."""
+
+    code: str
+    title: str
+    marks: str
+    series: Section
+
+
+class Closed(NamedTuple):
+    """A month as it was frozen on a copy: what the refusals named, the rows of its table, and who answered."""
+
+    month: int
+    closes: int
+    revision: int
+    named: list[Named]
+    rows: int
+    priced: int
+    slots: int
 
 
 class Decision(NamedTuple):
@@ -34,84 +51,73 @@ class Decision(NamedTuple):
     because: str
 
 
-class Closed(NamedTuple):
-    """A month as it would be closed: its carry list, what was decided, the rows of its table, and the response."""
-
-    carry: tuple[str, ...]
-    revision: int
-    decisions: list[Decision]
-    rows: int
-    priced: int
-    slots: int
-
-
 class NotClosed(Fault):
     """A month that can't be closed as it is asked; one line."""
 
 
-def close(
-    cpi: Cpi, office_copy: Path, month: int, at: int, carry: Optional[Sequence[str]], ask: Optional[Answer]
-) -> Closed:
-    """Freezes a month on a further copy, and decides on each aggregate that the freeze names.
+def close(cpi: Cpi, office_copy: Path, month: int, at: int) -> Closed:
+    """Freezes a month on a further copy, when its window closes or at a later moment.
 
-    `carry` are the codes that may be carried, None all that are named; `ask` is asked for each, None nobody. Raises
-    NotClosed where one may not be carried, or the window is open at the moment `at`; Refused where the freeze is
-    refused for anything else.
+    Raises NotClosed where it stands frozen, Refused where the freeze is refused for anything but what can be carried.
     """
     with read_copy(office_copy) as office:
         state = state_of(office, month)
     if state.is_frozen:
         raise NotClosed(f"{month_text(month)} is frozen, revision {state.revision}: reopen it to freeze it again")
+    closes = state.window.closes
     with private_copy(office_copy) as copy:
-        frozen = freeze_on_copy(cpi, copy, state, max(at, state.window.closes), carry or ())
+        frozen = freeze_on_copy(cpi, copy, state, max(at, closes))
         with read_copy(copy) as office:
             facts = Facts(office, month, frozen)
-            decisions = [*decided(facts, frozen.carry, carry, ask)]
-            count = response.in_all(facts)
-    if at < state.window.closes:
-        raise NotClosed(f"the window is open until {time_text(state.window.closes)}: ask for the record from then on")
-    return Closed(frozen.carry, frozen.revision, decisions, len(facts.rows), count.priced, count.slots)
+            named, count = [named_of(facts, code) for code in frozen.carry], response.in_all(facts)
+            return Closed(month, closes, frozen.revision, named, len(facts.rows), count.priced, count.slots)
 
 
-def decided(
-    facts: Facts, listed: Sequence[str], allowed: Optional[Sequence[str]], ask: Optional[Answer]
-) -> Iterator[Decision]:
-    """What is decided on each code of a carry list. Raises NotClosed where one isn't to be carried."""
-    if allowed is not None and (others := [code for code in listed if code not in allowed]):
+def named_of(facts: Facts, code: str) -> Named:
+    """What is told of an aggregate that a refusal named."""
+    title = facts.title(code)
+    series = aggregates.carry_series(facts, [code])._replace(title=f"{code} {title}")
+    return Named(code, title, aggregates.marks_of(facts.samples[code], facts.frozen), series)
+
+
+# ---- decisions
+
+
+def decided(closed: Closed, at: int, allowed: Optional[Sequence[str]], ask: Optional[Answer]) -> list[Decision]:
+    """What is decided on each aggregate that was named.
+
+    `allowed` are the codes that may be carried, None all of them; `ask` is asked for each, None nobody. Raises NotClosed
+    where one may not be carried, or the window is open at the moment `at`.
+    """
+    others = [it.code for it in closed.named if allowed is not None and it.code not in allowed]
+    if others:
         raise NotClosed(f"nothing can be compared in {', '.join(others)} either: name it too, or wait for a price")
-    for code in listed:
-        title = facts.title(code)
-        marks = aggregates.marks_of(facts.samples[code], facts.frozen)
-        print(text_of(series_of(facts, code), SHOWN_SERIES), file=sys.stderr)
-        because = f"nothing to compare: {marks}"
-        if ask:
-            because = because_of_answer(ask(f"Carry {code} {title}? y and why, or n: "), code, because)
-        yield Decision(code, title, because)
+    if at < closed.closes:
+        raise NotClosed(f"the window is open until {time_text(closed.closes)}: ask for the record from then on")
+    return [decision_on(it, ask) for it in closed.named]
 
 
-def series_of(facts: Facts, code: str) -> Section:
-    """The series of an aggregate on the carry list, with what was found of them."""
-    return aggregates.carry_series(facts, [code])._replace(title=f"{code} {facts.title(code)}")
-
-
-def because_of_answer(answer: str, code: str, found: str) -> str:
-    """Why an aggregate is carried, by the answer. Raises NotClosed where it isn't."""
-    word, _, because = answer.strip().partition(" ")
+def decision_on(it: Named, ask: Optional[Answer]) -> Decision:
+    """That an aggregate is carried. Raises NotClosed where the answer is another."""
+    because = f"nothing to compare: {it.marks}"
+    if ask is None:
+        return Decision(it.code, it.title, because)
+    word, _, why = ask(f"Carry {it.code} {it.title}? y and why, or n: ").strip().partition(" ")
     if word != "y":
-        raise NotClosed(f"{code} isn't carried, so the month can't be frozen: wait for a price, or ask again")
-    return because.strip() or found
+        raise NotClosed(f"{it.code} isn't carried, so the month can't be frozen: wait for a price, or ask again")
+    return Decision(it.code, it.title, why.strip() or because)
 
 
-def told(closed: Closed, month: int, by: Optional[str]) -> Iterator[str]:
+def told(closed: Closed, decisions: Sequence[Decision], by: Optional[str]) -> Iterator[str]:
     """The note on a month that is closed: who decided what and why, and what its table will be."""
-    for it in closed.decisions:
+    for it in decisions:
         yield f"carried: {it.code} {it.title}; {it.because}{f'; decided by {by}' if by else ''}"
     yield (
-        f"{month_text(month)}, revision {closed.revision}: {counted(closed.rows, 'row')}, {closed.priced:,} of"
-        f" {counted(closed.slots, 'slot')} priced, {counted(len(closed.carry), 'aggregate')} carried"
+        f"{month_text(closed.month)}, revision {closed.revision}: {counted(closed.rows, 'row')}, {closed.priced:,} of"
+        f" {counted(closed.slots, 'slot')} priced, {counted(len(decisions), 'aggregate')} carried"
     )
 
 
-def freeze_record(month: int, at: int, carry: Sequence[str]) -> str:
+def freeze_record(closed: Closed, at: int) -> str:
     """The one record to send."""
-    return record(at, "desk", "freeze", month_text(month), *carry)
+    return record(at, "desk", "freeze", month_text(closed.month), *(it.code for it in closed.named))

@@ -23,6 +23,9 @@ from .unusual import PERCENT_OF_WIDTH
 
 PAGE = "month.html"
 
+SHOWN_SERIES = 40
+"""Series of an aggregate that are shown at most, where it is asked what to do with it."""
+
 AGGREGATE = re.compile(r"(0[1-9]|1[0-3])\.[0-9]\.[0-9]\.[0-9]-(0[1-9]|[1-9][0-9])")
 
 
@@ -80,10 +83,13 @@ def run_close(chosen: argparse.Namespace) -> int:
     asks = answered if chosen.carry == "ask" else None
     with at_desk(chosen) as desk:
         desk.progress.now("freezing the month on a copy")
-        closed = closing.close(desk.cpi, desk.copy, chosen.month, at, codes, asks)
-    for line in closing.told(closed, chosen.month, chosen.by):
+        closed = closing.close(desk.cpi, desk.copy, chosen.month, at)
+    for it in closed.named:
+        print(text_of(it.series, SHOWN_SERIES), file=sys.stderr)
+    decisions = closing.decided(closed, at, codes, asks)
+    for line in closing.told(closed, decisions, chosen.by):
         print(line, file=sys.stderr)
-    print(closing.freeze_record(chosen.month, at, closed.carry))
+    print(closing.freeze_record(closed, at))
     return 0
 
 
