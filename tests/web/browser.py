@@ -14,7 +14,7 @@ from selenium.webdriver.chrome.options import Options
 from selenium.webdriver.chrome.service import Service
 from selenium.webdriver.common.by import By
 from selenium.webdriver.remote.webelement import WebElement
-from selenium.webdriver.support.ui import WebDriverWait
+from selenium.webdriver.support.wait import WebDriverWait
 
 from cpi_tools.front import system_program
 
@@ -33,12 +33,12 @@ class Browser:
     def __init__(self, url: str, authority: Path, home: Path):
         self.url = url
         trust(authority, home)
-        options = Options()
+        options: Any = Options()  # (selenium has no types)
         for word in (*WORDS, f"--user-data-dir={home}/profile"):
             options.add_argument(word)
         options.set_capability("goog:loggingPrefs", {"browser": "ALL"})
         kept = {**os.environ, "HOME": str(home), "XDG_DATA_HOME": f"{home}/.local/share"}
-        self.driver = webdriver.Chrome(service=Service(system_program("chromedriver"), env=kept), options=options)
+        self.driver: Any = webdriver.Chrome(service=Service(system_program("chromedriver"), env=kept), options=options)
         self.driver.set_script_timeout(20)
         self.size(360, 740)
 
@@ -68,7 +68,11 @@ class Browser:
     def offline(self, is_offline: bool) -> None:
         self.cdp("Network.enable")
         self.cdp(
-            "Network.emulateNetworkConditions", offline=is_offline, latency=0, downloadThroughput=-1, uploadThroughput=-1
+            "Network.emulateNetworkConditions",
+            offline=is_offline,
+            latency=0,
+            downloadThroughput=-1,
+            uploadThroughput=-1,
         )
 
     # ---- the page
@@ -77,14 +81,15 @@ class Browser:
         self.driver.get(self.url + path)
 
     def find(self, selector: str) -> WebElement:
-        return self.driver.find_element(By.CSS_SELECTOR, selector)
+        found: WebElement = self.driver.find_element(By.CSS_SELECTOR, selector)
+        return found
 
     def all(self, selector: str) -> list[WebElement]:
         found: list[WebElement] = self.driver.find_elements(By.CSS_SELECTOR, selector)
         return found
 
     def click(self, selector: str) -> None:
-        """A click, with what is clicked in the middle of the window, where nothing that sticks to its edges hides it."""
+        """A click, with what is clicked in the middle of the window, where what sticks to its edges doesn't hide it."""
         found = self.find(selector)
         self.run("arguments[0].scrollIntoView({ block: 'center' })", found)
         found.click()
@@ -109,8 +114,8 @@ class Browser:
 
     def run_until(self, script: str, *words: Any) -> Any:
         """Runs the body of a function whose promise tells the value."""
-        whole = f"const end = arguments[arguments.length - 1]; (async function () {{ {script} }}).apply(null, arguments)"
-        return self.driver.execute_async_script(f"{whole}.then(end, (fault) => end(String(fault)));", *words)
+        whole = f"(async function () {{ {script} }}).apply(null, arguments).then(end, (fault) => end(String(fault)));"
+        return self.driver.execute_async_script(f"const end = arguments[arguments.length - 1]; {whole}", *words)
 
     def text(self, selector: str) -> str:
         """The text that a user sees, or none."""
@@ -145,7 +150,7 @@ class Browser:
         if is_whole:
             width, height = self.run("return [innerWidth, Math.max(document.documentElement.scrollHeight, 500)]")
             clip = {"x": 0, "y": 0, "width": width, "height": height, "scale": 1}
-        words = {"format": "png", **({"captureBeyondViewport": True, "clip": clip} if clip else {})}
+        words: dict[str, Any] = {"format": "png", **({"captureBeyondViewport": True, "clip": clip} if clip else {})}
         name.write_bytes(base64.b64decode(self.cdp("Page.captureScreenshot", **words)["data"]))
 
     def close(self) -> None:

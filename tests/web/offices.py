@@ -48,8 +48,13 @@ ITEMS = (
     ("MILK", "Milk, whole", "1 l", 700, 1500),
 )
 SLOTS = (
-    (7, 1, 10, "RICE"), (7, 2, 10, "FLOUR"), (7, 3, 11, "TEA"), (7, 4, 11, "MILK"), (8, 1, 12, "RICE"), (8, 2, 12, "FLOUR"),
-)  # fmt: skip
+    (7, 1, 10, "RICE"),
+    (7, 2, 10, "FLOUR"),
+    (7, 3, 11, "TEA"),
+    (7, 4, 11, "MILK"),
+    (8, 1, 12, "RICE"),
+    (8, 2, 12, "FLOUR"),
+)
 
 
 def registered() -> Iterator[str]:

@@ -2,7 +2,9 @@
 
 from __future__ import annotations
 
-from typing import Optional
+from typing import Any, Optional
+
+from selenium.webdriver.common.action_chains import ActionChains
 
 from browser import Browser
 from offices import ANNA
@@ -59,6 +61,11 @@ class Phone:
 
     def confirm(self) -> None:
         self.browser.click("#entry-confirm")
+
+    def press(self, *keys: str) -> None:
+        """Presses keys, wherever the focus is."""
+        chain: Any = ActionChains
+        chain(self.browser.driver).send_keys(*keys).perform()
 
     def send(self) -> None:
         self.browser.click("#send")

@@ -57,11 +57,14 @@ SMALL = (
 const isSmall = ({ width, height }) => height < arguments[0] || width < arguments[0];
 return all("input:not([type=checkbox], [type=radio]), select, textarea, button, summary, a.button, "
   + "label:has([type=checkbox], [type=radio])")
-  .filter((element) => isSmall(element.getBoundingClientRect())).map((element) => `small: ${element.outerHTML.slice(0, 100)}`);
+  .filter((element) => isSmall(element.getBoundingClientRect()))
+  .map((element) => `small: ${element.outerHTML.slice(0, 100)}`);
 """
 )
 
-WIDE = "return document.documentElement.scrollWidth > innerWidth ? [`${document.documentElement.scrollWidth} wide`] : []"
+WIDE = (
+    "const { scrollWidth } = document.documentElement; return scrollWidth > innerWidth ? [`${scrollWidth} wide`] : [];"
+)
 
 
 def faults_of_page(browser: Browser) -> list[str]:

@@ -9,7 +9,6 @@ from pathlib import Path
 from typing import Any
 
 import pytest
-from selenium.webdriver.common.action_chains import ActionChains
 from selenium.webdriver.common.keys import Keys
 
 from browser import Browser
@@ -133,10 +132,12 @@ def test_a_price_gets_its_receipt(phone: Phone, stage: Stage) -> None:
 def test_what_is_no_price_is_told_and_not_sent(phone: Phone, stage: Stage) -> None:
     phone.sign_in()
     before = len(stage.relay.seen)
+    phone.edit(1)
     for text in ("", "0", "3.211", "1e3", "-3", "3.2.1", "1000000.01"):
-        phone.enter(1, text)
-        assert "Write the price" in phone.browser.text("#price-fault")
-        phone.browser.click("#entry-cancel")
+        phone.browser.run("document.getElementById('price-fault').textContent = ''")
+        phone.browser.type("#price", text)
+        phone.browser.click("#entry-save")
+        phone.browser.wait_text("#price-fault", "Write the price with figures, such as 2.10.")
     assert len(stage.relay.seen) == before
 
 
@@ -403,6 +404,21 @@ def other_phone(stage: Stage, tmp_path: Path) -> Iterator[Phone]:
     browser.close()
 
 
+KEPT = """
+return await new Promise((end) => {
+  const open = indexedDB.open("cpi-collect");
+  open.onsuccess = () => {
+    const found = [], names = [...open.result.objectStoreNames];
+    for (const name of names) {
+      const all = open.result.transaction(name).objectStore(name).getAll();
+      all.onsuccess = () => { if (found.push(all.result) === names.length) end(JSON.stringify(found)); };
+    }
+  };
+});
+"""
+"""All that a phone has kept, as one text."""
+
+
 def test_collectors_see_their_own(phone: Phone, other_phone: Phone, stage: Stage) -> None:
     phone.sign_in()
     other_phone.sign_in(BENO)
@@ -411,13 +427,8 @@ def test_collectors_see_their_own(phone: Phone, other_phone: Phone, stage: Stage
     assert stage.wait_for_quotes(ANNA) == [[1, NOW, "price", 321, NEXT]]
     other_phone.send()
     other_phone.browser.wait_text("#line", "All sent")
-    kept = "return JSON.stringify(await Promise.all((await indexedDB.databases()).map(({ name }) => new Promise((end) => {"
-    kept += "const open = indexedDB.open(name); open.onsuccess = () => { const all = []; const names ="
-    kept += "[...open.result.objectStoreNames]; let left = names.length; for (const one of names) { const found ="
-    kept += "open.result.transaction(one).objectStore(one).getAll(); found.onsuccess = () => { all.push(found.result);"
-    kept += "if (--left === 0) end(all); }; } }; }))));"
     for one, others in ((other_phone, ("Corner shop", "321", ANNA)), (phone, ("Market hall", "999", BENO))):
-        seen = one.browser.text("body") + one.browser.run_until(kept)
+        seen = one.browser.text("body") + one.browser.run_until(KEPT)
         assert [text for text in others if text in seen] == []
     assert stage.quotes(BENO) == []
     other_phone.show("quotes")
@@ -477,7 +488,7 @@ def test_escape_in_the_question_signs_nobody_out(phone: Phone, stage: Stage) -> 
     phone.enter(1, "3.10")
     phone.browser.wait_text("#line", "No line: 1 entry")
     phone.browser.click("#leave")
-    ActionChains(phone.browser.driver).send_keys(Keys.ESCAPE).perform()
+    phone.press(Keys.ESCAPE)
     phone.browser.wait(lambda: not phone.browser.run("return document.getElementById('leaving').open"))
     assert "To be sent" in phone.told(1)
 
@@ -510,8 +521,8 @@ def test_the_key_stands_in_no_address_cookie_storage_or_log(phone: Phone, stage:
     )
     assert ANNA not in found
     kept = phone.browser.run_until(
-        "const found = []; for (const name of await caches.keys())"
-        " for (const { url } of await (await caches.open(name)).keys()) found.push(new URL(url).pathname); return found;"
+        "const found = []; for (const name of await caches.keys()) for (const { url } of"
+        " await (await caches.open(name)).keys()) found.push(new URL(url).pathname); return found;"
     )
     assert [path for path in kept if path.startswith("/api/")] == []
     assert len(kept) == 19 and "/config.js" in kept
@@ -522,9 +533,6 @@ def test_the_key_stands_in_no_address_cookie_storage_or_log(phone: Phone, stage:
 
 
 def test_by_keyboard_alone(phone: Phone, stage: Stage) -> None:
-    def press(*keys: str) -> None:
-        ActionChains(phone.browser.driver).send_keys(*keys).perform()
-
     def focused(what: str) -> Any:
         return phone.browser.run(f"return document.activeElement.{what}")
 
@@ -533,21 +541,21 @@ def test_by_keyboard_alone(phone: Phone, stage: Stage) -> None:
 
     phone.open()
     phone.browser.wait_shown("#sign-in")
-    press(ANNA, Keys.ENTER)
+    phone.press(ANNA, Keys.ENTER)
     phone.browser.wait_text("#line", "All sent")
     phone.browser.wait(lambda: phone.browser.all("[data-slot]"))
     for _ in range(20):
         if focused("dataset.slot") == "1":
             break
-        press(Keys.TAB)
-    press(Keys.ENTER)
+        phone.press(Keys.TAB)
+    phone.press(Keys.ENTER)
     phone.browser.wait(lambda: focused("id") == "price")
-    press("3.21", Keys.ENTER)
+    phone.press("3.21", Keys.ENTER)
     assert stage.wait_for_quotes(ANNA) == [[1, NOW, "price", 321, NEXT]]
     phone.browser.wait(lambda: focused("dataset.slot") == "2", "the next that is to do")
-    press(Keys.ENTER)
+    phone.press(Keys.ENTER)
     phone.browser.wait(is_open)
-    press(Keys.ESCAPE)
+    phone.press(Keys.ESCAPE)
     phone.browser.wait(lambda: not is_open())
     assert focused("dataset.slot") == "2"
 

@@ -26,7 +26,8 @@ def test_each_refusal_has_the_words_that_the_tools_have(browser: Browser) -> Non
     browser.open("/collect/")
     told = browser.run_until(
         "const { wordsOf } = await import('/shared/refusals.js');"
-        " return arguments[0].map((words) => { const { because, do: what } = wordsOf(...words); return [because, what]; });",
+        " const told = (words) => { const { because, do: what } = wordsOf(...words); return [because, what]; };"
+        " return arguments[0].map(told);",
         asked,
     )
     assert len(told) == len(asked) > 1000

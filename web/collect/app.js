@@ -1,4 +1,4 @@
-// The page of a collector: signing in and out, and what is shown. Every entry goes to the phone first, then to the office.
+// The page of a collector: signing in and out, and what is shown. Each entry goes to the phone first, then to the office.
 import { ask, isKey, NoAnswer } from "../shared/api.js";
 import { find } from "../shared/dom.js";
 import { moved } from "../shared/months.js";

@@ -68,6 +68,7 @@ function showFields() {
 function showRefusal(reply) {
   const isFar = reply?.refused === 26;
   find("entry-refusal").hidden = !reply;
+  find("entry-last").hidden = isFar; // the refusal tells the same
   find("entry-confirm").hidden = !isFar;
   find("entry-save").hidden = isFar; // until something is changed
   find("entry-refusal").replaceChildren(...(reply ? refusalTold(reply, isFar) : []));

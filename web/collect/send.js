@@ -18,7 +18,8 @@ export function sendAll(who, key, onSettled) {
     for (;;) {
       const waiting = (await store.entries(who)).filter((entry) => entry.state === "waiting").slice(0, ROWS);
       if (waiting.length === 0) return "done";
-      const reply = await ask("POST", "/import", { key, body: waiting.map((entry) => `${recordOf(entry)}\n`).join("") });
+      const body = waiting.map((entry) => `${recordOf(entry)}\n`).join("");
+      const reply = await ask("POST", "/import", { key, body });
       if (reply.refused === 11) return "key";
       if (!Array.isArray(reply.rows) || reply.rows.length !== waiting.length) return "failed";
       for (const [n, entry] of waiting.entries()) {

@@ -3,7 +3,9 @@ import { shown } from "../shared/money.js";
 import { thisMonth } from "../shared/months.js";
 
 export const MARKS = { price: "Price", comparable: "Comparable article", other: "Other article" };
-export const REASONS = { stock: "Sold out", closed: "Shop closed", gone: "No longer sold", refused: "Shop doesn’t tell" };
+export const REASONS = {
+  stock: "Sold out", closed: "Shop closed", gone: "No longer sold", refused: "Shop doesn’t tell",
+};
 
 export const signedOut = () => ({
   key: null, who: null, month: thisMonth(), view: "todo",

@@ -1,7 +1,7 @@
-// Keeps the files of the collectors' page, so that it opens without a line. It never touches the interface of the office.
-// VERSION is the hash of FILES: tools/pages writes it. What an office sets itself (SET) is kept too, and read anew behind
-// each start, so that the next one has it.
-const VERSION = "984faf77b4724128";
+// Keeps the files of the collectors' page, so that it opens without a line. It never touches the office's interface.
+// VERSION is the hash of FILES: tools/pages writes it. What an office sets itself (SET) is kept too, and read anew
+// behind each start, so that the next one has it.
+const VERSION = "bee5ab29b295f19e";
 const FILES = [
   "./", "app.js", "collect.css", "entry.js", "icon.svg", "line.js", "list.js", "manifest.webmanifest", "send.js",
   "state.js", "store.js", "../shared/api.js", "../shared/base.css", "../shared/dom.js", "../shared/money.js",

@@ -22,7 +22,7 @@ export async function ask(method, path, { key, body, seconds = 60 } = {}) {
   try {
     response = await fetch(`/api${path}`, {
       method, headers, body, cache: key ? "no-store" : "default", credentials: "omit", redirect: "error",
-      referrerPolicy: "no-referrer", signal: AbortSignal.timeout(seconds * 1000),
+      referrerPolicy: "no-referrer", signal: AbortSignal.timeout?.(seconds * 1000),
     });
     text = await response.text();
   } catch {
