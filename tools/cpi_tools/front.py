@@ -22,7 +22,10 @@ from .terminal import Fault, because_of
 PATIENCE = 10.0
 """Seconds within which nginx listens."""
 
-CERTIFICATE_DAYS = 30
+CERTIFICATE_DAYS = 90
+
+DAYS_LEFT = 7
+"""A certificate that ends sooner is drawn anew."""
 
 LOCALHOST = "localhost"
 
@@ -84,6 +87,19 @@ def draw_certificate(folder: Path, host: str, days: int = CERTIFICATE_DAYS) -> N
             (folder / name).unlink(missing_ok=True)
 
 
+def keep_certificate(folder: Path, host: str) -> None:
+    """Draws a certificate where the folder has none for this host that is good for some days yet: who trusts the one
+    that is there needn't trust another."""
+    parts = [folder / name for name in ("ca.crt", "site.pem", "site.key")]
+    if all(part.exists() for part in parts):
+        told = _openssl(folder, "x509", "-in", "site.pem", "-noout", "-subject", "-nameopt", "multiline")
+        with contextlib.suppress(Fault):
+            _openssl(folder, "x509", "-in", "site.pem", "-noout", "-checkend", str(DAYS_LEFT * 86_400))
+            if told.rstrip().endswith(f"= {host}"):
+                return
+    draw_certificate(folder, host)
+
+
 def names_of(host: str) -> list[tuple[str, str]]:
     """The names of a host in a certificate: `("IP", "192.168.1.5")`; this machine has two."""
     if host == LOCALHOST:
@@ -139,13 +155,16 @@ def configuration(source: Path, folder: Path, place: Place) -> str:
 
 
 def whole_configuration(site: str, folder: Path) -> str:
-    """The file of an nginx of its own around the servers of a site. Root's nginx would give its work to another user,
-    who may not read these folders."""
+    """The file of an nginx of its own around the servers of a site.
+
+    Root's nginx would give its work to another user, who may not read these folders. A log of all that it has to tell
+    (`info`) would have lines of odd messages in it, and so keys.
+    """
     user = "user root;\n" if os.geteuid() == 0 else ""
     kinds = ("client_body", "proxy", "fastcgi", "uwsgi", "scgi")
     temporary = "".join(f"{kind}_temp_path {folder}/{kind};\n" for kind in kinds)
     return (
-        f"{user}pid {folder}/nginx.pid;\nerror_log {folder}/error.log info;\nworker_processes 1;\n"
+        f"{user}pid {folder}/nginx.pid;\nerror_log {folder}/error.log warn;\nworker_processes 1;\n"
         f"events {{ worker_connections 1000; }}\nhttp {{\n{temporary}{site}\n}}\n"
     )
 
@@ -221,9 +240,9 @@ def free_port(address: str = "127.0.0.1") -> int:
 
 
 @contextlib.contextmanager
-def standing(front: Front) -> Iterator[Front]:
-    """A front that stands meanwhile."""
-    front.start()
+def standing(front: Front, change: Callable[[str], str] = str) -> Iterator[Front]:
+    """A front that stands meanwhile; `change` is of `Front.start`."""
+    front.start(change)
     try:
         yield front
     finally:
