@@ -5,6 +5,7 @@ from __future__ import annotations
 import contextlib
 import http.client
 import json
+import os
 import shutil
 import signal
 import ssl
@@ -21,6 +22,7 @@ from offices import DESK, NOW
 from relay import Relay
 
 ROOT = Path(__file__).resolve().parents[2]
+LOGS = ("access.log", "error.log")
 
 
 class Answer(NamedTuple):
@@ -67,6 +69,9 @@ class Stage:
             (self.folder / name).unlink(missing_ok=True)
         shutil.copy(self.made, self.db)
         self.relay.fresh()
+        for name in LOGS:
+            with contextlib.suppress(FileNotFoundError):
+                os.truncate(self.folder / name, 0)
         for cache in ("cache", "cache-lists"):
             for path in [path for path in (self.folder / cache).rglob("*") if path.is_file()]:
                 path.unlink(missing_ok=True)
@@ -75,7 +80,17 @@ class Stage:
             self.front.start()
 
     def start_office(self) -> None:
-        words = ["serve", "--db", str(self.db), "--port", str(self.office_port), "--desk-key", DESK, "--limit", "1000000"]
+        words = [
+            "serve",
+            "--db",
+            str(self.db),
+            "--port",
+            str(self.office_port),
+            "--desk-key",
+            DESK,
+            "--limit",
+            "1000000",
+        ]
         self.office = subprocess.Popen([str(self.cpi.path), *words], stdout=subprocess.PIPE)
         assert self.office.stdout
         assert self.office.stdout.readline() == f"cpi: listening on 127.0.0.1:{self.office_port}\n".encode()
@@ -94,6 +109,11 @@ class Stage:
         try:
             yield
         finally:
+            self.go_on()
+
+    def go_on(self) -> None:
+        """Lets an office that stands still go on."""
+        if self.office:
             self.office.send_signal(signal.SIGCONT)
 
     def close(self) -> None:
@@ -129,4 +149,4 @@ class Stage:
 
     def logs(self) -> str:
         """What the front has written down."""
-        return "".join((self.folder / name).read_text(encoding="utf-8") for name in ("access.log", "error.log"))
+        return "".join((self.folder / name).read_text(encoding="utf-8") for name in LOGS)
