@@ -1,0 +1,166 @@
+"""Chromium for tests, by python3-selenium: it trusts the tests' own authority, and no check of certificates is off."""
+
+from __future__ import annotations
+
+import base64
+import os
+import subprocess
+from collections.abc import Callable
+from pathlib import Path
+from typing import Any, Optional
+
+from selenium import webdriver
+from selenium.webdriver.chrome.options import Options
+from selenium.webdriver.chrome.service import Service
+from selenium.webdriver.common.by import By
+from selenium.webdriver.remote.webelement import WebElement
+from selenium.webdriver.support.wait import WebDriverWait
+
+from cpi_tools.front import system_program
+
+SECONDS = 15.0
+"""Within which a page shows what it is waited for."""
+
+WORDS = (
+    "--headless=new", "--no-sandbox", "--disable-dev-shm-usage", "--disable-gpu", "--no-first-run",
+    "--disable-background-networking", "--disable-component-update", "--lang=en-GB",
+)  # fmt: skip
+
+
+class Browser:
+    """A Chromium of its own, with a home of its own."""
+
+    def __init__(self, url: str, authority: Path, home: Path):
+        self.url = url
+        trust(authority, home)
+        options: Any = Options()  # (selenium has no types)
+        for word in (*WORDS, f"--user-data-dir={home}/profile"):
+            options.add_argument(word)
+        options.set_capability("goog:loggingPrefs", {"browser": "ALL"})
+        kept = {**os.environ, "HOME": str(home), "XDG_DATA_HOME": f"{home}/.local/share"}
+        self.driver: Any = webdriver.Chrome(service=Service(system_program("chromedriver"), env=kept), options=options)
+        self.driver.set_script_timeout(20)
+        self.size(360, 740)
+
+    def fresh(self) -> None:
+        """One empty tab that is online, and nothing that a page has kept."""
+        first, *others = self.driver.window_handles
+        for other in others:
+            self.driver.switch_to.window(other)
+            self.driver.close()
+        self.driver.switch_to.window(first)
+        self.offline(False)
+        self.driver.get("about:blank")
+        self.cdp("Storage.clearDataForOrigin", origin=self.url, storageTypes="all")
+        self.cdp("Network.clearBrowserCache")
+        self.driver.get_log("browser")
+        self.size(360, 740)
+
+    def cdp(self, command: str, **words: Any) -> Any:
+        return self.driver.execute_cdp_cmd(command, words)
+
+    def size(self, width: int, height: int) -> None:
+        """The size of the page; a narrow one is a phone's."""
+        self.cdp(
+            "Emulation.setDeviceMetricsOverride", width=width, height=height, deviceScaleFactor=1, mobile=width < 600
+        )
+
+    def offline(self, is_offline: bool) -> None:
+        self.cdp("Network.enable")
+        self.cdp(
+            "Network.emulateNetworkConditions",
+            offline=is_offline,
+            latency=0,
+            downloadThroughput=-1,
+            uploadThroughput=-1,
+        )
+
+    # ---- the page
+
+    def open(self, path: str) -> None:
+        self.driver.get(self.url + path)
+
+    def find(self, selector: str) -> WebElement:
+        found: WebElement = self.driver.find_element(By.CSS_SELECTOR, selector)
+        return found
+
+    def all(self, selector: str) -> list[WebElement]:
+        found: list[WebElement] = self.driver.find_elements(By.CSS_SELECTOR, selector)
+        return found
+
+    def click(self, selector: str) -> None:
+        """A click, with what is clicked in the middle of the window, where what sticks to its edges doesn't hide it."""
+        found = self.find(selector)
+        self.run("arguments[0].scrollIntoView({ block: 'center' })", found)
+        found.click()
+
+    def type(self, selector: str, text: str) -> None:
+        """Puts a text in the place of what stands in a field."""
+        field = self.find(selector)
+        field.clear()
+        field.send_keys(text)
+
+    def choose(self, name: str, value: str) -> None:
+        """Sets a field that has a list, or a date, as its user does."""
+        self.run(
+            "const field = document.getElementById(arguments[0]); field.value = arguments[1];"
+            "field.dispatchEvent(new Event('input')); field.dispatchEvent(new Event('change'));",
+            name,
+            value,
+        )
+
+    def run(self, script: str, *words: Any) -> Any:
+        return self.driver.execute_script(script, *words)
+
+    def run_until(self, script: str, *words: Any) -> Any:
+        """Runs the body of a function whose promise tells the value."""
+        whole = f"(async function () {{ {script} }}).apply(null, arguments).then(end, (fault) => end(String(fault)));"
+        return self.driver.execute_async_script(f"const end = arguments[arguments.length - 1]; {whole}", *words)
+
+    def text(self, selector: str) -> str:
+        """The text that a user sees, or none."""
+        found: str = self.run("return document.querySelector(arguments[0])?.innerText ?? ''", selector)
+        return found
+
+    # ---- waiting
+
+    def wait(self, condition: Callable[[], Any], told: str = "") -> Any:
+        return WebDriverWait(self.driver, SECONDS, 0.03).until(lambda _: condition(), told)
+
+    def wait_text(self, selector: str, text: str) -> None:
+        self.wait(lambda: text in self.text(selector), f"{text!r} in {selector}")
+
+    def wait_shown(self, selector: str) -> None:
+        script = "const it = document.querySelector(arguments[0]); return !!it && (!!it.offsetParent || !!it.open);"
+        self.wait(lambda: self.run(script, selector), f"{selector} is shown")
+
+    # ---- what it tells
+
+    def faults(self) -> list[str]:
+        """What the page said against itself: scripts that failed, contents that the policy refused."""
+        return [
+            entry["message"]
+            for entry in self.driver.get_log("browser")
+            if entry["level"] == "SEVERE" and "Failed to load resource" not in entry["message"]
+        ]
+
+    def picture(self, name: Path, is_whole: bool = True) -> None:
+        """A picture of the window, or of the whole page."""
+        clip: Optional[dict[str, int]] = None
+        if is_whole:
+            width, height = self.run("return [innerWidth, Math.max(document.documentElement.scrollHeight, 500)]")
+            clip = {"x": 0, "y": 0, "width": width, "height": height, "scale": 1}
+        words: dict[str, Any] = {"format": "png", **({"captureBeyondViewport": True, "clip": clip} if clip else {})}
+        name.write_bytes(base64.b64decode(self.cdp("Page.captureScreenshot", **words)["data"]))
+
+    def close(self) -> None:
+        self.driver.quit()
+
+
+def trust(authority: Path, home: Path) -> None:
+    """A home whose Chromium trusts an authority."""
+    for folder in (".pki/nssdb", ".local/share/pki/nssdb"):
+        place = home / folder
+        place.mkdir(parents=True)
+        for words in (["-N", "--empty-password"], ["-A", "-n", "cpi", "-t", "C,,", "-i", str(authority)]):
+            subprocess.run([system_program("certutil"), *words, "-d", f"sql:{place}"], check=True, capture_output=True)

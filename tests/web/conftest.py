@@ -1,0 +1,75 @@
+"""What these tests share: the program, one nginx and one Chromium, each fresh for each test."""
+
+from __future__ import annotations
+
+import sys
+from collections.abc import Iterator
+from pathlib import Path
+
+import pytest
+
+HERE = Path(__file__).resolve().parent
+ROOT = HERE.parents[1]
+
+sys.dont_write_bytecode = True
+sys.path[:0] = [str(HERE), str(ROOT / "tools")]
+
+from browser import Browser  # noqa: E402
+from cpi_tools.program import Cpi  # noqa: E402
+from offices import lived  # noqa: E402
+from phone import Phone  # noqa: E402
+from stage import Stage  # noqa: E402
+
+
+def pytest_addoption(parser: pytest.Parser) -> None:
+    parser.addoption("--program", default=None, help="the program cpi")
+
+
+@pytest.fixture(scope="session")
+def cpi(request: pytest.FixtureRequest) -> Cpi:
+    """The program."""
+    return Cpi(request.config.getoption("--program"))
+
+
+@pytest.fixture(scope="session")
+def made(cpi: Cpi, tmp_path_factory: pytest.TempPathFactory) -> Path:
+    """The file of the office; tests copy it, and none writes to it."""
+    file = tmp_path_factory.mktemp("made") / "office.db"
+    assert [reply for reply in cpi.replay(lived(), db=file) if "refused" in reply] == []
+    return file
+
+
+@pytest.fixture(scope="session")
+def standing(cpi: Cpi, made: Path, tmp_path_factory: pytest.TempPathFactory) -> Iterator[Stage]:
+    """The one nginx with what stands behind it."""
+    stage = Stage(cpi, made, tmp_path_factory.mktemp("stage"))
+    yield stage
+    stage.close()
+
+
+@pytest.fixture
+def stage(standing: Stage) -> Stage:
+    """A fresh office behind the front."""
+    standing.fresh()
+    return standing
+
+
+@pytest.fixture(scope="session")
+def running(standing: Stage, tmp_path_factory: pytest.TempPathFactory) -> Iterator[Browser]:
+    """The one Chromium."""
+    browser = Browser(standing.url, standing.folder / "ca.crt", tmp_path_factory.mktemp("home"))
+    yield browser
+    browser.close()
+
+
+@pytest.fixture
+def browser(stage: Stage, running: Browser) -> Browser:
+    """A Chromium that has kept nothing, before a fresh office."""
+    running.fresh()
+    return running
+
+
+@pytest.fixture
+def phone(browser: Browser) -> Phone:
+    """The page of a collector, at 360 pixels."""
+    return Phone(browser)

@@ -1,0 +1,71 @@
+"""The page of a collector as a collector uses it."""
+
+from __future__ import annotations
+
+from typing import Any, Optional
+
+from selenium.webdriver.common.action_chains import ActionChains
+
+from browser import Browser
+from offices import ANNA
+
+
+class Phone:
+    """A browser with the page of a collector."""
+
+    def __init__(self, browser: Browser):
+        self.browser = browser
+
+    def open(self) -> None:
+        self.browser.open("/collect/")
+
+    def give_key(self, key: str) -> None:
+        """Types a key and sends it."""
+        self.browser.type("#key", key)
+        self.browser.click("#sign-in-form button.main")
+
+    def sign_in(self, key: str = ANNA) -> None:
+        """Opens the page and signs in, until the work list is there and the page's files are kept."""
+        self.open()
+        self.browser.wait_shown("#sign-in")
+        self.give_key(key)
+        self.browser.wait_text("#line", "All sent")
+        self.browser.wait(lambda: self.browser.all("[data-slot]"), "a work list")
+        self.browser.run_until("await navigator.serviceWorker.ready")
+
+    def show(self, view: str) -> None:
+        """Shows what is to do (`todo`), all of the list, or what is stored (`quotes`)."""
+        self.browser.click(f"#show-{view}")
+
+    def told(self, slot: int) -> str:
+        """What the list tells of a slot."""
+        return self.browser.text(f'[data-slot="{slot}"] .told')
+
+    def wait_told(self, slot: int, text: str) -> None:
+        self.browser.wait(lambda: text in self.told(slot), f"{text!r} of slot {slot}")
+
+    def edit(self, slot: int) -> None:
+        """Opens the form of a slot."""
+        self.browser.click(f'[data-slot="{slot}"]')
+        self.browser.wait(lambda: self.browser.run("return document.getElementById('entry').open"), "the form")
+
+    def enter(self, slot: int, price: Optional[str] = None, mark: str = "price", reason: Optional[str] = None) -> None:
+        """Fills in the form of a slot and saves it."""
+        self.edit(slot)
+        self.browser.click(f'#entry input[value="{mark}"][name="mark"]')
+        if reason:
+            self.browser.click(f'#entry input[value="{reason}"][name="reason"]')
+        if price is not None:
+            self.browser.type("#price", price)
+        self.browser.click("#entry-save")
+
+    def confirm(self) -> None:
+        self.browser.click("#entry-confirm")
+
+    def press(self, *keys: str) -> None:
+        """Presses keys, wherever the focus is."""
+        chain: Any = ActionChains
+        chain(self.browser.driver).send_keys(*keys).perform()
+
+    def send(self) -> None:
+        self.browser.click("#send")

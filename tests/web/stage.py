@@ -1,0 +1,152 @@
+"""The stage of these tests: the program, a relay that can lose replies, and nginx before it with ops/nginx.conf."""
+
+from __future__ import annotations
+
+import contextlib
+import http.client
+import json
+import os
+import shutil
+import signal
+import ssl
+import subprocess
+import time
+from collections.abc import Iterator, Mapping
+from pathlib import Path
+from typing import Any, NamedTuple, Optional
+
+from cpi_tools.front import Front, Place, draw_certificate, free_port
+from cpi_tools.program import Cpi
+
+from offices import DESK, NOW
+from relay import Relay
+
+ROOT = Path(__file__).resolve().parents[2]
+LOGS = ("access.log", "error.log")
+
+
+class Answer(NamedTuple):
+    """A response: its status, its fields and its body."""
+
+    status: int
+    fields: Mapping[str, str]
+    body: bytes
+
+    @property
+    def reply(self) -> Any:
+        return json.loads(self.body)
+
+
+class Stage:
+    """All of it, in a folder. `front.stop` and `front.start` take the line away and give it back."""
+
+    def __init__(self, cpi: Cpi, made: Path, folder: Path):
+        self.cpi, self.made, self.folder = cpi, made, folder
+        self.db = folder / "office.db"
+        self.office: Optional[subprocess.Popen[bytes]] = None
+        self.office_port, relay_port, plain_port = free_port(), free_port(), free_port()
+        self.relay = Relay(relay_port, self.office_port)
+        self.plain_port = plain_port
+        place = Place("localhost", "127.0.0.1", free_port(), f"127.0.0.1:{plain_port}", relay_port, ROOT / "web")
+        draw_certificate(folder, place.host)
+        self.front = Front(ROOT / "ops/nginx.conf", folder, place)
+        self.context = ssl.create_default_context(cafile=str(folder / "ca.crt"))
+
+    @property
+    def url(self) -> str:
+        return self.front.place.url
+
+    @property
+    def port(self) -> int:
+        return self.front.place.port
+
+    # ---- the office
+
+    def fresh(self) -> None:
+        """A fresh office of the same content, and a front that has kept nothing of the one before."""
+        self.stop_office()
+        for name in ("office.db-wal", "office.db-shm"):
+            (self.folder / name).unlink(missing_ok=True)
+        shutil.copy(self.made, self.db)
+        self.relay.fresh()
+        for name in LOGS:
+            with contextlib.suppress(FileNotFoundError):
+                os.truncate(self.folder / name, 0)
+        for cache in ("cache", "cache-lists"):
+            for path in [path for path in (self.folder / cache).rglob("*") if path.is_file()]:
+                path.unlink(missing_ok=True)
+        self.start_office()
+        if not self.front.process:
+            self.front.start()
+
+    def start_office(self) -> None:
+        words = [
+            "serve",
+            "--db",
+            str(self.db),
+            "--port",
+            str(self.office_port),
+            "--desk-key",
+            DESK,
+            "--limit",
+            "1000000",
+        ]
+        self.office = subprocess.Popen([str(self.cpi.path), *words], stdout=subprocess.PIPE)
+        assert self.office.stdout
+        assert self.office.stdout.readline() == f"cpi: listening on 127.0.0.1:{self.office_port}\n".encode()
+
+    def stop_office(self) -> None:
+        if self.office:
+            with self.office:
+                self.office.kill()
+            self.office = None
+
+    @contextlib.contextmanager
+    def standing_still(self) -> Iterator[None]:
+        """The office does nothing meanwhile."""
+        assert self.office
+        self.office.send_signal(signal.SIGSTOP)
+        try:
+            yield
+        finally:
+            self.go_on()
+
+    def go_on(self) -> None:
+        """Lets an office that stands still go on."""
+        if self.office:
+            self.office.send_signal(signal.SIGCONT)
+
+    def close(self) -> None:
+        self.front.stop()
+        self.stop_office()
+
+    # ---- messages, as a client outside sends them
+
+    def ask(
+        self, method: str, path: str, key: Optional[str] = None, body: Optional[str] = None, **fields: str
+    ) -> Answer:
+        """One message over TLS, and its answer. An underscore in a field's name stands for a hyphen."""
+        line = http.client.HTTPSConnection("localhost", self.port, context=self.context, timeout=60)
+        named = {name.replace("_", "-"): value for name, value in fields.items()}
+        if key:
+            named["Authorization"] = f"CPI-Key {key}"
+        with contextlib.closing(line):
+            line.request(method, path, body=body.encode() if body is not None else None, headers=named)
+            answer = line.getresponse()
+            return Answer(answer.status, dict(answer.getheaders()), answer.read())
+
+    def quotes(self, key: str, month: str = NOW) -> list[list[Any]]:
+        """What the office has stored of a collector's month."""
+        found: list[list[Any]] = self.ask("GET", f"/api/quotes/{month}/{month}", key).reply["quotes"]
+        return found
+
+    def wait_for_quotes(self, key: str, seconds: float = 10) -> list[list[Any]]:
+        """The same, once there are any."""
+        begun = time.monotonic()
+        while not (found := self.quotes(key)) and time.monotonic() - begun < seconds:
+            time.sleep(0.02)
+        return found
+
+    def logs(self) -> str:
+        """What the front has written down."""
+        return "".join((self.folder / name).read_text(encoding="utf-8") for name in LOGS)

@@ -1,0 +1,157 @@
+"""The page of the desk in Chromium: what was accepted, what was refused, and why, in words."""
+
+from __future__ import annotations
+
+from pathlib import Path
+
+import pytest
+
+from browser import Browser
+from offices import ANNA, DESK, SCRIPT
+from readable import faults_of_page
+from stage import Stage
+
+PLAN = """T,00,All
+T,01,Food
+T,01.1,Food
+T,01.1.1,Cereals
+T,01.1.1.1,Rice
+T,01.1.1.1-01,Rice
+W,01.1.1.1-01,{weight}
+I,RICE,01.1.1.1-01
+"""
+
+
+@pytest.fixture
+def desk(browser: Browser) -> Browser:
+    """The page with the desk's key."""
+    browser.size(1280, 900)
+    browser.open("/desk/")
+    browser.type("#key", DESK)
+    browser.click("#key-form button.main")
+    browser.wait_text("#who", "Signed in as the desk")
+    return browser
+
+
+def sent(desk: Browser, name: str, words: str) -> None:
+    """Sends a card, and waits for what it tells."""
+    desk.click(f"#{name} button.main")
+    desk.wait_text(f"#{name}-told", words)
+
+
+def refused(desk: Browser) -> list[list[str]]:
+    """The rows of the table of refused rows: number, row, number of the refusal, words."""
+    rows: list[list[str]] = desk.run(
+        "return [...document.querySelectorAll('#records-told tbody tr')].map((row) =>"
+        " [...row.cells].map((cell) => cell.textContent))"
+    )
+    return rows
+
+
+def test_a_collectors_key_is_none_of_the_desk(browser: Browser) -> None:
+    browser.open("/desk/")
+    sent(browser, "records", "Give the desk’s key first")
+    browser.type("#key", ANNA)
+    browser.click("#key-form button.main")
+    browser.wait_text("#key-told", "isn’t the desk’s key")
+    assert browser.text("#who") == "No key yet"
+
+
+def test_each_refused_row_is_shown_with_its_words(desk: Browser) -> None:
+    rows = [
+        "outlet,10,Other shop",
+        'outlet,50,"New, with a comma"',
+        "",
+        "handover,7,9,8,9,2030-11",
+        ",",
+        f"outlet,51,{SCRIPT}",
+        "quote,1,2011-01,price,2",
+        f"collector,7,{SCRIPT}",
+        "assign,7,9,99,RICE,2030-01,2030-02",
+    ]
+    desk.type("#records-text", "\n".join(rows))
+    sent(desk, "records", "2 accepted, 6 refused of 8")
+    found = refused(desk)
+    assert [(number, told) for number, _, told, _ in found] == [
+        ("1", "40"), ("3", "20"), ("4", "10"), ("6", "12"), ("7", "10"), ("8", "42"),
+    ]  # fmt: skip
+    assert found[0][1] == "outlet,10,Other shop"
+    assert found[1][3] == "The former collector has no such slot. Look at the collector and the slot."
+    assert found[4][1] == f"collector,7,{SCRIPT}"
+    assert faults_of_page(desk) == []
+    sent(desk, "records", "2 accepted, 6 refused of 8")  # (sent twice: done again)
+    assert desk.run("return document.title") == "Desk"
+
+
+def test_a_file_of_many_rows_goes_in_pieces(desk: Browser, stage: Stage, tmp_path: Path) -> None:
+    file = tmp_path / "outlets.csv"
+    rows = "".join(f'outlet,{number},"Shop ""{number}"" {"é" * 150}"\r\n' for number in range(1000, 1500))
+    file.write_text("\ufeff" + rows + "outlet,10,No", encoding="utf-8", newline="")
+    before = len(stage.relay.seen)
+    desk.find("#records-file").send_keys(str(file))
+    sent(desk, "records", "500 accepted, 1 refused of 501")
+    bodies = [body for _, body in stage.relay.seen[before:]]
+    assert len(bodies) >= 3
+    assert all(0 < len(body) <= 65_536 for body in bodies)
+    assert refused(desk)[0][:2] == ["501", "outlet,10,No"]
+
+
+def test_a_line_end_within_a_text_is_no_end_of_a_row(desk: Browser) -> None:
+    desk.type("#records-text", 'outlet,60,"Shop\nof two lines"\noutlet,61,Shop')
+    sent(desk, "records", "1 accepted, 1 refused of 2")
+    assert refused(desk)[0][:3] == ["1", 'outlet,60,"Shop\nof two lines"', "10"]
+
+
+def test_a_plan(desk: Browser) -> None:
+    desk.type("#plan-year", "2012")
+    desk.type("#plan-text", PLAN.format(weight=999_000))
+    sent(desk, "plan", "Refused by 44. The weights don't add up to 1,000,000. Fault 4: they add up to 999000.")
+    desk.type("#plan-text", PLAN.format(weight=1_000_000).replace("T,01.1.1.1,Rice\n", ""))
+    sent(desk, "plan", "A node has no title. Fault 5: it is 01.1.1.1. Give it a title.")
+    desk.type("#plan-text", PLAN.format(weight=1_000_000))
+    sent(desk, "plan", "The plan stands.")
+
+
+def test_a_window_and_a_freeze_with_its_carry_list(desk: Browser, stage: Stage) -> None:
+    desk.type("#freeze-month", "2011-03")
+    sent(desk, "freeze", "Refused by 21. The month has no calendar row. Send it, then the same again.")
+    desk.type("#calendar-month", "2011-03")
+    for name, value in (("opens", "03-01T06:00"), ("closes", "03-24T18:00"), ("publishes", "03-28T09:30")):
+        desk.choose(f"calendar-{name}", f"2011-{value}")
+    sent(desk, "calendar", "The window stands.")
+    sent(desk, "freeze", "An aggregate has nothing to compare. Fault 2: it is 01.1.1.1-01.")
+    desk.click("#freeze-told button")
+    desk.wait_text("#freeze-told", "it is 01.1.1.2-01")
+    desk.click("#freeze-told button")
+    desk.wait_text("#freeze-told", "The month is frozen.")
+    assert desk.find("#freeze-carry").get_attribute("value") == "01.1.1.1-01 01.1.1.2-01"
+    assert stage.ask("GET", "/api/table/2011-03/text/1").status == 200
+
+
+def test_a_reply_that_is_lost_is_told_and_the_same_may_be_sent_again(desk: Browser, stage: Stage) -> None:
+    desk.type("#records-text", "outlet,60,Shop\n")
+    stage.relay.lose = 1
+    sent(desk, "records", "The office is busy. Send the same again")
+    sent(desk, "records", "1 accepted, 0 refused of 1")
+    stage.front.stop()
+    sent(desk, "records", "No answer came. It may have been done or not")
+
+
+def test_the_key_is_kept_nowhere(desk: Browser) -> None:
+    found = desk.run(
+        "return JSON.stringify([location.href, document.cookie, {...localStorage}, {...sessionStorage},"
+        " document.getElementById('key').value]) + document.documentElement.outerHTML"
+    )
+    assert DESK not in found
+    assert [name for name in desk.run_until("return indexedDB.databases()")] == []
+    desk.driver.refresh()
+    assert desk.text("#who") == "No key yet"
+
+
+def test_it_can_be_read_and_touched_at_360_pixels(desk: Browser) -> None:
+    desk.size(360, 800)
+    desk.type("#records-text", "outlet,10,Other shop\nquote,1,2011-01,price,2\n")
+    sent(desk, "records", "0 accepted, 2 refused")
+    desk.type("#freeze-month", "2011-03")
+    sent(desk, "freeze", "Refused by 21")
+    assert faults_of_page(desk) == []

@@ -1,0 +1,243 @@
+"""The front alone: nginx with ops/nginx.conf before the program, messages as clients send them, good and bad peers."""
+
+from __future__ import annotations
+
+import contextlib
+import re
+import socket
+import struct
+import threading
+import time
+from collections import Counter
+from collections.abc import Iterator
+
+from conftest import ROOT
+from offices import ANNA, BENO, DESK, NOBODY, NOW
+from peers import Peer, all_at_once, asked, timed
+from stage import Stage
+
+COLLECTORS = 50
+
+
+# ---- what comes through
+
+
+def test_each_route_of_the_office_is_reached(stage: Stage) -> None:
+    for method, path, key, body, status in (
+        ("GET", "/api/items", None, None, 200),
+        ("GET", "/api/tables", None, None, 200),
+        ("GET", "/api/table/2011-01/text", None, None, 200),
+        ("GET", "/api/table/2011-02/csv/2", None, None, 200),
+        ("GET", "/api/table/2011-02/csv/3", None, None, 404),
+        ("GET", "/api/table/2150-01/csv", None, None, 404),
+        ("GET", f"/api/work/{NOW}", ANNA, None, 200),
+        ("GET", f"/api/work/{NOW}", NOBODY, None, 401),
+        ("GET", f"/api/work/{NOW}", None, None, 403),
+        ("GET", f"/api/quotes/{NOW}/{NOW}", ANNA, None, 200),
+        ("PUT", f"/api/quote/9/{NOW}", ANNA, "price,1", 404),
+        ("PUT", f"/api/quote/2/{NOW}", ANNA, "price,1", 409),
+        ("PUT", "/api/plan/2011", DESK, "", 409),
+        ("POST", "/api/import", ANNA, "", 200),
+        ("POST", "/api/import", ANNA, "\n" * 65_536, 200),
+        ("POST", "/api/import", ANNA, "\n" * 65_537, 413),
+    ):
+        assert stage.ask(method, path, key, body).status == status, (method, path)
+
+
+def test_all_else_costs_the_office_nothing(stage: Stage) -> None:
+    before = len(stage.relay.seen)
+    for method, path in (
+        ("HEAD", "/api/items"), ("DELETE", "/api/items"), ("GET", "/api/items?x"), ("GET", "/api//items"),
+        ("GET", "/api/items/"), ("POST", "/api/items"), ("GET", f"/api/work/{ANNA}"), ("OPTIONS", "/api/import"),
+        ("GET", "/api/wp-login.php"), ("GET", "/api/table/2011-01/csv/1%2f2"), ("GET", "/api/../api/"),
+        ("GET", "/api/"),
+    ):  # fmt: skip
+        assert stage.ask(method, path).status == 404, (method, path)
+    assert len(stage.relay.seen) == before
+
+
+def test_a_chunked_body_reaches_the_office_with_its_length(stage: Stage) -> None:
+    with Peer(stage) as peer:
+        head = f"POST /api/import HTTP/1.1\r\nHost: localhost\r\nAuthorization: CPI-Key {BENO}\r\nConnection: close\r\n"
+        peer.send(f"{head}Transfer-Encoding: chunked\r\n\r\n5\r\nitems\r\n1\r\n\n\r\n0\r\n\r\n")
+        reply = peer.rest()
+    assert reply.startswith(b"HTTP/1.1 200 ") and b'{"rows":[{"items":' in reply
+    head_seen, body = stage.relay.seen[-1]
+    assert b"transfer-encoding" not in head_seen.lower() and b"content-length: 6" in head_seen.lower()
+    assert body == b"items\n"
+
+
+def test_of_a_head_the_key_and_the_length_alone_go_on(stage: Stage) -> None:
+    many = {f"X_{number}": "y" for number in range(80)}
+    odd = {"Cookie": "a=b", "X_Long": "x" * 6000, "Range": "bytes=0-1", "Expect": "", "If_None_Match": "x"}
+    assert stage.ask("GET", f"/api/work/{NOW}", ANNA, **odd, **many).status == 200
+    fields = {line.split(b":")[0].lower() for line in stage.relay.seen[-1][0].split(b"\r\n")[1:]}
+    assert fields == {b"host", b"connection", b"authorization"}
+
+
+def test_a_message_that_is_cut_never_reaches_the_office(stage: Stage) -> None:
+    before = len(stage.relay.seen)
+    with Peer(stage) as peer:
+        peer.send(Peer.put(ANNA, 9) + "price,1")
+        time.sleep(0.3)
+    time.sleep(0.2)
+    assert len(stage.relay.seen) == before
+
+
+def test_plain_http_is_sent_to_tls_and_nothing_of_a_query_with_it(stage: Stage) -> None:
+    with socket.create_connection(("127.0.0.1", stage.plain_port)) as line:
+        line.sendall(b"GET /collect/?key=secret HTTP/1.0\r\nHost: localhost\r\n\r\n")
+        head = line.recv(4096).decode()
+    assert head.startswith("HTTP/1.1 301 ") and "Location: https://localhost/collect/\r\n" in head
+
+
+def test_no_key_stands_in_a_log_of_the_front(stage: Stage) -> None:
+    stage.ask("GET", f"/api/work/{NOW}", ANNA)
+    stage.ask("GET", f"/api/work/{NOW}", NOBODY)
+    stage.ask("GET", f"/api/work/{BENO}")
+    stage.ask("POST", "/api/import", DESK, "x" * 70_000)
+    logs = stage.logs()
+    assert "POST /api/import" in logs
+    assert [key for key in (ANNA, BENO, NOBODY, DESK, "CPI-Key") if key in logs] == []
+
+
+# ---- what is kept
+
+
+def test_named_tables_are_kept_and_what_bears_a_key_is_not(stage: Stage) -> None:
+    for _ in range(3):
+        answer = stage.ask("GET", "/api/table/2011-02/text/1")
+        assert (answer.status, answer.fields["Cache-Control"]) == (200, "public, max-age=86400, immutable")
+    assert stage.relay.asked().count("GET /table/2011-02/text/1") == 1
+    for _ in range(2):
+        answer = stage.ask("GET", f"/api/work/{NOW}", BENO)
+        assert (answer.status, answer.fields["Cache-Control"]) == (200, "no-store")
+    assert stage.relay.asked().count(f"GET /work/{NOW}") == 2
+    assert stage.ask("GET", "/api/items", NOBODY).status == 401
+    assert stage.ask("GET", "/api/table/2011-04/csv/1").fields["Cache-Control"] == "no-store"
+
+
+def test_a_crowd_that_asks_for_one_list_is_few_requests_to_the_office(stage: Stage) -> None:
+    """Those of one second are one request, also where the table isn't there: nobody waits in turn for it."""
+    for path, status in (("/api/tables", 200), ("/api/table/2011-07/csv/1", 404), ("/api/table/2011-07/text", 404)):
+        before = len(stage.relay.seen)
+        found = all_at_once(COLLECTORS, lambda number: timed(lambda: asked(stage, path, address=number)))
+        assert {answer for _, answer in found} == {status}
+        assert len(stage.relay.seen) - before <= 6, stage.relay.asked()[before:]
+        assert max(seconds for seconds, _ in found) < 3
+
+
+def test_the_office_that_is_away_is_told_as_busy(stage: Stage) -> None:
+    stage.stop_office()
+    answer = stage.ask("GET", f"/api/work/{NOW}", ANNA)
+    assert answer.status in (502, 503, 504)
+    assert answer.fields["Retry-After"] == "2"
+    assert "json" not in answer.fields["Content-Type"] and b"refused" not in answer.body
+    stage.start_office()
+    assert stage.ask("GET", f"/api/work/{NOW}", ANNA).status == 200
+
+
+# ---- the pages
+
+
+def test_the_policy_of_the_pages(stage: Stage) -> None:
+    for path in ("/", "/collect/", "/tables/", "/desk/", "/collect/sw.js", "/nothing", "/api/items"):
+        fields = stage.ask("GET", path).fields
+        policy = fields["Content-Security-Policy"]
+        assert policy.startswith("default-src 'none'; script-src 'self'; style-src 'self'; ")
+        assert not re.search(r"unsafe|data:|blob:|\*|https?:", policy)
+        assert "require-trusted-types-for 'script'" in policy and "frame-ancestors 'none'" in policy
+        assert (fields["X-Content-Type-Options"], fields["Referrer-Policy"]) == ("nosniff", "no-referrer")
+        assert "Access-Control-Allow-Origin" not in fields
+    assert "nginx/" not in stage.ask("GET", "/").fields["Server"]
+    caddy = (ROOT / "ops/Caddyfile").read_text(encoding="utf-8")
+    assert f'Content-Security-Policy "{policy}"' in caddy
+
+
+def test_pages_name_nothing_outside_and_hold_no_script_of_their_own() -> None:
+    files = [path for path in (ROOT / "web").rglob("*") if path.is_file()]
+    assert len(files) > 25
+    for path in files:
+        text = path.read_text(encoding="utf-8")
+        named = set(re.findall(r"https?://[^\s\"'`)<]+", text)) - {"http://www.w3.org/2000/svg"}
+        assert named == set(), path
+        if path.suffix == ".html":
+            assert not re.search(r"<script(?![^>]*\bsrc=)|<style|\sstyle=|\son\w+=", text), path
+            assert '<html lang="en">' in text and "<title>" in text, path
+        assert not re.search(r"innerHTML|outerHTML|insertAdjacentHTML|document\.write|eval\(|new Function", text), path
+
+
+# ---- bad peers
+
+
+@contextlib.contextmanager
+def slow_peers(stage: Stage, count: int) -> Iterator[None]:
+    """Peers that send a quote, a byte a second, each from an address of its own."""
+    over = threading.Event()
+    message = (Peer.put(ANNA, 60_000) + "x" * 60_000).encode()
+
+    def drip(peer: Peer) -> None:
+        for byte in message:
+            with contextlib.suppress(OSError):
+                peer.line.sendall(bytes([byte]))
+            if over.wait(1):
+                return
+
+    with contextlib.ExitStack() as peers:
+        threads = [
+            threading.Thread(target=drip, args=(peers.enter_context(Peer(stage, 200 + number)),))
+            for number in range(count)
+        ]
+        for thread in threads:
+            thread.start()
+        try:
+            yield
+        finally:
+            over.set()
+            for thread in threads:
+                thread.join()
+
+
+def test_slow_peers_hold_nobody_up(stage: Stage) -> None:
+    """Each of fifty collectors is answered within a second beside peers that send a byte a second."""
+    with slow_peers(stage, 10):
+        time.sleep(1.5)
+        for _ in range(2):
+            found = all_at_once(
+                COLLECTORS,
+                lambda number: timed(lambda: asked(stage, f"/api/work/{NOW}", (ANNA, BENO)[number % 2], number)),
+            )
+            assert Counter(status for _, status in found) == {200: COLLECTORS}
+            assert max(seconds for seconds, _ in found) < 1
+    assert stage.relay.rows("x") == 0
+
+
+def test_peers_that_are_gone_shake_nothing(stage: Stage) -> None:
+    """Peers that ask and are gone with a reset, without reading: the office's replies are taken all the same."""
+    for number in range(10):
+        with Peer(stage, number) as peer:
+            peer.send("POST /api/import HTTP/1.1\r\nHost: localhost\r\nContent-Length: 300\r\n\r\n" + "items\n" * 50)
+            peer.line.setsockopt(socket.SOL_SOCKET, socket.SO_LINGER, struct.pack("ii", 1, 0))
+    seconds, status = timed(lambda: asked(stage, f"/api/work/{NOW}", ANNA, 99))
+    assert (status, seconds < 1) == (200, True)
+    assert stage.office and stage.office.poll() is None
+
+
+def test_one_address_takes_no_more_than_its_share(stage: Stage) -> None:
+    """Of forty connections of one address 32 may wait for their bodies; another address is served meanwhile."""
+    with contextlib.ExitStack() as peers:
+        found = [peers.enter_context(Peer(stage, 7)) for _ in range(40)]
+        for peer in found:
+            peer.send(Peer.put(ANNA, 9))
+        time.sleep(0.3)
+        refused = [peer for peer in found if peer.head().startswith("HTTP/1.1 429 ")]
+        assert len(refused) == 8
+        assert asked(stage, f"/api/work/{NOW}", BENO, 8) == 200
+
+
+def test_more_than_a_hundred_that_wait_are_told_to_come_again(stage: Stage) -> None:
+    """While the office stands still a hundred wait, and are answered afterwards, each once."""
+    with stage.standing_still():
+        threading.Timer(2, stage.go_on).start()
+        found = all_at_once(120, lambda number: asked(stage, f"/api/work/{NOW}", ANNA, number))
+    assert Counter(found) == {200: 100, 503: 20}

@@ -1,0 +1,108 @@
+"""The messages of tests/messages through the front: odd, cut, random, with a byte changed.
+
+None reaches the office under a key that it did not come with, and each is answered, or closed.
+"""
+
+from __future__ import annotations
+
+import contextlib
+import importlib.machinery
+import importlib.util
+import random
+import re
+import socket
+import sys
+from collections import Counter
+from collections.abc import Iterator
+from types import ModuleType
+
+import pytest
+
+from conftest import ROOT
+from offices import DESK, NOW
+from stage import Stage
+
+COUNT = 10_000
+SECONDS = 20.0
+
+
+def corpus() -> ModuleType:
+    """The script tests/messages, for what it draws."""
+    sys.path.insert(0, str(ROOT / "tests"))
+    loader = importlib.machinery.SourceFileLoader("messages_of_the_interface", str(ROOT / "tests/messages"))
+    spec = importlib.util.spec_from_loader(loader.name, loader)
+    assert spec
+    module = importlib.util.module_from_spec(spec)
+    loader.exec_module(module)
+    return module
+
+
+def drawn(messages: ModuleType) -> Iterator[bytes]:
+    """So many of them, with the paths of the front, the key of the desk, and a month whose window is open."""
+    chance = random.Random(43)
+    given = [*messages.VALID, *messages.limits(), *messages.odd()]
+    given += chance.sample(list(messages.cuts()), 1500)
+    given += messages.drawn_bytes(chance, 1000)
+    given += messages.changed(chance, COUNT - len(given))
+    assert len(given) == COUNT
+    chance.shuffle(given)
+    for at, text in enumerate(given):
+        moved = re.sub(rb"(?<=^GET |^PUT )/(?!/)|(?<=^POST )/(?!/)", b"/api/", text, count=1)
+        moved = moved.replace(messages.DESK.encode(), DESK.encode()).replace(b"2026-01", NOW.encode())
+        # (the interface asks for no Host, nginx does; a few come without)
+        yield moved.replace(b"\n", b"\nHost: localhost\r\n", 1) if at % 20 else moved
+
+
+def plain(text: str) -> str:
+    """The front without TLS: what is tried is what comes through it, and a handshake each would take minutes."""
+    text = re.sub(r"(listen 127\.0\.0\.1:\d+) ssl http2;", r"\1;", text)
+    # (all of them have one address)
+    return re.sub(r"\n *limit_(req|conn) +(zone=cpi_requests|cpi_address).*", "", text)
+
+
+@pytest.fixture
+def plain_stage(stage: Stage) -> Iterator[Stage]:
+    """The stage with a front that speaks no TLS."""
+    stage.front.stop()
+    stage.front.start(plain)
+    yield stage
+    stage.front.stop()
+
+
+def answered(stage: Stage, text: bytes) -> bytes:
+    """What is answered to a message whose peer then ends what it sends."""
+    found = b""
+    with socket.create_connection(("127.0.0.1", stage.port), SECONDS) as line, contextlib.suppress(ConnectionError):
+        line.sendall(text)
+        line.shutdown(socket.SHUT_WR)
+        while piece := line.recv(65536):
+            found += piece
+    return found
+
+
+def keys_of(head: bytes) -> list[bytes]:
+    """The keys that stand in the fields of a head, and nowhere else."""
+    fields = re.findall(rb"(?im)^authorization:(.*?)\r?$", head)
+    return [key for field in fields for key in re.findall(rb"[0-9a-fA-F]{32}", field)]
+
+
+def test_no_message_reaches_the_office_under_a_key_that_it_did_not_come_with(plain_stage: Stage) -> None:
+    told: Counter[str] = Counter()
+    reached, borne = 0, 0
+    for text in drawn(corpus()):
+        before = len(plain_stage.relay.seen)
+        answer = answered(plain_stage, text)
+        told[answer[9:12].decode(errors="replace") if answer.startswith(b"HTTP/1.1 ") else "closed"] += 1
+        came_with = keys_of(text)
+        for head, _ in plain_stage.relay.seen[before:]:
+            reached += 1
+            borne += len(keys_of(head))
+            assert len(re.findall(rb"(?i)\r\nauthorization:", head)) <= 1, head
+            assert [key for key in keys_of(head) if key not in came_with] == [], (text, head)
+            assert re.match(rb"(GET|PUT|POST) /[a-z]+[^ ]* HTTP/1\.1\r\n", head), head
+    assert sum(told.values()) == COUNT
+    assert {"200", "400", "401", "404"} <= set(told) and told["500"] == told["504"] == 0, told
+    assert reached > 2000 and borne > 1000, (reached, borne, told)
+    # (after all of them the office answers as before)
+    assert plain_stage.office and plain_stage.office.poll() is None
+    print(f"{COUNT} messages: {reached} reached the office, {borne} of them with a key; {dict(told)}")

@@ -1,0 +1,601 @@
+"""The page of a collector in Chromium, at 360 pixels, before the program behind the front."""
+
+from __future__ import annotations
+
+import json
+import signal
+from collections.abc import Iterator
+from pathlib import Path
+from typing import Any
+
+import pytest
+from selenium.webdriver.common.keys import Keys
+
+from browser import Browser
+from offices import ANNA, BEFORE, BENO, DESK, IMAGE, NOBODY, NOW, SCRIPT
+from phone import Phone
+from readable import faults_of_page
+from stage import Stage
+
+NEXT = 10
+"""The receipt that Anna gets next: nine of hers were given before."""
+
+
+def stored(stage: Stage, slot: int, key: str = ANNA) -> list[tuple[Any, ...]]:
+    """Mark, value and receipt of a slot's quote of this month."""
+    return [tuple(row[2:]) for row in stage.quotes(key) if row[0] == slot]
+
+
+def next_receipt(stage: Stage) -> int:
+    """The receipt that one more entry of Anna's gets: it tells how many were given."""
+    found: int = stage.ask("PUT", f"/api/quote/4/{NOW}", ANNA, "price,101").reply["receipt"]
+    return found
+
+
+# ---- signing in
+
+
+def test_a_key_that_opens_nothing_is_told_in_words(phone: Phone) -> None:
+    phone.open()
+    phone.browser.wait_shown("#sign-in")
+    for key, words in (("abc", "32 characters"), (NOBODY, "Nobody bears this key"), (DESK, "isn’t a collector’s")):
+        phone.give_key(key)
+        phone.browser.wait_text("#key-fault", words)
+    assert phone.browser.faults() == []
+
+
+def test_a_key_may_be_typed_as_it_is_printed(phone: Phone) -> None:
+    phone.open()
+    phone.browser.wait_shown("#sign-in")
+    phone.give_key("AAAA-AAAA " * 4)
+    phone.browser.wait_text("#list", "Rice, white")
+
+
+def test_a_key_that_the_front_denies_is_told_and_what_waits_stays(phone: Phone, stage: Stage) -> None:
+    phone.sign_in()
+    stage.front.stop()
+    phone.enter(1, "3.10")
+    phone.browser.wait_text("#line", "No line: 1 entry kept on this phone")
+    denied = f'"~*^cpi-key +{ANNA} *$" 1;'
+    stage.front.start(lambda text: text.replace("default 0;\n", f"default 0;\n{denied}\n", 1))
+    assert stage.ask("GET", f"/api/work/{NOW}", ANNA).status == 401
+    assert stage.ask("GET", f"/api/work/{NOW}", ANNA, Authorization=f"cpi-key  {ANNA}").status == 401
+    assert stage.ask("GET", f"/api/work/{NOW}", BENO).status == 200
+    phone.send()
+    phone.browser.wait_text("#notice", "Nobody bears this key")
+    assert "To be sent" in phone.told(1)
+    assert stage.relay.rows("quote,") == 0
+    stage.front.stop()
+    stage.front.start()
+    phone.send()
+    phone.browser.wait_text("#line", "All sent")
+    assert phone.browser.text("#notice") == ""
+    assert stored(stage, 1) == [("price", 310, NEXT)]
+
+
+# ---- texts of others
+
+
+def test_texts_of_the_office_are_shown_as_texts(phone: Phone) -> None:
+    phone.sign_in()
+    assert SCRIPT in phone.browser.text("#list")
+    assert IMAGE in phone.browser.text("#list")
+    phone.edit(3)
+    assert SCRIPT in phone.browser.text("#entry")
+    assert IMAGE in phone.browser.text("#entry")
+    assert phone.browser.run("return document.title") == "Price collection"
+    assert phone.browser.run("return document.querySelectorAll('img, body script').length") == 0
+    assert phone.browser.faults() == []
+
+
+SCRIPTS = (
+    "const made = document.createElement('script'); made.textContent = 'window.owned = 1'; document.body.append(made)",
+    "document.body.setAttribute('onclick', 'window.owned = 1'); document.body.click()",
+    "const made = document.createElement('script'); made.src = 'https://example.org/x.js'; document.body.append(made)",
+    "document.body.innerHTML = '<img src=x onerror=\"window.owned = 1\">'",
+    "location = 'javascript:window.owned = 1'",
+    "window.setTimeout('window.owned = 1')",
+)
+
+
+def test_the_policy_refuses_scripts_of_others(phone: Phone) -> None:
+    phone.open()
+    for script in SCRIPTS:
+        tried = f"try {{ {script}; }} catch {{}} await new Promise((end) => setTimeout(end, 50));"
+        assert phone.browser.run_until(f"{tried} return window.owned ?? 'refused'") == "refused", script
+    assert phone.browser.run("return document.getElementById('sign-in') !== null")
+
+
+def test_the_policy_lets_nothing_go_elsewhere(phone: Phone) -> None:
+    phone.open()
+    asked = "return fetch('https://example.org/').then(() => 'sent', () => 'refused');"
+    assert phone.browser.run_until(asked) == "refused"
+    assert any("Content Security Policy" in line for line in phone.browser.faults())
+
+
+# ---- entries
+
+
+def test_a_price_gets_its_receipt(phone: Phone, stage: Stage) -> None:
+    phone.sign_in()
+    phone.enter(1, "3,21")
+    phone.show("all")
+    phone.wait_told(1, f"Receipt {NEXT}")
+    assert "3.21" in phone.told(1)
+    assert stored(stage, 1) == [("price", 321, NEXT)]
+    phone.show("quotes")
+    assert phone.browser.text('[data-quote="1"]').split("\n")[0] == "Rice, white"
+    assert f"3.21\t{NEXT}" in phone.browser.text('[data-quote="1"]')
+    assert phone.browser.faults() == []
+
+
+def test_what_is_no_price_is_told_and_not_sent(phone: Phone, stage: Stage) -> None:
+    phone.sign_in()
+    before = len(stage.relay.seen)
+    phone.edit(1)
+    for text in ("", "0", "3.211", "1e3", "-3", "3.2.1", "1000000.01"):
+        phone.browser.run("document.getElementById('price-fault').textContent = ''")
+        phone.browser.type("#price", text)
+        phone.browser.click("#entry-save")
+        phone.browser.wait_text("#price-fault", "Write the price with figures, such as 2.10.")
+    assert len(stage.relay.seen) == before
+
+
+def test_last_price_and_bounds_are_shown_before_anything_is_sent(phone: Phone) -> None:
+    phone.sign_in()
+    phone.edit(2)
+    assert phone.browser.text("#entry-last") == "Last price 4.80. Taken without a second look: 3.36 to 7.20."
+    phone.browser.click("#entry-cancel")
+    phone.edit(3)
+    assert phone.browser.text("#entry-last") == "There is no last price."
+
+
+LASTS = ((1001, 700, 1500), (999, 333, 1001), (1, 1, 10_000), (100_000_000, 999, 1001), (7, 500, 1499))
+"""Last prices whose bounds are rounded or at their limits, with tolerances."""
+
+
+def test_the_bounds_that_are_shown_are_the_offices(phone: Phone, stage: Stage) -> None:
+    """What refusal 26 tells is what the phone has shown."""
+    far = "0,9999999998,9999999999"
+    rows = ["outlet,90,X", f"collector,9,{NOBODY}", f"calendar,2030-01,{far}", f"calendar,2030-02,{far}"]
+    for slot, (_, low, high) in enumerate(LASTS, 1):
+        rows += [f"item,X{slot},X,1,{low},{high}", f"assign,9,{slot},90,X{slot},2010-12,2199-12"]
+    assert stage.ask("POST", "/api/import", DESK, "\n".join(rows)).reply == {"rows": [{"done": True}] * len(rows)}
+    phone.open()
+    for slot, (last, low, high) in enumerate(LASTS, 1):
+        stage.ask("PUT", f"/api/quote/{slot}/2030-01", NOBODY, f"price,{last}")
+        told = stage.ask("PUT", f"/api/quote/{slot}/2030-02", NOBODY, f"price,{1 if last > 50 else 90_000_000}").reply
+        module = "const { bounds } = await import('/shared/money.js'); return bounds(...arguments);"
+        assert {**phone.browser.run_until(module, last, low, high), "refused": 26} == told
+
+
+def test_a_price_far_from_the_last_is_confirmed(phone: Phone, stage: Stage) -> None:
+    phone.sign_in()
+    phone.enter(2, "9.99")
+    phone.browser.wait_text("#entry-refusal", "far from the last one. Look again.")
+    assert "Last price 4.80; without a second look 3.36 to 7.20" in phone.browser.text("#entry-refusal")
+    assert stored(stage, 2) == []
+    phone.confirm()
+    phone.show("all")
+    phone.wait_told(2, f"Receipt {NEXT}")
+    assert stored(stage, 2) == [("price", 999, NEXT)]
+
+
+def test_a_slip_is_mended(phone: Phone, stage: Stage) -> None:
+    phone.sign_in()
+    phone.enter(2, "48")
+    phone.browser.wait_text("#entry-refusal", "far from the last one")
+    phone.browser.type("#price", "4.85")
+    assert phone.browser.text("#entry-refusal") == ""
+    phone.browser.click("#entry-save")
+    phone.show("all")
+    phone.wait_told(2, f"Receipt {NEXT}")
+    assert stored(stage, 2) == [("price", 485, NEXT)]
+
+
+def test_missing_and_replacements(phone: Phone, stage: Stage) -> None:
+    phone.sign_in()
+    phone.show("all")
+    phone.enter(1, mark="missing", reason="stock")
+    phone.wait_told(1, "Receipt 10")
+    assert "Sold out" in phone.told(1)
+    phone.enter(2, "4.90", mark="comparable")
+    phone.wait_told(2, "Receipt 11")
+    phone.enter(4, "9", mark="other")
+    phone.wait_told(4, "Receipt 12")
+    phone.edit(3)
+    assert not phone.browser.find('#entry input[value="other"]').is_enabled()  # (there is no last price)
+    phone.browser.click("#entry-cancel")
+    phone.enter(1, "3.00")
+    phone.wait_told(1, "Receipt 13")
+    assert stage.quotes(ANNA) == [
+        [1, NOW, "price", 300, 13],
+        [2, NOW, "comparable", 490, 11],
+        [4, NOW, "other", 900, 12],
+    ]
+    assert phone.browser.text("#progress").split(",")[0] == "3 of 4 stored"
+
+
+def test_each_other_reason(phone: Phone, stage: Stage) -> None:
+    phone.sign_in()
+    phone.show("all")
+    for at, (reason, words) in enumerate((("closed", "Shop closed"), ("gone", "No longer sold"), ("refused", "tell"))):
+        phone.enter(2, mark="missing", reason=reason)
+        phone.wait_told(2, f"Receipt {NEXT + at}")
+        assert words in phone.told(2)
+        assert stored(stage, 2) == [("missing", reason, NEXT + at)]
+
+
+def test_a_missing_price_needs_a_reason(phone: Phone) -> None:
+    phone.sign_in()
+    phone.enter(1, mark="missing")
+    assert phone.browser.text("#price-fault") == "Choose a reason."
+
+
+def test_a_refusal_is_told_in_words(phone: Phone) -> None:
+    phone.sign_in()
+    phone.browser.click("#month-before")
+    phone.show("all")
+    phone.wait_told(1, "Receipt 7")
+    phone.enter(1, "3.30")
+    phone.wait_told(1, "Refused")
+    phone.edit(1)
+    assert "Refused (24). The window has closed. Tell the desk" in phone.browser.text("#entry-refusal")
+    phone.browser.click("#entry-drop")
+    phone.wait_told(1, "Receipt 7")
+    phone.browser.click("#month-before")
+    phone.browser.click("#month-before")
+    phone.browser.wait_text("#notice", "The month has no window yet")
+
+
+def test_the_month_that_is_shown_is_asked_for_however_fast_one_turns(phone: Phone, stage: Stage) -> None:
+    phone.sign_in()
+    stage.ask("PUT", f"/api/quote/1/{NOW}", ANNA, "price,322")
+    with stage.standing_still():
+        phone.browser.click("#month-before")
+        phone.browser.click("#month-before")
+        phone.browser.click("#month-after")
+        phone.browser.click("#month-after")
+        phone.browser.click("#month-before")
+    phone.show("all")
+    phone.wait_told(1, "Receipt 7")
+    phone.browser.click("#month-after")
+    phone.wait_told(1, f"Receipt {NEXT}")
+
+
+# ---- without a line
+
+
+def test_without_a_line_entries_are_kept_and_sent_once(phone: Phone, stage: Stage) -> None:
+    phone.sign_in()
+    stage.front.stop()
+    phone.enter(1, "3.10")
+    phone.browser.wait_text("#line", "No line: 1 entry kept on this phone")
+    phone.enter(1, "3.15")
+    phone.enter(2, "9.99")  # (the phone asks for the second look itself)
+    phone.browser.wait_text("#entry-refusal", "far from the last one")
+    assert "3.36 to 7.20" in phone.browser.text("#entry-refusal")
+    phone.confirm()
+    phone.browser.wait_text("#line", "2 entries kept")
+    phone.open()  # (the page is opened anew, without a line)
+    phone.browser.wait_text("#list", "To be sent")
+    assert "3.15" in phone.told(1)
+    assert stage.relay.rows("quote,") == 0
+    stage.front.start()
+    phone.send()
+    phone.browser.wait_text("#line", "All sent")
+    phone.show("all")
+    phone.wait_told(1, "Receipt 10")
+    phone.wait_told(2, "Receipt 11")
+    assert stage.quotes(ANNA) == [[1, NOW, "price", 315, 10], [2, NOW, "price", 999, 11]]
+    assert (stage.relay.rows("quote,1,"), stage.relay.rows("quote,2,")) == (1, 1)
+    assert next_receipt(stage) == 12
+
+
+def test_the_browser_tells_that_the_line_is_back(phone: Phone, stage: Stage) -> None:
+    phone.sign_in()
+    phone.browser.offline(True)
+    phone.enter(1, mark="missing", reason="closed")
+    phone.browser.wait_text("#line", "No line: 1 entry")
+    phone.browser.offline(False)  # (nobody touches the page)
+    phone.browser.wait_text("#line", "All sent")
+    assert stage.quotes(ANNA) == [[1, NOW, "missing", "closed", NEXT]]
+    assert next_receipt(stage) == NEXT + 1
+
+
+def test_a_reply_that_is_lost_is_asked_again_and_has_its_receipt(phone: Phone, stage: Stage) -> None:
+    phone.sign_in()
+    stage.relay.lose = 1
+    phone.enter(1, "3.21")
+    assert stage.relay.lost.wait(10)
+    assert stored(stage, 1) == [("price", 321, NEXT)]  # (stored, and the page doesn't know)
+    phone.show("all")
+    phone.wait_told(1, f"Receipt {NEXT}")  # (sent again by itself)
+    assert stage.relay.rows("quote,1,") == 2
+    assert stored(stage, 1) == [("price", 321, NEXT)]
+    assert next_receipt(stage) == NEXT + 1
+
+
+def test_the_front_dies_after_the_office_stored_a_day_and_more_is_entered(phone: Phone, stage: Stage) -> None:
+    """What the office has in the end is what the screen shows, each with its one receipt."""
+    phone.sign_in()
+    stage.relay.lose = 1
+    stage.relay.paused.set()
+    phone.enter(1, "3.21")
+    assert stage.relay.lost.wait(10)
+    stage.front.stop(signal.SIGKILL)
+    stage.relay.paused.clear()
+    phone.browser.wait_text("#line", "No line: 1 entry")
+    phone.enter(2, "4.70")
+    phone.enter(4, "1.10")
+    phone.browser.wait_text("#line", "No line: 3 entries")
+    stage.front.start()
+    phone.show("all")
+    phone.send()
+    for slot, receipt in ((1, 10), (2, 11), (4, 12)):
+        phone.wait_told(slot, f"Receipt {receipt}")
+    assert stage.quotes(ANNA) == [[1, NOW, "price", 321, 10], [2, NOW, "price", 470, 11], [4, NOW, "price", 110, 12]]
+    assert next_receipt(stage) == 13
+
+
+def test_the_office_dies_and_comes_back(phone: Phone, stage: Stage) -> None:
+    phone.sign_in()
+    stage.stop_office()
+    phone.enter(1, "3.21")
+    phone.browser.wait_text("#line", "The office is busy: 1 entry kept")
+    stage.start_office()
+    phone.show("all")
+    phone.wait_told(1, f"Receipt {NEXT}")
+    assert next_receipt(stage) == NEXT + 1
+
+
+def test_a_mark_that_is_changed_while_it_is_under_way(phone: Phone, stage: Stage) -> None:
+    phone.sign_in()
+    phone.show("all")
+    stage.relay.held.set()
+    phone.enter(1, "3.21")
+    phone.browser.wait(lambda: stage.relay.rows("quote,1,") == 1)
+    phone.enter(1, "3.30")
+    phone.wait_told(1, "To be sent")
+    assert "3.30" in phone.told(1)
+    stage.relay.held.clear()
+    phone.wait_told(1, f"Receipt {NEXT + 1}")
+    assert stored(stage, 1) == [("price", 330, NEXT + 1)]
+
+
+def test_two_tabs_of_one_phone_send_an_entry_once(phone: Phone, stage: Stage) -> None:
+    phone.sign_in()
+    stage.front.stop()
+    phone.enter(1, "3.10")
+    phone.browser.wait_text("#line", "No line: 1 entry")
+    phone.browser.driver.switch_to.new_window("tab")
+    phone.open()
+    phone.browser.wait_text("#line", "No line: 1 entry")
+    stage.front.start()
+    for tab in reversed(phone.browser.driver.window_handles):
+        phone.browser.driver.switch_to.window(tab)
+        phone.browser.run("window.dispatchEvent(new Event('online'))")
+        phone.browser.wait_text("#line", "All sent")
+    assert stage.quotes(ANNA) == [[1, NOW, "price", 310, NEXT]]
+    assert stage.relay.rows("quote,1,") == 1
+
+
+def test_a_new_version_of_the_files_takes_the_place_of_the_old_one(phone: Phone) -> None:
+    phone.sign_in()
+    phone.browser.run_until("await caches.open('cpi-collect-before'); await caches.open('another');")
+    phone.browser.run_until(
+        "for (const one of await navigator.serviceWorker.getRegistrations()) await one.unregister();"
+    )
+    phone.open()
+    phone.browser.run_until("await navigator.serviceWorker.ready")
+    phone.browser.wait(lambda: "cpi-collect-before" not in phone.browser.run_until("return caches.keys()"))
+    names = phone.browser.run_until("return caches.keys()")
+    assert len(names) == 2 and "another" in names
+
+
+# ---- two collectors
+
+
+@pytest.fixture
+def other_phone(stage: Stage, tmp_path: Path) -> Iterator[Phone]:
+    """Another collector's phone."""
+    browser = Browser(stage.url, stage.folder / "ca.crt", tmp_path / "home")
+    yield Phone(browser)
+    browser.close()
+
+
+KEPT = """
+return await new Promise((end) => {
+  const open = indexedDB.open("cpi-collect");
+  open.onsuccess = () => {
+    const found = [], names = [...open.result.objectStoreNames];
+    for (const name of names) {
+      const all = open.result.transaction(name).objectStore(name).getAll();
+      all.onsuccess = () => { if (found.push(all.result) === names.length) end(JSON.stringify(found)); };
+    }
+  };
+});
+"""
+"""All that a phone has kept, as one text."""
+
+
+def test_collectors_see_their_own(phone: Phone, other_phone: Phone, stage: Stage) -> None:
+    phone.sign_in()
+    other_phone.sign_in(BENO)
+    other_phone.browser.wait_text("#list", "Market hall")
+    phone.enter(1, "3.21")
+    assert stage.wait_for_quotes(ANNA) == [[1, NOW, "price", 321, NEXT]]
+    other_phone.send()
+    other_phone.browser.wait_text("#line", "All sent")
+    for one, others in ((other_phone, ("Corner shop", "321", ANNA)), (phone, ("Market hall", "999", BENO))):
+        seen = one.browser.text("body") + one.browser.run_until(KEPT)
+        assert [text for text in others if text in seen] == []
+    assert stage.quotes(BENO) == []
+    other_phone.show("quotes")
+    assert "no quote of yours" in other_phone.browser.text("#list")
+
+
+LEFT = """
+return await new Promise((end) => {
+  const open = indexedDB.open("cpi-collect");
+  open.onsuccess = () => {
+    const found = {}, names = [...open.result.objectStoreNames];
+    for (const name of names) {
+      const keys = open.result.transaction(name).objectStore(name).getAllKeys();
+      keys.onsuccess = () => { found[name] = keys.result; if (Object.keys(found).length === names.length) end(found); };
+    }
+  };
+});
+"""
+
+KEY_IS_LOST = """
+return await new Promise((end) => {
+  const open = indexedDB.open("cpi-collect");
+  open.onsuccess = () => {
+    const change = open.result.transaction("session", "readwrite");
+    change.objectStore("session").delete("key");
+    change.oncomplete = () => end();
+  };
+});
+"""
+
+
+def test_signing_out_removes_all_and_asks_before(phone: Phone, stage: Stage) -> None:
+    phone.sign_in()
+    stage.front.stop()
+    phone.enter(1, "3.10")
+    phone.browser.wait_text("#line", "No line: 1 entry")
+    phone.browser.click("#leave")
+    assert "1 entry on this phone hasn’t been stored" in phone.browser.text("#leaving")
+    phone.browser.click('#leaving [value="stay"]')
+    assert "To be sent" in phone.told(1)
+    stage.front.start()
+    phone.send()
+    phone.browser.wait_text("#line", "All sent")
+    phone.browser.click("#leave")
+    assert "Everything has been sent" in phone.browser.text("#leaving")
+    phone.browser.click("#leaving-go")
+    phone.browser.wait_shown("#sign-in")
+    phone.browser.wait(lambda: phone.browser.run_until(LEFT) == {"lists": ["items"], "queue": [], "session": []})
+    phone.give_key(BENO)
+    phone.browser.wait_text("#list", "Market hall")
+    assert "Corner shop" not in phone.browser.text("body")
+
+
+def test_escape_in_the_question_signs_nobody_out(phone: Phone, stage: Stage) -> None:
+    phone.sign_in()
+    stage.front.stop()
+    phone.enter(1, "3.10")
+    phone.browser.wait_text("#line", "No line: 1 entry")
+    phone.browser.click("#leave")
+    phone.press(Keys.ESCAPE)
+    phone.browser.wait(lambda: not phone.browser.run("return document.getElementById('leaving').open"))
+    assert "To be sent" in phone.told(1)
+
+
+def test_another_collector_on_the_same_phone_sends_nothing_of_the_first(phone: Phone, stage: Stage) -> None:
+    phone.sign_in()
+    stage.front.stop()
+    phone.enter(1, "3.10")
+    phone.browser.wait_text("#line", "No line: 1 entry")
+    phone.browser.run_until(KEY_IS_LOST)  # (the entries aren't)
+    stage.front.start()
+    phone.sign_in(BENO)
+    phone.browser.wait_text("#list", "Market hall")
+    assert stage.relay.rows("quote,") == 0
+    phone.browser.click("#leave")
+    phone.browser.click("#leaving-go")
+    phone.browser.wait_shown("#sign-in")
+    phone.give_key(ANNA)
+    assert stage.wait_for_quotes(ANNA) == [[1, NOW, "price", 310, NEXT]]
+    assert stage.quotes(BENO) == []
+
+
+def test_the_key_stands_in_no_address_cookie_storage_or_log(phone: Phone, stage: Stage) -> None:
+    phone.sign_in()
+    phone.enter(1, "3.21")
+    assert stage.wait_for_quotes(ANNA)
+    found = phone.browser.run(
+        "return JSON.stringify([location.href, document.cookie, {...localStorage}, {...sessionStorage},"
+        " performance.getEntries().map((entry) => entry.name)]) + document.documentElement.outerHTML"
+    )
+    assert ANNA not in found
+    kept = phone.browser.run_until(
+        "const found = []; for (const name of await caches.keys()) for (const { url } of"
+        " await (await caches.open(name)).keys()) found.push(new URL(url).pathname); return found;"
+    )
+    assert [path for path in kept if path.startswith("/api/")] == []
+    assert len(kept) == 19 and "/config.js" in kept
+    assert ANNA not in stage.logs()
+
+
+# ---- who uses it
+
+
+def test_by_keyboard_alone(phone: Phone, stage: Stage) -> None:
+    def focused(what: str) -> Any:
+        return phone.browser.run(f"return document.activeElement.{what}")
+
+    def is_open() -> bool:
+        return bool(phone.browser.run("return document.getElementById('entry').open"))
+
+    phone.open()
+    phone.browser.wait_shown("#sign-in")
+    phone.press(ANNA, Keys.ENTER)
+    phone.browser.wait_text("#line", "All sent")
+    phone.browser.wait(lambda: phone.browser.all("[data-slot]"))
+    for _ in range(20):
+        if focused("dataset.slot") == "1":
+            break
+        phone.press(Keys.TAB)
+    phone.press(Keys.ENTER)
+    phone.browser.wait(lambda: focused("id") == "price")
+    phone.press("3.21", Keys.ENTER)
+    assert stage.wait_for_quotes(ANNA) == [[1, NOW, "price", 321, NEXT]]
+    phone.browser.wait(lambda: focused("dataset.slot") == "2", "the next that is to do")
+    phone.press(Keys.ENTER)
+    phone.browser.wait(is_open)
+    phone.press(Keys.ESCAPE)
+    phone.browser.wait(lambda: not is_open())
+    assert focused("dataset.slot") == "2"
+
+
+@pytest.mark.parametrize("width", [360, 1280])
+def test_it_can_be_read_and_touched(phone: Phone, width: int) -> None:
+    browser = phone.browser
+    browser.size(width, 740)
+    phone.open()
+    browser.wait_shown("#sign-in")
+    assert faults_of_page(browser) == []
+    phone.sign_in()
+    phone.show("all")
+    phone.enter(1, "3.21")
+    phone.wait_told(1, f"Receipt {NEXT}")
+    assert faults_of_page(browser) == []
+    phone.show("quotes")
+    assert faults_of_page(browser) == []
+    phone.show("all")
+    phone.edit(1)
+    assert faults_of_page(browser) == []
+    browser.click("#entry-cancel")
+    phone.enter(2, "99")
+    browser.wait_text("#entry-refusal", "far from")
+    assert faults_of_page(browser) == []
+    browser.click("#entry-cancel")
+    browser.click("#leave")
+    assert faults_of_page(browser) == []
+
+
+def test_the_page_can_be_put_on_the_phones_first_screen(phone: Phone) -> None:
+    phone.open()
+    manifest = phone.browser.run_until("return (await fetch('manifest.webmanifest')).json()")
+    assert (manifest["start_url"], manifest["display"]) == ("./", "standalone")
+    assert json.dumps(manifest).count("http") == 0
+
+
+def test_the_month_before_is_the_phones_own(phone: Phone) -> None:
+    phone.sign_in()
+    phone.browser.click("#month-before")
+    phone.show("quotes")
+    phone.browser.wait_text('[data-quote="4"]', "1.00")
+    assert BEFORE[:4] in phone.browser.text("#month")

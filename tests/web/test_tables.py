@@ -1,0 +1,166 @@
+"""The page of everybody in Chromium: what it shows is what the office has published."""
+
+from __future__ import annotations
+
+import re
+import time
+
+import pytest
+
+from browser import Browser
+from offices import DESK, SCRIPT
+from readable import faults_of_page
+from stage import Stage
+
+
+def opened(browser: Browser, width: int = 360) -> None:
+    """Opens the page, until all that it asks for at first is there."""
+    browser.size(width, 800)
+    browser.open("/tables/")
+    browser.wait_text("#releases", "December 2010")
+    browser.wait_text("#legend", "All items")
+    browser.wait_text("#table", "All items")
+
+
+def ticked(browser: Browser, *codes: str) -> None:
+    for code in codes:
+        browser.click(f'#table input[value="{code}"]')
+
+
+def test_the_latest_figures(browser: Browser) -> None:
+    opened(browser)
+    assert browser.text("#latest-title") == "All items, February 2011"
+    figures = {name: browser.text(f"#latest-{name}") for name in ("year", "month", "level")}
+    assert figures == {"year": "–", "month": "2.3 %", "level": "104.8"}
+    assert "revision 2" in browser.text("#latest-published")
+    assert browser.text("#latest-base") == "index, December 2010 = 100"
+
+
+CELLS = "return [...document.querySelectorAll('#table tbody tr')].map((row) => [...row.cells].slice(1).map((cell) =>"
+CELLS += " cell.firstChild?.data ?? ''))"
+
+
+def test_each_figure_is_the_offices(browser: Browser, stage: Stage) -> None:
+    """The page reads the CSV; it is compared with the text form, which the office prints by itself."""
+    opened(browser, 1280)
+    browser.choose("depth", "5")
+    for month, revision in (("2011-02", 2), ("2011-02", 1), ("2011-01", 1)):
+        browser.choose("month", month)
+        browser.choose("revision", str(revision))
+        browser.wait_text("#said", "Revision 2" if revision == 2 else "Published")
+        lines = stage.ask("GET", f"/api/table/{month}/text/{revision}").body.decode().splitlines()[1:]
+        wanted = []
+        for line in lines:
+            code, weight, within, chained, on_month, on_year, imputed, title = line.split(None, 7)
+            wanted.append([code, title, weight, within, chained, on_month, on_year, imputed])
+        rows = browser.run(CELLS)
+        assert len(rows) == 8
+        assert [[cell.replace("−", "-").replace("–", "-") or "." for cell in row] for row in rows] == wanted
+
+
+def test_texts_of_the_office_are_shown_as_texts(browser: Browser) -> None:
+    opened(browser)
+    assert SCRIPT in browser.text("#table")
+    ticked(browser, "01")
+    browser.wait_text("#legend", SCRIPT)
+    assert SCRIPT in str(browser.find("#picture svg").get_attribute("aria-label"))
+    assert browser.run("return document.title") == "Consumer price index: tables"
+    assert browser.run("return document.querySelectorAll('body script').length") == 0
+
+
+def test_lines_of_chosen_nodes_over_the_months(browser: Browser) -> None:
+    """Each month is drawn in its latest revision, and told by the arrow keys."""
+    opened(browser, 1280)
+    browser.choose("depth", "5")
+    ticked(browser, "01.1.1.1-01", "01.1.1.2-01")
+    assert len(browser.all("#picture .curve")) == 3
+    press = "new KeyboardEvent('keydown', { key: 'ArrowLeft', bubbles: true })"
+    browser.run(f"const svg = document.querySelector('#picture svg'); svg.focus(); svg.dispatchEvent({press});")
+    assert browser.text("#readout") == "February 2011: All items 104.8, Rice, packed 110.0, Flour, wheat 97.0"
+    browser.run(f"document.querySelector('#picture svg').dispatchEvent({press});")
+    assert browser.text("#readout") == "January 2011: All items 102.4, Rice, packed 105.0, Flour, wheat 98.5"
+    cells = "return [...document.querySelectorAll('#figures tbody tr')].map((row) =>"
+    cells += " [...row.cells].map((cell) => cell.textContent))"
+    assert browser.run(cells) == [["2011-01", "102.4", "105.0", "98.5"], ["2011-02", "104.8", "110.0", "97.0"]]
+    browser.choose("measure", "month")
+    assert browser.run(cells)[1][:2] == ["2011-02", "2.3 %"]
+    browser.click("#legend button")
+    assert len(browser.all("#picture .curve")) == 2
+
+
+def test_the_picture_shows_six_lines_at_most(browser: Browser) -> None:
+    opened(browser, 1280)
+    browser.choose("depth", "5")
+    codes = ["01", "01.1", "01.1.1", "01.1.1.1", "01.1.1.1-01", "01.1.1.2"]
+    ticked(browser, *codes)
+    assert len(browser.all("#picture .curve")) == 6
+    assert "shows 6 lines" in browser.text("#fault")
+    boxes = "return [...document.querySelectorAll('#table input:checked')].map((box) => box.value)"
+    assert browser.run(boxes) == codes
+
+
+def test_a_named_table_is_asked_for_once(browser: Browser, stage: Stage) -> None:
+    opened(browser)
+    before = len(stage.relay.seen)
+    opened(browser)
+    assert [asked for asked in stage.relay.asked()[before:] if asked.startswith("GET /table/")] == []
+
+
+def test_downloads(browser: Browser) -> None:
+    opened(browser)
+    link = browser.find("#csv")
+    assert str(link.get_attribute("href")).endswith("/api/table/2011-02/csv/2")
+    assert link.get_attribute("download") == "cpi-2011-02-r2.csv"
+    browser.open("/api/table/2011-02/text/2")
+    assert browser.text("body").startswith("CPI 2011-02 revision 2\n00 ")
+
+
+def test_what_is_sought_is_found_by_title_and_by_code(browser: Browser) -> None:
+    opened(browser)
+    rows = "return [...document.querySelectorAll('#table tbody input')].map((box) => box.value)"
+    browser.choose("search", "flour")
+    assert browser.run(rows) == ["01.1.1.2", "01.1.1.2-01"]
+    browser.choose("search", "01.1.1.1")
+    assert browser.run(rows) == ["01.1.1.1", "01.1.1.1-01"]
+
+
+def test_a_table_under_embargo_isnt_on_the_page(browser: Browser, stage: Stage) -> None:
+    at = int(time.time()) + 3600
+    rows = f"calendar,2011-03,6000,7000,{at}\nfreeze,2011-03,01.1.1.1-01,01.1.1.2-01\n"
+    assert stage.ask("POST", "/api/import", DESK, rows).reply == {"rows": [{"done": True}] * 2}
+    opened(browser)
+    assert "March 2011" not in browser.text("body")
+
+
+def test_before_the_first_table_the_page_says_so(browser: Browser, stage: Stage) -> None:
+    stage.stop_office()
+    for path in stage.folder.glob("office.db*"):
+        path.unlink()
+    stage.start_office()
+    browser.open("/tables/")
+    browser.wait_text("#fault", "Nothing has been published yet.")
+
+
+def test_the_page_waits_for_an_office_that_is_away(browser: Browser, stage: Stage) -> None:
+    stage.stop_office()
+    browser.open("/tables/")
+    assert browser.text("#releases") == ""
+    stage.start_office()
+    browser.wait_text("#releases", "December 2010")
+
+
+@pytest.mark.parametrize("width", [360, 1280])
+def test_it_can_be_read_and_touched(browser: Browser, width: int) -> None:
+    opened(browser, width)
+    browser.choose("depth", "5")
+    browser.click("details summary")
+    assert faults_of_page(browser) == []
+    wide = "return [...document.querySelectorAll('.wide')].filter((one) => one.scrollWidth > one.clientWidth).length"
+    assert browser.run(wide) == 0
+
+
+def test_the_first_page_leads_to_each_other(browser: Browser) -> None:
+    browser.open("/")
+    assert faults_of_page(browser) == []
+    links = [str(link.get_attribute("href")) for link in browser.all("main a")]
+    assert [re.sub(r"^https://[^/]+", "", link) for link in links] == ["/tables/", "/collect/", "/desk/"]

@@ -1,0 +1,179 @@
+"""`ops/try`: it starts an office behind the front, tells where, and leaves nothing running."""
+
+from __future__ import annotations
+
+import contextlib
+import datetime
+import http.client
+import importlib.machinery
+import importlib.util
+import re
+import shutil
+import signal
+import ssl
+import subprocess
+import time
+from collections.abc import Iterator
+from pathlib import Path
+
+import pytest
+
+from conftest import ROOT
+from cpi_tools.front import children_of, fingerprint, free_port
+from cpi_tools.program import Cpi
+from offices import ANNA, NOW
+from stage import Stage
+
+TRY = ROOT / "ops/try"
+SECONDS = 30.0
+
+
+class Trial:
+    """A running ops/try, and what it has told."""
+
+    def __init__(self, cpi: Cpi, folder: Path, *words: str):
+        self.folder, self.port = folder, free_port()
+        given = ["--folder", str(folder), "--port", str(self.port), "--program", str(cpi.path), *words]
+        # (a signal that this process ignores would be ignored there too)
+        self.process = subprocess.Popen(
+            ["env", "--default-signal=INT", str(TRY), *given], stdout=subprocess.PIPE, text=True
+        )
+        assert self.process.stdout
+        self.told = ""
+        for line in self.process.stdout:
+            self.told += line
+            if "Ctrl-C" in line:
+                break
+        self.children = children_of(self.process.pid)
+
+    def get(self, path: str, key: str = "") -> tuple[int, bytes]:
+        """A page, as a phone that trusts the certificate asks for it."""
+        context = ssl.create_default_context(cafile=str(self.folder / "ca.crt"))
+        line = http.client.HTTPSConnection("localhost", self.port, context=context, timeout=SECONDS)
+        with contextlib.closing(line):
+            line.request("GET", path, headers={"Authorization": f"CPI-Key {key}"} if key else {})
+            answer = line.getresponse()
+            assert not answer.getheader("Strict-Transport-Security")
+            return answer.status, answer.read()
+
+    def stop(self, how: int) -> int:
+        """Its status after a signal."""
+        with self.process:
+            self.process.send_signal(how)
+            return self.process.wait(SECONDS)
+
+    def left(self) -> list[int]:
+        """Which of its children still run, after a moment at most."""
+        begun = time.monotonic()
+        while (found := [it for it in self.children if is_running(it)]) and time.monotonic() - begun < 2:
+            time.sleep(0.05)
+        return found
+
+
+def is_running(process: int) -> bool:
+    with contextlib.suppress(OSError):
+        return Path(f"/proc/{process}/stat").read_text().rpartition(")")[2].split()[0] != "Z"
+    return False
+
+
+@pytest.fixture
+def trial(cpi: Cpi, made: Path, tmp_path: Path) -> Iterator[Trial]:
+    """A trial of the made-up country; a small office stands in its place, as if it had been made this month."""
+    shutil.copy(made, tmp_path / f"{datetime.date.today():%Y-%m}.db")
+    found = Trial(cpi, tmp_path)
+    yield found
+    if found.process.poll() is None:
+        found.stop(signal.SIGTERM)
+
+
+def test_it_tells_where_to_point_a_phone_and_stops_at_ctrl_c(trial: Trial) -> None:
+    url = f"https://localhost:{trial.port}"
+    collector = re.search(rf"^  collectors +{url}/collect/ +key ([0-9a-f]{{32}})$", trial.told, re.M)
+    desk = re.search(rf"^  the desk +{url}/desk/ +key ([0-9a-f]{{32}})$", trial.told, re.M)
+    assert collector and desk, trial.told
+    assert f"everybody   {url}/tables/" in trial.told
+    assert f"{url}/ca.crt" in trial.told and fingerprint(trial.folder / "ca.crt") in trial.told
+    known = (ROOT / "examples/national/collectors.csv").read_text().splitlines()[1].split(",")[1]
+    assert collector[1] == known
+    assert [trial.get(path)[0] for path in ("/", "/collect/", "/tables/", "/desk/", "/api/tables")] == [200] * 5
+    assert trial.get("/ca.crt") == (200, (trial.folder / "ca.crt").read_bytes())
+    assert trial.get(f"/api/work/{NOW}", ANNA)[0] == 200
+    assert trial.get(f"/api/work/{NOW}", desk[1])[0] == 403  # (the desk has no work list)
+    assert not (trial.folder / "ca.key").exists()
+    assert len(trial.children) == 2
+    assert trial.stop(signal.SIGINT) == 0
+    assert trial.left() == []
+
+
+def test_another_office_is_copied_and_the_certificate_stays(cpi: Cpi, made: Path, tmp_path: Path) -> None:
+    before, prints = made.read_bytes(), []
+    for _ in range(2):
+        trial = Trial(cpi, tmp_path / "try", "--db", str(made))
+        assert " key " not in trial.told.partition("everybody")[0]
+        assert trial.get(f"/api/work/{NOW}", ANNA)[0] == 200
+        prints.append(fingerprint(tmp_path / "try/ca.crt"))
+        assert trial.stop(signal.SIGTERM) == 143
+        assert trial.left() == []
+    assert prints[0] == prints[1]
+    assert made.read_bytes() == before
+
+
+def test_the_commands_of_the_guide_are_its_words() -> None:
+    loader = importlib.machinery.SourceFileLoader("ops_try", str(TRY))
+    spec = importlib.util.spec_from_loader(loader.name, loader)
+    assert spec
+    module = importlib.util.module_from_spec(spec)
+    loader.exec_module(module)
+    guide = (ROOT / "docs/PHONE.md").read_text(encoding="utf-8")
+    commands = re.findall(r"^    ops/try(.*)$", guide, re.M)
+    addresses = [module.parser().parse_args(words.split()).address for words in commands]
+    assert addresses == ["localhost", "192.168.1.5"]
+    told = set(re.findall(r"--[a-z]+", guide))
+    assert told <= set(re.findall(r"--[a-z]+", module.parser().format_help()))
+
+
+@pytest.mark.parametrize(
+    ("words", "status", "told"),
+    [
+        (["--address", "203.0.113.9"], 1, "ops/try: 203.0.113.9 is no address of this machine: "),
+        (["--db", "/nowhere/office.db"], 1, "ops/try: /nowhere/office.db: No such file or directory"),
+        (["--program", "/nowhere/cpi"], 1, "ops/try: /nowhere/cpi, named by --program, is no program"),
+        (["--port", "x"], 2, "ops/try: argument --port: x isn't a whole number from 1 on"),
+        (["--other"], 2, "ops/try: unrecognized arguments: --other"),
+    ],
+)
+def test_what_is_wrong_is_one_line(words: list[str], status: int, told: str, tmp_path: Path) -> None:
+    given = [str(TRY), "--folder", str(tmp_path / "try"), *words]
+    ran = subprocess.run(given, capture_output=True, text=True, timeout=SECONDS, check=False)
+    assert (ran.returncode, ran.stderr.count("\n")) == (status, 1), ran.stderr
+    assert ran.stderr.startswith(told)
+
+
+def test_a_port_that_is_taken_is_told(stage: Stage, tmp_path: Path) -> None:
+    given = [str(TRY), "--folder", str(tmp_path), "--port", str(stage.port)]
+    ran = subprocess.run(given, capture_output=True, text=True, timeout=SECONDS, check=False)
+    told = f"ops/try: port {stage.port} of localhost is taken: name another by --port\n"
+    assert (ran.returncode, ran.stderr) == (1, told)
+
+
+def test_the_made_up_country_may_be_moved_to_another_year(cpi: Cpi, tmp_path: Path) -> None:
+    """Its tables are the same, a few years later, and the month that is asked for is open."""
+    run = [str(ROOT / "examples/national/run"), "--program", str(cpi.path), "--out"]
+    runs = [
+        subprocess.Popen(
+            [*run, str(tmp_path / folder), "--open", month], stdout=subprocess.PIPE, stderr=subprocess.DEVNULL
+        )
+        for folder, month in (("plain", "2026-01"), ("moved", "2031-01"))
+    ]
+    told = [running.communicate()[0].decode() for running in runs]
+    assert [running.returncode for running in runs] == [0, 0]
+    assert "All items in 2030-12: " in told[1]
+    plain = sorted((tmp_path / "plain/tables").iterdir())
+    moved = sorted((tmp_path / "moved/tables").iterdir())
+    later = [path.name.replace("2024", "2029").replace("2025", "2030") for path in plain]
+    assert later == [path.name for path in moved]
+    assert [path.read_bytes() for path in plain] == [path.read_bytes() for path in moved]
+    assert len(plain) == 13
+    *_, window, table = (tmp_path / "moved/records.csv").read_text().splitlines()
+    assert window.partition(",desk,")[2] == "calendar,2031-01,2031-01-01T00:00,2031-03-01T00:00,2031-03-01T00:00"
+    assert table.endswith(",public,table,2030-12,text")

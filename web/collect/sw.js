@@ -1,0 +1,42 @@
+// Keeps the files of the collectors' page, so that it opens without a line. It never touches the office's interface.
+// VERSION is the hash of FILES: tools/pages writes it. What an office sets itself (SET) is kept too, and read anew
+// behind each start, so that the next one has it.
+const VERSION = "bee5ab29b295f19e";
+const FILES = [
+  "./", "app.js", "collect.css", "entry.js", "icon.svg", "line.js", "list.js", "manifest.webmanifest", "send.js",
+  "state.js", "store.js", "../shared/api.js", "../shared/base.css", "../shared/dom.js", "../shared/money.js",
+  "../shared/months.js", "../shared/refusals.js", "../shared/words.js",
+];
+const SET = new URL("../config.js", self.location.href);
+const NAME = `cpi-collect-${VERSION}`;
+
+const fresh = (file) => new Request(file, { cache: "reload" });
+
+self.addEventListener("install", (event) => {
+  event.waitUntil((async () => {
+    const cache = await caches.open(NAME);
+    await cache.addAll([...FILES.map(fresh), fresh(SET)]);
+    await self.skipWaiting();
+  })());
+});
+
+self.addEventListener("activate", (event) => {
+  event.waitUntil((async () => {
+    const old = (await caches.keys()).filter((name) => name.startsWith("cpi-collect-") && name !== NAME);
+    await Promise.all(old.map((name) => caches.delete(name)));
+    await self.clients.claim();
+  })());
+});
+
+self.addEventListener("fetch", (event) => {
+  const { request } = event;
+  const url = new URL(request.url);
+  if (request.method !== "GET" || url.origin !== self.location.origin || url.pathname.startsWith("/api/")) return;
+  if (url.pathname === SET.pathname) {
+    event.waitUntil(caches.open(NAME).then((cache) => cache.add(fresh(SET))).catch(() => {}));
+  }
+  event.respondWith((async () => {
+    const cache = await caches.open(NAME);
+    return (await cache.match(request, { ignoreSearch: true })) ?? fetch(request);
+  })());
+});

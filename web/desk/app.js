@@ -1,0 +1,109 @@
+// The page of the desk: sends records, a plan, a window, a freeze, and tells in words what the office answered.
+import { ask, isKey, MOST_BYTES } from "../shared/api.js";
+import { written } from "../shared/csv.js";
+import { find, make } from "../shared/dom.js";
+import { thisMonth } from "../shared/months.js";
+import { toDesk } from "../shared/refusals.js";
+import { sendRecords, stop } from "./records.js";
+import { bearer, bytesOf, hasKey, noAnswer, takesFiles, tell } from "./told.js";
+
+const SECONDS = 300; // that a plan or a freeze may take
+
+// ---- The key
+
+async function takeKey() {
+  const text = find("key").value.trim().toLowerCase();
+  const fault = isKey(text) ? await keyFault(text) : "A key is 32 characters, each 0 to 9 or a to f.";
+  find("key-told").textContent = fault;
+  if (fault) return;
+  bearer.key = text;
+  find("key").value = "";
+  find("who").textContent = "Signed in as the desk";
+}
+
+/** Why a key isn't the desk's, or no text: a work list is a collector's, so the desk alone is told 12. */
+async function keyFault(key) {
+  try {
+    const { refused } = await ask("GET", `/work/${thisMonth()}`, { key });
+    return refused === 12 ? "" : "This isn’t the desk’s key.";
+  } catch (fault) {
+    return noAnswer(fault);
+  }
+}
+
+function forgetKey() {
+  bearer.key = null;
+  find("who").textContent = "No key yet";
+}
+
+// ---- Plan, window, freeze
+
+async function sendPlan() {
+  if (!hasKey("plan-told")) return;
+  const body = await bytesOf("plan");
+  if (body.length > MOST_BYTES) {
+    tell("plan-told", "bad", "The plan is longer than 65,536 bytes. Send it with cpi replay.");
+    return;
+  }
+  const year = encodeURIComponent(find("plan-year").value);
+  const asked = () => ask("PUT", `/plan/${year}`, { key: bearer.key, body, seconds: SECONDS });
+  await send("plan-told", "plan", asked, "The plan stands.");
+}
+
+async function setWindow() {
+  if (!hasKey("calendar-told")) return;
+  const fields = ["month", "opens", "closes", "publishes"].map((name) => find(`calendar-${name}`).value);
+  await send("calendar-told", "calendar", () => one(["calendar", ...fields]), "The window stands.");
+}
+
+async function freeze() {
+  if (!hasKey("freeze-told")) return;
+  const codes = find("freeze-carry").value.split(/[\s,]+/).filter(Boolean);
+  const asked = () => one(["freeze", find("freeze-month").value, ...codes]);
+  const reply = await send("freeze-told", "freeze", asked, "The month is frozen.");
+  if (reply?.refused !== 49 || reply.fault !== 2) return;
+  const carried = () => {
+    find("freeze-carry").value = [...codes, reply.code].join(" ");
+    return freeze();
+  };
+  const words = `Put ${reply.code} on the carry list and freeze again`;
+  find("freeze-told").append(make("button", { type: "button", class: "warn", onclick: carried }, words));
+}
+
+/** One record as an import of one row; its reply. */
+async function one(fields) {
+  const body = `${fields.map(written).join(",")}\n`;
+  const reply = await ask("POST", "/import", { key: bearer.key, body, seconds: SECONDS });
+  return reply.rows?.[0] ?? reply;
+}
+
+/** Asks once, and tells what came of it; the reply, or null where none came. */
+async function send(place, word, asked, done) {
+  tell(place, "", "Sent; waiting for the office.");
+  const button = find(place).closest("form").querySelector("button.main");
+  button.disabled = true;
+  try {
+    const reply = await asked();
+    if (reply.done) tell(place, "good", done);
+    else tell(place, "bad", make("strong", {}, `Refused by ${reply.refused}. `), toDesk(reply, word));
+    return reply;
+  } catch (fault) {
+    tell(place, "bad", noAnswer(fault));
+    return null;
+  } finally {
+    button.disabled = false;
+  }
+}
+
+// ---- Events
+
+const forms = { "key-form": takeKey, records: sendRecords, plan: sendPlan, calendar: setWindow, freeze };
+for (const [name, work] of Object.entries(forms)) {
+  find(name).addEventListener("submit", (event) => {
+    event.preventDefault();
+    work();
+  });
+}
+find("records-stop").addEventListener("click", stop);
+for (const name of ["records", "plan"]) takesFiles(name);
+addEventListener("pagehide", forgetKey);

@@ -1,0 +1,78 @@
+// Sends a file of records, piece by piece, and tells which rows were refused and why.
+import { ask, MOST_BYTES } from "../shared/api.js";
+import { bodiesOf, fieldsOf, rowsOf } from "../shared/csv.js";
+import { find, make } from "../shared/dom.js";
+import { toDesk } from "../shared/refusals.js";
+import { bearer, bytesOf, hasKey, noAnswer, tell } from "./told.js";
+
+const ROWS = 200; // rows of one import: collectors are served between two
+const SHOWN = 200; // refused rows that are shown
+const SHOWN_BYTES = 300; // of each
+const SECONDS = 300; // that an import may take
+const PLACE = "records-told";
+
+let isStopped = false;
+
+export async function sendRecords() {
+  if (!hasKey(PLACE)) return;
+  const rows = rowsOf(await bytesOf("records"));
+  if (rows.length === 0) return tell(PLACE, "bad", "There are no rows.");
+  const bodies = bodiesOf(rows, MOST_BYTES, ROWS);
+  if (!bodies) {
+    return tell(PLACE, "bad", "A row is longer than 65,536 bytes. Send it with cpi replay; a plan may go below.");
+  }
+  find("records-stop").hidden = false;
+  await sendBodies(bodies, rows.length);
+  find("records-stop").hidden = true;
+}
+
+export function stop() {
+  isStopped = true;
+}
+
+async function sendBodies(bodies, count) {
+  const told = { done: 0, refused: [], answered: 0, count };
+  isStopped = false;
+  for (const { rows, bytes } of bodies) {
+    show(told, "");
+    const ended = isStopped ? "Stopped." : await sendBody(rows, bytes, told);
+    if (ended) return show(told, ended);
+  }
+  return show(told, "");
+}
+
+/** Sends some rows and counts their answers; why nothing more is to be sent, or no text. */
+async function sendBody(rows, body, told) {
+  try {
+    const reply = await ask("POST", "/import", { key: bearer.key, body, seconds: SECONDS });
+    if (!Array.isArray(reply.rows)) return toDesk(reply);
+    if (reply.rows.length !== rows.length) return "The office counts other rows than this page. Look at the file.";
+    for (const [n, answer] of reply.rows.entries()) {
+      if (answer.refused) told.refused.push({ number: told.answered + n + 1, row: rows[n], answer });
+      else told.done += 1;
+    }
+    told.answered += rows.length;
+    return "";
+  } catch (fault) {
+    return noAnswer(fault);
+  }
+}
+
+function show({ done, refused, answered, count }, ended) {
+  const left = answered < count ? `; ${count - answered} not answered yet` : "";
+  tell(PLACE, ended || refused.length ? "" : "good", make("strong", {}, `${done} accepted, ${refused.length} refused`),
+    ` of ${count}${left}. ${ended}`);
+  if (refused.length === 0) return;
+  const room = { class: "wide", tabindex: 0, role: "region", "aria-label": "Refused rows" };
+  find(PLACE).append(make("div", room, table(refused)));
+  if (refused.length > SHOWN) find(PLACE).append(make("p", { class: "muted" }, `The first ${SHOWN} are shown.`));
+}
+
+function table(refused) {
+  const heads = ["Row", "Sent", "No", "Because, and what to do"].map((text) => make("th", { scope: "col" }, text));
+  const decoder = new TextDecoder();
+  const rows = refused.slice(0, SHOWN).map(({ number, row, answer }) => make("tr", {}, make("td", {}, number),
+    make("td", { class: "row" }, decoder.decode(row.subarray(0, SHOWN_BYTES))), make("td", {}, answer.refused),
+    make("td", { class: "because" }, toDesk(answer, fieldsOf(decoder.decode(row))[0]))));
+  return make("table", {}, make("thead", {}, make("tr", {}, ...heads)), make("tbody", {}, ...rows));
+}

@@ -1,0 +1,51 @@
+// Asks the office over its interface at /api/. A key goes in the field Authorization alone, never in an address.
+
+/** No answer of the office came: what was asked may have been done or not. Asking the same again is safe. */
+export class NoAnswer extends Error {
+  constructor(kind, wait = 0) {
+    super(kind);
+    this.kind = kind; // "line": nothing came; "busy": the front said to come again
+    this.wait = wait; // seconds
+  }
+}
+
+/** A body of more bytes than this is refused before it is read. */
+export const MOST_BYTES = 65_536;
+
+export const isKey = (text) => /^[0-9a-f]{32}$/.test(text);
+
+/** The reply as an object, or a table as { text }. */
+export async function ask(method, path, { key, body, seconds = 60 } = {}) {
+  const headers = key ? { Authorization: `CPI-Key ${key}` } : {};
+  if (body !== undefined) headers["Content-Type"] = "text/csv; charset=utf-8";
+  let response, text;
+  try {
+    response = await fetch(`/api${path}`, {
+      method, headers, body, cache: key ? "no-store" : "default", credentials: "omit", redirect: "error",
+      referrerPolicy: "no-referrer", signal: AbortSignal.timeout?.(seconds * 1000),
+    });
+    text = await response.text();
+  } catch {
+    throw new NoAnswer("line");
+  }
+  const type = response.headers.get("Content-Type") ?? "";
+  if (type.startsWith("application/json")) {
+    const reply = parsed(text);
+    if (reply) return reply;
+  } else if (response.ok && type.startsWith("text/") && !type.startsWith("text/html")) {
+    return { text };
+  }
+  // It was the front, not the office, that answered.
+  if (response.status === 401) return { refused: 11 }; // a key that is denied there
+  if (response.status === 400 || response.status === 404 || response.status === 413) return { refused: 10 };
+  throw new NoAnswer("busy", Number(response.headers.get("Retry-After")) || 0);
+}
+
+function parsed(text) {
+  try {
+    const reply = JSON.parse(text);
+    return reply !== null && typeof reply === "object" ? reply : null;
+  } catch {
+    return null;
+  }
+}

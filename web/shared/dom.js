@@ -1,0 +1,51 @@
+// Elements are made from texts alone. Nothing in these pages reads text as markup.
+
+export const find = (id) => document.getElementById(id);
+
+/** An element with attributes and children; a child that is no element becomes text. */
+export function make(name, attributes = {}, ...children) {
+  return filled(document.createElement(name), attributes, children);
+}
+
+export function makeSvg(name, attributes = {}, ...children) {
+  return filled(document.createElementNS("http://www.w3.org/2000/svg", name), attributes, children);
+}
+
+function filled(element, attributes, children) {
+  for (const [name, value] of Object.entries(attributes)) {
+    if (name.startsWith("on")) element.addEventListener(name.slice(2), value);
+    else if (value === true) element.setAttribute(name, "");
+    else if (value !== false && value !== null && value !== undefined) element.setAttribute(name, value);
+  }
+  element.append(...children.filter((child) => child !== null && child !== undefined).map((child) =>
+    child instanceof Node ? child : document.createTextNode(String(child))));
+  return element;
+}
+
+/**
+ * Makes an element like a fresh one, and leaves alone what is the same, children with an id by their id (their order
+ * never changes): what has the focus, or is being touched, stays. Listeners of fresh elements aren't taken over.
+ */
+export function becomes(element, fresh) {
+  for (const { name } of [...element.attributes]) if (!fresh.hasAttribute(name)) element.removeAttribute(name);
+  for (const { name, value } of fresh.attributes) {
+    if (element.getAttribute(name) !== value) element.setAttribute(name, value);
+  }
+  const wanted = [...fresh.childNodes];
+  for (const [n, child] of wanted.entries()) {
+    if (child.id) {
+      const same = [...element.childNodes].slice(n).find((found) => found.id === child.id);
+      while (same && element.childNodes[n] !== same) element.childNodes[n].remove();
+      if (!same) {
+        element.insertBefore(child, element.childNodes[n] ?? null);
+        continue;
+      }
+    }
+    const now = element.childNodes[n];
+    if (!now) element.append(child);
+    else if (now.isEqualNode(child)) continue;
+    else if (now instanceof Element && now.nodeName === child.nodeName) becomes(now, child);
+    else now.replaceWith(child);
+  }
+  while (element.childNodes.length > wanted.length) element.lastChild.remove();
+}
