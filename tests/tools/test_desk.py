@@ -4,6 +4,7 @@ from __future__ import annotations
 
 import contextlib
 import csv
+import functools
 import io
 import math
 import os
@@ -157,6 +158,11 @@ def test_the_greatest_effects_are_among_those_that_are_left_out(cpi: Cpi, tmp_pa
 # ---- the small office, by hand
 
 
+def cells_of(out: Path, name: str) -> list[tuple[str, ...]]:
+    """The cells of a section, row by row."""
+    return [tuple(row.values()) for row in rows_of(out / f"{name}.csv")]
+
+
 def test_the_small_office_by_hand(cpi: Cpi, small: Path, tmp_path: Path) -> None:
     """Rice of one shop and flour are missing. All items: 0.6 * 106.164091 + 0.4 * 105 = 105.698455, 1.5 percent more
     than 0.6 * 103.636364 + 0.4 * 105 = 104.181818.
@@ -171,10 +177,7 @@ def test_the_small_office_by_hand(cpi: Cpi, small: Path, tmp_path: Path) -> None
     assert "As things stand, all items would be at 105.7: 1.5 percent on the month before." in ran.out
     assert "Food and drink (+1.456)" in ran.out
     assert (out.stat().st_mode & 0o777, (out / "month.html").is_file()) == (0o700, True)
-
-    def cells(name: str) -> list[tuple[str, ...]]:
-        return [tuple(row.values()) for row in rows_of(out / f"{name}.csv")]
-
+    cells = functools.partial(cells_of, out)
     assert cells("collectors") == [
         ("7", "2", "0", "0.0", "0", "0", "2", "0"),
         ("8", "1", "1", "100.0", "0", "0", "0", "0"),
@@ -196,10 +199,9 @@ def test_the_small_office_by_hand(cpi: Cpi, small: Path, tmp_path: Path) -> None
         ("01.1.1.1-01", "Rice, packed", "600000", "2", "1", "1"),
         ("01.1.1.2-01", "Flour, wheat", "400000", "1", "0", "0"),
     ]
-    ratios = (2_151_220 / 2_000_000, 2_520_000 / 2_400_000)
-    jevons = 100 * (math.sqrt(ratios[0] * ratios[1]) - 1)
-    month = ("2.44", "2.44", "0.00")
+    jevons = 100 * (math.sqrt((2_151_220 / 2_000_000) * (2_520_000 / 2_400_000)) - 1)
     year = ("6.16", f"{jevons:.2f}", f"{100 * (4_671_220 / 4_400_000 - 1) - jevons:.2f}")
+    month = ("2.44", "2.44", "0.00")
     assert cells("homogeneity")[0] == ("01.1.1.1-01", "Rice, packed", "2", "1", "1.2", *month, *year)
 
 
