@@ -132,27 +132,32 @@ def without(cpi: Cpi, path: Path, month: str, place: str) -> str:
         return table
 
 
-def test_the_greatest_effects_are_among_those_that_are_left_out(cpi: Cpi, tmp_path: Path) -> None:
-    """All quotes of a month are left out one after the other: none moves all items more than the first that is told."""
-    path, month = tmp_path / "office.db", "2026-04"
+def test_the_quotes_that_are_left_out_are_those_of_the_greatest_effects(cpi: Cpi, tmp_path: Path) -> None:
+    """All quotes of a month are left out, each alone: the six that are told are the six that move all items most."""
+    path, month, out = tmp_path / "office.db", "2026-04", tmp_path / "report"
     surveys.long(cpi, path, month)
-    ran = run(cpi, "desk", "month", path, month, "--at", closes(month), "--out", tmp_path / "report", "--left-out", 1)
-    assert ran.status == 0
-    (told,) = rows_of(tmp_path / "report" / "influence.csv")
+    assert run(cpi, "desk", "month", path, month, "--at", closes(month), "--out", out, "--left-out", 6).status == 0
+    told = {row["slot"]: Fraction(row["moves all items"]) for row in rows_of(out / "influence.csv")}
     with asked(path) as link:
         text = "SELECT collector, slot FROM quote_2 WHERE month = 202604 AND mark IN ('price', 'comparable')"
-        places = link.execute(text).fetchall()
-    (report,) = [row for row in rows_of(tmp_path / "report" / "table.csv") if row["code"] == "00"]
-    with (tmp_path / "report" / "provisional.csv").open(encoding="utf-8") as file:
-        (now,) = [Fraction(row[2]) for row in csv.reader(file) if row[0] == "00"]
-    assert report["imputed"] == "i" and len(places) > 12
-    effects = {}
-    for collector, slot in places:
-        table = without(cpi, path, month, f"{collector}/{slot}")
-        effects[f"{collector}/{slot}"] = abs(now - Fraction(dict(surveys.levels_of(table))["00"]))
-    greatest = max(effects, key=lambda place: effects[place])
-    assert told["slot"] == greatest
-    assert abs(Fraction(told["moves all items"])) == round(effects[greatest], 4)
+        places = [f"{collector}/{slot}" for collector, slot in link.execute(text)]
+    now = Fraction(dict(surveys.levels_of((out / "provisional.csv").read_text()))["00"])
+    effects = {at: now - Fraction(dict(surveys.levels_of(without(cpi, path, month, at)))["00"]) for at in places}
+    greatest = sorted(effects, key=lambda at: -abs(effects[at]))[:6]
+    assert len(places) > 12 and [*told] == greatest
+    assert told == {at: round(effects[at], 4) for at in greatest}
+
+
+def test_dutot_of_the_year_is_the_index(reported: Reported) -> None:
+    """Beside the geometric mean stands the ratio of sums that the program published: the index within the year."""
+    _, _, report = reported
+    indices = dict(surveys.levels_of((report / "provisional.csv").read_text(encoding="utf-8")))
+    rows = rows_of(report / "homogeneity.csv")
+    assert len(rows) >= 5
+    for row in rows:
+        index = Fraction(indices[row["aggregate"]]) - 100
+        assert abs(Fraction(row["Dutot, year"]) - index) <= Fraction(51, 10_000), row["aggregate"]
+        assert abs(Fraction(row["gap, year"]) - Fraction(row["Dutot, year"]) + Fraction(row["Jevons, year"])) <= 0.02
 
 
 # ---- the small office, by hand
@@ -263,6 +268,7 @@ def test_geometric_means_are_those_of_logarithms() -> None:
 
 def test_who_is_silent_missing_for_long_and_gone(cpi: Cpi, small: Path, tmp_path: Path) -> None:
     sent = [
+        record(3600, key_of(7), "quote", 1, "2026-02", "missing", "closed"),
         record(3600, key_of(7), "quote", 2, "2026-02", "missing", "gone"),
         "4000,desk,freeze,2026-02,01.1.1.2-01",
         "0,desk,calendar,2026-03,4000,6000,7000",
