@@ -4,6 +4,7 @@ from __future__ import annotations
 
 import contextlib
 import csv
+import functools
 import io
 import math
 import os
@@ -131,30 +132,40 @@ def without(cpi: Cpi, path: Path, month: str, place: str) -> str:
         return table
 
 
-def test_the_greatest_effects_are_among_those_that_are_left_out(cpi: Cpi, tmp_path: Path) -> None:
-    """All quotes of a month are left out one after the other: none moves all items more than the first that is told."""
-    path, month = tmp_path / "office.db", "2026-04"
+def test_the_quotes_that_are_left_out_are_those_of_the_greatest_effects(cpi: Cpi, tmp_path: Path) -> None:
+    """All quotes of a month are left out, each alone: the six that are told are the six that move all items most."""
+    path, month, out = tmp_path / "office.db", "2026-04", tmp_path / "report"
     surveys.long(cpi, path, month)
-    ran = run(cpi, "desk", "month", path, month, "--at", closes(month), "--out", tmp_path / "report", "--left-out", 1)
-    assert ran.status == 0
-    (told,) = rows_of(tmp_path / "report" / "influence.csv")
+    assert run(cpi, "desk", "month", path, month, "--at", closes(month), "--out", out, "--left-out", 6).status == 0
+    told = {row["slot"]: Fraction(row["moves all items"]) for row in rows_of(out / "influence.csv")}
     with asked(path) as link:
         text = "SELECT collector, slot FROM quote_2 WHERE month = 202604 AND mark IN ('price', 'comparable')"
-        places = link.execute(text).fetchall()
-    (report,) = [row for row in rows_of(tmp_path / "report" / "table.csv") if row["code"] == "00"]
-    with (tmp_path / "report" / "provisional.csv").open(encoding="utf-8") as file:
-        (now,) = [Fraction(row[2]) for row in csv.reader(file) if row[0] == "00"]
-    assert report["imputed"] == "i" and len(places) > 12
-    effects = {}
-    for collector, slot in places:
-        table = without(cpi, path, month, f"{collector}/{slot}")
-        effects[f"{collector}/{slot}"] = abs(now - Fraction(dict(surveys.levels_of(table))["00"]))
-    greatest = max(effects, key=lambda place: effects[place])
-    assert told["slot"] == greatest
-    assert abs(Fraction(told["moves all items"])) == round(effects[greatest], 4)
+        places = [f"{collector}/{slot}" for collector, slot in link.execute(text)]
+    now = Fraction(dict(surveys.levels_of((out / "provisional.csv").read_text()))["00"])
+    effects = {at: now - Fraction(dict(surveys.levels_of(without(cpi, path, month, at)))["00"]) for at in places}
+    greatest = sorted(effects, key=lambda at: -abs(effects[at]))[:6]
+    assert len(places) > 12 and [*told] == greatest
+    assert told == {at: round(effects[at], 4) for at in greatest}
+
+
+def test_dutot_of_the_year_is_the_index(reported: Reported) -> None:
+    """Beside the geometric mean stands the ratio of sums that the program published: the index within the year."""
+    _, _, report = reported
+    indices = dict(surveys.levels_of((report / "provisional.csv").read_text(encoding="utf-8")))
+    rows = rows_of(report / "homogeneity.csv")
+    assert len(rows) >= 5
+    for row in rows:
+        index = Fraction(indices[row["aggregate"]]) - 100
+        assert abs(Fraction(row["Dutot, year"]) - index) <= Fraction(51, 10_000), row["aggregate"]
+        assert abs(Fraction(row["gap, year"]) - Fraction(row["Dutot, year"]) + Fraction(row["Jevons, year"])) <= 0.02
 
 
 # ---- the small office, by hand
+
+
+def cells_of(out: Path, name: str) -> list[tuple[str, ...]]:
+    """The cells of a section, row by row."""
+    return [tuple(row.values()) for row in rows_of(out / f"{name}.csv")]
 
 
 def test_the_small_office_by_hand(cpi: Cpi, small: Path, tmp_path: Path) -> None:
@@ -171,10 +182,7 @@ def test_the_small_office_by_hand(cpi: Cpi, small: Path, tmp_path: Path) -> None
     assert "As things stand, all items would be at 105.7: 1.5 percent on the month before." in ran.out
     assert "Food and drink (+1.456)" in ran.out
     assert (out.stat().st_mode & 0o777, (out / "month.html").is_file()) == (0o700, True)
-
-    def cells(name: str) -> list[tuple[str, ...]]:
-        return [tuple(row.values()) for row in rows_of(out / f"{name}.csv")]
-
+    cells = functools.partial(cells_of, out)
     assert cells("collectors") == [
         ("7", "2", "0", "0.0", "0", "0", "2", "0"),
         ("8", "1", "1", "100.0", "0", "0", "0", "0"),
@@ -196,10 +204,9 @@ def test_the_small_office_by_hand(cpi: Cpi, small: Path, tmp_path: Path) -> None
         ("01.1.1.1-01", "Rice, packed", "600000", "2", "1", "1"),
         ("01.1.1.2-01", "Flour, wheat", "400000", "1", "0", "0"),
     ]
-    ratios = (2_151_220 / 2_000_000, 2_520_000 / 2_400_000)
-    jevons = 100 * (math.sqrt(ratios[0] * ratios[1]) - 1)
-    month = ("2.44", "2.44", "0.00")
+    jevons = 100 * (math.sqrt((2_151_220 / 2_000_000) * (2_520_000 / 2_400_000)) - 1)
     year = ("6.16", f"{jevons:.2f}", f"{100 * (4_671_220 / 4_400_000 - 1) - jevons:.2f}")
+    month = ("2.44", "2.44", "0.00")
     assert cells("homogeneity")[0] == ("01.1.1.1-01", "Rice, packed", "2", "1", "1.2", *month, *year)
 
 
@@ -261,6 +268,7 @@ def test_geometric_means_are_those_of_logarithms() -> None:
 
 def test_who_is_silent_missing_for_long_and_gone(cpi: Cpi, small: Path, tmp_path: Path) -> None:
     sent = [
+        record(3600, key_of(7), "quote", 1, "2026-02", "missing", "closed"),
         record(3600, key_of(7), "quote", 2, "2026-02", "missing", "gone"),
         "4000,desk,freeze,2026-02,01.1.1.2-01",
         "0,desk,calendar,2026-03,4000,6000,7000",

@@ -135,6 +135,22 @@ def test_what_the_months_have(whole: Whole) -> None:
         assert re.search(line, told), line
 
 
+def test_the_greatest_contributions_come_first(whole: Whole) -> None:
+    """Worked from the stored rows: weight in use times the index's change, over those of all items."""
+    falls = 0
+    for month, before in (("2026-03", "2026-02"), ("2026-12", "2026-11"), ("2027-02", "2027-01")):
+        now, then = stored(whole[0], month, 1), stored(whole[0], before, 1)
+        top = Fraction(10**8, now["00"][4] * then["00"][0])
+        wanted = {code: top * now[code][4] * (now[code][0] - then[code][0]) for code in now if len(code) == 11}
+        told = run(None, "explain", whole[0], month, "00").out
+        found = re.findall(r"contribution of (\S+) = .* = (-?\d+)    # ", told)
+        greatest = sorted(wanted, key=lambda code: -abs(wanted[code]))[:5]
+        assert [code for code, _ in found] == greatest
+        assert all(abs(Fraction(value) - wanted[code]) <= Fraction(1, 2) for code, value in found)
+        falls += sum(value.startswith("-") for _, value in found)
+    assert falls > 0
+
+
 CODES = [code for code in surveys.AGGREGATES if code not in ("11.1.1.1-01", "12.1.1.1-01")]
 
 

@@ -25,6 +25,7 @@ Pairs = Sequence[tuple[int, int]]
 
 
 def small(facts: Facts, least: int) -> Section:
+    """The aggregates with fewer priced series or outlets than `least`."""
     rows: list[list[Cell]] = []
     for code, sample in facts.samples.items():
         priced = [it for it in sample if facts.carried[it].observed]
@@ -56,6 +57,7 @@ def imputed_percent(facts: Facts, codes: Iterable[str]) -> str:
 
 
 def imputed(facts: Facts) -> Section:
+    """Imputed prices by division, by count and by weight."""
     rows: list[list[Cell]] = []
     for division in sorted({code[:2] for code in facts.samples}):
         codes = [code for code in facts.samples if code[:2] == division]
@@ -70,6 +72,7 @@ def imputed(facts: Facts) -> Section:
 
 
 def carry(facts: Facts, codes: Iterable[str]) -> Section:
+    """The aggregates of a carry list, with what was found in them in this month and in the one before."""
     rows: list[list[Cell]] = []
     for code in codes:
         sample = facts.samples.get(code, [])
@@ -82,6 +85,7 @@ def carry(facts: Facts, codes: Iterable[str]) -> Section:
 
 
 def carry_series(facts: Facts, codes: Iterable[str]) -> Section:
+    """Each series of the aggregates of a carry list."""
     rows: list[list[Cell]] = []
     for code in codes:
         for series in facts.samples.get(code, []):
@@ -113,6 +117,7 @@ ONE, ONE_DIGITS = 10**8, 8
 
 
 def homogeneity(facts: Facts) -> Section:
+    """Dutot beside Jevons for each aggregate, the widest gap of the year first."""
     found = [(code, sample, *pairs_of(facts, code, sample)) for code, sample in facts.samples.items()]
     rows: list[list[Cell]] = []
     for code, sample, month, year in sorted(found, key=lambda it: -abs(gap(it[3]) or 0)):

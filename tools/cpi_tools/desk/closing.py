@@ -86,8 +86,8 @@ def named_of(facts: Facts, code: str) -> Named:
 def decided(closed: Closed, at: int, allowed: Optional[Sequence[str]], ask: Optional[Answer]) -> list[Decision]:
     """What is decided on each aggregate that was named.
 
-    `allowed` are the codes that may be carried, None all of them; `ask` is asked for each, None nobody. Raises NotClosed
-    where one may not be carried, or the window is open at the moment `at`.
+    `allowed` are the codes that may be carried, None all of them; `ask` is asked for each, None nobody. Raises
+    NotClosed where one may not be carried, or the window is open at the moment `at`.
     """
     others = [it.code for it in closed.named if allowed is not None and it.code not in allowed]
     if others:

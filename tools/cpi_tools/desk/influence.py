@@ -150,6 +150,7 @@ def left_of(facts: Facts, each: Round, without: Mapping[str, Row]) -> Iterator[L
 
 
 def influence(facts: Facts, left: Sequence[Left]) -> Section:
+    """The quotes that were left out, and what they move."""
     rows: list[list[Cell]] = []
     for it in left:
         price = [facts.last.get(facts.holder[it.series][:2]), facts.frozen[it.series].value]

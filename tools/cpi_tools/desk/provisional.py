@@ -42,6 +42,7 @@ def row_of(facts: Facts, code: str) -> Optional[list[Cell]]:
 
 
 def table(facts: Facts) -> Section:
+    """The whole table, and what left the plan within a year."""
     found = (row_of(facts, code) for code in (facts.tables.titles if facts.tables else ()))
     note = "What a node adds is in percentage points of the change of all items. Its bytes are provisional.csv."
     rows = [row for row in found if row]

@@ -94,12 +94,14 @@ def most_silent(rows: list[list[Cell]]) -> list[list[Cell]]:
 
 
 def by_collector(facts: Facts) -> Section:
+    """The response by collector."""
     rows: list[list[Cell]] = [[number, *it.cells()] for number, it in counts(facts, lambda it: it.collector).items()]
     heads = columns("#collector", *RESPONSE)
     return Section("collectors", "Response by collector", "Most silent slots first.", heads, most_silent(rows))
 
 
 def by_outlet(facts: Facts) -> Section:
+    """The response by outlet."""
     found = counts(facts, lambda it: it.outlet)
     rows: list[list[Cell]] = [[number, facts.outlets[number], *it.cells()] for number, it in found.items()]
     heads = columns("#outlet", "name", *RESPONSE)
@@ -108,6 +110,7 @@ def by_outlet(facts: Facts) -> Section:
 
 
 def by_division(facts: Facts) -> Section:
+    """The response by division, by weight too."""
     found = counts(facts, lambda it: facts.code(it.item)[:2])
     codes = {facts.code(it.item) for it in facts.slots} - {NO_PLACE}
     rows: list[list[Cell]] = [
@@ -123,6 +126,7 @@ def by_division(facts: Facts) -> Section:
 
 
 def by_reason(facts: Facts) -> Section:
+    """What was sent as missing, by division and reason."""
     found = counts(facts, lambda it: facts.code(it.item)[:2])
     rows: list[list[Cell]] = [
         [code, facts.title(code), *(it.marks[reason] for reason in REASONS), it.missing]
@@ -137,6 +141,7 @@ PLACE = ("slot", "=aggregate", "item", "outlet")
 
 
 def silent(facts: Facts) -> Section:
+    """The slots for which nothing was sent."""
     rows: list[list[Cell]] = [
         [*facts.place_cells(it), facts.last.get(it[:2])] for it in facts.slots if facts.quote(it) is None
     ]
@@ -179,6 +184,7 @@ def gone_slots(facts: Facts) -> Iterator[tuple[Assignment, int]]:
 
 
 def replacements(facts: Facts) -> Section:
+    """The prices of replacements."""
     rows: list[list[Cell]] = []
     for it in facts.slots:
         quote = facts.quote(it)

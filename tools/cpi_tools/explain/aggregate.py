@@ -47,6 +47,7 @@ def about(sources: Sources, series: Series) -> str:
 
 
 def base_line(sources: Sources, series: Series) -> Line:
+    """The base of a series."""
     link, name, ticks = link_month(sources.month), f"base of {slot_text(series)}", sources.base(series)[0]
     if sources.link.is_observed(series):
         quote = sources.link.frozen[series]
@@ -57,6 +58,7 @@ def base_line(sources: Sources, series: Series) -> Line:
 
 
 def quote_line(sources: Sources, series: Series) -> Line:
+    """What was found of a series in the month."""
     quote, name = sources.own.frozen.get(series), f"price of {slot_text(series)}"
     if quote is None:
         holder = sources.holder(series, sources.month)
@@ -68,6 +70,7 @@ def quote_line(sources: Sources, series: Series) -> Line:
 
 
 def then_line(sources: Sources, series: Series) -> Line:
+    """What a series counted as in the month before."""
     ticks, (over, under) = sources.then(series)
     source = "its base" if sources.is_january else f"carried in {month_text(month_before(sources.month))}"
     was = "observed" if sources.before.is_observed(series) else "not observed"
@@ -128,6 +131,7 @@ def unmatched_lines(sources: Sources, code: str, sample: Sequence[Series]) -> li
 
 
 def index_lines(sources: Sources, code: str, sample: Sequence[Series]) -> list[Line]:
+    """The index of an aggregate, of its sums."""
     now, bases = [sources.own.carried[it].ticks for it in sample], [sources.base(it)[0] for it in sample]
     expression = f"round({HUNDRED} * {sum(now)} / {sum(bases)})"
     says, row = "within the year; the link month is 100", sources.row("level_2", code)

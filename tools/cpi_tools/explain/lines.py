@@ -9,7 +9,7 @@ from __future__ import annotations
 from collections.abc import Iterable, Iterator
 from fractions import Fraction
 from functools import cached_property
-from typing import NamedTuple, Optional, Union
+from typing import NamedTuple, Union
 
 from ..sections import Section
 from .expressions import value_of

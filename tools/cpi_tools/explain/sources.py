@@ -49,14 +49,17 @@ class Month:
 
     @cached_property
     def carried(self) -> dict[Series, Carried]:
+        """What each series counts as, in order."""
         return dict(sorted(self._office.carried(self.release).items()))
 
     @cached_property
     def frozen(self) -> dict[Series, Frozen]:
+        """The quotes that it was frozen with."""
         return self._office.frozen(self.release)
 
     @cached_property
     def levels(self) -> dict[str, Level]:
+        """The rows of its table, by code in order."""
         return dict(sorted(self._office.levels(self.release).items()))
 
     def is_observed(self, series: Series) -> bool:
@@ -95,6 +98,7 @@ class Sources:
 
     @property
     def is_january(self) -> bool:
+        """Whether the month is the first of its year."""
         return self.month % 100 == 1
 
     def latest(self, month: int) -> Optional[Month]:
