@@ -113,6 +113,10 @@ class Plan(NamedTuple):
     places: dict[str, str]
     reference: Optional[int]
 
+    def aggregates(self) -> dict[str, int]:
+        """The weights of the elementary aggregates, whose codes are like `01.1.1.1-01`."""
+        return {code: weight for code, weight in self.weights.items() if "-" in code}
+
 
 class Quote(NamedTuple):
     """What was found: a mark and the price in minor units, or the reason why there is none and 0."""
