@@ -20,7 +20,7 @@ import pytest
 
 import surveys
 from cpi_tools.__main__ import main
-from cpi_tools.desk import aggregates, unusual
+from cpi_tools.desk import aggregates, influence, unusual
 from cpi_tools.program import Cpi, record
 from conftest import ROOT
 from loads import free_port, served
@@ -146,6 +146,20 @@ def test_the_quotes_that_are_left_out_are_those_of_the_greatest_effects(cpi: Cpi
     greatest = sorted(effects, key=lambda at: -abs(effects[at]))[:6]
     assert len(places) > 12 and [*told] == greatest
     assert told == {at: round(effects[at], 4) for at in greatest}
+
+
+def test_a_month_with_few_revisions_left_takes_more_copies(
+    cpi: Cpi, tmp_path: Path, monkeypatch: pytest.MonkeyPatch
+) -> None:
+    """Where a copy takes one freeze alone, each round of quotes has a copy of its own, and says the same."""
+    path, month = tmp_path / "office.db", "2026-04"
+    surveys.long(cpi, path, month)
+    words = ("desk", "month", path, month, "--at", closes(month), "--left-out", 9, "--out")
+    assert run(cpi, *words, tmp_path / "many").status == 0
+    monkeypatch.setattr(influence, "MOST_REVISIONS", 1)
+    assert run(cpi, *words, tmp_path / "one").status == 0
+    told, again = ((tmp_path / name / "influence.csv").read_bytes() for name in ("many", "one"))
+    assert told == again and told.count(b"\n") == 10
 
 
 def test_dutot_of_the_year_is_the_index(reported: Reported) -> None:

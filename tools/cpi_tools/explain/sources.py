@@ -5,7 +5,6 @@ from __future__ import annotations
 from functools import cached_property
 from typing import NamedTuple, Optional
 
-from ..exact import depth_of
 from ..stored import (
     COMPARABLE,
     OBSERVED,
@@ -132,7 +131,7 @@ class Sources:
     @cached_property
     def aggregates(self) -> list[str]:
         """The elementary aggregates of the year."""
-        return [code for code in self.plan.weights if depth_of(code) == AGGREGATE]
+        return [*self.plan.aggregates()]
 
     @cached_property
     def samples(self) -> dict[str, list[Series]]:
