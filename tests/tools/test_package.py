@@ -17,7 +17,7 @@ from cpi_tools.program import Cpi
 from conftest import ROOT
 from test_ops import needed
 
-INPUTS = ["tools", "docs", "ops", "examples", "dist", "README.md", "LICENSE", "CHANGELOG.md"]
+INPUTS = ["tools", "docs", "ops", "web", "examples", "dist", "README.md", "LICENSE", "CHANGELOG.md"]
 """All that a package is made of."""
 
 
@@ -127,9 +127,15 @@ def test_each_file_of_ops_has_its_place(members: dict[str, tarfile.TarInfo]) -> 
     assert places == {
         "cpi.service": units, "cpi-backup.service": units, "cpi-backup.timer": units, "cpi-serve": programs,
         "cpi-backup": programs, "nginx.conf": others, "Caddyfile": others, "logrotate-cpi": others,
-        "office.conf": {"etc/cpi"},
+        "try": others, "office.conf": {"etc/cpi"},
     }  # fmt: skip
     assert "usr/lib/sysusers.d/cpi.conf" in members
+
+
+def test_the_pages_are_there_as_they_stand(members: dict[str, tarfile.TarInfo]) -> None:
+    wanted = {str(path.relative_to(ROOT)) for path in (ROOT / "web").rglob("*") if path.is_file()}
+    found = {name.removeprefix("usr/share/cpi/") for name in members if name.startswith("usr/share/cpi/web/")}
+    assert {name for name in found if not members[f"usr/share/cpi/{name}"].isdir()} == wanted
 
 
 def test_nothing_is_started_by_it(package: Path, members: dict[str, tarfile.TarInfo], tmp_path: Path) -> None:
