@@ -57,10 +57,10 @@ def test_a_key_that_the_front_denies_is_told_and_what_waits_stays(phone: Phone, 
     stage.front.stop()
     phone.enter(1, "3.10")
     phone.browser.wait_text("#line", "No line: 1 entry kept on this phone")
-    denied = f'"~*^cpi-key +{ANNA} *$" 1;'
+    denied = f'"~*{ANNA}" 1;'
     stage.front.start(lambda text: text.replace("default 0;\n", f"default 0;\n{denied}\n", 1))
-    assert stage.ask("GET", f"/api/work/{NOW}", ANNA).status == 401
-    assert stage.ask("GET", f"/api/work/{NOW}", ANNA, Authorization=f"cpi-key  {ANNA}").status == 401
+    for field in (f"CPI-Key {ANNA}", f"cpi-key  {ANNA}", f"\tCPI-Key {ANNA}", f"CPI-Key {ANNA}\t"):
+        assert stage.ask("GET", f"/api/work/{NOW}", Authorization=field).status == 401, field
     assert stage.ask("GET", f"/api/work/{NOW}", BENO).status == 200
     phone.send()
     phone.browser.wait_text("#notice", "Nobody bears this key")
