@@ -212,6 +212,15 @@ def test_slow_peers_hold_nobody_up(stage: Stage) -> None:
     assert stage.relay.rows("x") == 0
 
 
+def test_peers_whose_messages_are_not_whole_take_no_place_in_the_queue(stage: Stage) -> None:
+    """More of them than may wait for the office: a whole message goes past all of them."""
+    with contextlib.ExitStack() as peers:
+        for number in range(120):
+            peers.enter_context(Peer(stage, number)).send(Peer.put(ANNA, 60_000) + "x" * 9000)
+        time.sleep(0.3)
+        assert asked(stage, f"/api/work/{NOW}", BENO, 130) == 200
+
+
 def test_peers_that_are_gone_shake_nothing(stage: Stage) -> None:
     """Peers that ask and are gone with a reset, without reading: the office's replies are taken all the same."""
     for number in range(10):

@@ -62,12 +62,12 @@ def faults(found: list[Seen], moment: int, is_there: Callable[[str], bool]) -> l
 
 
 def test_each_revision_is_there_at_its_moment_and_not_before(stage: Stage) -> None:
-    first = int(time.time()) + 3
+    first = int(time.time()) + 2
     paths = ["/api/tables", "/api/table/2011-03/text"]
     paths += [f"/api/table/2011-03/text/{revision}" for revision in range(1, REVISIONS + 1)]
     found: dict[str, list[Seen]] = {path: [] for path in paths}
     frozen(stage, first)
-    until = first + REVISIONS - 1 + WITHIN + 1.5
+    until = first + REVISIONS - 1 + WITHIN + 0.5
     threads = [
         threading.Thread(target=watch, args=(stage, number, path, until, found[path]))
         for number, path in enumerate(paths)

@@ -4,6 +4,7 @@ from __future__ import annotations
 
 import json
 import signal
+import time
 from collections.abc import Iterator
 from pathlib import Path
 from typing import Any
@@ -56,10 +57,10 @@ def test_a_key_that_the_front_denies_is_told_and_what_waits_stays(phone: Phone, 
     stage.front.stop()
     phone.enter(1, "3.10")
     phone.browser.wait_text("#line", "No line: 1 entry kept on this phone")
-    denied = f'"~*^cpi-key +{ANNA} *$" 1;'
+    denied = f'"~*{ANNA}" 1;'
     stage.front.start(lambda text: text.replace("default 0;\n", f"default 0;\n{denied}\n", 1))
-    assert stage.ask("GET", f"/api/work/{NOW}", ANNA).status == 401
-    assert stage.ask("GET", f"/api/work/{NOW}", ANNA, Authorization=f"cpi-key  {ANNA}").status == 401
+    for field in (f"CPI-Key {ANNA}", f"cpi-key  {ANNA}", f"\tCPI-Key {ANNA}", f"CPI-Key {ANNA}\t"):
+        assert stage.ask("GET", f"/api/work/{NOW}", Authorization=field).status == 401, field
     assert stage.ask("GET", f"/api/work/{NOW}", BENO).status == 200
     phone.send()
     phone.browser.wait_text("#notice", "Nobody bears this key")
@@ -252,10 +253,9 @@ def test_the_month_that_is_shown_is_asked_for_however_fast_one_turns(phone: Phon
     phone.sign_in()
     stage.ask("PUT", f"/api/quote/1/{NOW}", ANNA, "price,322")
     with stage.standing_still():
-        phone.browser.click("#month-before")
-        phone.browser.click("#month-before")
+        # (the first of these is asked for, and the answer comes when the last is shown)
         phone.browser.click("#month-after")
-        phone.browser.click("#month-after")
+        phone.browser.click("#month-before")
         phone.browser.click("#month-before")
     phone.show("all")
     phone.wait_told(1, "Receipt 7")
@@ -371,10 +371,16 @@ def test_two_tabs_of_one_phone_send_an_entry_once(phone: Phone, stage: Stage) ->
     phone.browser.driver.switch_to.new_window("tab")
     phone.open()
     phone.browser.wait_text("#line", "No line: 1 entry")
+    stage.relay.held.set()
     stage.front.start()
     for tab in reversed(phone.browser.driver.window_handles):
         phone.browser.driver.switch_to.window(tab)
         phone.browser.run("window.dispatchEvent(new Event('online'))")
+        phone.browser.wait(lambda: stage.relay.rows("quote,1,") == 1, "the entry is under way")
+        time.sleep(0.5)
+    stage.relay.held.clear()
+    for tab in phone.browser.driver.window_handles:
+        phone.browser.driver.switch_to.window(tab)
         phone.browser.wait_text("#line", "All sent")
     assert stage.quotes(ANNA) == [[1, NOW, "price", 310, NEXT]]
     assert stage.relay.rows("quote,1,") == 1
