@@ -59,6 +59,17 @@ class Phone:
             self.browser.type("#price", price)
         self.browser.click("#entry-save")
 
+    def enter_fast(self, slot: int, price: str) -> None:
+        """The same of a price, by the page's own events in place of a driver's clicks, which take their time."""
+        self.browser.run(
+            "document.querySelector(`[data-slot='${arguments[0]}']`).click();"
+            "document.getElementById('price').value = arguments[1];"
+            "document.getElementById('entry-form').requestSubmit();",
+            slot,
+            price,
+        )
+        self.wait_told(slot, "To be sent")
+
     def confirm(self) -> None:
         self.browser.click("#entry-confirm")
 

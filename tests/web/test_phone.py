@@ -316,9 +316,16 @@ def test_a_reply_that_is_lost_is_asked_again_and_has_its_receipt(phone: Phone, s
     assert next_receipt(stage) == NEXT + 1
 
 
-def test_the_front_dies_after_the_office_stored_a_day_and_more_is_entered(phone: Phone, stage: Stage) -> None:
-    """What the office has in the end is what the screen shows, each with its one receipt."""
-    phone.sign_in()
+def test_a_day_whose_line_breaks_within_an_import(phone: Phone, stage: Stage) -> None:
+    """The front is killed after the office stored and before its reply; twenty more are entered; then the line is back.
+
+    What the office has in the end is what the screen shows, each with its one receipt.
+    """
+    slots = range(1, 23)
+    rows = [f"collector,9,{NOBODY}", *(f"assign,9,{slot},12,MILK,2010-12,2199-12" for slot in slots)]
+    assert stage.ask("POST", "/api/import", DESK, "\n".join(rows)).reply == {"rows": [{"done": True}] * len(rows)}
+    phone.sign_in(NOBODY)
+    phone.show("all")
     stage.relay.lose = 1
     stage.relay.paused.set()
     phone.enter(1, "3.21")
@@ -326,16 +333,21 @@ def test_the_front_dies_after_the_office_stored_a_day_and_more_is_entered(phone:
     stage.front.stop(signal.SIGKILL)
     stage.relay.paused.clear()
     phone.browser.wait_text("#line", "No line: 1 entry")
-    phone.enter(2, "4.70")
-    phone.enter(4, "1.10")
-    phone.browser.wait_text("#line", "No line: 3 entries")
+    phone.enter(2, mark="missing", reason="stock")
+    for slot in slots[2:]:
+        phone.enter_fast(slot, f"{slot}.50")
+    phone.browser.wait_text("#line", f"No line: {len(slots)} entries")
     stage.front.start()
-    phone.show("all")
     phone.send()
-    for slot, receipt in ((1, 10), (2, 11), (4, 12)):
-        phone.wait_told(slot, f"Receipt {receipt}")
-    assert stage.quotes(ANNA) == [[1, NOW, "price", 321, 10], [2, NOW, "price", 470, 11], [4, NOW, "price", 110, 12]]
-    assert next_receipt(stage) == 13
+    phone.browser.wait_text("#line", "All sent")
+    wanted = [["price", 321], ["missing", "stock"], *(["price", 100 * slot + 50] for slot in slots[2:])]
+    found = stage.quotes(NOBODY)
+    assert [row[2:4] for row in found] == wanted
+    assert sorted(row[4] for row in found) == [*slots]
+    for slot, _, _, _, receipt in found:
+        assert f"Receipt {receipt}" in phone.told(slot).split("\n")
+    assert (stage.relay.rows("quote,1,"), stage.relay.rows("quote,2,")) == (2, 1)
+    assert stage.ask("PUT", f"/api/quote/1/{NOW}", NOBODY, "price,322").reply == {"receipt": len(slots) + 1}
 
 
 def test_the_office_dies_and_comes_back(phone: Phone, stage: Stage) -> None:
