@@ -24,6 +24,7 @@ import openpyxl
 import pytest
 
 from cpi_tools.__main__ import main
+from cpi_tools.folders import NotPlaced
 from cpi_tools.pack.config import BadConfig, Config, read_config
 from cpi_tools.pack.manifest import manifest_text, previous_of, read_manifest
 from cpi_tools.pack.public import Listed, Published, from_file
@@ -371,7 +372,7 @@ def test_a_published_table_does_not_change_silently(published: list[Published], 
 def test_a_folder_that_is_no_pack_is_left_alone(published: list[Published], tmp_path: Path) -> None:
     (tmp_path / "mine").mkdir()
     (tmp_path / "mine/letter").write_text("")
-    with pytest.raises(CannotPublish, match="is there already, and is no pack"):
+    with pytest.raises(NotPlaced, match="is there already, and isn't a folder that this tool wrote"):
         publish(published[:2], CONFIG, tmp_path / "mine", None, quiet)
     assert [it.name for it in (tmp_path / "mine").iterdir()] == ["letter"]
 

@@ -1,4 +1,4 @@
-"""A folder of files that is written whole or not at all, and can be read by its owner alone."""
+"""A folder of files that is written whole or not at all."""
 
 from __future__ import annotations
 
@@ -15,11 +15,11 @@ class NotPlaced(Fault):
 
 
 @contextlib.contextmanager
-def written_folder(out: Path, known_by: str) -> Iterator[Path]:
+def written_folder(out: Path, known_by: str, is_private: bool = True) -> Iterator[Path]:
     """A new folder, which takes the place of `out` at the end; after a fault nothing is left of it.
 
     A folder that stands at `out` is replaced as a whole where it has the file `known_by`, so that nothing else is lost.
-    Raises NotPlaced.
+    A private one can be read by its owner alone. Raises NotPlaced.
     """
     if out.exists() and not (out / known_by).is_file():
         raise NotPlaced(f"{out} is there already, and isn't a folder that this tool wrote: it has no {known_by}")
@@ -27,7 +27,7 @@ def written_folder(out: Path, known_by: str) -> Iterator[Path]:
         out.parent.mkdir(parents=True, exist_ok=True)
         with tempfile.TemporaryDirectory(prefix=f".{out.name}-", dir=out.parent) as beside:
             new = Path(beside) / "new"
-            new.mkdir(mode=0o700)
+            new.mkdir(mode=0o700 if is_private else 0o777)
             yield new
             _put(new, out, Path(beside) / "old")
     except OSError as fault:

@@ -7,13 +7,13 @@ embargo. Nothing depends on the clock: the same published tables give the same b
 from __future__ import annotations
 
 import argparse
-import contextlib
 import tempfile
 import time
 from collections.abc import Callable
 from pathlib import Path
 from typing import NamedTuple, Optional
 
+from .folders import written_folder
 from .pack.config import Config, read_config
 from .pack.manifest import (
     MANIFEST,
@@ -98,50 +98,20 @@ def publish(
     more.
     """
     series = Series(published)
-    _look_at(out)
-    standing = read_manifest(out / MANIFEST) if out.exists() else None
-    last = read_manifest(before) if before else standing
-    for manifest in (standing, last):
-        if manifest is not None:
-            _refuse_changes(manifest, series)
-    try:
-        out.parent.mkdir(parents=True, exist_ok=True)
-        with tempfile.TemporaryDirectory(prefix=".cpi-pack-", dir=out.parent) as folder:
-            new = Path(folder) / "pack"
-            new.mkdir()
-            write_pack(Pack(series, config, previous_of(last, series)), new, now)
-            if is_draft:
-                new.chmod(0o700)
-            _put(new, out, Path(folder) / "old")
-    except OSError as fault:
-        raise CannotPublish(because_of(fault)) from fault
+    with written_folder(out, MANIFEST, is_private=is_draft) as new:
+        standing = read_manifest(out / MANIFEST) if out.exists() else None
+        last = read_manifest(before) if before else standing
+        for manifest in (standing, last):
+            if manifest is not None:
+                _refuse_changes(manifest, series)
+        write_pack(Pack(series, config, previous_of(last, series)), new, now)
     return series
-
-
-def _look_at(out: Path) -> None:
-    """Tells before any work what stands in the way."""
-    if out.exists() and not (out / MANIFEST).is_file():
-        raise CannotPublish(f"{out} is there already, and is no pack")
 
 
 def _refuse_changes(before: Manifest, series: Series) -> None:
     changed = next(changed_since(before, series), None)
     if changed:
         raise CannotPublish(changed)
-
-
-def _put(new: Path, out: Path, old: Path) -> None:
-    """Puts a pack in its place; what stood there is put aside first, and comes back where that fails."""
-    if not out.exists():
-        new.rename(out)
-        return
-    out.rename(old)
-    try:
-        new.rename(out)
-    except BaseException:
-        with contextlib.suppress(OSError):
-            old.rename(out)
-        raise
 
 
 def check(published: list[Published], config: Config, out: Path, before: Optional[Path], now: Now) -> list[str]:
