@@ -6,4 +6,4 @@ mod sql_book;
 
 pub use cpi_store::OpenFault;
 pub use examples::worked_rows;
-pub use sql_book::SqlBook;
+pub use sql_book::{SqlBook, Unopened};

@@ -97,26 +97,50 @@ impl<S: Alter> Model for SqlBook<S> {
     }) };
 }
 
+/// A database that couldn't be opened as an office, and its connection.
+#[derive(Drop)]
+pub struct Unopened<S: Alter> {
+    /// Why.
+    pub fault: OpenFault,
+    /// The connection, which shows what it showed.
+    pub conn: Connection<S>,
+}
+
 impl<S: Alter + Drop> SqlBook<S> {
-    ghost use Rattle.std.specs.Prelude.{◌≡◌, false, IfOk};
+    ghost use Rattle.std.specs.Prelude.{◌≡◌, false, IfErr, IfOk};
     ghost use Rattle.sqlite.specs.Held.{state};
-    ghost use Rattle.cpi_sql_rows.specs.Shelf.{IsCleanBook};
+    ghost use Rattle.cpi_sql_rows.specs.Shelf.{IsCleanBook, IsKept};
     ghost use Rattle.sqlite.specs.State.{Survives};
-    ghost use Rattle.cpi_sql_rows.specs.Finding.{IsOpened, MayBeMade};
+    ghost use Rattle.cpi_sql_rows.specs.Finding.{AreWhole, IsOpened, IsSettled, MayBeMade};
+    ghost use Rattle.cpi_sql_rows.specs.Numbered.{ShowsOther};
+    ghost use Rattle.cpi_store.specs.declared.open_fault.OpenFault.TheVariants.{UnknownSchema};
 
     /// The office in the database. Where it has no table, the tables are made, all or none; else they are to be those
     /// of the office with the row 2 in `version`, and no row changes, or those of schema 1 with the row 1, which are
-    /// migrated, all or none.
-    pub fn new(alloc: Global, conn: Connection<S>) -> Result<SqlBook<S>, OpenFault>
+    /// migrated, all or none. After that a crash leaves what is there. On a fault the database is as it was, and its
+    /// connection is given back; the schema is unknown only where `version` can be read and says another number.
+    pub fn over(alloc: Global, conn: Connection<S>) -> Result<SqlBook<S>, Unopened<S>>
         requires { (state S.Store conn).in_transaction ≡ false }
         ensures opened { IfOk result (λ b.
             IsCleanBook (state S.Store b.held) → IsOpened (state S.Store conn) (state S.Store b.held)) }
+        ensures settled { IfOk result (λ b. IsCleanBook (state S.Store b.held) → IsSettled (state S.Store b.held)) }
         ensures crash { IfOk result (λ b.
             Survives (state S.Store conn) (state S.Store b.held) (MayBeMade (state S.Store conn))) }
+        ensures whole { IfOk result (λ b. IsCleanBook (state S.Store b.held) → AreWhole (state S.Store b.held).now.trees) }
         ensures count { IfOk result (λ b. b.failures ≡ 0) }
+        ensures kept { IfErr result (λ e.
+            IsCleanBook (state S.Store e.conn) → IsKept (state S.Store conn) (state S.Store e.conn)) }
+        ensures settled_fault { IfErr result (λ e.
+            IsCleanBook (state S.Store e.conn) → IsSettled (state S.Store e.conn)) }
+        ensures crash_fault { IfErr result (λ e.
+            Survives (state S.Store conn) (state S.Store e.conn) (MayBeMade (state S.Store conn))) }
+        ensures unknown { IfErr result (λ e.
+            IsCleanBook (state S.Store e.conn) → e.fault ≡ UnknownSchema → ShowsOther S.Store conn) }
     {
         let mut conn = conn;
-        match open_office(&mut conn, alloc) {
+        let found = open_office(&mut conn, alloc);
+        settle(&conn);
+        match found {
             Ok(()) => Ok(SqlBook {
                 conn,
                 bearers: Vec::new(alloc),
@@ -136,7 +160,24 @@ impl<S: Alter + Drop> SqlBook<S> {
                 failed: Failures::none(),
                 alloc,
             }),
-            Err(fault) => Err(fault),
+            Err(fault) => Err(Unopened { fault, conn }),
+        }
+    }
+
+    /// The same, with the connection let go on a fault.
+    pub fn new(alloc: Global, conn: Connection<S>) -> Result<SqlBook<S>, OpenFault>
+        requires { (state S.Store conn).in_transaction ≡ false }
+        ensures opened { IfOk result (λ b.
+            IsCleanBook (state S.Store b.held) → IsOpened (state S.Store conn) (state S.Store b.held)) }
+        ensures settled { IfOk result (λ b. IsCleanBook (state S.Store b.held) → IsSettled (state S.Store b.held)) }
+        ensures crash { IfOk result (λ b.
+            Survives (state S.Store conn) (state S.Store b.held) (MayBeMade (state S.Store conn))) }
+        ensures whole { IfOk result (λ b. IsCleanBook (state S.Store b.held) → AreWhole (state S.Store b.held).now.trees) }
+        ensures count { IfOk result (λ b. b.failures ≡ 0) }
+    {
+        match SqlBook::over(alloc, conn) {
+            Ok(book) => Ok(book),
+            Err(unopened) => Err(unopened.fault),
         }
     }
 
@@ -198,8 +239,15 @@ impl<S: Alter> Groups for SqlBook<S> {
 }
 
 impl<S: Alter> Book for SqlBook<S> {
-    ghost use Rattle.std.specs.Prelude.{◌≡◌, refl};
-    ghost use Rattle.cpi_sql_rows.specs.Shelf.{book_state};
+    ghost use Rattle.std.specs.Prelude.{◌≡◌, OnOk, true, refl};
+    ghost use Rattle.sqlite.specs.Held.{state};
+    ghost use Rattle.cpi_index.specs.Series.{frozen_serial, is_by_series};
+    ghost use Rattle.cpi_release.specs.State.{Reads};
+    ghost use Rattle.cpi_rows.specs.Held.{held_by};
+    ghost use Rattle.cpi_rows.specs.Keyed.{at};
+    ghost use Rattle.cpi_store.specs.Office.{month_rows as rows_of_month};
+    ghost use Rattle.cpi_sql_rows.specs.Lists.{assignment_in};
+    ghost use Rattle.cpi_sql_rows.specs.Shelf.{AllStand, IsCleanBook, MonthStands, SlotStands, book_state};
 
     ghost state = { book_state S.Store };
 
@@ -317,7 +365,13 @@ impl<S: Alter> Book for SqlBook<S> {
         }
     }
 
-    fn given(&mut self, collector: CollectorId, slot: Slot) -> Result<Option<Given>, StoreFault> {
+    fn given(&mut self, collector: CollectorId, slot: Slot) -> Result<Option<Given>, StoreFault>
+        ensures reads { Reads (book_state S.Store self.old) (book_state S.Store self.new) result (λ found.
+            found ≡ at (λ g. g.assignment.slot) slot
+            (held_by collector (book_state S.Store self.old).held.assignments)) }
+        ensures stand { IsCleanBook (state S.Store self.new.held) →
+            OnOk result (SlotStands collector slot (state S.Store self.old.held).now.trees) }
+    {
         match given_to(&mut self.conn, self.alloc, collector, slot) {
             Ok(found) => Ok(found),
             Err(_) => Err(self.failed.counted(StoreFault)),
@@ -336,7 +390,15 @@ impl<S: Alter> Book for SqlBook<S> {
         }
     }
 
-    fn month_rows(&mut self, month: Month) -> Result<Vec<FrozenQuote>, StoreFault> {
+    fn month_rows(&mut self, month: Month) -> Result<Vec<FrozenQuote>, StoreFault>
+        ensures reads { Reads (book_state S.Store self.old) (book_state S.Store self.new) result (λ found.
+            is_by_series frozen_serial (rows_of_month month (book_state S.Store self.old).held) ≡ true →
+            found.items ≡ rows_of_month month (book_state S.Store self.old).held) }
+        ensures assigned { IsCleanBook (state S.Store self.new.held) →
+            OnOk result (AllStand assignment_in ((state S.Store self.old.held).now.trees 22)) }
+        ensures stand { IsCleanBook (state S.Store self.new.held) →
+            OnOk result (MonthStands month (state S.Store self.old.held).now.trees) }
+    {
         match month_rows(&mut self.conn, self.alloc, month) {
             Ok(found) => Ok(found),
             Err(_) => Err(self.failed.counted(StoreFault)),

@@ -1,6 +1,7 @@
 -- The making of the tables.
 use Rattle.std.proofs.Common.{◌≡◌, ℕ, List, [], ◌∷◌, ◌++◌, codes, false, None, Ok, Err, Result, OnOk}
 use Rattle.std.proofs.Common.{arith, refl, sym, ap, subst, ◌∙◌}
+use Rattle.std.specs.Ordering.{nat_cmp}
 use Rattle.sqlite.specs.Command.TheVariants.{CreateTable}
 use Rattle.sqlite.specs.Table.{Table}
 use Rattle.sqlite.specs.Schema.{Schema}
@@ -16,12 +17,15 @@ use Rattle.sqlite.specs.Tree.{Trees}
 use Rattle.cpi_sql_rows.specs.Tables.{version, collector, outlet, item, node, plan_item, calendar, assignment, quote}
 use Rattle.cpi_sql_rows.specs.Tables.{release, frozen, carried, level, assignment_2, quote_2, release_2, frozen_2}
 use Rattle.cpi_sql_rows.specs.Tables.{carried_2, level_2, plan_ref, first_schema}
-use Rattle.cpi_sql_rows.specs.Making.{HoldsNothing, Makes, MakesTables, IsBlank, AreEmpty, no_schema, stage_1}
-use Rattle.cpi_sql_rows.specs.Making.{stage_2, stage_3, stage_4, stage_5, stage_6, stage_7, stage_8, stage_9}
+use Rattle.cpi_sql_rows.specs.Making.{HoldsNothing, Makes, MakesTables, IsBlank, IsNew, AreEmpty, no_schema}
+use Rattle.cpi_sql_rows.specs.Making.{stage_1, stage_2, stage_3, stage_4, stage_5, stage_6, stage_7, stage_8, stage_9}
 use Rattle.cpi_sql_rows.specs.Making.{stage_10, stage_11, stage_12, stage_14, stage_15, stage_16, stage_17, stage_18}
 use Rattle.cpi_sql_rows.specs.Making.{stage_19}
 use Rattle.cpi_sql_rows.specs.Lists.{plans_of, years, releases_in}
-use Rattle.cpi_sql_rows.specs.Shelf.{HasRowids, HasTables, IsKeyed}
+use Rattle.cpi_sql_rows.specs.Lists.{collector_in, outlet_in, item_in, calendar_in}
+use Rattle.cpi_sql_rows.specs.Finding.{AreWhole}
+use Rattle.cpi_sql_rows.specs.Shelf.{HasRowids, HasTables, IsKeyed, IsWhole}
+use Rattle.cpi_sql_rows.proofs.Found.{none_whole}
 use Rattle.cpi_sql_rows.proofs.Writing.{went, same_value}
 
 pub table_made : (schema : Schema) (text : List ℕ) (table : Table) (old new : State) (count : ℕ)
@@ -407,6 +411,14 @@ no_rowids : HasRowids []
 unfolding HasRowids
 no_rowids = (λ r h. absurd h, λ r s h k tie. absurd h)
 
+pub blank_whole : (s : State) → IsBlank s → AreWhole s.now.trees
+blank_whole s b = record {
+  collectors = subst (IsWhole nat_cmp (λ b. b.number) collector_in) (sym b.collectors) (none_whole nat_cmp _ _);
+  outlets = subst (IsWhole nat_cmp (λ u. u.number) outlet_in) (sym b.outlets) (none_whole nat_cmp _ _);
+  items = subst (IsWhole nat_cmp (λ i. i.code) item_in) (sym b.items) (none_whole nat_cmp _ _);
+  calendar = subst (IsWhole nat_cmp (λ r. r.month) calendar_in) (sym b.calendar) (none_whole nat_cmp _ _);
+}
+
 pub blank_tables : (s : State) → IsBlank s → s.in_transaction ≡ false → HasTables s
 unfolding IsKeyed
 blank_tables s b alone = record {
@@ -470,12 +482,13 @@ on_then (Err e) P Q h f = tt
 
 -- what a crash may leave of a making
 pub made_survives : (a b c : State) → Survives a b (λ _. ⊥) → (HasCleanDisk b → a.now.schema ≡ no_schema → IsBlank b)
-    → Survives b c (λ db. db ≡ b.now.trees) → Survives a c (λ db. a.now.schema ≡ no_schema → HoldsNothing db)
+    → Survives b c (λ db. db ≡ b.now.trees) → Survives a c (λ db. a.now.schema ≡ no_schema → IsNew db)
 made_survives a b c one made two =
     survives_then a b c _ _ _ (λ _ db no. absurd no)
     (λ clean db is none. let disk : HasCleanDisk b = omega (arith, two.clean) in
-    subst HoldsNothing (sym is) (blank_office b (made disk none))) one two
+    let blank = made disk none in
+    subst IsNew (sym is) (blank_office b blank, blank.version)) one two
 
 pub unmade_survives : (a b c : State) → Survives a b (λ _. ⊥) → Survives b c (λ _. ⊥)
-    → Survives a c (λ db. a.now.schema ≡ no_schema → HoldsNothing db)
+    → Survives a c (λ db. a.now.schema ≡ no_schema → IsNew db)
 unmade_survives a b c one two = survives_then a b c _ _ _ (λ _ db no. absurd no) (λ _ db no. absurd no) one two

@@ -9,7 +9,8 @@ use Rattle.sqlite.proofs.StateLemmas.{survives_then}
 use Rattle.cpi_sql_rows.specs.Tables.{first_schema, office_schema}
 use Rattle.cpi_sql_rows.specs.Lists.{office_in}
 use Rattle.cpi_sql_rows.specs.FirstSchema.{first_office_in, first_releases_in}
-use Rattle.cpi_sql_rows.specs.Finding.{HaveReleaseRowids, HaveSurveyRowids, IsMigrated, IsMoved, KeepsLists}
+use Rattle.cpi_sql_rows.specs.Finding.{AreCleared, HaveFirstRowids, HaveReleaseRowids, HaveSurveyRowids}
+use Rattle.cpi_sql_rows.specs.Finding.{IsMigrated, IsMoved, KeepsLists}
 use Rattle.cpi_sql_rows.specs.Making.{MakesTables, AreMade, second_tables}
 use Rattle.cpi_sql_rows.specs.Numbered.{IsVersion, version_text}
 use Rattle.cpi_sql_open.specs.Copies.{HasCopied, IsLeft, IsNumbered, IsReady, KeepsBut}
@@ -44,7 +45,8 @@ same_office old new k = rw (
   }),
 ) refl
 
-module _ (a b : State) (m : AreMade first_schema office_schema second_tables a b) where
+module _ (a b : State) (was : IsVersion 1 (a.now.trees 0))
+    (m : AreMade first_schema office_schema second_tables a b) where
   first_releases : first_releases_in b.now.trees ≡ first_releases_in a.now.trees
   unfolding first_releases_in
   first_releases = rw (
@@ -68,9 +70,40 @@ module _ (a b : State) (m : AreMade first_schema office_schema second_tables a b
     first_releases,
   ) refl
 
-  module _ (c d e : State) (copied : HasCopied b c) (cleared : IsLeft cleared_trees c d) (n : IsNumbered d e) where
+  -- the rowids of the old tables are those that were there
+  first_rowids : (c : State) → HasCopied b c → HaveFirstRowids a.now.trees → HaveFirstRowids c.now.trees
+  first_rowids c copied ids = record {
+    survey = record {
+      assignments = subst HasRowids (sym (copied.left.others 11 refl ∙ m.others.1.1.1.1.1.1.1.0))
+          ids.survey.assignments;
+      quotes = subst HasRowids (sym (copied.left.others 13 refl ∙ m.others.1.1.1.1.1.1.1.1.0)) ids.survey.quotes;
+    };
+    releases = record {
+      headers = subst HasRowids (sym (copied.left.others 15 refl ∙ m.others.1.1.1.1.1.1.1.1.1.0))
+          ids.releases.headers;
+      frozen = subst HasRowids (sym (copied.left.others 16 refl ∙ m.others.1.1.1.1.1.1.1.1.1.1.0))
+          ids.releases.frozen;
+      carried = subst HasRowids (sym (copied.left.others 18 refl ∙ m.others.1.1.1.1.1.1.1.1.1.1.1.0))
+          ids.releases.carried;
+      levels = subst HasRowids (sym (copied.left.others 20 refl ∙ m.others.1.1.1.1.1.1.1.1.1.1.1.1.0))
+          ids.releases.levels;
+    };
+  }
+
+  module _ (c d e : State) (copied : HasCopied b c) (cleared : IsLeft cleared_trees c d)
+      (gone : AreCleared d.now.trees) (n : IsNumbered d e) where
     rest : KeepsBut rest_trees c.now.trees e.now.trees
     rest = (left_then cleared_trees (0 ∷ 0 ∷ []) c d e cleared n.left).others
+
+    still_gone : AreCleared e.now.trees
+    still_gone = record {
+      assignments = n.left.others 11 refl ∙ gone.assignments;
+      quotes = n.left.others 13 refl ∙ gone.quotes;
+      headers = n.left.others 15 refl ∙ gone.headers;
+      frozen = n.left.others 16 refl ∙ gone.frozen;
+      carried = n.left.others 18 refl ∙ gone.carried;
+      levels = n.left.others 20 refl ∙ gone.levels;
+    }
 
     office : office_in e.now.trees ≡ first_office_in a.now.trees
     office = same_office c.now.trees e.now.trees rest ∙ copied.office ∙ first_office
@@ -78,7 +111,7 @@ module _ (a b : State) (m : AreMade first_schema office_schema second_tables a b
     moved : IsMoved a e
     moved = record {
       schema = n.left.schema;
-      migrated = record { office = office; version = n.version };
+      migrated = record { was = was; office = office; version = n.version; cleared = still_gone };
       lists = record {
         collectors = rest 1 refl ∙ copied.left.others 1 refl ∙ m.others.1.0;
         outlets = rest 3 refl ∙ copied.left.others 3 refl ∙ m.others.1.1.0;
@@ -101,19 +134,21 @@ module _ (a b : State) (m : AreMade first_schema office_schema second_tables a b
     }
 
 pub all_moved : {A E : Type 0} (r : Result A E) (a b c d e : State) → IsTrue a.in_transaction
-    → a.now.schema ≡ first_schema → IsVersion 1 (a.now.trees 0)
+    → a.now.schema ≡ first_schema → IsVersion 1 (a.now.trees 0) → HaveFirstRowids a.now.trees
     → MakesTables first_schema office_schema second_tables a b → (IsReady b → HasCopied b c)
-    → (IsTrue c.in_transaction → c.now.schema ≡ office_schema → IsLeft cleared_trees c d)
+    → (IsTrue c.in_transaction → c.now.schema ≡ office_schema → HaveFirstRowids c.now.trees
+    → IsLeft cleared_trees c d × AreCleared d.now.trees)
     → (IsTrue d.in_transaction → d.now.schema ≡ office_schema → IsVersion 1 (d.now.trees 0) → OnOk r (IsNumbered d e))
     → OnOk r (IsMoved a e)
-all_moved (Err x) a b c d e inside first one makes copies clears numbers = tt
-all_moved (Ok x) a b c d e inside first one makes copies clears numbers =
+all_moved (Err x) a b c d e inside first one ids makes copies clears numbers = tt
+all_moved (Ok x) a b c d e inside first one ids makes copies clears numbers =
     let m = makes inside first in
     let copied = copies (record { inside = m.inside; schema = m.schema; empty = m.empty }) in
-    let cleared = clears copied.left.inside copied.left.schema in
-    let number : d.now.trees 0 ≡ a.now.trees 0 = cleared.others 0 refl ∙ copied.left.others 0 refl ∙ m.others.0 in
-    moved a b m c d e copied cleared
-    (numbers cleared.inside cleared.schema (subst (IsVersion 1) (sym number) one))
+    let cleared = clears copied.left.inside copied.left.schema (first_rowids a b one m c copied ids) in
+    let left = cleared.0 in
+    let number : d.now.trees 0 ≡ a.now.trees 0 = left.others 0 refl ∙ copied.left.others 0 refl ∙ m.others.0 in
+    moved a b one m c d e copied left cleared.1
+    (numbers left.inside left.schema (subst (IsVersion 1) (sym number) one))
 
 -- ---- after the look at the number
 
@@ -130,28 +165,31 @@ moved_same a begun b c start end m = record {
 }
 
 pub moved_seen : (a b c : State) (rows : List Row) → IsTrue a.in_transaction → a.now.schema ≡ first_schema
-    → Shown version_text [] a b rows → IsVersion 1 rows
-    → (IsTrue b.in_transaction → b.now.schema ≡ first_schema → IsVersion 1 (b.now.trees 0) → IsMoved b c)
+    → HaveFirstRowids a.now.trees → Shown version_text [] a b rows → IsVersion 1 rows
+    → (IsTrue b.in_transaction → b.now.schema ≡ first_schema → IsVersion 1 (b.now.trees 0)
+    → HaveFirstRowids b.now.trees → IsMoved b c)
     → IsMoved a c
-moved_seen a b c rows inside first shown one moves =
+moved_seen a b c rows inside first ids shown one moves =
     let seen = first_seen a b rows first shown one in
     let same : b.now ≡ a.now = seen.unchanged.0.now_is in
     let m = moves (seen.unchanged.0.mode ∙ inside) (ap (λ (d : Database). d.schema) same ∙ first)
-    (subst (λ (d : Database). IsVersion 1 (d.trees 0)) (sym same) seen.version) in
+    (subst (λ (d : Database). IsVersion 1 (d.trees 0)) (sym same) seen.version)
+    (subst (λ (d : Database). HaveFirstRowids d.trees) (sym same) ids) in
     moved_same a b c c same refl m
 
 -- ---- the end of the transaction
 
 -- what a crash may leave of it
 pub moved_survives : (a begun b c : State) → begun.now ≡ a.now → Survives a b (λ _. ⊥)
-    → (HasCleanDisk b → begun.now.schema ≡ first_schema → IsMoved begun b)
+    → (HasCleanDisk b → begun.now.schema ≡ first_schema → HaveFirstRowids begun.now.trees → IsMoved begun b)
     → Survives b c (λ db. db ≡ b.now.trees)
-    → Survives a c (λ db. a.now.schema ≡ first_schema → IsMigrated a.now.trees db)
+    → Survives a c (λ db. a.now.schema ≡ first_schema → HaveFirstRowids a.now.trees → IsMigrated a.now.trees db)
 moved_survives a begun b c start one done two =
     survives_then a b c _ _ _ (λ _ db no. absurd no)
-    (λ clean db is first.
+    (λ clean db is first ids.
     let disk : HasCleanDisk b = omega (arith, two.clean) in
-    let m = done disk (ap (λ (d : Database). d.schema) start ∙ first) in
+    let m = done disk (ap (λ (d : Database). d.schema) start ∙ first)
+    (subst (λ (d : Database). HaveFirstRowids d.trees) (sym start) ids) in
     subst (IsMigrated a.now.trees) (sym is) (moved_same a begun b b start refl m).migrated) one two
 
 pub unmoved_survives : (a b c : State) → Survives a b (λ _. ⊥) → Survives b c (λ _. ⊥)

@@ -3,6 +3,7 @@ ghost use Rattle.std.specs.Prelude.{◌≡◌, [], ◌∷◌, IsTrue, Ok, OnOk};
 ghost use Rattle.sqlite.specs.Held.{state};
 ghost use Rattle.sqlite.specs.State.{Executes, HasCleanDisk, KeepsCommit, Survives};
 ghost use Rattle.cpi_sql_open.specs.Copies.{HasCopied, IsLeft, IsNumbered, IsReady};
+ghost use Rattle.cpi_sql_rows.specs.Finding.{AreCleared, HaveFirstRowids};
 ghost use Rattle.cpi_sql_rows.specs.Numbered.{IsVersion};
 ghost use Rattle.cpi_sql_rows.specs.Tables.{office_schema};
 
@@ -84,8 +85,10 @@ pub fn clear_rows<S: Alter>(tx: &mut Transaction<'_, S>) -> Result<(), Error>
     ensures cleared { HasCleanDisk (state S.Store tx.new.conn.now) →
         IsTrue (state S.Store tx.old.conn.now).in_transaction →
         (state S.Store tx.old.conn.now).now.schema ≡ office_schema →
+        HaveFirstRowids (state S.Store tx.old.conn.now).now.trees →
         OnOk result (IsLeft (20 ∷ 18 ∷ 16 ∷ 15 ∷ 13 ∷ 11 ∷ [])
-        (state S.Store tx.old.conn.now) (state S.Store tx.new.conn.now)) }
+        (state S.Store tx.old.conn.now) (state S.Store tx.new.conn.now)
+        × AreCleared (state S.Store tx.new.conn.now).now.trees) }
     ensures kept { HasCleanDisk (state S.Store tx.new.conn.now) →
         KeepsCommit (state S.Store tx.old.conn.now) (state S.Store tx.new.conn.now) }
     ensures survives { Survives (state S.Store tx.old.conn.now) (state S.Store tx.new.conn.now) (λ _. ⊥) }

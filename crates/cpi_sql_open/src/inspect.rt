@@ -5,7 +5,8 @@ ghost use Rattle.sqlite.specs.State.{HasCleanDisk, IsLive, Survives};
 ghost use Rattle.sqlite.specs.Steps.{over_memory, IsEmpty};
 ghost use Rattle.cpi_sql_rows.specs.Shelf.{IsCleanBook, IsKept, HasTables};
 ghost use Rattle.cpi_sql_rows.specs.Tables.{first_schema, office_schema};
-ghost use Rattle.cpi_sql_rows.specs.Finding.{AreKeyed, HavePlanRowids, HaveReleaseRowids, HaveSurveyRowids, IsOfOffice};
+ghost use Rattle.cpi_sql_rows.specs.Finding.{AreWhole, HavePlanRowids, HaveReleaseRowids, HaveSurveyRowids, IsOfOffice};
+ghost use Rattle.cpi_sql_rows.specs.Finding.{HaveFirstRowids, HaveFirstReleaseRowids, HaveFirstSurveyRowids, IsFirst};
 ghost use Rattle.cpi_sql_rows.specs.Finding.{IsSecond, IsQuiet, IsQuietOver};
 
 use crate::make::{make_first_tables, make_tables};
@@ -152,12 +153,56 @@ fn scan_releases<S: Alter>(conn: &mut Connection<S>, alloc: Global) -> Result<()
     scan(conn, alloc, LEVELS)
 }
 
+const FIRST_ASSIGNMENTS: &str = "SELECT rowid FROM assignment ORDER BY rowid";
+
+const FIRST_QUOTES: &str = "SELECT rowid FROM quote ORDER BY rowid";
+
+// Tests the rowids of the assignments and of the quotes in the tables of schema 1.
+fn scan_first_survey<S: Alter>(conn: &mut Connection<S>, alloc: Global) -> Result<(), Unread>
+    ensures clean { IsCleanBook (state S.Store conn.new) → IsCleanBook (state S.Store conn.old) }
+    ensures kept { IsCleanBook (state S.Store conn.new) → (state S.Store conn.old).in_transaction ≡ false
+        → IsFirst (state S.Store conn.old).now.schema → IsKept (state S.Store conn.old) (state S.Store conn.new) }
+    ensures rise { IsCleanBook (state S.Store conn.new) → (state S.Store conn.old).in_transaction ≡ false
+        → IsFirst (state S.Store conn.old).now.schema → OnOk result (HaveFirstSurveyRowids (state S.Store conn.old).now.trees) }
+    ensures open { HasCleanDisk (state S.Store conn.new) → OnOk result (IsTrue (state S.Store conn.new).is_open) }
+    ensures crash { Survives (state S.Store conn.old) (state S.Store conn.new)
+        (λ _. IsQuietOver IsFirst (state S.Store conn.old)) }
+{
+    scan(conn, alloc, FIRST_ASSIGNMENTS)?;
+    scan(conn, alloc, FIRST_QUOTES)
+}
+
+const FIRST_HEADERS: &str = "SELECT rowid FROM release ORDER BY rowid";
+
+const FIRST_FROZEN: &str = "SELECT rowid FROM frozen ORDER BY rowid";
+
+const FIRST_CARRIED: &str = "SELECT rowid FROM carried ORDER BY rowid";
+
+const FIRST_LEVELS: &str = "SELECT rowid FROM level ORDER BY rowid";
+
+// The same in the tables of schema 1.
+fn scan_first_releases<S: Alter>(conn: &mut Connection<S>, alloc: Global) -> Result<(), Unread>
+    ensures clean { IsCleanBook (state S.Store conn.new) → IsCleanBook (state S.Store conn.old) }
+    ensures kept { IsCleanBook (state S.Store conn.new) → (state S.Store conn.old).in_transaction ≡ false
+        → IsFirst (state S.Store conn.old).now.schema → IsKept (state S.Store conn.old) (state S.Store conn.new) }
+    ensures rise { IsCleanBook (state S.Store conn.new) → (state S.Store conn.old).in_transaction ≡ false
+        → IsFirst (state S.Store conn.old).now.schema → OnOk result (HaveFirstReleaseRowids (state S.Store conn.old).now.trees) }
+    ensures open { HasCleanDisk (state S.Store conn.new) → OnOk result (IsTrue (state S.Store conn.new).is_open) }
+    ensures crash { Survives (state S.Store conn.old) (state S.Store conn.new)
+        (λ _. IsQuietOver IsFirst (state S.Store conn.old)) }
+{
+    scan(conn, alloc, FIRST_HEADERS)?;
+    scan(conn, alloc, FIRST_FROZEN)?;
+    scan(conn, alloc, FIRST_CARRIED)?;
+    scan(conn, alloc, FIRST_LEVELS)
+}
+
 fn read_all_small<S: Alter>(conn: &mut Connection<S>, alloc: Global) -> Result<(), Unread>
     ensures clean { IsCleanBook (state S.Store conn.new) → IsCleanBook (state S.Store conn.old) }
     ensures kept { IsCleanBook (state S.Store conn.new) → (state S.Store conn.old).in_transaction ≡ false
         → IsOfOffice (state S.Store conn.old).now.schema → IsKept (state S.Store conn.old) (state S.Store conn.new) }
-    ensures keyed { IsCleanBook (state S.Store conn.new) → (state S.Store conn.old).in_transaction ≡ false
-        → IsOfOffice (state S.Store conn.old).now.schema → OnOk result (AreKeyed (state S.Store conn.old).now.trees) }
+    ensures whole { IsCleanBook (state S.Store conn.new) → (state S.Store conn.old).in_transaction ≡ false
+        → IsOfOffice (state S.Store conn.old).now.schema → OnOk result (AreWhole (state S.Store conn.old).now.trees) }
     ensures open { HasCleanDisk (state S.Store conn.new) → OnOk result (IsTrue (state S.Store conn.new).is_open) }
     ensures crash { Survives (state S.Store conn.old) (state S.Store conn.new)
         (λ _. IsQuiet (state S.Store conn.old)) }
@@ -174,8 +219,8 @@ pub fn test_lists<S: Alter>(conn: &mut Connection<S>, alloc: Global) -> Result<(
     ensures clean { IsCleanBook (state S.Store conn.new) → IsCleanBook (state S.Store conn.old) }
     ensures kept { IsCleanBook (state S.Store conn.new) → (state S.Store conn.old).in_transaction ≡ false
         → IsOfOffice (state S.Store conn.old).now.schema → IsKept (state S.Store conn.old) (state S.Store conn.new) }
-    ensures keyed { IsCleanBook (state S.Store conn.new) → (state S.Store conn.old).in_transaction ≡ false
-        → IsOfOffice (state S.Store conn.old).now.schema → OnOk result (AreKeyed (state S.Store conn.old).now.trees) }
+    ensures whole { IsCleanBook (state S.Store conn.new) → (state S.Store conn.old).in_transaction ≡ false
+        → IsOfOffice (state S.Store conn.old).now.schema → OnOk result (AreWhole (state S.Store conn.old).now.trees) }
     ensures rise { IsCleanBook (state S.Store conn.new) → (state S.Store conn.old).in_transaction ≡ false
         → IsOfOffice (state S.Store conn.old).now.schema → OnOk result (HavePlanRowids (state S.Store conn.old).now.trees) }
     ensures open { HasCleanDisk (state S.Store conn.new) → OnOk result (IsTrue (state S.Store conn.new).is_open) }
@@ -191,6 +236,8 @@ pub fn test_rows<S: Alter>(conn: &mut Connection<S>, alloc: Global) -> Result<()
     ensures clean { IsCleanBook (state S.Store conn.new) → IsCleanBook (state S.Store conn.old) }
     ensures kept { IsCleanBook (state S.Store conn.new) → (state S.Store conn.old).in_transaction ≡ false
         → IsSecond (state S.Store conn.old).now.schema → IsKept (state S.Store conn.old) (state S.Store conn.new) }
+    ensures whole { IsCleanBook (state S.Store conn.new) → (state S.Store conn.old).in_transaction ≡ false
+        → IsSecond (state S.Store conn.old).now.schema → OnOk result (AreWhole (state S.Store conn.old).now.trees) }
     ensures tables { IsCleanBook (state S.Store conn.new) → (state S.Store conn.old).in_transaction ≡ false
         → IsSecond (state S.Store conn.old).now.schema
         → IsLive (state S.Store conn.old) → OnOk result (HasTables (state S.Store conn.old)) }
@@ -201,4 +248,24 @@ pub fn test_rows<S: Alter>(conn: &mut Connection<S>, alloc: Global) -> Result<()
     test_lists(conn, alloc)?;
     scan_survey(conn, alloc)?;
     scan_releases(conn, alloc)
+}
+
+/// Tests what a migration asks of the rows of schema 1, which are as they were.
+pub fn test_first_rows<S: Alter>(conn: &mut Connection<S>, alloc: Global) -> Result<(), Unread>
+    ensures clean { IsCleanBook (state S.Store conn.new) → IsCleanBook (state S.Store conn.old) }
+    ensures kept { IsCleanBook (state S.Store conn.new) → (state S.Store conn.old).in_transaction ≡ false
+        → IsFirst (state S.Store conn.old).now.schema → IsKept (state S.Store conn.old) (state S.Store conn.new) }
+    ensures whole { IsCleanBook (state S.Store conn.new) → (state S.Store conn.old).in_transaction ≡ false
+        → IsFirst (state S.Store conn.old).now.schema → OnOk result (AreWhole (state S.Store conn.old).now.trees) }
+    ensures rise { IsCleanBook (state S.Store conn.new) → (state S.Store conn.old).in_transaction ≡ false
+        → IsFirst (state S.Store conn.old).now.schema → OnOk result (HavePlanRowids (state S.Store conn.old).now.trees) }
+    ensures first { IsCleanBook (state S.Store conn.new) → (state S.Store conn.old).in_transaction ≡ false
+        → IsFirst (state S.Store conn.old).now.schema → OnOk result (HaveFirstRowids (state S.Store conn.old).now.trees) }
+    ensures open { HasCleanDisk (state S.Store conn.new) → OnOk result (IsTrue (state S.Store conn.new).is_open) }
+    ensures crash { Survives (state S.Store conn.old) (state S.Store conn.new)
+        (λ _. IsQuietOver IsFirst (state S.Store conn.old)) }
+{
+    test_lists(conn, alloc)?;
+    scan_first_survey(conn, alloc)?;
+    scan_first_releases(conn, alloc)
 }

@@ -6,7 +6,7 @@ ghost use Rattle.sqlite.specs.Change.{created};
 ghost use Rattle.cpi_sql_rows.specs.Tables.{version, collector, outlet, item, node, plan_item, calendar, assignment};
 ghost use Rattle.cpi_sql_rows.specs.Tables.{quote, release, frozen, carried, level, assignment_2, quote_2, release_2};
 ghost use Rattle.cpi_sql_rows.specs.Tables.{frozen_2, carried_2, level_2, first_tables, first_schema, office_schema};
-ghost use Rattle.cpi_sql_rows.specs.Making.{Makes, MakesTables, placed, IsBlank, HasEmpty, HoldsNothing, no_schema};
+ghost use Rattle.cpi_sql_rows.specs.Making.{Makes, MakesTables, placed, IsBlank, IsNew, HasEmpty, no_schema};
 ghost use Rattle.cpi_sql_rows.specs.Making.{stage_4, stage_7, stage_9, stage_15, stage_19, second_tables};
 
 use sqlite::{Alter, Connection, Error, Transaction};
@@ -275,7 +275,7 @@ pub fn make_tables<S: Alter>(conn: &mut Connection<S>) -> Result<(), Error>
     ensures undone { HasCleanDisk (state S.Store conn.new) → IsTrue (state S.Store conn.new).is_open
         → OnErr result ((state S.Store conn.new).now ≡ (state S.Store conn.old).now) }
     ensures crash { Survives (state S.Store conn.old) (state S.Store conn.new)
-        (λ db. (state S.Store conn.old).now.schema ≡ no_schema → HoldsNothing db) }
+        (λ db. (state S.Store conn.old).now.schema ≡ no_schema → IsNew db) }
 {
     let _settled = conn.is_autocommit();
     let mut tx = conn.transaction();

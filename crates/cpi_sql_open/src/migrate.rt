@@ -2,7 +2,7 @@
 ghost use Rattle.std.specs.Prelude.{◌≡◌, false, IsTrue, OnOk, OnErr};
 ghost use Rattle.sqlite.specs.Held.{state};
 ghost use Rattle.sqlite.specs.State.{HasCleanDisk, KeepsCommit, Survives};
-ghost use Rattle.cpi_sql_rows.specs.Finding.{IsMigrated, IsMoved};
+ghost use Rattle.cpi_sql_rows.specs.Finding.{HaveFirstRowids, IsMigrated, IsMoved};
 ghost use Rattle.cpi_sql_rows.specs.Numbered.{IsVersion};
 ghost use Rattle.cpi_sql_rows.specs.Shelf.{IsCleanBook};
 ghost use Rattle.cpi_sql_rows.specs.Tables.{first_schema};
@@ -20,6 +20,7 @@ fn rewrite<S: Alter>(tx: &mut Transaction<'_, S>) -> Result<(), Error>
         IsTrue (state S.Store tx.old.conn.now).in_transaction →
         (state S.Store tx.old.conn.now).now.schema ≡ first_schema →
         IsVersion 1 ((state S.Store tx.old.conn.now).now.trees 0) →
+        HaveFirstRowids (state S.Store tx.old.conn.now).now.trees →
         OnOk result (IsMoved (state S.Store tx.old.conn.now) (state S.Store tx.new.conn.now)) }
     ensures kept { HasCleanDisk (state S.Store tx.new.conn.now) →
         KeepsCommit (state S.Store tx.old.conn.now) (state S.Store tx.new.conn.now) }
@@ -37,6 +38,7 @@ fn move_rows<S: Alter>(tx: &mut Transaction<'_, S>) -> Result<(), Unread>
     ensures moved { HasCleanDisk (state S.Store tx.new.conn.now) →
         IsTrue (state S.Store tx.old.conn.now).in_transaction →
         (state S.Store tx.old.conn.now).now.schema ≡ first_schema →
+        HaveFirstRowids (state S.Store tx.old.conn.now).now.trees →
         OnOk result (IsMoved (state S.Store tx.old.conn.now) (state S.Store tx.new.conn.now)) }
     ensures kept { HasCleanDisk (state S.Store tx.new.conn.now) →
         IsTrue (state S.Store tx.old.conn.now).in_transaction →
@@ -59,11 +61,13 @@ pub fn migrate<S: Alter>(conn: &mut Connection<S>) -> Result<(), Unread>
     ensures clean { IsCleanBook (state S.Store conn.new) → IsCleanBook (state S.Store conn.old) }
     ensures open { HasCleanDisk (state S.Store conn.new) → OnOk result (IsTrue (state S.Store conn.new).is_open) }
     ensures moved { HasCleanDisk (state S.Store conn.new) → (state S.Store conn.old).now.schema ≡ first_schema →
+        HaveFirstRowids (state S.Store conn.old).now.trees →
         OnOk result (IsMoved (state S.Store conn.old) (state S.Store conn.new)) }
     ensures undone { HasCleanDisk (state S.Store conn.new) → IsTrue (state S.Store conn.new).is_open →
         OnErr result ((state S.Store conn.new).now ≡ (state S.Store conn.old).now) }
     ensures crash { Survives (state S.Store conn.old) (state S.Store conn.new)
-        (λ db. (state S.Store conn.old).now.schema ≡ first_schema → IsMigrated (state S.Store conn.old).now.trees db) }
+        (λ db. (state S.Store conn.old).now.schema ≡ first_schema →
+        HaveFirstRowids (state S.Store conn.old).now.trees → IsMigrated (state S.Store conn.old).now.trees db) }
 {
     let _settled = conn.is_autocommit();
     let mut tx = conn.transaction();

@@ -4,11 +4,11 @@ ghost use Rattle.sqlite.specs.Held.{state};
 ghost use Rattle.sqlite.specs.State.{HasCleanDisk, Survives};
 ghost use Rattle.cpi_sql_rows.specs.Shelf.{IsCleanBook, IsKept, HasTables};
 ghost use Rattle.cpi_sql_rows.specs.Tables.{first_schema, office_schema};
-ghost use Rattle.cpi_sql_rows.specs.Finding.{AreKeyed, HavePlanRowids, IsMigrated, IsOpened, MayBeMade};
+ghost use Rattle.cpi_sql_rows.specs.Finding.{AreWhole, HaveFirstRowids, HavePlanRowids, IsMigrated, IsOpened, MayBeMade};
 ghost use Rattle.cpi_sql_rows.specs.Numbered.{IsVersion, ShowsOther};
 ghost use Rattle.cpi_store.specs.declared.open_fault.OpenFault.TheVariants.{UnknownSchema};
 
-use crate::inspect::{has_first_tables, has_tables, obeys, test_lists, test_rows};
+use crate::inspect::{has_first_tables, has_tables, obeys, test_first_rows, test_rows};
 use crate::make::{is_blank, make_tables};
 use crate::migrate::migrate;
 use crate::version::{Version, read_version};
@@ -24,6 +24,7 @@ fn test_second<S: Alter>(conn: &mut Connection<S>, alloc: Global) -> Result<(), 
     ensures kept { IsCleanBook (state S.Store conn.new) → IsKept (state S.Store conn.old) (state S.Store conn.new) }
     ensures schema { OnOk result ((state S.Store conn.old).now.schema ≡ office_schema) }
     ensures ready { IsCleanBook (state S.Store conn.new) → OnOk result (HasTables (state S.Store conn.new)) }
+    ensures whole { IsCleanBook (state S.Store conn.new) → OnOk result (AreWhole (state S.Store conn.new).now.trees) }
     ensures crash { Survives (state S.Store conn.old) (state S.Store conn.new) (λ _. ⊥) }
 {
     let Some(same) = has_tables(conn, alloc) else {
@@ -41,9 +42,11 @@ fn test_first<S: Alter>(conn: &mut Connection<S>, alloc: Global) -> Result<(), U
     ensures clean { IsCleanBook (state S.Store conn.new) → IsCleanBook (state S.Store conn.old) }
     ensures kept { IsCleanBook (state S.Store conn.new) → IsKept (state S.Store conn.old) (state S.Store conn.new) }
     ensures schema { OnOk result ((state S.Store conn.old).now.schema ≡ first_schema) }
-    ensures keyed { IsCleanBook (state S.Store conn.new) → OnOk result (AreKeyed (state S.Store conn.old).now.trees) }
+    ensures whole { IsCleanBook (state S.Store conn.new) → OnOk result (AreWhole (state S.Store conn.old).now.trees) }
     ensures rise { IsCleanBook (state S.Store conn.new)
         → OnOk result (HavePlanRowids (state S.Store conn.old).now.trees) }
+    ensures first { IsCleanBook (state S.Store conn.new)
+        → OnOk result (HaveFirstRowids (state S.Store conn.old).now.trees) }
     ensures open { HasCleanDisk (state S.Store conn.new) → OnOk result (IsTrue (state S.Store conn.new).is_open) }
     ensures crash { Survives (state S.Store conn.old) (state S.Store conn.new) (λ _. ⊥) }
 {
@@ -53,7 +56,7 @@ fn test_first<S: Alter>(conn: &mut Connection<S>, alloc: Global) -> Result<(), U
     if !same {
         return Err(Unread);
     }
-    test_lists(conn, alloc)
+    test_first_rows(conn, alloc)
 }
 
 // The tables of schema 1, tested and then migrated.
@@ -63,6 +66,7 @@ fn migrate_first<S: Alter>(conn: &mut Connection<S>, alloc: Global) -> Result<()
     ensures kept { IsCleanBook (state S.Store conn.new) →
         OnErr result (IsKept (state S.Store conn.old) (state S.Store conn.new)) }
     ensures ready { IsCleanBook (state S.Store conn.new) → OnOk result (HasTables (state S.Store conn.new)) }
+    ensures whole { IsCleanBook (state S.Store conn.new) → OnOk result (AreWhole (state S.Store conn.new).now.trees) }
     ensures migrated { IsCleanBook (state S.Store conn.new) → OnOk result (
         ((state S.Store conn.old).now.schema ≡ first_schema)
         × IsMigrated (state S.Store conn.old).now.trees (state S.Store conn.new).now.trees) }
@@ -86,6 +90,7 @@ fn open_tables<S: Alter>(conn: &mut Connection<S>, alloc: Global) -> Result<(), 
     ensures kept { IsCleanBook (state S.Store conn.new) →
         OnErr result (IsKept (state S.Store conn.old) (state S.Store conn.new)) }
     ensures ready { IsCleanBook (state S.Store conn.new) → OnOk result (HasTables (state S.Store conn.new)) }
+    ensures whole { IsCleanBook (state S.Store conn.new) → OnOk result (AreWhole (state S.Store conn.new).now.trees) }
     ensures opened { IsCleanBook (state S.Store conn.new) →
         OnOk result (IsOpened (state S.Store conn.old) (state S.Store conn.new)) }
     ensures unknown { IsCleanBook (state S.Store conn.new) →
@@ -114,6 +119,7 @@ pub fn open_office<S: Alter>(conn: &mut Connection<S>, alloc: Global) -> Result<
     ensures kept { IsCleanBook (state S.Store conn.new) →
         OnErr result (IsKept (state S.Store conn.old) (state S.Store conn.new)) }
     ensures ready { IsCleanBook (state S.Store conn.new) → OnOk result (HasTables (state S.Store conn.new)) }
+    ensures whole { IsCleanBook (state S.Store conn.new) → OnOk result (AreWhole (state S.Store conn.new).now.trees) }
     ensures opened { IsCleanBook (state S.Store conn.new) →
         OnOk result (IsOpened (state S.Store conn.old) (state S.Store conn.new)) }
     ensures unknown { IsCleanBook (state S.Store conn.new) →

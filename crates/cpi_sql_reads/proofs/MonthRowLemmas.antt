@@ -1,5 +1,6 @@
 -- The stored quotes of a month, as the join of their tables shows them.
 use Rattle.std.proofs.Common.{◌≡◌, inl, inr, ℕ, pos, Bool, true, false, ◌&&◌, List, [], ◌∷◌, Some, None, Option}
+use Rattle.std.proofs.Common.{IsSome}
 use Rattle.std.proofs.Common.{refl, sym, ap, subst, ◌∙◌}
 use Rattle.std.specs.Prelude.{if◌then◌else◌, option_map}
 use Rattle.std.specs.List.{list_all, filter_map, cons_option}
@@ -37,19 +38,24 @@ use Rattle.cpi_sql_reads.specs.MonthRows.{beside, month_quote, month_quotes, sho
 use Rattle.cpi_sql_rows.specs.Texts.{by_columns}
 use Rattle.cpi_sql_rows.specs.Lists.{and_then, ranged, month_at, assignment_in}
 use Rattle.cpi_sql_rows.specs.Lists.{assignments_in, shown_given, quote_from, quote_in, quotes_in, office_in}
-use Rattle.cpi_sql_rows.specs.Shelf.{HasTables, equals}
+use Rattle.cpi_sql_rows.specs.Shelf.{HasTables, MonthStands, equals}
 use Rattle.cpi_sql_rows.proofs.Texts.{Asks}
 use Rattle.cpi_sql_rows.proofs.Reading.{equality}
 use Rattle.cpi_sql_reads.proofs.Joined.{Pairs, joined}
 use Rattle.cpi_sql_rows.proofs.Members.{given_has, has_given, has_row, row_of}
 use Rattle.cpi_sql_rows.proofs.Listed.{head_in, same_in_order, listed_in_order, listed_stands, stands_listed}
-use Rattle.cpi_sql_rows.proofs.Lists.{held_total, quote_total, read_has, has_read, has_held, held_has, held_in_order}
+use Rattle.cpi_sql_rows.proofs.Lists.{held_total, quote_total, read_has, has_read, stands_read, has_held, held_has}
+use Rattle.cpi_sql_rows.proofs.Lists.{held_in_order}
 use Rattle.cpi_sql_rows.proofs.Lists.{bound_is, same_number, equal_number}
 use Rattle.cpi_sql_rows.proofs.GivenRows.{assignment_shape, slot_of, slot_in}
 use Rattle.cpi_sql_rows.proofs.QuoteOffice.{numbers_of, same_month, first_tied, second_tied}
 
 some_is : {X : Type 0} {x y : X} → ◌≡◌ {A = Option X} (Some x) (Some y) → x ≡ y
 some_is e = cc
+
+some_of : {X : Type 0} (o : Option X) → IsSome o → (x : X) × (o ≡ Some x)
+some_of (Some x) h = (x, refl)
+some_of None h = cc
 
 pub month_rows_is : Asks month_rows_text month_rows_command
 unfolding understood everything
@@ -259,6 +265,25 @@ module _ (old : State) (has : HasTables old) (month n : ℕ) (number : month_at 
             ap (λ o. and_then o (λ y. and_then (quote_behind (shape r q)) (λ z. Some (beside y z)))) slot.shown
             ∙ ap (λ o. and_then o (λ z. Some (beside (c, g) z))) (quote_shown_in q c w quoted.2) ∙ f in
             has_read shown_month_quote rows xs (shape r q) m read there stands
+
+    pub month_stands : MonthStands month old.now.trees
+    unfolding MonthStands
+    month_stands c m g assigned is q there holder place of_the_month =
+        let it = listed_stands (held_total nat_cmp_total) (held_key (λ (x : Given). x.assignment.slot)) assignment_in
+        (old.now.trees 22) (c, g) assigned in
+        let r = it.0 in
+        let slot = slot_in r c g it.2 in
+        let numbered : m ≡ n = same_month m n month is number in
+        let passes = tests_are r q c g.assignment.slot n slot.collector slot.slot
+        ∙ and_from _ _ (equal_number (column q 1) c holder)
+        (and_from _ _ (equal_number (column q 2) g.assignment.slot place)
+        (and_from _ _ (equal_number (column q 3) n (of_the_month ∙ ap (λ k. Int (pos k)) numbered)) refl)) in
+        let shown_is = stands_read shown_month_quote rows xs (shape r q) read (both.complete r q it.1 there passes) in
+        let one = some_of (shown_month_quote (shape r q)) shown_is in
+        let two = bound_is (shown_given (assignment_shape r)) _ _ one.1 in
+        let three = bound_is (quote_behind (shape r q)) _ _ two.2 in
+        let quoted = shown_quote_in q three.0 three.1 in
+        subst (λ (o : Option (ℕ × QuoteRow)). IsSome o) (sym quoted.1) refl
 
     pub month_read : IsInOrder quote_cmp slot_key xs → xs ≡ month_quotes month (office_in old.now.trees)
     month_read order =

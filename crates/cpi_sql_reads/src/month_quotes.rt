@@ -5,8 +5,8 @@ ghost use Rattle.sqlite.specs.State.{HasCleanDisk, Survives};
 ghost use Rattle.cpi_index.specs.Series.{frozen_serial, is_by_series};
 ghost use Rattle.cpi_store.specs.Office.{month_rows as rows_of_month};
 ghost use Rattle.cpi_store.specs.Series.{by_series as in_order};
-ghost use Rattle.cpi_sql_rows.specs.Shelf.{IsCleanBook, IsKept, HasTables};
-ghost use Rattle.cpi_sql_rows.specs.Lists.{office_in};
+ghost use Rattle.cpi_sql_rows.specs.Shelf.{AllStand, IsCleanBook, IsKept, HasTables, MonthStands};
+ghost use Rattle.cpi_sql_rows.specs.Lists.{assignment_in, office_in};
 ghost use Rattle.cpi_sql_reads.specs.MonthRows.{frozen_by, month_quotes as quotes_of_month, quote_behind};
 
 use cpi_codes::{CollectorId, Month, Slot};
@@ -91,6 +91,8 @@ fn month_quotes<S: Alter>(
         IsKept (state S.Store conn.old) (state S.Store conn.new) }
     ensures read { IsCleanBook (state S.Store conn.new) → HasTables (state S.Store conn.old) →
         IfOk result (λ xs. xs.items ≡ quotes_of_month month (office_in (state S.Store conn.old).now.trees)) }
+    ensures stand { IsCleanBook (state S.Store conn.new) → HasTables (state S.Store conn.old) →
+        OnOk result (MonthStands month (state S.Store conn.old).now.trees) }
     ensures open { HasCleanDisk (state S.Store conn.new) → OnOk result (IsTrue (state S.Store conn.new).is_open) }
     ensures crash { Survives (state S.Store conn.old) (state S.Store conn.new)
         (λ _. HasTables (state S.Store conn.old) → ⊥) }
@@ -154,6 +156,10 @@ pub fn month_rows<S: Alter>(
     ensures read { IsCleanBook (state S.Store conn.new) → HasTables (state S.Store conn.old) →
         let rows = rows_of_month month (office_in (state S.Store conn.old).now.trees) in
         IfOk result (λ xs. is_by_series frozen_serial rows ≡ true → xs.items ≡ rows) }
+    ensures assigned { IsCleanBook (state S.Store conn.new) → HasTables (state S.Store conn.old) →
+        OnOk result (AllStand assignment_in ((state S.Store conn.old).now.trees 22)) }
+    ensures stand { IsCleanBook (state S.Store conn.new) → HasTables (state S.Store conn.old) →
+        OnOk result (MonthStands month (state S.Store conn.old).now.trees) }
     ensures open { HasCleanDisk (state S.Store conn.new) → OnOk result (IsTrue (state S.Store conn.new).is_open) }
     ensures crash { Survives (state S.Store conn.old) (state S.Store conn.new)
         (λ _. HasTables (state S.Store conn.old) → ⊥) }

@@ -1,6 +1,6 @@
 -- What is known of the tables that were found.
 use Rattle.std.proofs.Common.{◌≡◌, inl, inr, ℕ, pos, Bool, true, false, ◌&&◌, not, List, [], ◌∷◌}
-use Rattle.std.proofs.Common.{Some, Option, refl, sym, ap, subst, ◌∙◌}
+use Rattle.std.proofs.Common.{Some, Option, IsSome, refl, sym, ap, subst, ◌∙◌}
 use Rattle.std.specs.declared.cmp.Ordering.{Ordering}
 use Rattle.std.specs.declared.cmp.Ordering.TheVariants.{Less, Equal, Greater}
 use Rattle.std.specs.Ordering.{nat_cmp, is_eq}
@@ -33,9 +33,9 @@ use Rattle.cpi_sql_rows.specs.Making.{second_tables}
 use Rattle.cpi_sql_rows.specs.Tables.{office_schema, assignment_2, quote_2}
 use Rattle.cpi_sql_rows.specs.Read.{AreRead}
 use Rattle.cpi_sql_rows.specs.Lists.{assignment_in, quote_in}
-use Rattle.cpi_sql_rows.specs.Shelf.{IsKeyed, HasRowids, equals}
+use Rattle.cpi_sql_rows.specs.Shelf.{IsKeyed, IsWhole, AllStand, HasRowids, equals}
 use Rattle.cpi_sql_rows.proofs.Listed.{head_in}
-use Rattle.cpi_sql_rows.proofs.Lists.{Shows, has_read, equal_number}
+use Rattle.cpi_sql_rows.proofs.Lists.{Shows, has_read, stands_read, equal_number}
 use Rattle.cpi_sql_rows.proofs.GivenRows.{slot_in}
 use Rattle.cpi_sql_rows.proofs.QuoteRows.{one_equal, differ_is, not_true}
 use Rattle.cpi_sql_rows.proofs.QuoteOffice.{numbers_of, same_month, first_tied, second_tied}
@@ -61,7 +61,7 @@ module _ {X K : Type 0} {R : K → K → Ordering} (o : IsTotalOrder R) (key : X
   in_order_same (z ∷ xs) x y up (inr a) (inr b) e =
       in_order_same xs x y (sorted_tail (λ a b. R (key a) (key b)) z xs up) a b e
 
-  pub keyed_read : (entry stands : Row → Option X) (shape : Row → Row) (same : (r : Row)
+  keyed_read : (entry stands : Row → Option X) (shape : Row → Row) (same : (r : Row)
       → stands (shape r) ≡ entry r) (table rows : List Row) (xs : List X)
       → Shows (λ r. true) shape table rows → AreRead stands rows xs → IsInOrder R key xs → IsKeyed R key entry table
   unfolding IsKeyed
@@ -69,6 +69,19 @@ module _ {X K : Type 0} {R : K → K → Ordering} (o : IsTotalOrder R) (key : X
       in_order_same xs x y order
       (has_read stands rows xs (shape r) x read (shows.complete r hr refl) (same r ∙ er))
       (has_read stands rows xs (shape s) y read (shows.complete s hs refl) (same s ∙ es)) tie
+
+  pub whole_read : (entry stands : Row → Option X) (shape : Row → Row) (same : (r : Row)
+      → stands (shape r) ≡ entry r) (table rows : List Row) (xs : List X)
+      → Shows (λ r. true) shape table rows → AreRead stands rows xs → IsInOrder R key xs → IsWhole R key entry table
+  unfolding AllStand
+  whole_read entry stands shape same table rows xs shows read order = record {
+    keyed = keyed_read entry stands shape same table rows xs shows read order;
+    stand = λ r h. subst (λ (o : Option X). IsSome o) (same r) (stands_read stands rows xs (shape r) read (shows.complete r h refl));
+  }
+
+pub none_whole : {X K : Type 0} (R : K → K → Ordering) (key : X → K) (entry : Row → Option X) → IsWhole R key entry []
+unfolding IsKeyed AllStand
+none_whole R key entry = record { keyed = λ r s x y hr hs er es tie. absurd hr; stand = λ r h. absurd h }
 
 -- ---- a table whose key is UNIQUE
 

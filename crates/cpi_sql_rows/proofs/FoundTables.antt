@@ -13,7 +13,7 @@ use Rattle.sqlite_trees.specs.declared.memory.MemStore.{MemStore}
 use Rattle.sqlite_tied.specs.Compute.{everything}
 use Rattle.sqlite.specs.Schema.{Schema}
 use Rattle.cpi_sql_rows.specs.Tables.{first_schema, office_schema}
-use Rattle.cpi_sql_rows.specs.Finding.{AsksRowids, HaveRowids, HavePlanRowids, AreKeyed, IsOfOffice, IsSecond, IsQuiet}
+use Rattle.cpi_sql_rows.specs.Finding.{AsksRowids, HaveRowids, HavePlanRowids, AreWhole, IsOfOffice, IsFirst, IsSecond, IsQuiet}
 use Rattle.cpi_sql_rows.specs.Finding.{IsQuietOver, KeepsLists, IsMoved}
 use Rattle.cpi_sql_rows.specs.Shelf.{HasTables, HasRowids, IsKept, IsCleanBook}
 use Rattle.cpi_sql_rows.proofs.Kept.{kept_then}
@@ -124,6 +124,60 @@ pub level_rowids : (schema : Schema) → IsSecond schema
     → AsksRowids schema (codes "SELECT rowid FROM level_2 ORDER BY rowid") 32
 level_rowids = under_second _ 32 second_level_rowids
 
+-- those of schema 1 alone
+
+under_first : (text : List ℕ) (tree : ℕ) → AsksRowids first_schema text tree → (schema : Schema) → IsFirst schema
+    → AsksRowids schema text tree
+under_first text tree one schema e = subst (λ s. AsksRowids s text tree) (sym e) one
+
+old_assignment_rowids : AsksRowids first_schema (codes "SELECT rowid FROM assignment ORDER BY rowid") 11
+unfolding understood everything
+old_assignment_rowids = record { names = codes "rowid" ∷ []; command = refl; listing = refl; plain = (refl, refl) }
+
+pub first_assignment_rowids : (schema : Schema) → IsFirst schema
+    → AsksRowids schema (codes "SELECT rowid FROM assignment ORDER BY rowid") 11
+first_assignment_rowids = under_first _ 11 old_assignment_rowids
+
+old_quote_rowids : AsksRowids first_schema (codes "SELECT rowid FROM quote ORDER BY rowid") 13
+unfolding understood everything
+old_quote_rowids = record { names = codes "rowid" ∷ []; command = refl; listing = refl; plain = (refl, refl) }
+
+pub first_quote_rowids : (schema : Schema) → IsFirst schema
+    → AsksRowids schema (codes "SELECT rowid FROM quote ORDER BY rowid") 13
+first_quote_rowids = under_first _ 13 old_quote_rowids
+
+old_release_rowids : AsksRowids first_schema (codes "SELECT rowid FROM release ORDER BY rowid") 15
+unfolding understood everything
+old_release_rowids = record { names = codes "month" ∷ []; command = refl; listing = refl; plain = (refl, refl) }
+
+pub first_release_rowids : (schema : Schema) → IsFirst schema
+    → AsksRowids schema (codes "SELECT rowid FROM release ORDER BY rowid") 15
+first_release_rowids = under_first _ 15 old_release_rowids
+
+old_frozen_rowids : AsksRowids first_schema (codes "SELECT rowid FROM frozen ORDER BY rowid") 16
+unfolding understood everything
+old_frozen_rowids = record { names = codes "rowid" ∷ []; command = refl; listing = refl; plain = (refl, refl) }
+
+pub first_frozen_rowids : (schema : Schema) → IsFirst schema
+    → AsksRowids schema (codes "SELECT rowid FROM frozen ORDER BY rowid") 16
+first_frozen_rowids = under_first _ 16 old_frozen_rowids
+
+old_carried_rowids : AsksRowids first_schema (codes "SELECT rowid FROM carried ORDER BY rowid") 18
+unfolding understood everything
+old_carried_rowids = record { names = codes "rowid" ∷ []; command = refl; listing = refl; plain = (refl, refl) }
+
+pub first_carried_rowids : (schema : Schema) → IsFirst schema
+    → AsksRowids schema (codes "SELECT rowid FROM carried ORDER BY rowid") 18
+first_carried_rowids = under_first _ 18 old_carried_rowids
+
+old_level_rowids : AsksRowids first_schema (codes "SELECT rowid FROM level ORDER BY rowid") 20
+unfolding understood everything
+old_level_rowids = record { names = codes "rowid" ∷ []; command = refl; listing = refl; plain = (refl, refl) }
+
+pub first_level_rowids : (schema : Schema) → IsFirst schema
+    → AsksRowids schema (codes "SELECT rowid FROM level ORDER BY rowid") 20
+first_level_rowids = under_first _ 20 old_level_rowids
+
 pub schema_after : (Fits : Schema → Type 0) (a b : State) → IsKept a b → Fits a.now.schema → Fits b.now.schema
 schema_after Fits a b k has = subst (λ (d : Database). Fits d.schema) (sym k.now) has
 
@@ -136,8 +190,8 @@ on_any (Ok a) P h = h
 on_any (Err e) P h = tt
 
 pub found_tables : (s : State) → s.in_transaction ≡ false → s.now.schema ≡ office_schema → IsTrue s.is_open → IsLive s
-    → AreKeyed s.now.trees → HaveRowids s.now.trees → HasTables s
-found_tables s alone has is_open live keyed rise =
+    → AreWhole s.now.trees → HaveRowids s.now.trees → HasTables s
+found_tables s alone has is_open live whole rise =
     let sound : IsSound office_schema s.now.trees = subst (λ x. IsSound x s.now.trees) has (live is_open).0 in
     record {
       schema = has;
@@ -145,10 +199,10 @@ found_tables s alone has is_open live keyed rise =
       rowids = rise.survey.quotes;
       days = rise.plans.calendar;
       assignment_ids = rise.survey.assignments;
-      collectors = keyed.collectors;
-      outlets = keyed.outlets;
-      items = keyed.items;
-      calendar = keyed.calendar;
+      collectors = whole.collectors.keyed;
+      outlets = whole.outlets.keyed;
+      items = whole.items.keyed;
+      calendar = whole.calendar.keyed;
       assignments = assignments_keyed s.now.trees sound rise.survey.assignments;
       quotes = quotes_keyed s.now.trees sound rise.survey.quotes;
       plans = record {
@@ -206,10 +260,17 @@ second_keeps a b k clean alone has = k clean alone (inr has)
 pub second_quiet : (a b : State) → Survives a b (λ _. IsQuiet a) → Survives a b (λ _. IsQuietOver IsSecond a)
 second_quiet a b h = survives_weaker a b _ _ (λ _ db none alone has. none alone (inr has)) h
 
+-- and over the first
+pub first_keeps : (a b : State) → Keeps IsOfOffice a b → Keeps IsFirst a b
+first_keeps a b k clean alone has = k clean alone (inl has)
+
+pub first_quiet : (a b : State) → Survives a b (λ _. IsQuiet a) → Survives a b (λ _. IsQuietOver IsFirst a)
+first_quiet a b h = survives_weaker a b _ _ (λ _ db none alone has. none alone (inl has)) h
+
 -- ---- what a migration leaves
 
-moved_keys : (old new : Trees) → KeepsLists old new → AreKeyed old → AreKeyed new
-moved_keys old new k h = record {
+pub moved_whole : (old new : Trees) → KeepsLists old new → AreWhole old → AreWhole new
+moved_whole old new k h = record {
   collectors = rw k.collectors h.collectors;
   outlets = rw k.outlets h.outlets;
   items = rw k.items h.items;
@@ -224,9 +285,9 @@ moved_rowids old new k h = record {
 }
 
 pub moved_tables : (old new : State) → new.in_transaction ≡ false → IsTrue new.is_open → IsLive new
-    → AreKeyed old.now.trees → HavePlanRowids old.now.trees → IsMoved old new → HasTables new
-moved_tables old new alone is_open live keyed rise moved =
-    found_tables new alone moved.schema is_open live (moved_keys old.now.trees new.now.trees moved.lists keyed)
+    → AreWhole old.now.trees → HavePlanRowids old.now.trees → IsMoved old new → HasTables new
+moved_tables old new alone is_open live whole rise moved =
+    found_tables new alone moved.schema is_open live (moved_whole old.now.trees new.now.trees moved.lists whole)
     (record {
       plans = moved_rowids old.now.trees new.now.trees moved.lists rise;
       survey = moved.survey;

@@ -1,4 +1,4 @@
--- The small tables that were found: a whole read in order says that no two rows have one key.
+-- The small tables that were found: a whole read in order says that the types take each row, and no two have one key.
 use Rattle.std.proofs.Common.{◌≡◌, inl, inr, ℕ, List, [], ◌∷◌, true, false, Result, Ok, Err, IfOk}
 use Rattle.std.proofs.Common.{OnOk, refl, sym, subst}
 use Rattle.std.specs.Ordering.{nat_cmp}
@@ -22,11 +22,11 @@ use Rattle.cpi_sql_rows.specs.Read.{AreRead}
 use Rattle.cpi_sql_rows.specs.Finding.{IsOfOffice, IsQuiet}
 use Rattle.cpi_sql_rows.specs.Lists.{bearer_from, outlet_from, item_of, calendar_from, collector_in, outlet_in}
 use Rattle.cpi_sql_rows.specs.Lists.{item_in, calendar_in}
-use Rattle.cpi_sql_rows.specs.Shelf.{IsKeyed}
+use Rattle.cpi_sql_rows.specs.Shelf.{IsWhole}
 use Rattle.cpi_sql_rows.proofs.Texts.{bearers_is, outlets_is, items_is, calendar_is}
 use Rattle.cpi_sql_rows.proofs.Reading.{members}
 use Rattle.cpi_sql_rows.proofs.Lists.{Shows}
-use Rattle.cpi_sql_rows.proofs.Found.{keyed_read}
+use Rattle.cpi_sql_rows.proofs.Found.{whole_read}
 
 -- the text is a query that means this, under either schema of the office
 pub record Means (schema : Schema) (text : List ℕ) (command : Command) : Type 0 where
@@ -60,11 +60,11 @@ bearers_mean =
     means bearers_text bearers_command first_bearers
     (record { command_is = bearers_is.0; listing = bearers_is.1; plain = bearers_is.2 })
 
-pub bearers_keyed : (old new : State) (rows : List Row) (xs : List _) → IsOfOffice old.now.schema
+pub bearers_whole : (old new : State) (rows : List Row) (xs : List _) → IsOfOffice old.now.schema
     → Shown bearers_text [] old new rows
     → AreRead (λ x. bearer_from (column x 0) (column x 1)) rows xs
-    → IsInOrder nat_cmp (λ b. b.number) xs → IsKeyed nat_cmp (λ b. b.number) collector_in (old.now.trees 1)
-bearers_keyed old new rows xs has h read order =
+    → IsInOrder nat_cmp (λ b. b.number) xs → IsWhole nat_cmp (λ b. b.number) collector_in (old.now.trees 1)
+bearers_whole old new rows xs has h read order =
     let is = bearers_mean old.now.schema has in
     let r = reads_as bearers_text [] old new old.now.schema refl bearers_command is.command_is is.plain is.listing rows h in
     let m = members 1 [] (columns (0 ∷ 2 ∷ [])) (by_columns (0 ∷ [])) (overlay old.now.trees []) [] rows (r.answer Null) in
@@ -73,7 +73,7 @@ bearers_keyed old new rows xs has h read order =
       sound = λ x k. let it = m.sound x k in (it.0, it.1, refl, it.3);
       complete = λ r k _. m.complete r k refl;
     } in
-    keyed_read nat_cmp_total (λ b. b.number) collector_in
+    whole_read nat_cmp_total (λ b. b.number) collector_in
     (λ x. bearer_from (column x 0) (column x 1))
     (λ r. column r 0 ∷ column r 2 ∷ [])
     (λ r. refl) (old.now.trees 1) rows xs shows read order
@@ -86,11 +86,11 @@ outlets_mean =
     means outlets_text outlets_command first_outlets
     (record { command_is = outlets_is.0; listing = outlets_is.1; plain = outlets_is.2 })
 
-pub outlets_keyed : (old new : State) (rows : List Row) (xs : List _) → IsOfOffice old.now.schema
+pub outlets_whole : (old new : State) (rows : List Row) (xs : List _) → IsOfOffice old.now.schema
     → Shown outlets_text [] old new rows
     → AreRead (λ x. outlet_from (column x 0) (column x 1)) rows xs
-    → IsInOrder nat_cmp (λ u. u.number) xs → IsKeyed nat_cmp (λ u. u.number) outlet_in (old.now.trees 3)
-outlets_keyed old new rows xs has h read order =
+    → IsInOrder nat_cmp (λ u. u.number) xs → IsWhole nat_cmp (λ u. u.number) outlet_in (old.now.trees 3)
+outlets_whole old new rows xs has h read order =
     let is = outlets_mean old.now.schema has in
     let r = reads_as outlets_text [] old new old.now.schema refl outlets_command is.command_is is.plain is.listing rows h in
     let m = members 3 [] (columns (0 ∷ 2 ∷ [])) (by_columns (0 ∷ [])) (overlay old.now.trees []) [] rows (r.answer Null) in
@@ -99,7 +99,7 @@ outlets_keyed old new rows xs has h read order =
       sound = λ x k. let it = m.sound x k in (it.0, it.1, refl, it.3);
       complete = λ r k _. m.complete r k refl;
     } in
-    keyed_read nat_cmp_total (λ u. u.number) outlet_in
+    whole_read nat_cmp_total (λ u. u.number) outlet_in
     (λ x. outlet_from (column x 0) (column x 1))
     (λ r. column r 0 ∷ column r 2 ∷ [])
     (λ r. refl) (old.now.trees 3) rows xs shows read order
@@ -112,11 +112,11 @@ items_mean =
     means items_text items_command first_items
     (record { command_is = items_is.0; listing = items_is.1; plain = items_is.2 })
 
-pub items_keyed : (old new : State) (rows : List Row) (xs : List _) → IsOfOffice old.now.schema
+pub items_whole : (old new : State) (rows : List Row) (xs : List _) → IsOfOffice old.now.schema
     → Shown items_text [] old new rows
     → AreRead (λ x. item_of (column x 0) (column x 1) (column x 2) (column x 3) (column x 4)) rows xs
-    → IsInOrder nat_cmp (λ i. i.code) xs → IsKeyed nat_cmp (λ i. i.code) item_in (old.now.trees 4)
-items_keyed old new rows xs has h read order =
+    → IsInOrder nat_cmp (λ i. i.code) xs → IsWhole nat_cmp (λ i. i.code) item_in (old.now.trees 4)
+items_whole old new rows xs has h read order =
     let is = items_mean old.now.schema has in
     let r = reads_as items_text [] old new old.now.schema refl items_command is.command_is is.plain is.listing rows h in
     let m = members 4 [] (columns (1 ∷ 2 ∷ 3 ∷ 4 ∷ 5 ∷ [])) (by_columns (1 ∷ [])) (overlay old.now.trees []) [] rows (r.answer Null) in
@@ -125,7 +125,7 @@ items_keyed old new rows xs has h read order =
       sound = λ x k. let it = m.sound x k in (it.0, it.1, refl, it.3);
       complete = λ r k _. m.complete r k refl;
     } in
-    keyed_read nat_cmp_total (λ i. i.code) item_in
+    whole_read nat_cmp_total (λ i. i.code) item_in
     (λ x. item_of (column x 0) (column x 1) (column x 2) (column x 3) (column x 4))
     (λ r. column r 1 ∷ column r 2 ∷ column r 3 ∷ column r 4 ∷ column r 5 ∷ [])
     (λ r. refl) (old.now.trees 4) rows xs shows read order
@@ -138,11 +138,11 @@ calendar_mean =
     means calendar_text calendar_command first_calendar
     (record { command_is = calendar_is.0; listing = calendar_is.1; plain = calendar_is.2 })
 
-pub calendar_keyed : (old new : State) (rows : List Row) (xs : List _) → IsOfOffice old.now.schema
+pub calendar_whole : (old new : State) (rows : List Row) (xs : List _) → IsOfOffice old.now.schema
     → Shown calendar_text [] old new rows
     → AreRead (λ x. calendar_from (column x 0) (column x 1) (column x 2) (column x 3)) rows xs
-    → IsInOrder nat_cmp (λ c. c.month) xs → IsKeyed nat_cmp (λ c. c.month) calendar_in (old.now.trees 10)
-calendar_keyed old new rows xs has h read order =
+    → IsInOrder nat_cmp (λ c. c.month) xs → IsWhole nat_cmp (λ c. c.month) calendar_in (old.now.trees 10)
+calendar_whole old new rows xs has h read order =
     let is = calendar_mean old.now.schema has in
     let r = reads_as calendar_text [] old new old.now.schema refl calendar_command is.command_is is.plain is.listing rows h in
     let m = members 10 [] (columns (0 ∷ 2 ∷ 3 ∷ 4 ∷ [])) (by_columns (0 ∷ [])) (overlay old.now.trees []) [] rows (r.answer Null) in
@@ -151,7 +151,7 @@ calendar_keyed old new rows xs has h read order =
       sound = λ x k. let it = m.sound x k in (it.0, it.1, refl, it.3);
       complete = λ r k _. m.complete r k refl;
     } in
-    keyed_read nat_cmp_total (λ c. c.month) calendar_in
+    whole_read nat_cmp_total (λ c. c.month) calendar_in
     (λ x. calendar_from (column x 0) (column x 1) (column x 2) (column x 3))
     (λ r. column r 0 ∷ column r 2 ∷ column r 3 ∷ column r 4 ∷ [])
     (λ r. refl) (old.now.trees 10) rows xs shows read order

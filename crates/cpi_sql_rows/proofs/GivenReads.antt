@@ -1,5 +1,5 @@
 -- What the statements show that read all assignments, and that of one slot.
-use Rattle.std.proofs.Common.{◌≡◌, ℕ, pos, List, [], ◌∷◌, true, None, Some, Option}
+use Rattle.std.proofs.Common.{◌≡◌, ℕ, pos, List, [], ◌∷◌, true, None, Some, Option, IsSome}
 use Rattle.std.proofs.Common.{refl, sym, ap, subst, ◌∙◌}
 use Rattle.std.specs.declared.cmp.Ordering.{Ordering}
 use Rattle.std.specs.declared.cmp.Ordering.TheVariants.{Equal}
@@ -20,10 +20,10 @@ use Rattle.cpi_store.specs.declared.given.Given.{Given}
 use Rattle.cpi_sql_rows.specs.Texts.{all_assignments_text, is_slot, slot_text}
 use Rattle.cpi_sql_rows.specs.Read.{AreRead}
 use Rattle.cpi_sql_rows.specs.Lists.{and_then, assignment_in, assignments_in, shown_given, shown_own}
-use Rattle.cpi_sql_rows.specs.Shelf.{HasTables}
+use Rattle.cpi_sql_rows.specs.Shelf.{HasTables, AllStand, SlotStands}
 use Rattle.cpi_sql_rows.proofs.Texts.{all_assignments_is, slot_is}
 use Rattle.cpi_sql_rows.proofs.Listed.{listed_in_order, listed_stands, stands_listed}
-use Rattle.cpi_sql_rows.proofs.Lists.{Shows, list_read, read_has, has_read, has_held, held_has, held_in_order, held_total}
+use Rattle.cpi_sql_rows.proofs.Lists.{Shows, list_read, read_has, has_read, stands_read, has_held, held_has, held_in_order, held_total}
 use Rattle.cpi_sql_rows.proofs.Lists.{bound_is, equal_number, same_number}
 use Rattle.cpi_sql_rows.proofs.GivenRows.{assignment_shape, slot_in, slot_of}
 use Rattle.cpi_sql_rows.proofs.Members.{has_row, row_of}
@@ -33,23 +33,34 @@ use Rattle.cpi_sql_rows.proofs.Whole.{asked}
 some_is : {X : Type 0} {x y : X} → ◌≡◌ {A = Option X} (Some x) (Some y) → x ≡ y
 some_is e = cc
 
-pub all_given_read : (old new : State) (rows : List Row) (xs : List (ℕ × Given)) → HasTables old
-    → Shown all_assignments_text [] old new rows → AreRead shown_given rows xs
-    → IsInOrder (held_cmp nat_cmp) (held_key (λ g. g.assignment.slot)) xs → xs ≡ assignments_in (old.now.trees 22)
-all_given_read old new rows xs has h read order =
-    let found = asked all_assignments_text 22 [] (1 ∷ 2 ∷ 3 ∷ 4 ∷ 5 ∷ 6 ∷ 7 ∷ 8 ∷ 9 ∷ []) (1 ∷ 2 ∷ []) _
-    all_assignments_is old new [] has.schema rows h in
-    let shows : Shows (λ r. true) assignment_shape (old.now.trees 22) rows = record {
-      sound = λ x k. let it = found.sound x k in (it.0, it.1, refl, it.3);
-      complete = λ r k _. found.complete r k refl;
-    } in
-    list_read (held_total nat_cmp_total) (held_key (λ (g : Given). g.assignment.slot)) assignment_in shown_given
-    assignment_shape (λ r. refl) (old.now.trees 22) rows xs has.assignments shows read order
+module _ (old new : State) (rows : List Row) (xs : List (ℕ × Given)) (has : HasTables old)
+    (h : Shown all_assignments_text [] old new rows) (read : AreRead shown_given rows xs) where
+  all_shows : Shows (λ r. true) assignment_shape (old.now.trees 22) rows
+  all_shows = let found = asked all_assignments_text 22 [] (1 ∷ 2 ∷ 3 ∷ 4 ∷ 5 ∷ 6 ∷ 7 ∷ 8 ∷ 9 ∷ []) (1 ∷ 2 ∷ []) _
+      all_assignments_is old new [] has.schema rows h in
+      record {
+        sound = λ x k. let it = found.sound x k in (it.0, it.1, refl, it.3);
+        complete = λ r k _. found.complete r k refl;
+      }
+
+  pub all_given_read : IsInOrder (held_cmp nat_cmp) (held_key (λ g. g.assignment.slot)) xs
+      → xs ≡ assignments_in (old.now.trees 22)
+  all_given_read order =
+      list_read (held_total nat_cmp_total) (held_key (λ (g : Given). g.assignment.slot)) assignment_in shown_given
+      assignment_shape (λ r. refl) (old.now.trees 22) rows xs has.assignments all_shows read order
+
+  pub all_given_stand : AllStand assignment_in (old.now.trees 22)
+  unfolding AllStand
+  all_given_stand r k = stands_read shown_given rows xs (assignment_shape r) read (all_shows.complete r k refl)
 
 pub all_given_plain : (s : State) → HasTables s → IsPlain (understood s.now.schema all_assignments_text)
 all_given_plain s has = subst (λ x. IsPlain (understood x all_assignments_text)) (sym has.schema) all_assignments_is.2
 
 -- ---- one slot
+
+shown_stands : (o : Option (ℕ × Given)) → IsSome (and_then o (λ y. Some y.1)) → IsSome o
+shown_stands (Some y) h = refl
+shown_stands None h = h
 
 module _ {X K : Type 0} {R : K → K → Ordering} (o : IsTotalOrder R) (key : X → K) (k : K)
     (level : (j : K) → R j k ≡ Equal → j ≡ k) where
@@ -105,6 +116,13 @@ module _ (old new : State) (c s : ℕ) (rows : List Row) (xs : List Given) (has 
       (equal_number (column it.0 2) s (slot.slot ∙ ap (λ n. Int (pos n)) is)) in
       has_read shown_own rows xs (assignment_shape it.0) g read (shows.complete it.0 it.1 passes)
       (ap (λ (o : Option (ℕ × Given)). and_then o (λ y. Some y.1)) slot.shown)
+
+  pub slot_stands : SlotStands c s old.now.trees
+  unfolding SlotStands
+  slot_stands r k holder place =
+      let read_own = stands_read shown_own rows xs (assignment_shape r) read
+      (shows.complete r k (and_from _ _ holder place)) in
+      shown_stands (shown_given (assignment_shape r)) read_own
 
   pub slot_read : IsInOrder nat_cmp (λ g. g.assignment.slot) xs
       → at (λ g. g.assignment.slot) s xs

@@ -1,6 +1,6 @@
 -- A table that was read whole, and the rows of one holder.
 use Rattle.std.proofs.Common.{◌≡◌, ◌≢◌, ◌⊎◌, inl, inr, ℕ, pos, negsuc, Bool, true, false, eqb, ◌&&◌, List, []}
-use Rattle.std.proofs.Common.{◌∷◌, Some, None, Option, refl, sym, ap, subst, ◌∙◌}
+use Rattle.std.proofs.Common.{◌∷◌, Some, None, Option, IsSome, refl, sym, ap, subst, ◌∙◌}
 use Rattle.std.specs.Prelude.{filter, nat_le, if◌then◌else◌}
 use Rattle.std.specs.declared.cmp.Ordering.{Ordering}
 use Rattle.std.specs.declared.cmp.Ordering.TheVariants.{Less, Equal, Greater}
@@ -47,6 +47,16 @@ module _ {X : Type 0} (stands : Row → Option X) where
       let later : AreRead stands rows xs = cc in
       let it = read_has rows xs x later h in
       (it.0, inr it.1, it.2)
+
+  -- each row that was read stands for something
+  pub stands_read : (rows : List Row) (xs : List X) (s : Row) → AreRead stands rows xs → Has rows s → IsSome (stands s)
+  stands_read [] xs s e h = absurd h
+  stands_read (r ∷ rows) [] s e h = cc
+  stands_read (r ∷ rows) (y ∷ xs) s e (inl same) =
+      let here : stands r ≡ Some y = cc in
+      subst (λ (o : Option X). IsSome o) (sym (ap stands same ∙ here)) refl
+  stands_read (r ∷ rows) (y ∷ xs) s e (inr h) = let later : AreRead stands rows xs = cc in
+      stands_read rows xs s later h
 
   pub has_read : (rows : List Row) (xs : List X) (s : Row) (x : X) → AreRead stands rows xs → Has rows s
       → stands s ≡ Some x → Has xs x

@@ -11,11 +11,11 @@ use Rattle.cpi_sql_rows.specs.Tables.{first_schema, office_schema}
 use Rattle.cpi_sql_rows.specs.Texts.{select}
 use Rattle.std.specs.Ordering.{nat_cmp}
 use Rattle.sqlite.specs.State.{State}
-use Rattle.cpi_sql_rows.specs.Making.{no_schema, HoldsNothing}
+use Rattle.cpi_sql_rows.specs.Making.{no_schema, HoldsNothing, IsNew}
 use Rattle.cpi_sql_rows.specs.Numbered.{IsVersion}
 use Rattle.cpi_sql_rows.specs.Lists.{collector_in, outlet_in, item_in, calendar_in, office_in}
 use Rattle.cpi_sql_rows.specs.FirstSchema.{first_office_in}
-use Rattle.cpi_sql_rows.specs.Shelf.{HasRowids, IsKeyed}
+use Rattle.cpi_sql_rows.specs.Shelf.{HasRowids, IsWhole}
 
 abbrev pub rowid_from : Value → Option Rowid
 rowid_from (Int n) = Some (record { number = n })
@@ -52,22 +52,48 @@ pub record HaveReleaseRowids (trees : Trees) : Type 0 where
   pub carried : HasRowids (trees 30)
   pub levels : HasRowids (trees 32)
 
+-- the same, in the tables of schema 1 whose rows schema 2 has anew
+pub record HaveFirstSurveyRowids (trees : Trees) : Type 0 where
+  pub assignments : HasRowids (trees 11)
+  pub quotes : HasRowids (trees 13)
+
+pub record HaveFirstReleaseRowids (trees : Trees) : Type 0 where
+  pub headers : HasRowids (trees 15)
+  pub frozen : HasRowids (trees 16)
+  pub carried : HasRowids (trees 18)
+  pub levels : HasRowids (trees 20)
+
+pub record HaveFirstRowids (trees : Trees) : Type 0 where
+  pub survey : HaveFirstSurveyRowids trees
+  pub releases : HaveFirstReleaseRowids trees
+
 pub record HaveRowids (trees : Trees) : Type 0 where
   pub plans : HavePlanRowids trees
   pub survey : HaveSurveyRowids trees
   pub releases : HaveReleaseRowids trees
 
--- no two rows of a small table have one key
-pub record AreKeyed (trees : Trees) : Type 0 where
-  pub collectors : IsKeyed nat_cmp (λ b. b.number) collector_in (trees 1)
-  pub outlets : IsKeyed nat_cmp (λ u. u.number) outlet_in (trees 3)
-  pub items : IsKeyed nat_cmp (λ i. i.code) item_in (trees 4)
-  pub calendar : IsKeyed nat_cmp (λ r. r.month) calendar_in (trees 10)
+-- the types take each row of a small table, and no two have one key
+pub record AreWhole (trees : Trees) : Type 0 where
+  pub collectors : IsWhole nat_cmp (λ b. b.number) collector_in (trees 1)
+  pub outlets : IsWhole nat_cmp (λ u. u.number) outlet_in (trees 3)
+  pub items : IsWhole nat_cmp (λ i. i.code) item_in (trees 4)
+  pub calendar : IsWhole nat_cmp (λ r. r.month) calendar_in (trees 10)
 
--- the rows of schema 1 stand in the tables of schema 2
+-- the tables of schema 1 whose rows schema 2 has anew hold nothing
+pub record AreCleared (trees : Trees) : Type 0 where
+  pub assignments : trees 11 ≡ []
+  pub quotes : trees 13 ≡ []
+  pub headers : trees 15 ≡ []
+  pub frozen : trees 16 ≡ []
+  pub carried : trees 18 ≡ []
+  pub levels : trees 20 ≡ []
+
+-- the rows of schema 1, whose number was 1, stand in the tables of schema 2, and no longer in their own
 pub record IsMigrated (old new : Trees) : Type 0 where
+  pub was : IsVersion 1 (old 0)
   pub office : office_in new ≡ first_office_in old
   pub version : IsVersion 2 (new 0)
+  pub cleared : AreCleared new
 
 -- what an open leaves: new tables where there was nothing, the tables of schema 2 as they were, or those of schema 1
 -- migrated; their number is 2
@@ -77,6 +103,10 @@ IsOpened old new =
     ⊎ (((old.now.schema ≡ office_schema) × (new.now ≡ old.now))
     ⊎ ((old.now.schema ≡ first_schema) × IsMigrated old.now.trees new.now.trees)))
     × IsVersion 2 (new.now.trees 0)
+
+-- whatever stands there endures: a crash leaves it
+abbrev pub IsSettled : State → Type 0
+IsSettled s = (db : Trees) → s.may_leave db → db ≡ s.now.trees
 
 abbrev pub IsFirst : Schema → Type 0
 IsFirst schema = schema ≡ first_schema
@@ -92,10 +122,11 @@ IsQuietOver Fits s = s.in_transaction ≡ false → Fits s.now.schema → ⊥
 abbrev pub IsQuiet : State → Type 0
 IsQuiet s = IsQuietOver IsOfOffice s
 
--- what an open may commit: the tables of an office that holds nothing, where nothing was, or schema 1 migrated
+-- what an open may commit: the tables of an office that holds nothing, with their number, where nothing was, or
+-- schema 1 migrated
 abbrev pub MayBeMade : State → Trees → Type 0
 MayBeMade old db =
-    ((old.now.schema ≡ no_schema) × HoldsNothing db)
+    ((old.now.schema ≡ no_schema) × IsNew db)
     ⊎ ((old.now.schema ≡ first_schema) × IsMigrated old.now.trees db)
 
 -- the tables that schema 2 took over are as they were

@@ -79,6 +79,10 @@ pub record IsBlank (s : State) : Type 0 where
 unfoldable pub HoldsNothing : Trees → Type 0
 HoldsNothing trees = office_in trees ≡ empty_office
 
+-- the rows of an office that holds nothing, with the number of its schema
+abbrev pub IsNew : Trees → Type 0
+IsNew trees = HoldsNothing trees × IsVersion 2 (trees 0)
+
 -- the schemas on the way, each with one table more
 abbrev pub stage_1 : Schema
 stage_1 = created no_schema version

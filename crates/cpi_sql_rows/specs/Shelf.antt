@@ -1,11 +1,12 @@
 -- What contracts see of a book over a database, and what it keeps true.
-use Rattle.std.specs.Prelude.{◌≡◌, ℕ, Bool, false, List, Option, Some, IsTrue, refl}
+use Rattle.std.specs.Prelude.{◌≡◌, ℕ, pos, Bool, true, false, List, Option, Some, IsSome, IsTrue, refl}
 use Rattle.std.specs.Coded.{Coded, code_by, coded×, coded_ℕ}
 use Rattle.std.specs.Ordering.{nat_cmp, is_eq}
 use Rattle.std.specs.declared.cmp.Ordering.{Ordering}
 use Rattle.std.specs.declared.cmp.Ordering.TheVariants.{Equal}
 use Rattle.sqlite.specs.declared.types.Value.{Value}
-use Rattle.sqlite.specs.Order.{Row, value_cmp}
+use Rattle.sqlite.specs.declared.types.Value.TheVariants.{Int}
+use Rattle.sqlite.specs.Order.{Row, column, value_cmp}
 use Rattle.sqlite.specs.Tree.{Trees, rowid}
 use Rattle.sqlite_trees.specs.declared.store.Store.{Ghosts}
 use Rattle.sqlite_trees.specs.View.{is_int}
@@ -19,6 +20,7 @@ use Rattle.cpi_release.specs.FrozenMonths.{release_cmp}
 use Rattle.cpi_rows.specs.Keyed.{IsInOrder}
 use Rattle.cpi_rows.specs.Held.{held_cmp, held_key}
 use Rattle.cpi_store.specs.declared.bearer.Bearer.{Bearer}
+use Rattle.cpi_store.specs.declared.given.Given.{Given}
 use Rattle.cpi_store.specs.declared.outlet.Outlet.{Outlet}
 use Rattle.cpi_survey.specs.Public.{PublicPart}
 use Rattle.cpi_survey.specs.Own.{OwnPart}
@@ -30,7 +32,7 @@ use Rattle.cpi_index.specs.Series.{frozen_serial, carried_serial}
 use Rattle.cpi_sql_rows.specs.Tables.{office_schema}
 use Rattle.cpi_sql_rows.specs.Lists.{office_in, collector_in, outlet_in, item_in, calendar_in, assignment_in}
 use Rattle.cpi_sql_rows.specs.Lists.{quote_in, node_in, place_in, reference_row, header_in, header_key, frozen_in, carried_in, level_in}
-use Rattle.cpi_sql_rows.specs.Lists.{collectors_in, outlets_in, headers_in}
+use Rattle.cpi_sql_rows.specs.Lists.{collectors_in, outlets_in, headers_in, assignments_in, month_at}
 use Rattle.cpi_sql_rows.specs.LevelTables.{ReleaseLevels, AreTablesOf}
 use Rattle.cpi_sql_rows.specs.declared.release_rows.Header.{Header}
 
@@ -55,6 +57,27 @@ HasRowids rows = ((r : Row) → Has rows r → IsTrue (is_int (rowid r)))
 unfoldable pub IsKeyed : {X K : Type 0} → (K → K → Ordering) → (X → K) → (Row → Option X) → List Row → Type 0
 IsKeyed {X} cmp key entry rows = (r s : Row) (x y : X) → Has rows r → Has rows s → entry r ≡ Some x → entry s ≡ Some y
     → cmp (key x) (key y) ≡ Equal → x ≡ y
+
+-- each row stands for something: the types take it
+unfoldable pub AllStand : {X : Type 0} → (Row → Option X) → List Row → Type 0
+AllStand entry rows = (r : Row) → Has rows r → IsSome (entry r)
+
+-- each row of that slot of the collector stands for an assignment
+unfoldable pub SlotStands : ℕ → ℕ → Trees → Type 0
+SlotStands collector slot trees = (r : Row) → Has (trees 22) r → equals (column r 1) (Int (pos collector)) ≡ true
+    → equals (column r 2) (Int (pos slot)) ≡ true → IsSome (assignment_in r)
+
+-- each row of that month, in the slot of an assignment, stands for a quote
+unfoldable pub MonthStands : ℕ → Trees → Type 0
+MonthStands month trees = (c n : ℕ) (g : Given) → Has (assignments_in (trees 22)) (c, g) → month_at n ≡ Some month
+    → (q : Row) → Has (trees 24) q → column q 1 ≡ Int (pos c) → column q 2 ≡ Int (pos g.assignment.slot)
+    → column q 3 ≡ Int (pos n) → IsSome (quote_in q)
+
+-- each row stands for something, and no two have one key
+pub record IsWhole {X K : Type 0} (cmp : K → K → Ordering) (key : X → K) (entry : Row → Option X) (rows : List Row)
+    : Type 0 where
+  pub keyed : IsKeyed cmp key entry rows
+  pub stand : AllStand entry rows
 
 -- the tables of the plans
 pub record HasPlans (trees : Trees) : Type 0 where

@@ -7,8 +7,8 @@ ghost use Rattle.cpi_codes.specs.declared.series.SeriesId.{SeriesId};
 ghost use Rattle.cpi_rows.specs.Held.{held_by};
 ghost use Rattle.cpi_rows.specs.Keyed.{IsInOrder, at};
 ghost use Rattle.cpi_store.specs.Series.{last_known, last_of_series};
-ghost use Rattle.cpi_sql_rows.specs.Lists.{assignments_in};
-ghost use Rattle.cpi_sql_rows.specs.Shelf.{HasTables, IsCleanBook, IsKept};
+ghost use Rattle.cpi_sql_rows.specs.Lists.{assignment_in, assignments_in};
+ghost use Rattle.cpi_sql_rows.specs.Shelf.{AllStand, HasTables, IsCleanBook, IsKept, SlotStands};
 
 use crate::rows::{read_assignment, read_collector, read_series};
 use crate::stored::{Stored, Unread, list};
@@ -87,6 +87,8 @@ fn all_given<S: Alter>(conn: &mut Connection<S>, alloc: Global) -> Result<Vec<Gi
         → IsKept (state S.Store conn.old) (state S.Store conn.new) }
     ensures read { IsCleanBook (state S.Store conn.new) → HasTables (state S.Store conn.old)
         → IfOk result (λ xs. xs.items ≡ assignments_in ((state S.Store conn.old).now.trees 22)) }
+    ensures stand { IsCleanBook (state S.Store conn.new) → HasTables (state S.Store conn.old)
+        → OnOk result (AllStand assignment_in ((state S.Store conn.old).now.trees 22)) }
     ensures open { HasCleanDisk (state S.Store conn.new) → OnOk result (IsTrue (state S.Store conn.new).is_open) }
     ensures crash { Survives (state S.Store conn.old) (state S.Store conn.new)
         (λ _. HasTables (state S.Store conn.old) → ⊥) }
@@ -114,6 +116,8 @@ pub fn series_ends<S: Alter>(conn: &mut Connection<S>, alloc: Global) -> Result<
     ensures read { IsCleanBook (state S.Store conn.new) → HasTables (state S.Store conn.old)
         → IfOk result (λ ends. (s : SeriesId) →
         last_known ends s ≡ last_of_series s (assignments_in ((state S.Store conn.old).now.trees 22))) }
+    ensures stand { IsCleanBook (state S.Store conn.new) → HasTables (state S.Store conn.old)
+        → OnOk result (AllStand assignment_in ((state S.Store conn.old).now.trees 22)) }
     ensures open { HasCleanDisk (state S.Store conn.new) → OnOk result (IsTrue (state S.Store conn.new).is_open) }
     ensures crash { Survives (state S.Store conn.old) (state S.Store conn.new)
         (λ _. HasTables (state S.Store conn.old) → ⊥) }
@@ -141,6 +145,8 @@ fn slot_rows<S: Alter>(
         ≡ at (λ g. g.assignment.slot) slot
         (held_by collector (assignments_in ((state S.Store conn.old).now.trees 22)))) }
     ensures order { IfOk result (λ xs. IsInOrder nat_cmp (λ g. g.assignment.slot) xs.items) }
+    ensures stand { IsCleanBook (state S.Store conn.new) → HasTables (state S.Store conn.old)
+        → OnOk result (SlotStands collector slot (state S.Store conn.old).now.trees) }
     ensures open { HasCleanDisk (state S.Store conn.new) → OnOk result (IsTrue (state S.Store conn.new).is_open) }
     ensures crash { Survives (state S.Store conn.old) (state S.Store conn.new)
         (λ _. HasTables (state S.Store conn.old) → ⊥) }
@@ -163,6 +169,8 @@ pub fn given_to<S: Alter>(
     ensures read { IsCleanBook (state S.Store conn.new) → HasTables (state S.Store conn.old)
         → IfOk result (λ found. found ≡ at (λ g. g.assignment.slot) slot
         (held_by collector (assignments_in ((state S.Store conn.old).now.trees 22)))) }
+    ensures stand { IsCleanBook (state S.Store conn.new) → HasTables (state S.Store conn.old)
+        → OnOk result (SlotStands collector slot (state S.Store conn.old).now.trees) }
     ensures open { HasCleanDisk (state S.Store conn.new) → OnOk result (IsTrue (state S.Store conn.new).is_open) }
     ensures crash { Survives (state S.Store conn.old) (state S.Store conn.new)
         (λ _. HasTables (state S.Store conn.old) → ⊥) }

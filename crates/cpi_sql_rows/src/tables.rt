@@ -4,7 +4,7 @@ ghost use Rattle.std.specs.Ordering.{nat_cmp};
 ghost use Rattle.sqlite.specs.Held.{state};
 ghost use Rattle.sqlite.specs.State.{HasCleanDisk, Survives};
 ghost use Rattle.cpi_rows.specs.Keyed.{IsInOrder};
-ghost use Rattle.cpi_sql_rows.specs.Shelf.{IsCleanBook, IsKept, IsKeyed, HasTables};
+ghost use Rattle.cpi_sql_rows.specs.Shelf.{IsCleanBook, IsKept, IsWhole, HasTables};
 ghost use Rattle.cpi_sql_rows.specs.Finding.{IsOfOffice, IsQuiet};
 ghost use Rattle.cpi_sql_rows.specs.Lists.{collectors_in, outlets_in, items_in, calendar_rows_in, collector_in};
 ghost use Rattle.cpi_sql_rows.specs.Lists.{outlet_in, item_in, calendar_in};
@@ -30,8 +30,8 @@ pub fn bearers<S: Alter>(conn: &mut Connection<S>, alloc: Global) -> Result<Vec<
     ensures found_kept { IsCleanBook (state S.Store conn.new) → (state S.Store conn.old).in_transaction ≡ false
         → IsOfOffice (state S.Store conn.old).now.schema
         → IsKept (state S.Store conn.old) (state S.Store conn.new) }
-    ensures found_keyed { IsCleanBook (state S.Store conn.new) → IsOfOffice (state S.Store conn.old).now.schema
-        → OnOk result (IsKeyed nat_cmp (λ b. b.number) collector_in ((state S.Store conn.old).now.trees 1)) }
+    ensures found_whole { IsCleanBook (state S.Store conn.new) → IsOfOffice (state S.Store conn.old).now.schema
+        → OnOk result (IsWhole nat_cmp (λ b. b.number) collector_in ((state S.Store conn.old).now.trees 1)) }
     ensures open { HasCleanDisk (state S.Store conn.new) → OnOk result (IsTrue (state S.Store conn.new).is_open) }
     ensures found_crash { Survives (state S.Store conn.old) (state S.Store conn.new)
         (λ _. IsQuiet (state S.Store conn.old)) }
@@ -54,8 +54,8 @@ pub fn outlets<S: Alter>(conn: &mut Connection<S>, alloc: Global) -> Result<Vec<
     ensures found_kept { IsCleanBook (state S.Store conn.new) → (state S.Store conn.old).in_transaction ≡ false
         → IsOfOffice (state S.Store conn.old).now.schema
         → IsKept (state S.Store conn.old) (state S.Store conn.new) }
-    ensures found_keyed { IsCleanBook (state S.Store conn.new) → IsOfOffice (state S.Store conn.old).now.schema
-        → OnOk result (IsKeyed nat_cmp (λ u. u.number) outlet_in ((state S.Store conn.old).now.trees 3)) }
+    ensures found_whole { IsCleanBook (state S.Store conn.new) → IsOfOffice (state S.Store conn.old).now.schema
+        → OnOk result (IsWhole nat_cmp (λ u. u.number) outlet_in ((state S.Store conn.old).now.trees 3)) }
     ensures open { HasCleanDisk (state S.Store conn.new) → OnOk result (IsTrue (state S.Store conn.new).is_open) }
     ensures found_crash { Survives (state S.Store conn.old) (state S.Store conn.new)
         (λ _. IsQuiet (state S.Store conn.old)) }
@@ -78,8 +78,8 @@ pub fn items<S: Alter>(conn: &mut Connection<S>, alloc: Global) -> Result<Vec<It
     ensures found_kept { IsCleanBook (state S.Store conn.new) → (state S.Store conn.old).in_transaction ≡ false
         → IsOfOffice (state S.Store conn.old).now.schema
         → IsKept (state S.Store conn.old) (state S.Store conn.new) }
-    ensures found_keyed { IsCleanBook (state S.Store conn.new) → IsOfOffice (state S.Store conn.old).now.schema
-        → OnOk result (IsKeyed nat_cmp (λ i. i.code) item_in ((state S.Store conn.old).now.trees 4)) }
+    ensures found_whole { IsCleanBook (state S.Store conn.new) → IsOfOffice (state S.Store conn.old).now.schema
+        → OnOk result (IsWhole nat_cmp (λ i. i.code) item_in ((state S.Store conn.old).now.trees 4)) }
     ensures open { HasCleanDisk (state S.Store conn.new) → OnOk result (IsTrue (state S.Store conn.new).is_open) }
     ensures found_crash { Survives (state S.Store conn.old) (state S.Store conn.new)
         (λ _. IsQuiet (state S.Store conn.old)) }
@@ -105,8 +105,8 @@ pub fn calendar<S: Alter>(
     ensures found_kept { IsCleanBook (state S.Store conn.new) → (state S.Store conn.old).in_transaction ≡ false
         → IsOfOffice (state S.Store conn.old).now.schema
         → IsKept (state S.Store conn.old) (state S.Store conn.new) }
-    ensures found_keyed { IsCleanBook (state S.Store conn.new) → IsOfOffice (state S.Store conn.old).now.schema
-        → OnOk result (IsKeyed nat_cmp (λ r. r.month) calendar_in ((state S.Store conn.old).now.trees 10)) }
+    ensures found_whole { IsCleanBook (state S.Store conn.new) → IsOfOffice (state S.Store conn.old).now.schema
+        → OnOk result (IsWhole nat_cmp (λ r. r.month) calendar_in ((state S.Store conn.old).now.trees 10)) }
     ensures open { HasCleanDisk (state S.Store conn.new) → OnOk result (IsTrue (state S.Store conn.new).is_open) }
     ensures found_crash { Survives (state S.Store conn.old) (state S.Store conn.new)
         (λ _. IsQuiet (state S.Store conn.old)) }

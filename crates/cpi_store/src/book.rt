@@ -1,4 +1,4 @@
-ghost use Rattle.std.specs.Prelude.{◌≡◌, ◌<◌, ◌≤◌, IsOk, IsSome, None, Some, false, map, option_map};
+ghost use Rattle.std.specs.Prelude.{◌≡◌, ◌<◌, ◌≤◌, IsOk, IsSome, None, Some, false, true, map, option_map};
 ghost use Rattle.std.specs.Option.{option_copied};
 
 use crate::bearer::Bearer;
@@ -47,6 +47,7 @@ pub trait Book: Groups {
     ghost use Rattle.cpi_store.specs.Sources.{office_sources};
     ghost use Rattle.cpi_store.specs.Tables.{table_until};
     ghost use Rattle.cpi_release.specs.Cached.{IsFit};
+    ghost use Rattle.cpi_index.specs.Series.{is_by_series, frozen_serial};
     ghost use Rattle.cpi_plan.specs.Plan.{has_unknown};
     ghost use Rattle.cpi_rows.specs.Held.{held_by};
     ghost use Rattle.cpi_rows.specs.Keyed.{IsInOrder, at, row_at};
@@ -129,7 +130,7 @@ pub trait Book: Groups {
     /// has two in the month.
     fn month_rows(&mut self, month: Month) -> Result<Vec<FrozenQuote>, StoreFault>
         ensures reads { Reads (state self.old) (state self.new) result (λ found.
-            IsFit (office_sources (state self.old).held) →
+            is_by_series frozen_serial (month_rows month (state self.old).held) ≡ true →
             found.items ≡ month_rows month (state self.old).held) };
 
     /// The months and revisions whose tables are published by the moment, each with its moment of publishing, by month

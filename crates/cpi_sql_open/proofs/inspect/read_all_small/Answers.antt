@@ -4,7 +4,7 @@ use Rattle.sqlite.specs.Held.{state}
 use Rattle.sqlite.specs.Effect.{Database}
 use Rattle.cpi_sql_rows.specs.Finding.{IsOfOffice}
 use Rattle.cpi_sql_rows.specs.Lists.{outlet_in, item_in, calendar_in}
-use Rattle.cpi_sql_rows.specs.Shelf.{IsKeyed}
+use Rattle.cpi_sql_rows.specs.Shelf.{IsWhole}
 use Rattle.cpi_sql_rows.proofs.Kept.{kept_then}
 use Rattle.cpi_sql_rows.proofs.FoundTables.{schema_after, quiet_then, step_kept}
 use Rattle.cpi_sql_open.proofs.inspect.read_all_small.Goals as goal
@@ -125,8 +125,8 @@ returns-clause-crash g c =
     c.items.ensures.found_crash)
     c.calendar.ensures.found_crash)
 
-pub returns-clause-keyed : goal.returns-clause-keyed
-returns-clause-keyed g c = λ clean alone has.
+pub returns-clause-whole : goal.returns-clause-whole
+returns-clause-whole g c = λ clean alone has.
     let start = state g.S.Store c.args.conn.now in
     let s_1 = state g.S.Store c.bearers.new.conn in
     let s_2 = state g.S.Store c.outlets.new.conn in
@@ -143,11 +143,11 @@ returns-clause-keyed g c = λ clean alone has.
     let has_3 = schema_after IsOfOffice s_2 s_3 kept_3 has_2 in
     let both_3 = kept_then start s_2 s_3 both_2 kept_3 in
     record {
-      collectors = c.in_ok-_bearers.ensures.found_keyed clean_1 has;
-      outlets = subst (λ (d : Database). IsKeyed nat_cmp (λ u. u.number) outlet_in (d.trees 3)) kept_1.now
-          (c.in_ok-_outlets.ensures.found_keyed clean_2 has_1);
-      items = subst (λ (d : Database). IsKeyed nat_cmp (λ i. i.code) item_in (d.trees 4)) both_2.now
-          (c.in_ok-_items.ensures.found_keyed clean_3 has_2);
-      calendar = subst (λ (d : Database). IsKeyed nat_cmp (λ r. r.month) calendar_in (d.trees 10)) both_3.now
-          (c.in_ok-_calendar.ensures.found_keyed clean has_3);
+      collectors = c.in_ok-_bearers.ensures.found_whole clean_1 has;
+      outlets = subst (λ (d : Database). IsWhole nat_cmp (λ u. u.number) outlet_in (d.trees 3)) kept_1.now
+          (c.in_ok-_outlets.ensures.found_whole clean_2 has_1);
+      items = subst (λ (d : Database). IsWhole nat_cmp (λ i. i.code) item_in (d.trees 4)) both_2.now
+          (c.in_ok-_items.ensures.found_whole clean_3 has_2);
+      calendar = subst (λ (d : Database). IsWhole nat_cmp (λ r. r.month) calendar_in (d.trees 10)) both_3.now
+          (c.in_ok-_calendar.ensures.found_whole clean has_3);
     }

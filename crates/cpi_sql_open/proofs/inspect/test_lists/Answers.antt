@@ -20,10 +20,10 @@ returns-clause-crash g c =
     c.read_all_small.ensures.crash
     c.scan_plans.ensures.crash)
 
-pub returns-clause-keyed : goal.returns-clause-keyed
-returns-clause-keyed g c = λ clean alone has.
+pub returns-clause-whole : goal.returns-clause-whole
+returns-clause-whole g c = λ clean alone has.
     let clean_1 = c.scan_plans.ensures.clean clean in
-    on_any c.scan_plans.result _ (c.in_ok-read_all_small.ensures.keyed clean_1 alone has)
+    on_any c.scan_plans.result _ (c.in_ok-read_all_small.ensures.whole clean_1 alone has)
 
 pub returns-clause-rise : goal.returns-clause-rise
 returns-clause-rise g c = λ clean alone has.

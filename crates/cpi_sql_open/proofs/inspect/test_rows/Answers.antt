@@ -3,7 +3,7 @@ use Rattle.sqlite.specs.Held.{state}
 use Rattle.sqlite.specs.Effect.{Database}
 use Rattle.cpi_sql_rows.specs.Finding.{IsSecond, HaveSurveyRowids, HaveReleaseRowids}
 use Rattle.cpi_sql_rows.proofs.Kept.{kept_then}
-use Rattle.cpi_sql_rows.proofs.FoundTables.{schema_after, on_more, found_tables, quiet_then, step_kept, second_keeps}
+use Rattle.cpi_sql_rows.proofs.FoundTables.{schema_after, on_any, on_more, found_tables, quiet_then, step_kept, second_keeps}
 use Rattle.cpi_sql_rows.proofs.FoundTables.{second_quiet}
 use Rattle.cpi_sql_open.proofs.inspect.test_rows.Goals as goal
 
@@ -70,10 +70,15 @@ returns-clause-tables g c = λ clean alone has live.
     let was = c.test_lists.ensures.clean clean_1 in
     on_more c.scan_releases.result _ _ (c.scan_releases.ensures.rise clean kept_2.alone has_2)
     (λ rise. found_tables start alone has was.is_open live
-    (c.in_ok-test_lists.ensures.keyed clean_1 alone (inr has))
+    (c.in_ok-test_lists.ensures.whole clean_1 alone (inr has))
     (record {
       plans = c.in_ok-test_lists.ensures.rise clean_1 alone (inr has);
       survey = subst (λ (d : Database). HaveSurveyRowids d.trees) kept_1.now
           (c.in_ok-scan_survey.ensures.rise clean_2 kept_1.alone has_1);
       releases = subst (λ (d : Database). HaveReleaseRowids d.trees) both_2.now rise;
     }))
+
+pub returns-clause-whole : goal.returns-clause-whole
+returns-clause-whole g c = λ clean alone has.
+    let clean_1 = c.scan_survey.ensures.clean (c.scan_releases.ensures.clean clean) in
+    on_any c.scan_releases.result _ (c.in_ok-test_lists.ensures.whole clean_1 alone (inr has))

@@ -1,7 +1,7 @@
 use Rattle.std.proofs.Common.{inl}
 use Rattle.sqlite.specs.Held.{state}
 use Rattle.sqlite.proofs.StateLemmas.{survives_weaker}
-use Rattle.cpi_sql_open.proofs.MakeLemmas.{blank_tables, blank_office}
+use Rattle.cpi_sql_open.proofs.MakeLemmas.{blank_tables, blank_whole, blank_office}
 use Rattle.cpi_sql_open.proofs.open.open_office.Goals as goal
 
 pub returns-in-Ok-clause-ready : goal.returns-in-Ok-clause-ready
@@ -26,3 +26,7 @@ returns-in-Ok-clause-opened g c = λ clean.
     let none = c.is_blank.ensures c.if-is_blank.true in
     let blank = c.in-Ok.ensures.made clean.disk none in
     (inl (none, blank_office (state g.S.Store c.make_tables.new.conn) blank), blank.version)
+
+pub returns-in-Ok-clause-whole : goal.returns-in-Ok-clause-whole
+returns-in-Ok-clause-whole g c = λ clean. blank_whole (state g.S.Store c.make_tables.new.conn)
+    (c.in-Ok.ensures.made clean.disk (c.is_blank.ensures c.if-is_blank.true))

@@ -1,7 +1,8 @@
 use Rattle.sqlite.specs.Held.{state}
 use Rattle.cpi_sql_reads.specs.MonthRows.{month_rows_text}
 use Rattle.cpi_sql_rows.proofs.Whole.{both_ok, asked_crash}
-use Rattle.cpi_sql_reads.proofs.MonthRowLemmas.{month_read, month_plain}
+use Rattle.cpi_sql_rows.proofs.FoundWhole.{on_both}
+use Rattle.cpi_sql_reads.proofs.MonthRowLemmas.{month_read, month_stands, month_plain}
 use Rattle.cpi_sql_reads.proofs.month_quotes.month_quotes.Goals as goal
 
 pub returns-clause-kept : goal.returns-clause-kept
@@ -18,3 +19,10 @@ returns-clause-read g c = λ clean has.
 pub returns-clause-crash : goal.returns-clause-crash
 returns-clause-crash g c = asked_crash month_rows_text (state g.S.Store c.args.conn.now)
     (state g.S.Store c.list.new.conn) _ (month_plain (state g.S.Store c.args.conn.now)) c.list.ensures.crash
+
+pub returns-clause-stand : goal.returns-clause-stand
+returns-clause-stand g c = λ clean has.
+    on_both c.list.result _ _ _ (c.list.ensures.read clean.disk) c.list.ensures.order
+    (λ xs it order. month_stands (state g.S.Store c.args.conn.now) has c.args.month c.month_number-number.result
+    c.month_number-number.ensures
+    (state g.S.Store c.list.new.conn) it.0 xs.items (rw c.params-to_sql.ensures at it.1) it.2)

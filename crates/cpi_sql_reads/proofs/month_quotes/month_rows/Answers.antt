@@ -7,6 +7,8 @@ use Rattle.cpi_store.specs.Office.{stored_rows}
 use Rattle.cpi_store.specs.Series.{by_series}
 use Rattle.cpi_sql_rows.specs.Lists.{assignments_in, office_in, quotes_in}
 use Rattle.cpi_sql_reads.specs.MonthRows.{frozen_by, month_quotes}
+use Rattle.cpi_sql_rows.specs.Shelf.{MonthStands}
+use Rattle.cpi_sql_rows.proofs.FoundTables.{on_any}
 use Rattle.cpi_sql_rows.proofs.Kept.{kept_tables}
 use Rattle.cpi_sql_reads.proofs.Looking.{shown_then}
 use Rattle.cpi_sql_reads.proofs.SeriesRows.{frozen_are}
@@ -42,3 +44,15 @@ returns-clause-read g c = λ clean has.
     ∙ frozen_are month (quotes_in (a.now.trees 24)) (assignments_in (a.now.trees 22)) ends known in
     subst (λ (l : List Frozen). IfOk c.by_series.result (λ xs.
     is_by_series frozen_serial (by_series l) ≡ true → xs.items ≡ by_series l)) quotes c.by_series.ensures
+
+pub returns-clause-assigned : goal.returns-clause-assigned
+returns-clause-assigned g c = λ clean has.
+    on_any c.by_series.result _ (c.in_ok-ends.ensures.stand (c.in_ok-rows.ensures.clean clean) has)
+
+pub returns-clause-stand : goal.returns-clause-stand
+returns-clause-stand g c = λ clean has.
+    let a = state g.S.Store c.args.conn.now in
+    let b = state g.S.Store c.series_ends.new.conn in
+    let kept = c.in_ok-ends.ensures.kept (c.in_ok-rows.ensures.clean clean) has in
+    on_any c.by_series.result _ (subst (λ (d : Database). MonthStands c.args.month d.trees) kept.now
+    (c.in_ok-rows.ensures.stand clean (kept_tables a b kept has)))

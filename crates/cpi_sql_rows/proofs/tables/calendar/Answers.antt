@@ -1,7 +1,7 @@
 use Rattle.sqlite.specs.Held.{state}
 use Rattle.cpi_sql_rows.specs.Texts.{calendar_text}
 use Rattle.cpi_sql_rows.proofs.Whole.{both_ok, calendar_read, calendar_plain, asked_crash}
-use Rattle.cpi_sql_rows.proofs.FoundWhole.{on_both, found_crash, calendar_keyed, calendar_found}
+use Rattle.cpi_sql_rows.proofs.FoundWhole.{on_both, found_crash, calendar_whole, calendar_found}
 use Rattle.cpi_sql_rows.proofs.tables.calendar.Goals as goal
 
 pub returns-clause-kept : goal.returns-clause-kept
@@ -22,10 +22,10 @@ pub returns-clause-found_kept : goal.returns-clause-found_kept
 returns-clause-found_kept g c = λ clean alone has.
     c.list.ensures.kept clean alone (calendar_found (state g.S.Store c.args.conn.now) has)
 
-pub returns-clause-found_keyed : goal.returns-clause-found_keyed
-returns-clause-found_keyed g c = λ clean has.
+pub returns-clause-found_whole : goal.returns-clause-found_whole
+returns-clause-found_whole g c = λ clean has.
     on_both c.list.result _ _ _ (c.list.ensures.read clean.disk) c.list.ensures.order
-    (λ xs it order. calendar_keyed (state g.S.Store c.args.conn.now)
+    (λ xs it order. calendar_whole (state g.S.Store c.args.conn.now)
     (state g.S.Store c.list.new.conn) it.0 xs.items has it.1 it.2 order)
 
 pub returns-clause-found_crash : goal.returns-clause-found_crash

@@ -43,7 +43,8 @@ returns-in-Ok g c =
           (λ disk _. c.in-Ok.ensures.open disk) (λ clean.
           let st = c.self.invariant.stands (c.given_to.ensures.clean clean) in
           c.in-Ok.ensures.read clean st.tables);
-      always = λ no. absurd no;
+      stand = λ clean. c.in-Ok.ensures.stand clean
+          (c.self.invariant.stands (c.given_to.ensures.clean clean)).tables;
     })
 
 pub returns-in-Err : goal.returns-in-Err
@@ -55,5 +56,5 @@ returns-in-Err g c =
       reads = read_fails old new c.self.inside.failed.count (tables_of old _ c.self.invariant) _ _ _
           (looks old new c.given_to.ensures.clean c.given_to.ensures.kept c.given_to.ensures.crash)
           (omega (arith, c.counted.ensures.count));
-      always = λ no. absurd no;
+      stand = λ _. tt;
     })

@@ -43,7 +43,11 @@ returns-in-Ok g c =
           (state g.S.Store c.month_rows.new.conn) c.month_rows.ensures.clean c.month_rows.ensures.kept
           c.month_rows.ensures.crash) (λ disk _. c.in-Ok.ensures.open disk) (λ clean.
           let st = c.self.invariant.stands (c.month_rows.ensures.clean clean) in
-          λ fit. c.in-Ok.ensures.read clean st.tables (fit.1 c.args.month));
+          c.in-Ok.ensures.read clean st.tables);
+      assigned = λ clean. c.in-Ok.ensures.assigned clean
+          (c.self.invariant.stands (c.month_rows.ensures.clean clean)).tables;
+      stand = λ clean. c.in-Ok.ensures.stand clean
+          (c.self.invariant.stands (c.month_rows.ensures.clean clean)).tables;
     })
 
 pub returns-in-Err : goal.returns-in-Err
@@ -55,4 +59,6 @@ returns-in-Err g c =
       reads = read_fails old new c.self.inside.failed.count (tables_of old _ c.self.invariant) _ _ _
           (looks (state g.S.Store c.self.inside.conn) (state g.S.Store c.month_rows.new.conn) c.month_rows.ensures.clean
           c.month_rows.ensures.kept c.month_rows.ensures.crash) (omega (arith, c.counted.ensures.count));
+      assigned = λ _. tt;
+      stand = λ _. tt;
     })

@@ -1,8 +1,8 @@
-use Rattle.std.proofs.Common.{◌≡◌, refl, sym, ap, ◌∙◌, arith, subst}
-use Rattle.cpi_release.specs.Cached.{IsFit}
+use Rattle.std.proofs.Common.{◌≡◌, List, refl, sym, true, ap, ◌∙◌, arith, subst}
+use Rattle.cpi_index.specs.Frozen.{Frozen}
+use Rattle.cpi_index.specs.Series.{is_by_series, frozen_serial}
 use Rattle.cpi_store.specs.Office.{Office, month_rows}
 use Rattle.cpi_store.specs.Holders.{Kept, office_of}
-use Rattle.cpi_store.specs.Sources.{office_sources}
 use Rattle.cpi_store.proofs.vec_book.VecBookBook.month_rows.Goals as goal
 
 pub returns-in-Ok : goal.returns-in-Ok
@@ -14,9 +14,12 @@ returns-in-Ok c =
       reads = record {
         keeps = record { was_kept = λ k. tt; was_clean = λ k. tt; kept = λ k. refl; crash = λ _ _ _ x. x };
         stays = λ _ _. tt;
-        shown = λ k fit.
-            let own_fit : IsFit (office_sources o) = subst (λ u. IsFit (office_sources u)) (sym same) fit in
-            let found : c.in-Ok.found.items ≡ month_rows c.args.month o = (rw (c.deref.ensures.value, c.deref-2.ensures.value) at c.in-Ok.ensures) (own_fit.1 c.args.month) in
+        shown = λ k whole.
+            let rows : List Frozen = month_rows c.args.month o in
+            let own_whole : is_by_series frozen_serial rows ≡ true =
+            subst (λ (u : Office). is_by_series frozen_serial (month_rows c.args.month u) ≡ true) (sym same) whole in
+            let found : c.in-Ok.found.items ≡ rows =
+            (rw (c.deref.ensures.value, c.deref-2.ensures.value) at c.in-Ok.ensures) own_whole in
             found ∙ ap (month_rows c.args.month) same;
         count = omega arith;
         fault = tt;

@@ -1,6 +1,7 @@
+use Rattle.std.proofs.Common.{Err, ap, ◌∙◌}
 use Rattle.std.specs.Ordering.{nat_cmp}
 use Rattle.cpi_rows.proofs.Places.{none_in_order}
-use Rattle.cpi_sql.proofs.sql_book.SqlBook.new.Goals as goal
+use Rattle.cpi_sql.proofs.sql_book.SqlBook.over.Goals as goal
 
 pub invariant_of-result : goal.invariant_of-result
 invariant_of-result g c = record {
@@ -18,3 +19,6 @@ invariant_of-result g c = record {
     };
   };
 }
+
+pub returns-in-Err-clause-unknown : goal.returns-in-Err-clause-unknown
+returns-in-Err-clause-unknown g c = λ clean is_unknown. c.open_office-found.ensures.unknown clean (c.in-Err.is ∙ ap Err is_unknown)
