@@ -19,8 +19,8 @@ impl GroupRow {
         ensures { result ≡ compared self.now }
     {
         match &self.mark {
-            Some(mark) => mark.checked_price(),
-            None => None,
+            Some(Mark::Price(price)) | Some(Mark::Comparable(price)) => Some(*price),
+            Some(Mark::Missing(_)) | Some(Mark::Other(_)) | None => None,
         }
     }
 

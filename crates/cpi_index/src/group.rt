@@ -3,7 +3,8 @@ ghost use Rattle.std.specs.Prelude.{◌≡◌, ◌≤◌, ◌<◌, ◌++◌, len
 ghost use Rattle.cpi_index.specs.Aggregate.{carried_rows, are_in_limits};
 ghost use Rattle.cpi_index.specs.Series.{is_by_series as are_by_series, row_serial};
 ghost use Rattle.cpi_index.specs.Group.{ticks_now, ticks_base, group_index, has_imputed, lack_of};
-ghost use Rattle.std.specs.Prelude.{true, false};
+ghost use Rattle.std.specs.Prelude.{true, false, Ok, Err};
+ghost use Rattle.cpi_index.specs.declared.lack.GroupLack.TheVariants.{PriceOutOfRange};
 
 use crate::aggregate::{lacks_match, movement};
 use crate::carried::CarriedPrice;
@@ -63,18 +64,19 @@ fn carry_rows(
 }
 
 /// The index of an elementary aggregate from the rows of its sample, with its carried prices behind those in
-/// `carried`; else what it lacks, and then nothing is said of `carried`. Rows that aren't by series count as a price
-/// outside its limits.
+/// `carried`; else what it lacks, and then nothing is said of `carried`. Of rows that aren't by series the answer is a
+/// price outside its limits.
 pub fn carry_group(
     rows: &[GroupRow],
     unchanged: bool,
     carried: &mut Vec<CarriedPrice>,
 ) -> Result<Result<GroupIndex, GroupLack>, AllocError>
-    ensures { are_by_series row_serial rows.now ≡ true → IfOk result (λ r. MatchResult r
+    ensures exact { are_by_series row_serial rows.now ≡ true → IfOk result (λ r. MatchResult r
         (λ g. (lack_of unchanged rows.now ≡ None) × (g.index ≡ group_index rows.now)
         × (g.imputed ≡ has_imputed rows.now)
         × (carried.new.items ≡ carried.old.items ++ carried_rows rows.now))
         (λ lack. lack_of unchanged rows.now ≡ Some lack)) }
+    ensures unfit { are_by_series row_serial rows.now ≡ false → result ≡ Ok (Err PriceOutOfRange) }
 {
     if rows.is_empty() {
         return Ok(Err(GroupLack::NoSample));

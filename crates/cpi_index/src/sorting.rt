@@ -44,10 +44,14 @@ fn put_in_order(carried: &mut Vec<CarriedPrice>) -> Result<bool, AllocError>
     Ok(are_in_order(carried))
 }
 
-/// Puts carried prices in the order of their series, and says whether no series comes twice. Where they are those of a
-/// list by series, they are that list then. O(n log n) for n prices.
+/// Puts carried prices in the order of their series, and says whether no series comes twice: false where one does.
+/// Where they are those of a list by series, they are that list then. O(n log n) for n prices.
 pub fn put_by_series(carried: &mut Vec<CarriedPrice>) -> Result<bool, AllocError>
-    ensures { IfOk result (λ b. (all : List Carried) → is_by_series carried_serial all ≡ true →
+    ensures moved { IsPermutation carried.old.items carried.new.items }
+    ensures once { IfOk result (λ b. MatchBool b
+        (IsInOrder nat_cmp carried_serial carried.new.items)
+        (IsDistinct (λ a b. is_eq (nat_cmp (carried_serial a) (carried_serial b))) carried.old.items → ⊥)) }
+    ensures list { IfOk result (λ b. (all : List Carried) → is_by_series carried_serial all ≡ true →
         IsPermutation all carried.old.items →
         (b ≡ true) × (carried.new.items ≡ all)) }
 {

@@ -26,7 +26,8 @@ abbrev pub IsReadFault : ℕ → ℕ → FreezeFault → Type 0
 IsReadFault old new Group = old < new
 IsReadFault old new (Index f) = f ≡ NoMemory
 
--- what the caller of a freeze owes: the plan of the year, and none at the first release alone; the quotes as they stand;
+-- what the caller of a freeze owes: the plan of the year, and none at the first release alone; the quotes as they
+-- stand;
 -- and, where there is a plan, that the month before was frozen
 pub record IsAsked (s : Sources) (plan : Option Plan) (x : Freeze) : Type 0 where
   pub plan_is : plan ≡ plan_of s.plans s.releases x.month

@@ -33,9 +33,13 @@ is_frozen month frozen = list_any (λ f. f.month == month) frozen
 abbrev pub is_year_frozen : ℕ → List FrozenMonth → Bool
 is_year_frozen year frozen = list_any (λ f. year_of f.month == year) frozen
 
--- whether an earlier month was frozen: only the first release has none
+-- whether an earlier month is among those of a list: only the first release has none
+abbrev pub is_after_any : {X : Type 0} → (X → ℕ) → List X → ℕ → Bool
+is_after_any month_of xs month = list_any (λ x. nat_lt (month_of x) month) xs
+
+-- whether an earlier month was frozen
 abbrev pub is_after_first : ℕ → List FrozenMonth → Bool
-is_after_first month frozen = list_any (λ f. nat_lt f.month month) frozen
+is_after_first month frozen = is_after_any (λ f. f.month) frozen month
 
 -- the last frozen month, in its latest revision
 abbrev pub last_frozen : List FrozenMonth → Option FrozenMonth
@@ -72,9 +76,13 @@ abbrev pub stays_frozen : ℕ → Option ℕ → List FrozenMonth → Bool
 stays_frozen month publishes frozen = is_frozen month frozen && not (is_reopened month publishes (last_frozen frozen))
 
 -- ---- plans
--- the plan of the month's year, which the first release doesn't use
+-- the plan by which a month is published: that of its year, and none for the first release
+abbrev pub plan_by : {X : Type 0} → (X → ℕ) → List Plan → List X → ℕ → Option Plan
+plan_by month_of plans xs month =
+    if is_after_any month_of xs month then at (λ y. y.year) (year_of month) plans else None
+
 abbrev pub plan_for : List Plan → List FrozenMonth → ℕ → Option Plan
-plan_for plans frozen month = if is_after_first month frozen then at (λ y. y.year) (year_of month) plans else None
+plan_for plans frozen month = plan_by (λ f. f.month) plans frozen month
 
 abbrev pub lacks_plan : List Plan → List FrozenMonth → ℕ → Bool
 lacks_plan plans frozen month = is_after_first month frozen && is_none (at (λ y. y.year) (year_of month) plans)

@@ -55,7 +55,8 @@ level_with n weight within link last year imputed = let level = chained_from lin
 
 abbrev pub level_row : Plan → List Release → ℕ → List Row → Node → Level
 level_row plan releases month rows n =
-    level_with n (weight_under n.code plan.weights) (within_year plan rows n.code) (link_of releases month n.code) (month_before releases month n.code)
+    level_with n (weight_under n.code plan.weights) (within_year plan rows n.code)
+    (link_of releases month n.code) (month_before releases month n.code)
     (year_before releases month n.code) (is_imputed_under plan rows n.code)
 
 abbrev pub table_of : Plan → List Release → ℕ → List Row → List Level

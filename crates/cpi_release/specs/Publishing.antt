@@ -14,6 +14,7 @@ use Rattle.cpi_index.specs.Row.{Row}
 use Rattle.cpi_index.specs.Series.{is_by_series, carried_serial, frozen_serial}
 use Rattle.cpi_index.specs.Month.{carry_month}
 use Rattle.cpi_index.specs.declared.fault.IndexFault.{IndexFault}
+use Rattle.cpi_release.specs.FrozenMonths.{is_after_any, plan_by}
 use Rattle.cpi_release.specs.Releases.{release_of, rows_in, plan_in_use, weights_fault_in}
 use Rattle.cpi_release.specs.MonthTable.{table_of, table_fault}
 use Rattle.cpi_release.specs.declared.level.Level.{Level}
@@ -38,13 +39,13 @@ freeze_of r = record {
   carry = r.carry;
 }
 
--- whether an earlier month was frozen: only the first release has none
+-- whether an earlier month was frozen
 abbrev pub has_earlier : List Release → ℕ → Bool
-has_earlier releases month = list_any (λ r. nat_lt r.month month) releases
+has_earlier releases month = is_after_any (λ r. r.month) releases month
 
--- the plan by which a month is published: none for the first release
+-- the plan by which a month is published
 abbrev pub plan_of : List Plan → List Release → ℕ → Option Plan
-plan_of plans releases month = if has_earlier releases month then at (λ p. p.year) (year_of month) plans else None
+plan_of plans releases month = plan_by (λ r. r.month) plans releases month
 
 -- the table of a month, by the weights in use
 abbrev pub table_in : Plan → List Release → ℕ → List Row → List Level
@@ -99,8 +100,8 @@ pub record IsOrdered (r : Release) : Type 0 where
   pub carried : is_by_series carried_serial r.carried ≡ true
   pub levels : IsInOrder code_cmp (λ l. l.code) r.levels
 
--- releases that a month can be read from: month follows month from a December, each once or in revisions that follow one
--- another, and the lists of the latest are in their order
+-- releases that a month can be read from: month follows month from a December, each once or in revisions that follow
+-- one another, and the lists of the latest are in their order
 pub record AreInOrder (releases : List Release) : Type 0 where
   pub months : AreMonths (map (λ r. r.month) releases)
   pub ordered : (month : ℕ) (r : Release) → release_of releases month ≡ Some r → IsOrdered r

@@ -10,6 +10,7 @@ use Rattle.cpi_index.specs.Carried.{Carried}
 use Rattle.cpi_index.specs.Frozen.{Frozen}
 use Rattle.cpi_index.specs.Row.{Row}
 use Rattle.cpi_index.specs.Sample.{bases_of_year}
+use Rattle.cpi_index.specs.Level.{link_level}
 use Rattle.cpi_index.specs.Month.{rows_of}
 use Rattle.cpi_index.specs.Weights.{effective_weights, weights_fault, with_weights}
 use Rattle.cpi_index.specs.declared.fault.IndexFault.{IndexFault}
@@ -78,9 +79,9 @@ abbrev pub rows_in : Plan → List Release → ℕ → List Frozen → List Row
 rows_in plan releases month frozen = rows_of (bases_in plan releases month) (before_in plan releases month) frozen
 
 -- ---- the levels that a month's level is linked to and compared with
--- the link level: the chained level of the link month, or 100 where it had none
+-- the link level of a node, by its chained level in the link month
 abbrev pub link_of : List Release → ℕ → Code → ℕ
-link_of releases month node = unwrap_or (level_at releases (link_month month) node) 100000000
+link_of releases month node = link_level (level_at releases (link_month month) node)
 
 -- the level that the monthly change is from: in January the link level
 abbrev pub month_before : List Release → ℕ → Code → ℕ

@@ -27,8 +27,9 @@ pub trait Groups {
     /// Whether it is sound: releases in their order, and quotes that fit them.
     ghost is_sound: { Held → Type 0 };
 
-    /// The rows of an aggregate's sample in a month after the last frozen one, by series: each with its quote's mark,
-    /// its base, and its carried price of the month before. `year` is the month's.
+    /// The rows of an aggregate's sample in a month whose month before was frozen, by series: each with its quote's
+    /// mark, its base, and its carried price of the month before. So the month follows the last frozen one, or is that
+    /// one again. `year` is the month's.
     fn rows(&mut self, year: u16, month: Month, code: Code) -> Result<Vec<GroupRow>, GroupFault>
         ensures { let h = (holds self.old).held in Reads (holds self.old) (holds self.new) result (λ rows.
             is_sound h → year ≡ year_of month → IsAfterFrozen (sources h) month →

@@ -1,4 +1,5 @@
-//! The table of a month: its rows, its changes, and how it is printed, as text and as CSV.
+//! The release of a month over a history or one aggregate at a time: its carried prices and its table; which months
+//! were frozen and which may be next; and how a table is printed, as text and as CSV.
 #![tactic(auto)]
 
 mod before;

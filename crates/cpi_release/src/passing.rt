@@ -92,7 +92,8 @@ pub(crate) fn add(
     requires imputed { (q : Code) → sum_at pass.old.imputed q < 2 ^ 64 }
     ensures most { OnOk result ((q : Code) → sum_at pass.new.sums q ≤ sum_at pass.old.sums q
         + (if is_at_or_below q weight.code then 10000000000000 * weight.parts else 0)) }
-    ensures within { OnOk result ((q : Code) → sum_at pass.new.sums q ≤ sum_at pass.old.sums q + 10000000000000000000000) }
+    ensures within { OnOk result ((q : Code) →
+        sum_at pass.new.sums q ≤ sum_at pass.old.sums q + 10000000000000000000000) }
     ensures few { OnOk result ((q : Code) → sum_at pass.new.imputed q ≤ sum_at pass.old.imputed q + 1) }
     ensures step { OnOk result (is_by_series row_serial rows.now ≡ true →
         IsStep unchanged rows.now weight pass.old pass.new) }

@@ -50,7 +50,8 @@ fn weight_levels<G: Groups>(
     ensures count { (G.holds groups.old).failures ≤ (G.holds groups.new).failures }
     ensures exact { (G.holds groups.new).is_clean → G.is_sound (G.holds groups.old).held →
         let releases = (G.sources (G.holds groups.old).held).releases in
-        IfOk result (λ v. v.items ≡ map (with_levels (level_at releases link) (level_at releases reference)) plan.now.weights) }
+        IfOk result (λ v. v.items
+        ≡ map (with_levels (level_at releases link) (level_at releases reference)) plan.now.weights) }
     ensures weights { IfOk result (λ v. map (λ l. l.weight) v.items ≡ plan.now.weights) }
     ensures fault { IfErr result (λ f. IsReadFault (G.holds groups.old).failures (G.holds groups.new).failures f) }
 {

@@ -94,8 +94,8 @@ fn over(
 
 impl Release {
     /// The release of a month, or its first fault, over the releases before it. The caller owes releases that follow
-    /// month by month from a December, with their lists in order; that the month comes after the last of them or is
-    /// the first; and quotes by series. O(n log m) for n series and m aggregates.
+    /// month by month from a December, with their lists in order; that the month before was frozen, or that no earlier
+    /// one was; and quotes by series. O(n log m) for n series and m aggregates.
     pub fn compute(
         alloc: Global,
         history: &History,

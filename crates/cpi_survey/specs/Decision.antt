@@ -1,5 +1,5 @@
 -- How an entry of a quote is decided.
-use Rattle.std.specs.Prelude.{ℕ, ◌+◌, nat_lt, nat_le, Option, Some, None, Result, Ok, Err, if◌then◌else◌}
+use Rattle.std.specs.Prelude.{ℕ, ◌+◌, nat_lt, nat_le, not, ◌&&◌, Option, Some, None, is_none, Result, Ok, Err, if◌then◌else◌}
 use Rattle.cpi_plan.specs.declared.items.Item.{Item}
 use Rattle.cpi_plan.specs.Calendar.{CalendarPart}
 use Rattle.cpi_survey.specs.declared.assignment.Assignment.{Assignment}
@@ -7,7 +7,8 @@ use Rattle.cpi_survey.specs.declared.assignment.Assigned.{Assigned}
 use Rattle.cpi_survey.specs.declared.decision.Decision.{Decision}
 use Rattle.cpi_survey.specs.declared.decision.Decision.TheVariants.{Again, Put}
 use Rattle.cpi_survey.specs.declared.refusal.Refusal.{Refusal}
-use Rattle.cpi_survey.specs.declared.refusal.Refusal.TheVariants.{UnknownSlot, UnknownMonth, NotActive, NotOpen, Closed, NoLastPrice, OutOfTolerance, ReceiptsUsedUp}
+use Rattle.cpi_survey.specs.declared.refusal.Refusal.TheVariants.{UnknownSlot, UnknownMonth, NotActive, NotOpen}
+use Rattle.cpi_survey.specs.declared.refusal.Refusal.TheVariants.{Closed, NoLastPrice, OutOfTolerance, ReceiptsUsedUp}
 use Rattle.cpi_survey.specs.declared.tolerance.Verdict.{Verdict}
 use Rattle.cpi_survey.specs.declared.tolerance.Verdict.TheVariants.{Inside, Outside}
 use Rattle.cpi_survey.specs.Assignment.{is_active}
@@ -47,7 +48,8 @@ once_checked entry (Ok _) greatest = with_receipt entry greatest
 once_checked entry (Err refusal) greatest = Err refusal
 
 -- the assignment's months, the window of the month, the check of the price, and the next receipt
-abbrev pub in_window : ℕ → EntryRow → CalendarPart → Assignment → Result (Unit {0}) Refusal → ℕ → Result Decision Refusal
+abbrev pub in_window : ℕ → EntryRow → CalendarPart → Assignment → Result (Unit {0}) Refusal → ℕ →
+    Result Decision Refusal
 in_window now entry row a check greatest =
     if is_active entry.month a then
     if nat_lt now row.opens then Err NotOpen
@@ -56,17 +58,20 @@ in_window now entry row a check greatest =
     else Err NotActive
 
 -- a month without a calendar row is unknown
-abbrev pub in_month : ℕ → EntryRow → Option CalendarPart → Assignment → Result (Unit {0}) Refusal → ℕ → Result Decision Refusal
+abbrev pub in_month : ℕ → EntryRow → Option CalendarPart → Assignment → Result (Unit {0}) Refusal → ℕ →
+    Result Decision Refusal
 in_month now entry None a check greatest = Err UnknownMonth
 in_month now entry (Some row) a check greatest = in_window now entry row a check greatest
 
 -- an entry that equals the stored quote is answered with its receipt, at any moment
-abbrev pub over_quote : ℕ → EntryRow → Option CalendarPart → Assignment → Option QuoteRow → Result (Unit {0}) Refusal → ℕ → Result Decision Refusal
+abbrev pub over_quote : ℕ → EntryRow → Option CalendarPart → Assignment → Option QuoteRow →
+    Result (Unit {0}) Refusal → ℕ → Result Decision Refusal
 over_quote now entry row a None check greatest = in_month now entry row a check greatest
 over_quote now entry row a (Some quote) check greatest =
     if is_same_mark quote.mark entry.mark then Ok (Again quote.receipt) else in_month now entry row a check greatest
 
--- what speaks against the price of an entry: the item is that of the assignment, the last price that of the assignment before the month
+-- what speaks against the price of an entry: the item is that of the assignment, the last price that of the assignment
+-- before the month
 abbrev pub check_of : EntryRow → PublicPart → OwnPart → Assignment → Result (Unit {0}) Refusal
 check_of entry public own a = checked entry (item_of a.item public) (last_price a entry.month own.quotes)
 
@@ -79,3 +84,49 @@ in_slot now entry public (Some a) own =
 -- how an entry is decided: the stored receipt of an equal quote, a refusal, or a new quote
 abbrev pub decided : ℕ → EntryRow → PublicPart → OwnPart → Result Decision Refusal
 decided now entry public own = in_slot now entry public (assignment_of entry.slot own) own
+
+-- ---- the order, as a list
+-- refused where there is none
+abbrev pub given : {X : Type 0} → Option X → Refusal → (X → Result Decision Refusal) → Result Decision Refusal
+given None refusal next = Err refusal
+given (Some x) refusal next = next x
+
+-- the stored receipt, where the stored quote has the same mark with the same value
+abbrev pub unless_again : Option QuoteRow → EntryRow → Result Decision Refusal → Result Decision Refusal
+unless_again None entry next = next
+unless_again (Some quote) entry next = if is_same_mark quote.mark entry.mark then Ok (Again quote.receipt) else next
+
+-- refused as the bounds refuse it
+abbrev pub unless_refused : Result (Unit {0}) Refusal → Result Decision Refusal → Result Decision Refusal
+unless_refused (Ok _) next = next
+unless_refused (Err refusal) next = Err refusal
+
+-- refused where the price lies outside the bounds round the last price, if there is one, and isn't confirmed
+abbrev pub unless_outside : EntryRow → Option Item → Option ℕ → Result Decision Refusal → Result Decision Refusal
+unless_outside entry item None next = next
+unless_outside entry item (Some last) next =
+    if entry.confirm then next else unless_refused (against_last item last (checked_price entry.mark)) next
+
+-- the entry as it is stored, with the receipt after the collector's greatest
+abbrev pub next_quote : EntryRow → OwnPart → QuoteRow
+next_quote entry own = record {
+  slot = entry.slot;
+  month = entry.month;
+  mark = entry.mark;
+  receipt = greatest_receipt own.quotes + 1;
+}
+
+-- the first line that holds is the answer; where none does, the entry is stored with the next receipt
+abbrev pub in_order : ℕ → EntryRow → PublicPart → OwnPart → Result Decision Refusal
+in_order now entry public own =
+    given (assignment_of entry.slot own) UnknownSlot (λ a.
+    unless_again (quote_of entry.slot entry.month own) entry (
+    given (calendar_of entry.month public) UnknownMonth (λ row.
+    let last = last_price a.assignment entry.month own.quotes in
+    if not (is_active entry.month a.assignment) then Err NotActive else
+    if nat_lt now row.opens then Err NotOpen else
+    if nat_le row.closes now then Err Closed else
+    if is_replacement entry.mark && is_none last then Err NoLastPrice else
+    unless_outside entry (item_of a.assignment.item public) last (
+    if nat_le 1000000 (greatest_receipt own.quotes) then Err ReceiptsUsedUp else
+    Ok (Put (next_quote entry own))))))

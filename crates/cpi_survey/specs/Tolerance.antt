@@ -18,4 +18,5 @@ is_inside item last price = nat_le (low_bound item last) price && nat_le price (
 
 -- how a price lies to the bounds round the last one
 abbrev pub verdict : Item → ℕ → ℕ → Verdict
-verdict item last price = if is_inside item last price then Inside else Outside (low_bound item last) (high_bound item last)
+verdict item last price =
+    if is_inside item last price then Inside else Outside (low_bound item last) (high_bound item last)

@@ -20,4 +20,5 @@ is_within first last q = nat_le first q.month && nat_le q.month last
 
 -- the quotes of some months: those of the first month, then those of the next, and each month's by slot
 abbrev pub quotes_within : ℕ → ℕ → List QuoteRow → List QuoteRow
-quotes_within first last quotes = flat_map (λ month. filter (is_of month) quotes) (range_with_len first (last + 1 - first))
+quotes_within first last quotes =
+    flat_map (λ month. filter (is_of month) quotes) (range_with_len first (last + 1 - first))

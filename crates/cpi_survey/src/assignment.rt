@@ -7,7 +7,7 @@ use cpi_rows::Keyed;
 /// What a slot of a collector is for: an item to be priced in an outlet, from the first month to the last.
 #[derive(Clone, Copy, PartialEq, Eq)]
 pub struct Assignment {
-    /// The slot of the collector, which is given once and never changes.
+    /// The slot of the collector, by which the assignment is found.
     pub slot: Slot,
     /// The outlet in which the item is priced.
     pub outlet: OutletId,

@@ -87,7 +87,9 @@ impl Own {
     /// owes a receipt above all others. An `Err` says that memory was refused; nothing has changed then.
     pub fn put_quote(&mut self, quote: Quote) -> Result<(), AllocError>
         requires { greatest_receipt self.old.quotes < quote.receipt }
-        ensures ok { OnOk result (self.new ≡ record self.old { quotes = put quote_cmp quote_key quote self.old.quotes }) }
+        ensures ok { OnOk result (self.new ≡ record self.old {
+          quotes = put quote_cmp quote_key quote self.old.quotes;
+        }) }
         ensures err { OnErr result (self.new ≡ self.old) }
         ensures replaced { IsSome (row_at quote_cmp quote_key (quote.slot, quote.month) self.old.quotes) → IsOk result }
         ensures assignments { self.new.assignments ≡ self.old.assignments }
@@ -101,9 +103,12 @@ impl Own {
     /// Puts an assignment in its place, over that of its slot if there is one, which takes no memory. An `Err` says
     /// that memory was refused; nothing has changed then.
     pub fn put_assignment(&mut self, assigned: Assigned) -> Result<(), AllocError>
-        ensures ok { OnOk result (self.new ≡ record self.old { assignments = put nat_cmp (λ a. a.assignment.slot) assigned self.old.assignments }) }
+        ensures ok { OnOk result (self.new ≡ record self.old {
+          assignments = put nat_cmp (λ a. a.assignment.slot) assigned self.old.assignments;
+        }) }
         ensures err { OnErr result (self.new ≡ self.old) }
-        ensures replaced { IsSome (at (λ a. a.assignment.slot) assigned.assignment.slot self.old.assignments) → IsOk result }
+        ensures replaced { IsSome (at (λ a. a.assignment.slot) assigned.assignment.slot self.old.assignments) →
+            IsOk result }
         ensures quotes { self.new.quotes ≡ self.old.quotes }
     {
         put_row(&mut self.assignments, assigned)

@@ -107,7 +107,9 @@ impl Public {
     /// Puts an item in its place, over the one with its code if there is one, which takes no memory. An `Err` says
     /// that memory was refused; nothing has changed then.
     pub fn put_item(&mut self, item: Item) -> Result<(), AllocError>
-        ensures ok { OnOk result (self.new ≡ record self.old { items = put nat_cmp (λ i. i.code) item self.old.items }) }
+        ensures ok { OnOk result (self.new ≡ record self.old {
+          items = put nat_cmp (λ i. i.code) item self.old.items;
+        }) }
         ensures err { OnErr result (self.new ≡ self.old) }
         ensures replaced { IsSome (row_at nat_cmp (λ i. i.code) item.code self.old.items) → IsOk result }
     {
@@ -117,7 +119,9 @@ impl Public {
     /// Puts a plan in its place, over the one of its year if there is one, which takes no memory. An `Err` says that
     /// memory was refused; nothing has changed then.
     pub fn put_plan(&mut self, plan: YearPlan) -> Result<(), AllocError>
-        ensures ok { OnOk result (self.new ≡ record self.old { plans = put nat_cmp (λ y. y.year) plan self.old.plans }) }
+        ensures ok { OnOk result (self.new ≡ record self.old {
+          plans = put nat_cmp (λ y. y.year) plan self.old.plans;
+        }) }
         ensures err { OnErr result (self.new ≡ self.old) }
         ensures replaced { IsSome (row_at nat_cmp (λ y. y.year) plan.year self.old.plans) → IsOk result }
     {
@@ -127,7 +131,9 @@ impl Public {
     /// Puts a calendar row in its place, over the one of its month if there is one, which takes no memory. An `Err`
     /// says that memory was refused; nothing has changed then.
     pub fn put_calendar(&mut self, row: CalendarRow) -> Result<(), AllocError>
-        ensures ok { OnOk result (self.new ≡ record self.old { calendar = put nat_cmp (λ r. r.month) row self.old.calendar }) }
+        ensures ok { OnOk result (self.new ≡ record self.old {
+          calendar = put nat_cmp (λ r. r.month) row self.old.calendar;
+        }) }
         ensures err { OnErr result (self.new ≡ self.old) }
         ensures replaced { IsSome (row_at nat_cmp (λ r. r.month) row.month self.old.calendar) → IsOk result }
     {

@@ -41,7 +41,8 @@ pub fn put_quote(alloc: Global, slots: &mut Vec<SlotQuotes>, quote: Quote) -> Re
     ensures ok { OnOk result (all_quotes slots.new.items ≡ put quote_cmp quote_key quote (all_quotes slots.old.items)) }
     ensures err { OnErr result (all_quotes slots.new.items ≡ all_quotes slots.old.items) }
     ensures slots { AreBySlot slots.new.items }
-    ensures replaced { IsSome (row_at quote_cmp quote_key (quote.slot, quote.month) (all_quotes slots.old.items)) → IsOk result }
+    ensures replaced { IsSome (row_at quote_cmp quote_key (quote.slot, quote.month) (all_quotes slots.old.items)) →
+        IsOk result }
 {
     let at = place_for(alloc, slots, quote.slot)?;
     put_row(&mut slots[at].quotes, quote)

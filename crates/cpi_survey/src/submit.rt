@@ -1,9 +1,12 @@
 ghost use Rattle.std.specs.Prelude.{◌≡◌};
 ghost use Rattle.std.specs.Option.{option_copied};
-ghost use Rattle.cpi_survey.specs.Own.{quote_of};
-ghost use Rattle.cpi_survey.specs.Public.{calendar_of};
 ghost use Rattle.cpi_survey.specs.Quote.{greatest_receipt};
-ghost use Rattle.cpi_survey.specs.Decision.{against_last, check_of, checked, decided, in_window, over_quote, with_receipt};
+ghost use Rattle.std.specs.Prelude.{ℕ};
+ghost use Rattle.cpi_survey.specs.Entry.{EntryRow};
+ghost use Rattle.cpi_survey.specs.Own.{OwnPart, quote_of};
+ghost use Rattle.cpi_survey.specs.Public.{PublicPart, calendar_of};
+ghost use Rattle.cpi_survey.specs.Decision.{against_last, check_of, checked, decided, in_order, in_window, over_quote};
+ghost use Rattle.cpi_survey.specs.Decision.{with_receipt};
 
 use crate::assignment::Assignment;
 use crate::decision::Decision;
@@ -47,7 +50,8 @@ impl Own {
         entry: Entry,
         assignment: &Assignment,
     ) -> Result<Decision, Refusal>
-        ensures { result ≡ over_quote now entry (calendar_of entry.month public.now) assignment.now (quote_of entry.slot entry.month self.now)
+        ensures { result ≡ over_quote now entry (calendar_of entry.month public.now) assignment.now
+            (quote_of entry.slot entry.month self.now)
             (check_of entry public.now self.now assignment.now) (greatest_receipt self.now.quotes) }
     {
         let slot = entry.slot;
@@ -71,7 +75,8 @@ impl Own {
         row: &CalendarRow,
         assignment: &Assignment,
     ) -> Result<Decision, Refusal>
-        ensures { result ≡ in_window now entry row.now assignment.now (check_of entry public.now self.now assignment.now) (greatest_receipt self.now.quotes) }
+        ensures { result ≡ in_window now entry row.now assignment.now
+            (check_of entry public.now self.now assignment.now) (greatest_receipt self.now.quotes) }
     {
         if !assignment.is_active(entry.month) {
             Err(Refusal::NotActive)
@@ -146,3 +151,10 @@ fn with_receipt(entry: Entry, greatest: u32) -> Result<Decision, Refusal>
         receipt: greatest + 1,
     }))
 }
+
+/// A law: an entry is decided by the lines of one list, in their order.
+#[tactic(auto, using(crate::proofs::InOrder::decided_in_order))]
+pub fn entries_are_decided_in_order()
+    ensures { (now : ℕ) (entry : EntryRow) (public : PublicPart) (own : OwnPart) →
+        decided now entry public own ≡ in_order now entry public own }
+{}
