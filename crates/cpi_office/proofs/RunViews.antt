@@ -37,7 +37,7 @@ RepliesIn asks rs u =
     r ≡ reply_to a.now a.caller a.request (after (all_served (take m asks) (take m rs)) u)
 
 -- each reply in its place is that of the office after the requests before it
-reply_in : (o : Office) (asks : List Ask) (rs : List Reply) → replies (all_served asks rs) o ≡ all_told rs → (n : ℕ) (a : Ask) (r : Reply) → slice_get asks n ≡ Some a → slice_get rs n ≡ Some r → IsFalse (is_failure r) →
+pub reply_in : (o : Office) (asks : List Ask) (rs : List Reply) → replies (all_served asks rs) o ≡ all_told rs → (n : ℕ) (a : Ask) (r : Reply) → slice_get asks n ≡ Some a → slice_get rs n ≡ Some r → IsFalse (is_failure r) →
     r ≡ reply_to a.now a.caller a.request (after (all_served (take n asks) (take n rs)) o)
 reply_in o [] rs run n a r asked said fine = none_is a asked
 reply_in o (b ∷ asks) [] run n a r asked said fine = none_is r said

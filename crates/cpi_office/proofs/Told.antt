@@ -1,17 +1,24 @@
 -- What a run over a book tells one collector.
 use Rattle.std.proofs.Common.{◌≡◌, ℕ, List, [], ◌∷◌, ◌++◌, length, refl, sym, ap, ◌∙◌, arith, inl, inr, Bool, true, false}
-use Rattle.std.specs.Prelude.{if◌then◌else◌}
+use Rattle.std.specs.Prelude.{IsFalse, if◌then◌else◌}
+use Rattle.std.proofs.lemmas.Bool.{false≢true}
 use Rattle.cpi_store.specs.Office.{Office}
-use Rattle.cpi_office.specs.Runs.{replies, reply_to, next}
+use Rattle.cpi_office.specs.Runs.{replies, reply_to, next, trace}
 use Rattle.cpi_release.specs.State.{State}
 use Rattle.cpi_office.specs.Calls.{ServesWhere, IsServed, is_failure}
 use Rattle.cpi_store.specs.Sound.{IsSound}
-use Rattle.cpi_office.specs.Served.{all_served, all_told, NoneFails, IsRun}
+use Rattle.cpi_office.specs.Served.{served, all_served, all_told, NoneFails, IsRun}
 use Rattle.cpi_office.specs.Alone.{is_bearer, told_to, without_others, NonePassesOn, OthersMayDiffer}
 use Rattle.cpi_office.specs.Told.{replies_to, AreToldAlone, IsWhole, RunsTellAlike}
 use Rattle.cpi_office.specs.declared.request.Ask.{Ask}
 use Rattle.cpi_office.specs.declared.reply.Reply.{Reply}
-use Rattle.cpi_office.proofs.Rebuilt.{next_sound}
+use Rattle.cpi_office.specs.Rebuilt.{IsRebuilt}
+use Rattle.cpi_office.specs.Sights.{seen, build}
+use Rattle.cpi_office.specs.ComputedTables.{TellsTable, computed_reply}
+use Rattle.cpi_office.specs.Views.{view}
+use Rattle.cpi_office.proofs.Failures.{never_failure}
+use Rattle.cpi_office.proofs.Rebuilt.{next_sound, rebuilt}
+use Rattle.cpi_office.proofs.ComputedTables.{tables_are_told}
 use Rattle.cpi_office.proofs.Alone.{others_do_not_matter}
 
 pub others_may_differ : OthersMayDiffer
@@ -72,3 +79,27 @@ serves_sound old new reply wanted a serves clean s = by (serves.served clean s)
     by : IsServed reply wanted old.held new.held (next a old.held) → IsSound new.held
     by (inl done) = rw done.1 (next_sound a old.held s)
     by (inr failed) = rw failed.1 s
+
+-- a request that is served shows to each caller what was accepted of it
+pub serves_views : (old new : State Office) (reply : Reply) (a : Ask) →
+    ServesWhere old new (IsSound old.held) reply (reply_to a.now a.caller a.request old.held) (next a old.held) → new.is_clean →
+    IsSound old.held → IsRebuilt old.held a reply new.held
+serves_views old new reply a serves clean s k t = by (serves.served clean s)
+  where
+    by : IsServed reply (reply_to a.now a.caller a.request old.held) old.held new.held (next a old.held)
+        → view k t new.held ≡ build (view k t old.held) (seen k t (trace (served a reply) old.held))
+    by (inl done) =
+        let fair : is_failure reply ≡ false = ap is_failure done.0 ∙ never_failure a.now a.caller a.request old.held in
+        rw fair (ap (view k t) done.1 ∙ rebuilt (a ∷ []) old.held k t s)
+    by (inr failed) = rw failed.0 (ap (view k t) failed.1)
+
+-- a request for a table that is served is told the one that is computed
+pub serves_table : (old new : State Office) (reply : Reply) (a : Ask) →
+    ServesWhere old new (IsSound old.held) reply (reply_to a.now a.caller a.request old.held) (next a old.held) → new.is_clean →
+    IsSound old.held → IsFalse (is_failure reply) → TellsTable a old.held reply
+serves_table old new reply a serves clean s fine month form revision is known = by (serves.served clean s)
+  where
+    by : IsServed reply (reply_to a.now a.caller a.request old.held) old.held new.held (next a old.held)
+        → reply ≡ computed_reply a.now month form revision old.held
+    by (inl done) = done.0 ∙ tables_are_told a old.held s month form revision is known
+    by (inr failed) = absurd (false≢true (sym fine ∙ ap is_failure failed.0))

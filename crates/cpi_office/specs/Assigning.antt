@@ -14,7 +14,8 @@ use Rattle.cpi_store.specs.declared.bearer.Bearer.{Bearer}
 use Rattle.cpi_store.specs.declared.outlet.Outlet.{Outlet}
 use Rattle.cpi_office.specs.Standing.{standing}
 use Rattle.cpi_office.specs.Verdicts.{Verdict, Refuses, Stands, Makes}
-use Rattle.cpi_office.specs.declared.refusal.Refusal.TheVariants.{BadRequest, Taken, UnknownItem, UnknownOutlet, UnknownCollector}
+use Rattle.cpi_office.specs.declared.refusal.Refusal.TheVariants.{BadRequest, Taken}
+use Rattle.cpi_office.specs.declared.refusal.Refusal.TheVariants.{UnknownItem, UnknownOutlet, UnknownCollector}
 use Rattle.cpi_office.specs.declared.request.NewAssignment.{NewAssignment}
 use Rattle.cpi_office.specs.declared.standing.Standing.{Standing}
 use Rattle.cpi_office.specs.declared.standing.Standing.TheVariants.{Free, Same, Other}

@@ -8,8 +8,10 @@ use Rattle.cpi_release.specs.declared.frozen_month.FrozenMonth.{FrozenMonth}
 use Rattle.cpi_release.specs.declared.form.Form.TheVariants.{Text}
 use Rattle.cpi_store.specs.Office.{Office, empty_office}
 use Rattle.cpi_office.specs.Runs.{replies}
-use Rattle.cpi_office.specs.Examples.{key_a, rice_code, shop_name, by_desk, by_key, by_public, put_shop, register, assign, put_month, quote}
-use Rattle.cpi_office.specs.PlanExamples.{body, retitled, referring, put_plan, flour, packed_rice, wheat_flour, other_flour}
+use Rattle.cpi_office.specs.Examples.{key_a, rice_code, shop_name, by_desk, by_key, by_public}
+use Rattle.cpi_office.specs.Examples.{put_shop, register, assign, put_month, quote}
+use Rattle.cpi_office.specs.PlanExamples.{body, retitled, referring, put_plan}
+use Rattle.cpi_office.specs.PlanExamples.{flour, packed_rice, wheat_flour, other_flour}
 use Rattle.cpi_office.specs.declared.caller.Caller.TheVariants.{Desk}
 use Rattle.cpi_office.specs.declared.request.NewAssignment.{NewAssignment}
 use Rattle.cpi_office.specs.declared.request.Request.{Request}
@@ -97,7 +99,8 @@ FreezeRefusals =
 abbrev pub WithoutReference : Type 0
 WithoutReference =
     replies (opened ++ put_plan 2026 (referring (311 ∷ [])) ∷ december ++ freeze 1000 311 [] ∷ freeze 2000 312 []
-    ∷ put_plan 2026 body ∷ january ++ freeze 2000 312 [] ∷ by_public 3000 (request.Table 312 Text None) ∷ []) empty_office
+    ∷ put_plan 2026 body ∷ january ++ freeze 2000 312 [] ∷ by_public 3000 (request.Table 312 Text None) ∷ [])
+    empty_office
     ≡ all_done ++ Done ∷ Receipt 1 ∷ Receipt 2 ∷ Receipt 3 ∷ Receipt 4 ∷ Done
     ∷ Refused (refusal.Index (index.NoReference packed_rice))
     ∷ Done ∷ Receipt 5 ∷ Receipt 6 ∷ Receipt 7 ∷ Receipt 8 ∷ Done ∷ Table january_text ∷ []
@@ -115,8 +118,8 @@ WithoutRows =
     replies (freeze 5000 323 [] ∷ freeze 1000 311 [] ∷ freeze 2000 312 [] ∷ []) early
     ≡ Refused refusal.UnknownMonth ∷ Done ∷ Refused refusal.NoPlan ∷ []
 
--- A frozen month keeps its row and its year's plan: what stands already is done, and anything else is refused, but a row
--- by which the last month is published later. A quote is taken as before.
+-- A frozen month keeps its row and its year's plan: what stands already is done, and anything else is refused, but a
+-- row by which the last month is published later. A quote is taken as before.
 abbrev pub FrozenRows : Type 0
 FrozenRows =
     replies (opened ++ december ++ freeze 1000 311 [] ∷ january ++ freeze 2000 312 []
@@ -146,7 +149,8 @@ two_months = opened ++ december ++ freeze 1000 311 [] ∷ january ++ freeze 2000
 
 abbrev pub two_frozen : List Reply
 two_frozen =
-    all_done ++ Receipt 1 ∷ Receipt 2 ∷ Receipt 3 ∷ Receipt 4 ∷ Done ∷ Receipt 5 ∷ Receipt 6 ∷ Receipt 7 ∷ Receipt 8 ∷ Done
+    all_done
+    ++ Receipt 1 ∷ Receipt 2 ∷ Receipt 3 ∷ Receipt 4 ∷ Done ∷ Receipt 5 ∷ Receipt 6 ∷ Receipt 7 ∷ Receipt 8 ∷ Done
     ∷ []
 
 -- The first table stays as it was frozen, and is the month's until the second is published.

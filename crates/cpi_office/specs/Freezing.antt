@@ -1,6 +1,7 @@
 -- How a freeze is judged, from what was looked up: the months that were frozen, the calendar row, the plan of the year;
 -- and the release that is made of a month that may be frozen.
-use Rattle.std.specs.Prelude.{ℕ, Bool, false, not, is_some, nat_lt, List, Option, Some, None, option_map, Result, Ok, Err}
+use Rattle.std.specs.Prelude.{ℕ, Bool, false, not, is_some, nat_lt, List}
+use Rattle.std.specs.Prelude.{Option, Some, None, option_map, Result, Ok, Err}
 use Rattle.std.specs.Prelude.{if◌then◌else◌}
 use Rattle.std.specs.List.{list_any}
 use Rattle.cpi_codes.specs.CodeOrder.{code_cmp}

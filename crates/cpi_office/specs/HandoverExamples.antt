@@ -6,7 +6,8 @@ use Rattle.cpi_survey.specs.WorkPart.{WorkPart}
 use Rattle.cpi_release.specs.declared.form.Form.TheVariants.{Text}
 use Rattle.cpi_store.specs.Office.{empty_office}
 use Rattle.cpi_office.specs.Runs.{replies}
-use Rattle.cpi_office.specs.Examples.{key_a, key_b, rice_code, shop_name, by_desk, by_key, by_public, put_shop, register, new_assignment}
+use Rattle.cpi_office.specs.Examples.{key_a, key_b, rice_code, shop_name, by_desk, by_key, by_public}
+use Rattle.cpi_office.specs.Examples.{put_shop, register, new_assignment}
 use Rattle.cpi_office.specs.Examples.{assign, put_month, quote, stored, waiting, Answers}
 use Rattle.cpi_office.specs.FreezeExamples.{rice, freeze, opened, all_done, december, line, january_text}
 use Rattle.cpi_office.specs.PlanExamples.{body, put_plan, flour}
@@ -59,7 +60,8 @@ CopiedOnce = Answers
     ∷ by_key 1500 key_a (quote 4 312 480) ∷ by_key 1500 key_b (request.Work 314) ∷ [])
     (Done ∷ Done ∷ Done ∷ Receipt 1 ∷ Done ∷ Receipt 2 ∷ Work (went_on 1 ∷ []) ∷ [])
 
--- a series goes to another slot of its collector, or from one collector on to the next, with the price that came with it
+-- a series goes to another slot of its collector, or from one collector on to the next, with the price that came with
+-- it
 abbrev pub HandedOn : Type 0
 HandedOn = Answers
     (two_hands ++ by_desk (put_month 316 1000 2000 3000) ∷ by_key 1500 key_a (quote 4 312 490)
@@ -116,8 +118,8 @@ NotAssigned = Answers
 
 -- ---- a table over a hand-over
 
--- A series that another collector has from January on is in January's sample as it was before: the table is the one that
--- there is without the hand-over.
+-- A series that another collector has from January on is in January's sample as it was before: the table is the one
+-- that there is without the hand-over.
 abbrev pub StaysInSample : Type 0
 StaysInSample =
     replies (opened ++ by_desk (register 8 key_b) ∷ december ++ freeze 1000 311 [] ∷ by_desk (hand 7 1 8 3 312)
@@ -141,7 +143,8 @@ for_two_years =
 -- a month whose quotes are those of one series of each collector
 abbrev pub priced_by_two : ℕ → ℕ → List Ask
 priced_by_two month price =
-    by_desk (put_month month 0 1000 1000) ∷ by_key 100 key_b (quote 3 month price) ∷ by_key 100 key_a (quote 4 month 500)
+    by_desk (put_month month 0 1000 1000) ∷ by_key 100 key_b (quote 3 month price)
+    ∷ by_key 100 key_a (quote 4 month 500)
     ∷ freeze 1000 month [] ∷ []
 
 abbrev pub told_two : ℕ → List Reply

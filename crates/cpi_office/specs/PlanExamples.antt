@@ -217,8 +217,10 @@ FirstFault =
       places = place tea_code wheat_flour ∷ place tea_code wheat_flour ∷ [];
       references = 312 ∷ [];
     })
-    ∷ put_plan 2026 (record (referring (312 ∷ [])) { places = place tea_code other_flour ∷ place tea_code other_flour ∷ [] })
-    ∷ put_plan 2026 (record (referring (312 ∷ [])) { places = place rice.code other_flour ∷ place rice.code other_flour ∷ [] })
+    ∷ put_plan 2026
+    (record (referring (312 ∷ [])) { places = place tea_code other_flour ∷ place tea_code other_flour ∷ [] })
+    ∷ put_plan 2026
+    (record (referring (312 ∷ [])) { places = place rice.code other_flour ∷ place rice.code other_flour ∷ [] })
     ∷ put_plan 2026 (record (referring (312 ∷ [])) { places = place rice.code other_flour ∷ [] })
     ∷ []) shelf
     ≡ Refused (refusal.PlanFault fault.DuplicateCode) ∷ Refused (refusal.PlanFault fault.NotElementary)

@@ -6,7 +6,7 @@ use Rattle.cpi_office.specs.Answers.{answer}
 use Rattle.cpi_office.specs.Runs.{trace}
 use Rattle.cpi_office.specs.Sights.{seen, build}
 use Rattle.cpi_office.specs.Calls.{is_failure}
-use Rattle.cpi_office.specs.Served.{all_served}
+use Rattle.cpi_office.specs.Served.{served, all_served}
 use Rattle.cpi_office.specs.declared.request.Ask.{Ask}
 use Rattle.cpi_office.specs.declared.reply.Reply.{Reply}
 use Rattle.cpi_office.specs.declared.caller.Caller.{Caller}
@@ -17,6 +17,10 @@ use Rattle.cpi_office.specs.declared.caller.Caller.TheVariants.{Desk}
 abbrev pub AreRebuilt : Office → List Ask → List Reply → Office → Type 0
 AreRebuilt o asks rs u =
     (k : Caller) (t : ℕ) → view k t u ≡ build (view k t o) (seen k t (trace (all_served asks rs) o))
+
+-- the same of one request
+abbrev pub IsRebuilt : Office → Ask → Reply → Office → Type 0
+IsRebuilt o a r u = (k : Caller) (t : ℕ) → view k t u ≡ build (view k t o) (seen k t (trace (served a r) o))
 
 -- the requests that were served before the place, with what each was answered
 abbrev pub served_before : ℕ → List Ask → List Reply → List Ask

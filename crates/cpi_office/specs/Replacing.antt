@@ -30,11 +30,18 @@ replaced frozen f c Other = unless_frozen frozen f c
 
 abbrev pub calendar_put : List FrozenMonth → CalendarPart → Option CalendarPart → Verdict
 calendar_put frozen row old =
-    replaced (stays_frozen row.month (Some row.publishes) frozen) MonthFrozen (PutsCalendar row) (standing same_calendar row old)
+    replaced (stays_frozen row.month (Some row.publishes) frozen) MonthFrozen (PutsCalendar row)
+    (standing same_calendar row old)
 
 -- what is sent for a year, among the items that are known
 abbrev pub sent : List Item → PlanBody → Body
-sent known body = record { known = known; titles = body.titles; weights = body.weights; places = body.places; references = body.references }
+sent known body = record {
+  known = known;
+  titles = body.titles;
+  weights = body.weights;
+  places = body.places;
+  references = body.references;
+}
 
 -- a plan against the one that stands for its year, or the fault of what was sent
 abbrev pub plan_standing : List Plan → Result Plan Fault → Result (Plan × Standing) Fault

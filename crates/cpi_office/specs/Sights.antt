@@ -1,5 +1,6 @@
 -- What a caller sees of what was accepted, and the view with it.
-use Rattle.std.specs.Prelude.{[], ℕ, Bool, false, ◌==◌, nat_le, List, ◌∷◌, ◌++◌, Option, Some, None, option_map, if◌then◌else◌}
+use Rattle.std.specs.Prelude.{ℕ, Bool, false, ◌==◌, nat_le, if◌then◌else◌}
+use Rattle.std.specs.Prelude.{List, [], ◌∷◌, ◌++◌, Option, Some, None, option_map}
 use Rattle.std.specs.List.{flat_map}
 use Rattle.cpi_rows.specs.Keyed.{put, put_by}
 use Rattle.cpi_survey.specs.Quote.{QuoteRow, quote_cmp, quote_key}
@@ -9,7 +10,8 @@ use Rattle.cpi_plan.specs.Calendar.{CalendarPart}
 use Rattle.cpi_survey.specs.Assignment.{ended}
 use Rattle.cpi_survey.specs.declared.assignment.Assigned.{Assigned}
 use Rattle.cpi_store.specs.declared.bearer.Bearer.{Bearer}
-use Rattle.cpi_store.specs.Office.{Change, PutsItem, PutsPlan, PutsCalendar, Registers, PutsOutlet, Assigns, HandsOver, Quotes, Freezes}
+use Rattle.cpi_store.specs.Office.{Change, PutsItem, PutsPlan, PutsCalendar, Registers, PutsOutlet}
+use Rattle.cpi_store.specs.Office.{Assigns, HandsOver, Quotes, Freezes}
 use Rattle.cpi_release.specs.FrozenMonths.{release_cmp}
 use Rattle.cpi_release.specs.PublishedTables.{PublishedTable, published_table, published_key}
 use Rattle.cpi_office.specs.Views.{View, OwnView}

@@ -210,7 +210,8 @@ fn with_name(
 fn assign_to<B: Book>(book: &mut B, collector: CollectorId, assigned: Assigned) -> Reply
     requires made { (B.state book.old).is_clean → IsWellMade (collector, assigned.assignment) }
     requires free { (B.state book.old).is_clean →
-        at (λ g. g.assignment.slot) assigned.assignment.slot (held_by collector (B.state book.old).held.assignments) ≡ None }
+        at (λ g. g.assignment.slot) assigned.assignment.slot
+        (held_by collector (B.state book.old).held.assignments) ≡ None }
     requires item { (B.state book.old).is_clean →
         IsSome (at (λ i. i.code) assigned.assignment.item (B.state book.old).held.items) }
     requires outlet { (B.state book.old).is_clean →

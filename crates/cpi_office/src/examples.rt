@@ -1,4 +1,6 @@
-ghost use Rattle.cpi_office.specs.Examples.{OneQuote, TwoCollectors, TenOfAnother, Again, Window, EntryRefusals, LastReceipt, ByMonth, Tolerance, Replacements, WorkLists, ItemsOfAll, NotForCallers, StandsAlready, TakenPlaces, AssignRefusals, NewWindow};
+ghost use Rattle.cpi_office.specs.Examples.{OneQuote, TwoCollectors, TenOfAnother, Again, Window, EntryRefusals};
+ghost use Rattle.cpi_office.specs.Examples.{LastReceipt, ByMonth, Tolerance, Replacements, WorkLists, ItemsOfAll};
+ghost use Rattle.cpi_office.specs.Examples.{NotForCallers, StandsAlready, TakenPlaces, AssignRefusals, NewWindow};
 
 /// Small runs from an empty office, computed by the definitions: each reply and each refusal, in its place among the
 /// others.

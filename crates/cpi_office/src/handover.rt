@@ -260,11 +260,13 @@ fn put_over<B: Book>(
     requires taker { (B.state book.old).is_clean →
         at (λ b. b.number) taker.number (B.state book.old).held.collectors ≡ Some taker }
     requires stands { (B.state book.old).is_clean →
-        at (λ g. g.assignment.slot) what.now.slot (held_by former.number (B.state book.old).held.assignments) ≡ Some given }
+        at (λ g. g.assignment.slot) what.now.slot
+        (held_by former.number (B.state book.old).held.assignments) ≡ Some given }
     requires free { (B.state book.old).is_clean → at (λ g. g.assignment.slot) assignment.slot
         (held_by taker.number (B.state book.old).held.assignments) ≡ None }
     requires judged { (B.state book.old).is_clean → let o = (B.state book.old).held in
-        judged_over what.now given.assignment (frozen_months o.releases) (held_by former.number o.quotes) ≡ Ok assignment }
+        judged_over what.now given.assignment (frozen_months o.releases) (held_by former.number o.quotes)
+        ≡ Ok assignment }
     ensures { let o = (B.state book.old).held in let v = over_judged what.now o former taker given (Ok assignment) in
         ServesWhere (B.state book.old) (B.state book.new) (IsSound o) result (verdict_reply v) (with_verdict v o) }
 {

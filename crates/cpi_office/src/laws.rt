@@ -1,7 +1,9 @@
 ghost use Rattle.cpi_store.specs.Office.{empty_office};
 ghost use Rattle.cpi_store.specs.Sound.{IsSound};
-ghost use Rattle.cpi_office.specs.Laws.{StaysSound, ViewsAreRebuilt, ChangesAreEnough, AnswersAreAlike, RepliesAreFromViews};
+ghost use Rattle.cpi_office.specs.Laws.{StaysSound, ViewsAreRebuilt, ChangesAreEnough};
+ghost use Rattle.cpi_office.specs.Laws.{AnswersAreAlike, RepliesAreFromViews};
 ghost use Rattle.cpi_office.specs.Releases.{ReleasesStay};
+ghost use Rattle.cpi_office.specs.ComputedTables.{TablesAreTold};
 ghost use Rattle.cpi_office.specs.Asked.{JudgedIsOwed};
 ghost use Rattle.cpi_store.specs.Stored.{FrozenAreStored};
 ghost use Rattle.cpi_store.specs.History.{ReleasesAreComputed, ReleasesAreSound, SourcesAreFit};
@@ -25,12 +27,14 @@ pub fn views_are_rebuilt()
     ensures replies { RepliesAreFromViews }
 {}
 
-/// Each table of a sound office is the index of what was frozen with it and before it.
+/// Each table of a sound office is the index of what was frozen with it and before it, and it is what is told of it:
+/// whoever asks for a table is answered the printed form of the one that the definitions of the index give.
 ///
 /// A freeze takes the stored quotes of its month, each with its mark, and no others. Publishing what was frozen anew,
 /// month by month, gives the releases that stand; and whatever is asked, a release stays as it was frozen.
 pub fn tables_are_computed()
     ensures computed { ReleasesAreComputed }
+    ensures told { TablesAreTold }
     ensures history { ReleasesAreSound }
     ensures stored { FrozenAreStored }
     ensures releases { ReleasesStay }
@@ -53,8 +57,8 @@ pub fn others_do_not_matter()
     ensures differ { OthersMayDiffer }
 {}
 
-/// What `Office::run` tells a collector doesn't hang on what other collectors ask, where neither a freeze nor a hand-over
-/// is among the requests.
+/// What `Office::run` tells a collector doesn't hang on what other collectors ask, where neither a freeze nor a
+/// hand-over is among the requests.
 ///
 /// Take two runs, over books of any two kinds that hold the same sound lists, with two lists of requests without a
 /// freeze and without a hand-over that differ in other collectors' requests alone. Where no reply of either run says

@@ -1,6 +1,8 @@
-ghost use Rattle.std.specs.Prelude.{◌≡◌};
+ghost use Rattle.std.specs.Prelude.{◌≡◌, IsFalse};
 ghost use Rattle.cpi_office.specs.Runs.{reply_to, after_one};
-ghost use Rattle.cpi_office.specs.Calls.{ServesWhere};
+ghost use Rattle.cpi_office.specs.Calls.{ServesWhere, is_failure};
+ghost use Rattle.cpi_office.specs.Rebuilt.{IsRebuilt};
+ghost use Rattle.cpi_office.specs.ComputedTables.{TellsTable};
 ghost use Rattle.cpi_store.specs.Sound.{IsSound};
 ghost use Rattle.cpi_office.specs.Turned.{TurnsAway};
 
@@ -46,6 +48,11 @@ impl<B: Book> Office<B> {
     /// [`Refusal::NotForCaller`], and in place of it or of [`Refusal::UnknownKey`] a collector is told it only where a
     /// look-up of the book failed during the call.
     ///
+    /// What each caller may see at each moment is then what the caller could see before, with what the caller sees of
+    /// what was accepted. Whoever asks for a table, and isn't told that the office is unavailable, is told the printed
+    /// form of the one that the definitions of the index give over the quotes and weights that were frozen, in the
+    /// revision that is named or the latest that is published; where they give none, that there is no table.
+    ///
     /// Over a book that keeps its rows, a crash at the end of the call leaves the office as it could be left before, or
     /// the office after the request; once the reply isn't [`Refusal::Unavailable`], the office after it.
     pub fn handle(&mut self, now: Moment, caller: Caller, request: Request) -> Reply
@@ -56,6 +63,13 @@ impl<B: Book> Office<B> {
             (reply_to now caller request (B.state self.old.book).held) }
         ensures sound { (B.state self.new.book).is_clean →
             IsSound (B.state self.old.book).held → IsSound (B.state self.new.book).held }
+        ensures views { let before = (B.state self.old.book).held in
+            (B.state self.new.book).is_clean → IsSound before →
+            IsRebuilt before (record { now = now; caller = caller; request = request }) result
+            (B.state self.new.book).held }
+        ensures tables { let before = (B.state self.old.book).held in
+            (B.state self.new.book).is_clean → IsSound before → IsFalse (is_failure result) →
+            TellsTable (record { now = now; caller = caller; request = request }) before result }
     {
         match caller {
             Caller::Public => serve_public(self.alloc, &mut self.book, now, request),

@@ -1,4 +1,5 @@
-ghost use Rattle.cpi_office.specs.PlanExamples.{EachFault, FaultsChangeNothing, FirstFault, PlanStands, PlansAreSeen, PlansByYear, ItemsFirst, PlansOfTheDesk};
+ghost use Rattle.cpi_office.specs.PlanExamples.{EachFault, FaultsChangeNothing, FirstFault, PlanStands};
+ghost use Rattle.cpi_office.specs.PlanExamples.{PlansAreSeen, PlansByYear, ItemsFirst, PlansOfTheDesk};
 ghost use Rattle.cpi_office.specs.PlanExamples.{ReferenceStands, NoFirstReference};
 
 /// Small runs with plans, computed by the definitions: each fault of what is sent for a year, what stands already,

@@ -5,6 +5,7 @@ ghost use Rattle.cpi_store.specs.History.{HasComputedTables};
 ghost use Rattle.cpi_office.specs.Told.{AreToldAlone};
 ghost use Rattle.cpi_office.specs.Releases.{KeepsReleases};
 ghost use Rattle.cpi_office.specs.Rebuilt.{AreRebuilt, AreFromViews};
+ghost use Rattle.cpi_office.specs.ComputedTables.{TellTables};
 ghost use Rattle.cpi_office.specs.declared.request.Ask.{Ask as TheAsk};
 ghost use Rattle.cpi_office.specs.declared.reply.Reply.{Reply as TheReply};
 
@@ -22,7 +23,8 @@ impl<B: Book> Office<B> {
     /// could see before, with the accepted rows that the caller sees; and each reply to a collector or to the public
     /// is the answer from that view as it was then. Each release that stands afterwards has the table that the
     /// definitions of the index give over the quotes and weights frozen with it and before it, and each that stood
-    /// before stands as it was.
+    /// before stands as it was. Each reply to a request for a table is the printed form of the one that these
+    /// definitions give over what was frozen by then.
     ///
     /// Where neither a freeze nor a hand-over is among the requests, each collector is told what would be told without
     /// the requests of all other collectors. Where a freeze is, a published table may tell of them all; where a
@@ -44,6 +46,9 @@ impl<B: Book> Office<B> {
         ensures answers { let before = (B.state self.old.book).held in
             IfOk result (λ rs. (B.state self.new.book).is_clean →
             IsSound before → AreFromViews before asks.items rs.items) }
+        ensures tables { let before = (B.state self.old.book).held in
+            IfOk result (λ rs. (B.state self.new.book).is_clean →
+            IsSound before → TellTables before asks.items rs.items) }
         ensures sound { (B.state self.new.book).is_clean →
             IsSound (B.state self.old.book).held → IsSound (B.state self.new.book).held }
         ensures computed { (B.state self.new.book).is_clean → IsSound (B.state self.old.book).held →

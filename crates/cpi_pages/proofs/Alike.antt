@@ -39,7 +39,7 @@ module _ {B : Type 0} (state : B → State Office) where
   are_a_run old new asks answers a = (run-all old old new [] [] asks answers (run-none state old) a).1
 
   -- the office that a caller's message meets, and what it shows the caller
-  meets : (s : Setting) (k : Caller) (start : B) (taken : List ℕ) (m : Asked) (told : Answer)
+  pub meets : (s : Setting) (k : Caller) (start : B) (taken : List ℕ) (m : Asked) (told : Answer)
       (is : IsTold state s k start taken m told)
       → IsSound (state is.mid).held
       × (view k (moment_of (ask_in m)) (state is.mid).held

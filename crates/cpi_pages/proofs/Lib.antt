@@ -3,4 +3,5 @@ pub mod Carrying
 pub mod FieldValues
 pub mod Front
 pub mod Serving
+pub mod TableResponses
 pub mod Unique

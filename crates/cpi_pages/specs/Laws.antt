@@ -1,8 +1,10 @@
 -- What the responses to a caller hang on.
-use Rattle.std.specs.Prelude.{◌≡◌, ◌≢◌, ℕ, List, [], ◌∷◌, ◌++◌}
+use Rattle.std.specs.Prelude.{◌≡◌, ◌≢◌, ℕ, List, [], ◌∷◌, ◌++◌, Option, Some, Ok}
 use Rattle.cpi_release.specs.State.{State}
+use Rattle.cpi_release.specs.declared.form.Form.{Form}
 use Rattle.cpi_store.specs.Office.{Office}
 use Rattle.cpi_store.specs.Sound.{IsSound}
+use Rattle.cpi_office.specs.ComputedTables.{computed_reply, IsKnown, TellTables}
 use Rattle.cpi_office.specs.Runs.{trace}
 use Rattle.cpi_office.specs.Served.{Ran, all_served, NoneFails}
 use Rattle.cpi_office.specs.Sights.{Sight, seen}
@@ -11,13 +13,15 @@ use Rattle.cpi_office.specs.declared.caller.Caller.{Caller}
 use Rattle.cpi_office.specs.declared.caller.Caller.TheVariants.{Desk}
 use Rattle.cpi_office.specs.declared.reply.Reply.{Reply}
 use Rattle.cpi_office.specs.declared.request.Ask.{Ask as Asking}
+use Rattle.cpi_office.specs.declared.request.Request.TheVariants.{Table}
 use Rattle.cpi_wire.specs.Answer.{Answer}
 use Rattle.cpi_wire.specs.Answers.{Answers, InTurn}
 use Rattle.cpi_wire.specs.Laws.{asked, replied}
 use Rattle.cpi_wire.specs.Lines.{IsFrom, all_replies, moment_of}
 use Rattle.cpi_wire.specs.declared.asks.Ask.{Ask}
+use Rattle.cpi_wire.specs.declared.asks.Ask.TheVariants as ask
 use Rattle.cpi_pages.specs.Message.{Asked, Setting, IsMessage}
-use Rattle.cpi_pages.specs.Response.{ask_in, response_to, bytes_of}
+use Rattle.cpi_pages.specs.Response.{ask_in, response_to, bytes_of, said_of}
 
 -- two messages at the front of one stream are the same
 abbrev pub OneMessage : Type 0
@@ -28,12 +32,12 @@ OneMessage =
 -- the requests of some messages, and of some records, in their order, and their replies
 abbrev pub requests : List Ask → List Asking
 requests [] = []
-requests (ask ∷ asks) = asked ask ++ requests asks
+requests (one ∷ asks) = asked one ++ requests asks
 
 abbrev pub replies : List Ask → List Answer → List Reply
 replies [] answers = []
-replies (ask ∷ asks) [] = []
-replies (ask ∷ asks) (told ∷ answers) = replied ask told ++ replies asks answers
+replies (one ∷ asks) [] = []
+replies (one ∷ asks) (told ∷ answers) = replied one told ++ replies asks answers
 
 module _ {B : Type 0} (state : B → State Office) where
   -- each was carried out in turn, with its answer
@@ -77,3 +81,21 @@ ResponsesAreAlike {B} {C} state state' =
     view k (moment_of (ask_in m)) (state start).held ≡ view k (moment_of (ask_in m)) (state' start').held →
     seen_before state s k start taken m told is ≡ seen_before state' s k start' taken n told' is' →
     bytes_of (response_to m told) ≡ bytes_of (response_to n told')
+
+-- From a sound office some messages were answered, and then one that asks for a table: its response is that of the
+-- printed table that the index gives over the quotes and weights frozen by then, in the revision that is named, or else
+-- in the latest that is published; where there is none, that of the refusal.
+abbrev pub TableResponsesAreComputed : {B : Type 0} → (B → State Office) → Type 0
+TableResponsesAreComputed {B} state =
+    (s : Setting) (k : Caller) (taken : List ℕ) (m : Asked) (told : Answer) (start : B)
+    (is : IsTold state s k start taken m told) (now month : ℕ) (form : Form) (revision : Option ℕ) →
+    m ≡ Ok (ask.One now k (Table month form revision)) → IsKnown k (state is.mid).held →
+    bytes_of (response_to m told)
+    ≡ bytes_of (said_of (Some form) (computed_reply now month form revision (state is.mid).held))
+
+-- All replies of messages in turn to requests for tables, the rows of their imports among them, are so.
+abbrev pub MessagesTellTables : {B : Type 0} → (B → State Office) → Type 0
+MessagesTellTables {B} state =
+    (old new : B) (asks : List Ask) (answers : List Answer) → CarriedOut state old asks answers new →
+    (state new).is_clean → IsSound (state old).held →
+    TellTables (state old).held (requests asks) (replies asks answers)

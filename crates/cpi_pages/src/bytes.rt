@@ -1,6 +1,6 @@
 //! The bytes of a response.
-ghost use Rattle.std.specs.Prelude.{◌≡◌, IfOk, length, string_bytes};
-ghost use Rattle.cpi_pages.specs.Bytes.{media_type, head_text, head_of, http_of, challenge, phrase};
+ghost use Rattle.std.specs.Prelude.{◌≡◌, ◌++◌, IfOk, string_bytes};
+ghost use Rattle.cpi_pages.specs.Bytes.{media_type, head_text, head_of, challenge, phrase};
 
 use http::StatusCode;
 use std::alloc::{AllocError, Global};
@@ -76,17 +76,18 @@ fn head_of(
     )
 }
 
-/// The bytes of a response.
-pub(crate) fn http_bytes(
+/// The head of a response whose body has this size, and the first bytes of the body.
+pub(crate) fn front_of(
     alloc: Global,
     status: StatusCode,
     content: Content,
-    body: &[u8],
+    size: usize,
+    begun: &[u8],
 ) -> Result<Vec<u8>, AllocError>
-    ensures { IfOk result (λ bytes. bytes.items ≡ http_of status content body.now) }
+    ensures { IfOk result (λ bytes. bytes.items ≡ head_of status content size ++ begun.now) }
 {
-    let head = head_of(alloc, status, content, body.len())?;
+    let head = head_of(alloc, status, content, size)?;
     let mut bytes = head.into_bytes();
-    bytes.extend_from_slice(body)?;
+    bytes.extend_from_slice(begun)?;
     Ok(bytes)
 }

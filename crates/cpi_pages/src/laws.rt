@@ -1,5 +1,6 @@
 //! What holds of the definitions.
 ghost use Rattle.cpi_pages.specs.Laws.{AreARun, OneMessage, ResponsesAreAlike};
+ghost use Rattle.cpi_pages.specs.Laws.{TableResponsesAreComputed, MessagesTellTables};
 
 use cpi_store::Book;
 
@@ -23,4 +24,16 @@ pub fn messages_are_a_run<B: Book>()
 /// says that the office is unavailable. Nothing is said of time.
 pub fn responses_are_alike<B: Book, C: Book>()
     ensures { ResponsesAreAlike B.state C.state }
+{}
+
+/// What is told of a table is the one that the definitions of the index give over the quotes and weights that were
+/// frozen, printed in the form and the revision that are asked for, or in the latest revision that is published.
+///
+/// So it is of each message that asks for a table and doesn't come with an unknown key, from a sound office: where the
+/// store is clean once it is answered, and the reply doesn't say that the office is unavailable, its response is 200
+/// with the printed table as its body, or that of the refusal where there is none. And so it is of each reply to such a
+/// row of an import.
+pub fn tables_are_sent<B: Book>()
+    ensures responses { TableResponsesAreComputed B.state }
+    ensures replies { MessagesTellTables B.state }
 {}

@@ -18,6 +18,6 @@ mod serve;
 mod statuses;
 
 pub use bytes::Content;
-pub use laws::{messages_are_a_run, one_message, responses_are_alike};
+pub use laws::{messages_are_a_run, one_message, responses_are_alike, tables_are_sent};
 pub use routes::{Page, examples};
 pub use serve::{Served, serve_one};

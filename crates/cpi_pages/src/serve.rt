@@ -1,5 +1,5 @@
 //! One message: read, carried out, answered.
-ghost use Rattle.std.specs.Prelude.{◌≡◌, false, List, ℕ, IfOk, IfErr, OnOk, OnErr};
+ghost use Rattle.std.specs.Prelude.{◌≡◌, ◌++◌, false, List, ℕ, IfOk, IfErr, OnOk, OnErr};
 ghost use Rattle.std.specs.Io.KnownBytes.{Appends};
 ghost use Rattle.cpi_office.specs.declared.refusal.Refusal.TheVariants.{BadRequest};
 ghost use Rattle.cpi_office.specs.declared.reply.Reply.TheVariants.{Refused};
@@ -12,7 +12,7 @@ ghost use Rattle.cpi_pages.specs.Served.{bodies, messages, IsServed, GaveUp, Sen
 
 use crate::asked::asked_by;
 use crate::body::receive_body;
-use crate::bytes::http_bytes;
+use crate::bytes::front_of;
 use crate::called::called_of;
 use crate::framing::framing;
 use crate::head::{HeadEnd, read_head};
@@ -28,6 +28,9 @@ use httparse::spans::EMPTY_HEADER_SPAN;
 use std::alloc::{AllocError, Global};
 use std::io::{Read, Write};
 
+/// How many bytes of a body are written together with the head.
+const BODY_WITH_HEAD: usize = 65_536;
+
 /// What became of a connection's message.
 #[derive(Clone, Copy, PartialEq, Eq)]
 pub enum Served {
@@ -37,7 +40,17 @@ pub enum Served {
     Cut,
 }
 
-// Writes a response.
+// Writes two texts, one after the other.
+fn write_both<W: Write>(writer: &mut W, front: &[u8], rest: &[u8]) -> Result<(), WireFault>
+    ensures whole { OnOk result (Appends (W.contents writer.old) (W.contents writer.new) (front.now ++ rest.now)) }
+    ensures part { IfErr result (SendFails (W.contents writer.old) (W.contents writer.new) (front.now ++ rest.now)) }
+{
+    write_whole(writer, front)?;
+    write_whole(writer, rest)
+}
+
+// Writes a response: the head together with the first bytes of the body, and then the others from where they stand, so
+// that a long body isn't in memory twice.
 fn send<W: Write>(alloc: Global, writer: &mut W, response: &Response) -> Result<Served, WireFault>
     ensures ok { IfOk result (λ served. served ≡ Served.Answered response.now.status response.now.failed) }
     ensures whole { OnOk result (Appends (W.contents writer.old) (W.contents writer.new)
@@ -45,8 +58,10 @@ fn send<W: Write>(alloc: Global, writer: &mut W, response: &Response) -> Result<
     ensures err { IfErr result (SendFails (W.contents writer.old) (W.contents writer.new)
         (http_of response.now.status response.now.content response.now.body.items)) }
 {
-    let bytes = http_bytes(alloc, response.status, response.content, &response.body)?;
-    write_whole(writer, &bytes)?;
+    let size = response.body.len();
+    let (begun, rest) = response.body.split_at(size.min(BODY_WITH_HEAD));
+    let front = front_of(alloc, response.status, response.content, size, begun)?;
+    write_both(writer, &front, rest)?;
     Ok(Served::Answered(response.status, response.failed))
 }
 

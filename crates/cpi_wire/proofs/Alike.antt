@@ -64,7 +64,7 @@ module _ (t : ℕ) (k : Caller) (other : k ≢ Desk) (o u : Office) (same : view
 
 module _ {B : Type 0} (state : B → State Office) where
   -- where it isn't told that the office is unavailable, it is served
-  is-served : (t : ℕ) (k : Caller) (r : Request) (p q : B) (reply : Reply)
+  pub is-served : (t : ℕ) (k : Caller) (r : Request) (p q : B) (reply : Reply)
       → ServesWhere (state p) (state q) (IsSound (state p).held) reply (reply_to t k r (state p).held) (after_one t k r (state p).held)
       → (state q).is_clean → IsSound (state p).held → IsFalse (is_failure reply)
       → (reply ≡ reply_to t k r (state p).held) × ((state q).held ≡ after_one t k r (state p).held)
@@ -91,7 +91,7 @@ module _ {B : Type 0} (state : B → State Office) where
   record-clean p q (ask.Import t k rows) (answer.Rows replies) a clean = rows-clean t k p q rows replies a clean
 
   -- the office that a caller's record meets, and what it shows the caller
-  meets : (zone : ZoneRule) (k : Caller) (start : B) (row : Record) (told : Answer) (is : IsTold state zone k start row told)
+  pub meets : (zone : ZoneRule) (k : Caller) (start : B) (row : Record) (told : Answer) (is : IsTold state zone k start row told)
       → IsSound (state is.mid).held
       × (view k (moment_of (ask_of zone row)) (state is.mid).held
       ≡ build (view k (moment_of (ask_of zone row)) (state start).held) (seen_before state zone k start row told is))

@@ -11,4 +11,5 @@ pub mod PlanRead
 pub mod Reading
 pub mod Runs
 pub mod Alike
+pub mod TableLines
 pub mod Told

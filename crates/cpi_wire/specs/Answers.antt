@@ -17,7 +17,8 @@ use Rattle.cpi_wire.specs.declared.asks.Ask.{Ask}
 use Rattle.cpi_wire.specs.declared.asks.Ask.TheVariants as ask
 use Rattle.cpi_wire.specs.Rows.{answer_line}
 
--- each in turn, with what came of it in its place: none is left out, none comes twice, and one begins where the last ended
+-- each in turn, with what came of it in its place: none is left out, none comes twice, and one begins where the last
+-- ended
 abbrev pub InTurn : {B X Y : Type 0} → (B → X → Y → B → Type 0) → B → List X → List Y → B → Type 0
 InTurn step old [] [] new = new ≡ old
 InTurn step old [] (y ∷ ys) new = ⊥

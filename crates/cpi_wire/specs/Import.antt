@@ -13,4 +13,5 @@ row_request zone (word ∷ arguments) = request_of zone (word_of word) arguments
 
 -- the rows of a body, where they are at most 20,000
 unfoldable pub rows_of : ZoneRule → Text → Option (List (Option Request))
-rows_of zone body = if nat_lt 20000 (length (records_of body)) then None else Some (map (row_request zone) (records_of body))
+rows_of zone body =
+    if nat_lt 20000 (length (records_of body)) then None else Some (map (row_request zone) (records_of body))

@@ -16,5 +16,6 @@ pub mod Record
 pub mod Records
 pub mod Refusals
 pub mod Rows
+pub mod TableLines
 pub mod Values
 pub mod Words

@@ -93,7 +93,8 @@ without_others zone key rows = filter (λ row. not (is_others key (ask_of zone r
 abbrev pub own_answers : ZoneRule → ℕ → List Record → List Answer → List Answer
 own_answers zone key [] answers = []
 own_answers zone key (row ∷ rows) [] = []
-own_answers zone key (row ∷ rows) (a ∷ answers) = (if is_own key (ask_of zone row) then a ∷ [] else []) ++ own_answers zone key rows answers
+own_answers zone key (row ∷ rows) (a ∷ answers) =
+    (if is_own key (ask_of zone row) then a ∷ [] else []) ++ own_answers zone key rows answers
 
 abbrev pub lines_to : ZoneRule → ℕ → List Record → List Answer → List (List ℕ)
 lines_to zone key rows answers = map answer_line (own_answers zone key rows answers)
@@ -112,7 +113,8 @@ module _ {B : Type 0} (state : B → State Office) where
 -- where their records differ in those of other collectors alone, the lines to a collector are the same, byte for byte.
 abbrev pub ReplaysTellAlike : {B C : Type 0} → (B → State Office) → (C → State Office) → Type 0
 ReplaysTellAlike {B} {C} state state' =
-    (zone : ZoneRule) (key : ℕ) (old new : B) (old' new' : C) (rows others : List Record) (answers answers' : List Answer) →
+    (zone : ZoneRule) (key : ℕ) (old new : B) (old' new' : C)
+    (rows others : List Record) (answers answers' : List Answer) →
     IsReplayed state zone old new rows answers → IsReplayed state' zone old' new' others answers' →
     (state old).held ≡ (state' old').held → without_others zone key rows ≡ without_others zone key others →
     lines_to zone key rows answers ≡ lines_to zone key others answers'

@@ -1,5 +1,6 @@
 -- The body of a plan: its rows, in any order.
-use Rattle.std.specs.Prelude.{◌≡◌, ℕ, List, [], ◌∷◌, ◌++◌, if◌then◌else◌, nat_lt, length, Bool, true, false, Option, Some, None}
+use Rattle.std.specs.Prelude.{◌≡◌, ℕ, nat_lt, Bool, true, false, if◌then◌else◌}
+use Rattle.std.specs.Prelude.{List, [], ◌∷◌, ◌++◌, length, Option, Some, None}
 use Rattle.cpi_plan.specs.declared.plan_bodies.PlanBody.{PlanBody}
 use Rattle.cpi_plan.specs.declared.plan_rows.Title.{Title}
 use Rattle.cpi_plan.specs.declared.plan_rows.Weight.{Weight}
@@ -42,7 +43,12 @@ references_of (row.Reference m ∷ rows) = m ∷ references_of rows
 
 -- what the rows say, each kind in the order in which it stands
 abbrev pub told_by : List PlanRow → PlanBody
-told_by rows = record { titles = titles_of rows; weights = weights_of rows; places = places_of rows; references = references_of rows }
+told_by rows = record {
+  titles = titles_of rows;
+  weights = weights_of rows;
+  places = places_of rows;
+  references = references_of rows;
+}
 
 -- all rows, where each is of a form
 abbrev pub plan_rows : List Record → Option (List PlanRow)
@@ -55,9 +61,12 @@ plan_rows (fields ∷ more) = do
 -- a record is a row more of the body, or of no form
 abbrev pub AddsRow : PlanBody → PlanBody → Record → Bool → Type 0
 AddsRow old new fields true =
-    (row : PlanRow) × (plan_row fields ≡ Some row) × ((rows : List PlanRow) → old ≡ told_by rows → new ≡ told_by (rows ++ row ∷ []))
+    (row : PlanRow) × (plan_row fields ≡ Some row)
+    × ((rows : List PlanRow) → old ≡ told_by rows → new ≡ told_by (rows ++ row ∷ []))
 AddsRow old new fields false = plan_row fields ≡ None
 
 -- the body of at most 20,000 rows
 unfoldable pub body_of : Text → Option PlanBody
-body_of text = if nat_lt 20000 (length (records_of text)) then None else (plan_rows (records_of text) >>= λ rows. Some (told_by rows))
+body_of text =
+    if nat_lt 20000 (length (records_of text)) then None
+    else (plan_rows (records_of text) >>= λ rows. Some (told_by rows))

@@ -49,7 +49,8 @@ pub(crate) fn two_or_three<'a>(
 }
 
 pub(crate) fn four<'a>(arguments: &[&'a [u8]]) -> Option<(&'a [u8], &'a [u8], &'a [u8], &'a [u8])>
-    ensures { option_map (λ a. (a.0.now, a.1.now, a.2.now, a.3.now)) result ≡ exactly_four (map (λ a. a.now) arguments.now) }
+    ensures { option_map (λ a. (a.0.now, a.1.now, a.2.now, a.3.now)) result
+        ≡ exactly_four (map (λ a. a.now) arguments.now) }
 {
     if arguments.len() == 4 {
         Some((arguments[0], arguments[1], arguments[2], arguments[3]))
@@ -90,7 +91,8 @@ pub(crate) fn four_and_confirm<'a>(
 pub(crate) fn five<'a>(
     arguments: &[&'a [u8]],
 ) -> Option<(&'a [u8], &'a [u8], &'a [u8], &'a [u8], &'a [u8])>
-    ensures { option_map (λ a. (a.0.now, a.1.now, a.2.now, a.3.now, a.4.now)) result ≡ exactly_five (map (λ a. a.now) arguments.now) }
+    ensures { option_map (λ a. (a.0.now, a.1.now, a.2.now, a.3.now, a.4.now)) result
+        ≡ exactly_five (map (λ a. a.now) arguments.now) }
 {
     if arguments.len() == 5 {
         Some((

@@ -1,6 +1,7 @@
 //! What holds of the definitions.
 ghost use Rattle.cpi_wire.specs.Laws.{AreARun};
 ghost use Rattle.cpi_wire.specs.Lines.{LinesAreAlike, ReplaysTellAlike};
+ghost use Rattle.cpi_wire.specs.TableLines.{TableLinesAreComputed, ReplaysTellTables};
 
 use cpi_store::Book;
 
@@ -30,4 +31,16 @@ pub fn lines_are_alike<B: Book, C: Book>()
 /// unavailable. Nothing is said of time.
 pub fn replays_tell_alike<B: Book, C: Book>()
     ensures { ReplaysTellAlike B.state C.state }
+{}
+
+/// What is told of a table is the one that the definitions of the index give over the quotes and weights that were
+/// frozen, printed in the form and the revision that are asked for, or in the latest revision that is published.
+///
+/// So it is of each record of a replay from a sound office that asks for a table and doesn't come with an unknown key:
+/// where the store is clean once it is answered, and the reply doesn't say that the office is unavailable, its line is
+/// that of the printed table, or that of the refusal where there is none. And so it is of each reply to such a row of
+/// an import.
+pub fn tables_are_told<B: Book>()
+    ensures lines { TableLinesAreComputed B.state }
+    ensures replies { ReplaysTellTables B.state }
 {}

@@ -30,7 +30,7 @@ pub use examples::worked_bodies;
 pub use fault::WireFault;
 pub use fields::field_list;
 pub use import::import_rows;
-pub use laws::{lines_are_alike, records_are_a_run, replays_tell_alike};
+pub use laws::{lines_are_alike, records_are_a_run, replays_tell_alike, tables_are_told};
 pub use line::reply_line;
 pub use only_rows::only_row;
 pub use record::{asks_of, request_of_record};

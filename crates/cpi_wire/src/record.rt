@@ -1,6 +1,7 @@
 //! From the fields of a record to what it asks.
 ghost use Rattle.std.specs.Prelude.{◌≡◌, map, IfOk};
-ghost use Rattle.cpi_wire.specs.Record.{caller_of as spelled_caller, import_of as spelled_import, asks as spelled_asks, parts as spelled_parts, ask_of};
+ghost use Rattle.cpi_wire.specs.Record.{caller_of as spelled_caller, import_of as spelled_import};
+ghost use Rattle.cpi_wire.specs.Record.{asks as spelled_asks, parts as spelled_parts, ask_of};
 
 use crate::arguments::one;
 use crate::asks::Ask;
@@ -70,7 +71,8 @@ fn parts_of(
     word: &[u8],
     arguments: &[&[u8]],
 ) -> Result<Option<Ask>, AllocError>
-    ensures { IfOk result (λ a. a ≡ spelled_parts zone.now moment.now caller.now word.now (map (λ f. f.now) arguments.now)) }
+    ensures { IfOk result (λ a.
+        a ≡ spelled_parts zone.now moment.now caller.now word.now (map (λ f. f.now) arguments.now)) }
 {
     let Some(moment) = Moment::parse(moment) else {
         return Ok(None);

@@ -2,7 +2,8 @@
 ghost use Rattle.std.specs.Prelude.{◌≡◌, map, IfOk};
 ghost use Rattle.cpi_wire.specs.Words.{word_of as spelled_word, items_request, work_request, quotes_request};
 ghost use Rattle.cpi_wire.specs.Words.{quote_request, item_request, outlet_request, collector_request};
-ghost use Rattle.cpi_wire.specs.Words.{assign_request, hand_over_request, calendar_request, plan_request, tables_request};
+ghost use Rattle.cpi_wire.specs.Words.{assign_request, hand_over_request, calendar_request};
+ghost use Rattle.cpi_wire.specs.Words.{plan_request, tables_request};
 ghost use Rattle.cpi_wire.specs.Words.{table_request, elementary_codes, freeze_request};
 ghost use Rattle.cpi_wire.specs.Words.{request_of as spelled_request};
 

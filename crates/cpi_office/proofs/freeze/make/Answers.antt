@@ -1,5 +1,6 @@
-use Rattle.std.proofs.Common.{◌≡◌, ◌<◌, ◌≤◌, IfOk, Option, sym, ap, ◌∙◌, subst, arith}
+use Rattle.std.proofs.Common.{◌≡◌, ◌<◌, ◌≤◌, IfOk, Option, sym, true, ap, ◌∙◌, subst, arith}
 use Rattle.std.specs.Option.{option_copied}
+use Rattle.cpi_index.specs.Series.{is_by_series, frozen_serial}
 use Rattle.cpi_plan.specs.Plan.{Plan}
 use Rattle.cpi_release.specs.Cached.{IsFit}
 use Rattle.cpi_release.specs.FrozenMonths.{frozen_months, next_revision, plan_for}
@@ -10,7 +11,7 @@ use Rattle.cpi_release.specs.Publishing.{Freeze, fault_of, published}
 use Rattle.cpi_store.specs.Office.{Office, month_rows}
 use Rattle.cpi_store.specs.Sound.{IsSound}
 use Rattle.cpi_store.specs.Sources.{office_sources}
-use Rattle.cpi_store.proofs.History.{sources_fit}
+use Rattle.cpi_store.proofs.History.{quotes_by_series, sources_fit}
 use Rattle.cpi_release.proofs.PassLemmas.{keeps_more, stays_more}
 use Rattle.cpi_office.specs.Freezing.{frozen_with, judged_release}
 use Rattle.cpi_office.proofs.Making.{under, read_failed, all_read, office_stays, asked_for, asked_back, moved_to}
@@ -65,7 +66,7 @@ returns-clause-reads g c =
           let plan : option_copied c.as_ref.result ≡ wanted = c.as_ref.ensures.value ∙ based.0 ∙ ap (plan_for o.plans (frozen_months o.releases)) month in
           let few = c.requires.few (planned.keeps.was_clean clean1) in
           let revision : c.in-Ok.field-0.revision ≡ next_revision row.month (frozen_months o.releases) = based.1 (subst (λ m. next_revision m (frozen_months o.releases) ≤ 9) (sym month) few) ∙ ap (λ m. next_revision m (frozen_months o.releases)) month in
-          let rows : c.in_ok-rows.rows.items ≡ month_rows row.month o = stored.shown clean2 (subst (λ u. IsFit (office_sources u)) (sym same1) (sources_fit o sound)) ∙ ap (λ (u : Office). month_rows c.month-month.result u) same1 ∙ ap (λ m. month_rows m o) month in
+          let rows : c.in_ok-rows.rows.items ≡ month_rows row.month o = stored.shown clean2 (subst (λ (u : Office). is_by_series frozen_serial (month_rows c.month-month.result u) ≡ true) (sym same1) (quotes_by_series o sound c.month-month.result)) ∙ ap (λ (u : Office). month_rows c.month-month.result u) same1 ∙ ap (λ m. month_rows m o) month in
           let asks : Freeze = record { month = c.month-month.result; revision = c.in-Ok.field-0.revision; frozen_at = c.args.now; publishes = c.publishes-publishes.result; frozen = c.in_ok-rows.rows.items; carry = c.into_vec-carry.result.items } in
           let is : asks ≡ frozen = λ n. record { month = month n; revision = revision n; frozen_at = c.args.now; publishes = c.publishes-publishes.ensures n; frozen = rows n; carry = c.into_vec-carry.ensures n } in
           let held = (g.B.Groups.holds c.month_rows.new.self).held in

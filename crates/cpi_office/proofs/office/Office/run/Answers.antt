@@ -8,7 +8,9 @@ use Rattle.cpi_office.specs.Calls.{ServesWhere}
 use Rattle.cpi_store.specs.Sound.{IsSound}
 use Rattle.cpi_office.specs.Rebuilt.{AreRebuilt, AreFromViews}
 use Rattle.cpi_store.proofs.History.{releases_computed}
+use Rattle.cpi_office.specs.ComputedTables.{TellTables}
 use Rattle.cpi_office.proofs.RunViews.{run_rebuilt, run_from_views, run_stays}
+use Rattle.cpi_office.proofs.ComputedTables.{run_tables}
 use Rattle.cpi_office.specs.Served.{Ran}
 use Rattle.cpi_office.specs.declared.request.Ask.{Ask}
 use Rattle.cpi_office.specs.declared.reply.Reply.{Reply}
@@ -73,6 +75,14 @@ returns-clause-answers g c = λ clean s.
     let none_left : into_iter_items c.next.new.self ≡ [] = nil_from_length (into_iter_items c.next.new.self) (sym c.next.new.self.rest.ok.0 ∙ c.in_default.ensures.cases.1) in
     let whole : c.args.asks.items ≡ n.0 = n.1 ∙ ap (λ ys. n.0 ++ ys) (c.in_default.ensures.items ∙ none_left) ∙ append-nil n.0 in
     subst (λ asks. AreFromViews (state c.args.self.now.book).held asks c.loop-ask.told.items) (sym whole) (run_from_views (state c.args.self.now.book).held (state c.loop-ask.self.book).held n.0 c.loop-ask.told.items s (n.3.run clean s))
+
+pub returns-clause-tables : goal.returns-clause-tables
+returns-clause-tables g c = λ clean s.
+    let n = c.loop-ask.invariant in
+    let state = g.B.Book.state in
+    let none_left : into_iter_items c.next.new.self ≡ [] = nil_from_length (into_iter_items c.next.new.self) (sym c.next.new.self.rest.ok.0 ∙ c.in_default.ensures.cases.1) in
+    let whole : c.args.asks.items ≡ n.0 = n.1 ∙ ap (λ ys. n.0 ++ ys) (c.in_default.ensures.items ∙ none_left) ∙ append-nil n.0 in
+    subst (λ asks. TellTables (state c.args.self.now.book).held asks c.loop-ask.told.items) (sym whole) (run_tables (state c.args.self.now.book).held (state c.loop-ask.self.book).held n.0 c.loop-ask.told.items s (n.3.run clean s))
 
 pub returns-clause-sound : goal.returns-clause-sound
 returns-clause-sound g c = λ clean s.
