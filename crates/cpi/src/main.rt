@@ -1,10 +1,10 @@
-//! The program `cpi`. It is wiring alone: it hands the words to `job_of_words` and what stands outside to the run of the
-//! job, prints the line of a fault and ends with its status.
+//! The program `cpi`. It is wiring alone: it hands the words to `job_of_words` and what stands outside to the run of
+//! the job, prints the line of a fault and ends with its status.
 #![tactic(auto)]
 
 use clap::Error;
 use clap::error::ErrorKind;
-use cpi_app::{AskedTable, Job, RunFault, asked_table, job_of_words, run_replay};
+use cpi_app::{Job, RunFault, asked_table, job_of_words, run_replay};
 use cpi_files::{replay_in_file, run_serve, table_in_file};
 use cpi_release::Revision;
 use cpi_wire::WireFault;
@@ -45,70 +45,67 @@ fn tell_refused(rt: &HostRuntime, error: &Error) -> Result<u8, RunFault> {
 }
 
 // Answers the records of standard input in an office in memory.
-fn replay_in_memory(rt: &HostRuntime, zone: &str) -> Result<(), RunFault> {
-    run_replay(rt.alloc(), zone, &mut rt.reader(), &mut io::writer(rt))
+fn run_replay_in_memory(rt: &HostRuntime, zone: &str) -> Result<u8, RunFault> {
+    run_replay(rt.alloc(), zone, &mut rt.reader(), &mut io::writer(rt))?;
+    Ok(0)
 }
 
 // Answers the records of standard input in the office of the file.
-fn replay_in(rt: &HostRuntime, zone: &str, path: &str) -> Result<(), RunFault> {
-    replay_in_file(
-        rt,
-        zone,
-        path,
-        Unknown,
-        &mut rt.reader(),
-        &mut io::writer(rt),
-    )
+fn run_replay_in(rt: &HostRuntime, zone: &str, path: &str) -> Result<u8, RunFault> {
+    let out = &mut io::writer(rt);
+    replay_in_file(rt, zone, path, Unknown, &mut rt.reader(), out)?;
+    Ok(0)
 }
 
-// Prints the table from the office of the file, and answers the exit status.
-fn table_in(rt: &HostRuntime, path: &str, asked: AskedTable) -> Result<u8, RunFault> {
-    table_in_file(
-        rt,
-        path,
-        Unknown,
-        asked,
-        &mut io::writer(rt),
-        &mut rt.stderr(),
-    )
+// Serves the pages of the office of the file.
+fn run_serve_of(
+    rt: &HostRuntime,
+    path: &str,
+    port: u16,
+    key: &str,
+    limit: u32,
+    zone: &str,
+) -> Result<u8, RunFault> {
+    run_serve(rt, path, Unknown, port, key, limit, zone)?;
+    Ok(0)
+}
+
+// Prints the table from the office of the file.
+fn run_table_of(
+    rt: &HostRuntime,
+    path: &str,
+    month: &str,
+    revision: Option<Revision>,
+    form: &str,
+    at: u64,
+) -> Result<u8, RunFault> {
+    let asked = asked_table(month, revision, form, at)?;
+    let out = &mut io::writer(rt);
+    table_in_file(rt, path, Unknown, asked, out, &mut rt.stderr())
 }
 
 // Hands what stands outside to the run of the job, and answers the exit status.
-fn run_job(rt: &HostRuntime, job: Job) -> Result<u8, RunFault> {
+fn run_job(rt: &HostRuntime, job: &Job) -> Result<u8, RunFault> {
     match job {
-        Job::Replay { zone, db: None } => {
-            replay_in_memory(rt, zone)?;
-            Ok(0)
-        }
+        Job::Replay { zone, db: None } => run_replay_in_memory(rt, zone),
         Job::Replay {
             zone,
             db: Some(path),
-        } => {
-            replay_in(rt, zone, path)?;
-            Ok(0)
-        }
+        } => run_replay_in(rt, zone, path),
         Job::Serve {
             db,
             port,
             key,
             limit,
             zone,
-        } => {
-            run_serve(rt, db, port, key, limit, zone)?;
-            Ok(0)
-        }
+        } => run_serve_of(rt, db, *port, key, *limit, zone),
         Job::Table {
             db,
             month,
             revision,
             form,
             at,
-        } => {
-            let asked = asked_table(month, revision, form, at)?;
-            // (named here, since the prover has to be told of each type that `?` hands on)
-            let _revision: Option<Revision> = asked.revision;
-            table_in(rt, db, asked)
-        }
+        } => run_table_of(rt, db, month, *revision, form, *at),
     }
 }
 
@@ -120,7 +117,7 @@ fn run(rt: &HostRuntime) -> Result<u8, RunFault> {
         words.push(word.as_str())?;
     }
     match job_of_words(rt.alloc(), words.as_slice()) {
-        Ok(job) => run_job(rt, job),
+        Ok(job) => run_job(rt, &job),
         Err(error) => tell_refused(rt, &error),
     }
 }

@@ -1,7 +1,8 @@
 -- The command line of the program: its subcommands, and the job that words give.
-use Rattle.std.specs.Prelude.{◌≡◌, ◌≤◌, ◌⊎◌, ℕ, List, [], Some, Ok, unwrap_or, option_map, codes, true}
+use Rattle.std.specs.Prelude.{◌≡◌, ◌≤◌, ◌⊎◌, ℕ, List, [], Option, Some, None, Ok, unwrap_or, option_map, codes, true}
 use Rattle.std.specs.Str.Parse.{ParsesUnsigned}
-use Rattle.clap.specs.Words.{App, Row, Rule, Text, first_of, one_of, new_app, new_rule, with_rule, with_subcommand, subcommand_of}
+use Rattle.clap.specs.Words.{App, Row, Rule, Text, first_of, one_of, new_app, new_rule, with_rule}
+use Rattle.clap.specs.Words.{with_subcommand, subcommand_of}
 use Rattle.clap.specs.declared.builder.value_parser.ValueParser.TheVariants as parser
 use Rattle.cpi_app.specs.declared.job.Job.{Job}
 use Rattle.cpi_app.specs.declared.job.Job.TheVariants.{Replay, Serve, Table}
@@ -13,6 +14,10 @@ option name = record (new_rule name) { long = Some name }
 -- an option that has to be given
 abbrev pub required : Text → Rule
 required name = record (option name) { required = true }
+
+-- a number in a range
+abbrev pub optional_number : Text → ℕ → ℕ → Rule
+optional_number name low high = record (option name) { parser = Some (parser.Unsigned low high) }
 
 -- a number in a range, which has to be given
 abbrev pub number : Text → ℕ → ℕ → Rule
@@ -30,11 +35,14 @@ serve = with_rule (with_rule (with_rule (with_rule (with_rule (new_app (codes "s
 abbrev pub table : App
 table = with_rule (with_rule (with_rule (with_rule (with_rule (new_app (codes "table"))
     (required (codes "db"))) (required (codes "month"))) (required (codes "form")))
-    (number (codes "at") 0 9999999999)) (option (codes "revision"))
+    (number (codes "at") 0 9999999999)) (optional_number (codes "revision") 1 9)
 
 -- the program: the words begin with a subcommand
 abbrev pub bare : App
-bare = record { top = record (new_app (codes "cpi")).top { no_binary_name = true; subcommand_required = true }; subs = [] }
+bare = record {
+  top = record (new_app (codes "cpi")).top { no_binary_name = true; subcommand_required = true };
+  subs = [];
+}
 
 abbrev pub cpi : App
 cpi = with_subcommand (with_subcommand (with_subcommand bare replay.top) serve.top) table.top
@@ -47,6 +55,11 @@ HasText rows name text = first_of name rows ≡ Some text
 abbrev pub HasNumber : ℕ → List Row → Text → ℕ → Type 0
 HasNumber bits rows name n =
     (text : Text) × (one_of name rows ≡ Some text) × ParsesUnsigned {E = Unit {0}} bits 10 text (Ok n)
+
+-- the option's one value is this revision, or the option wasn't given
+abbrev pub HasRevision : List Row → Option ℕ → Type 0
+HasRevision rows None = first_of (codes "revision") rows ≡ None
+HasRevision rows (Some n) = HasNumber 8 rows (codes "revision") n × (1 ≤ n) × (n ≤ 9)
 
 -- the zone that was given, or UTC0
 abbrev pub HasZone : List Row → Text → Type 0
@@ -63,7 +76,7 @@ IsJob sub (Serve db port key limit zone) = (sub.0 ≡ codes "serve") × HasText 
     × HasZone sub.1 zone.now
 IsJob sub (Table db month revision form at) = (sub.0 ≡ codes "table") × HasText sub.1 (codes "db") db.now
     × HasText sub.1 (codes "month") month.now
-    × (option_map (λ t. t.now) revision ≡ first_of (codes "revision") sub.1)
+    × HasRevision sub.1 revision
     × HasText sub.1 (codes "form") form.now × ((form.now ≡ codes "text") ⊎ (form.now ≡ codes "csv"))
     × HasNumber 64 sub.1 (codes "at") at × (at ≤ 9999999999)
 

@@ -1,6 +1,7 @@
 -- What connections do.
 use Rattle.std.specs.Prelude.{◌≡◌, ◌≤◌, ◌+◌, ◌⊎◌, ℕ, Bool, true, false, List, [], ◌∷◌, length}
-use Rattle.std.specs.Prelude.{Option, None, Result, Ok, Err, IfOk, IfErr, IsTrue}
+use Rattle.std.specs.Prelude.{⊤, Option, None, Result, Ok, Err, IfOk, IfErr, IsTrue, IsFalse}
+use Rattle.std.specs.List.{AllByRecursion}
 use Rattle.cpi_codes.specs.Zone.{ZoneRule}
 use Rattle.cpi_release.specs.State.{State}
 use Rattle.cpi_store.specs.Office.{Office}
@@ -10,6 +11,8 @@ use Rattle.cpi_pages.specs.declared.serve.Served.{Served}
 use Rattle.cpi_pages.specs.declared.serve.Served.TheVariants as served
 use Rattle.cpi_pages.specs.Message.{setting}
 use Rattle.cpi_pages.specs.Served.{Framing, Change, IsServed, GaveUp, messages}
+use Rattle.cpi_app.specs.declared.fault.RunFault.{RunFault}
+use Rattle.cpi_app.specs.declared.fault.RunFault.TheVariants.{NoPort, Wire}
 
 -- the message at the front of the stream was served, whatever was read of the stream behind it
 abbrev pub ServesFront : {B : Type 0} → (B → State Office) → Framing → Option (List ℕ) → Change B → Served → Type 0
@@ -23,8 +26,8 @@ GivesUpFront state f stream c fault = (behind : Option (List ℕ)) × GaveUp sta
 abbrev pub unknown_bytes : {B : Type 0} → B → B → Change B
 unknown_bytes before now = record { before = before; now = now; written = None; writing = None }
 
--- the book may not show what it keeps: a reply was that the office was unavailable, a response wasn't written whole, or
--- memory was refused
+-- A reply was that the office was unavailable, so that its store may have failed; or it may have been: without memory,
+-- or where the response isn't known to be written, nobody tells what the replies were.
 abbrev pub is_shaken : Result Served WireFault → Bool
 is_shaken (Ok (served.Answered status failed)) = failed
 is_shaken (Ok served.Cut) = false
@@ -54,6 +57,19 @@ abbrev pub LastShook : List Visit → Type 0
 LastShook [] = ⊥
 LastShook (visit ∷ earlier) = IsTrue (is_shaken visit.outcome)
 
+-- this one didn't
+abbrev pub IsCalm : Visit → Type 0
+IsCalm visit = IsFalse (is_shaken visit.outcome)
+
+-- none but the last of them did
+abbrev pub AreCalmBefore : List Visit → Type 0
+AreCalmBefore [] = ⊤
+AreCalmBefore (visit ∷ earlier) = AllByRecursion IsCalm earlier
+
 -- so many of the connections are left, and any only where the last one shook the book
 abbrev pub AreLeft : ℕ → List Visit → ℕ → Type 0
 AreLeft limit visits left = (left + length visits ≤ limit) × ((left ≡ 0) ⊎ LastShook visits)
+
+-- nobody can be listened to: the port is taken, or it couldn't be told that it is listened at
+abbrev pub IsUnheard : RunFault → Type 0
+IsUnheard why = (why ≡ NoPort) ⊎ (why ≡ Wire fault.Write)

@@ -2,7 +2,7 @@
 use Rattle.std.specs.Prelude.{ℕ, List, ◌++◌, codes}
 use Rattle.cpi_wire.specs.Fault.{fault_text}
 use Rattle.cpi_app.specs.declared.fault.RunFault.{RunFault}
-use Rattle.cpi_app.specs.declared.fault.RunFault.TheVariants.{BadWord, BadZone, BadKey, BadMonth, BadRevision, Database}
+use Rattle.cpi_app.specs.declared.fault.RunFault.TheVariants.{BadWord, BadZone, BadKey, BadMonth, Database}
 use Rattle.cpi_app.specs.declared.fault.RunFault.TheVariants.{NoTable, NoClock, NoPort, Wire}
 use Rattle.cpi_store.specs.declared.open_fault.OpenFault.{OpenFault}
 use Rattle.cpi_store.specs.declared.open_fault.OpenFault.TheVariants.{UnknownSchema, Store}
@@ -18,7 +18,6 @@ line_of BadWord = codes "cpi: a word isn't UTF-8"
 line_of BadZone = codes "cpi: bad zone"
 line_of BadKey = codes "cpi: bad key"
 line_of BadMonth = codes "cpi: bad month"
-line_of BadRevision = codes "cpi: bad revision"
 line_of (Database fault) = open_line fault
 line_of NoTable = codes "cpi: no table"
 line_of NoClock = codes "cpi: no clock"
@@ -28,12 +27,4 @@ line_of (Wire fault) = codes "cpi: " ++ fault_text fault
 -- 2 where a word is refused, and 1 for what failed after that
 abbrev pub status_of : RunFault → ℕ
 status_of BadWord = 2
-status_of BadZone = 1
-status_of BadKey = 1
-status_of BadMonth = 1
-status_of BadRevision = 1
-status_of (Database fault) = 1
-status_of NoTable = 1
-status_of NoClock = 1
-status_of NoPort = 1
-status_of (Wire fault) = 1
+status_of _ = 1

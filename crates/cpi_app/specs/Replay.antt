@@ -8,8 +8,7 @@ use Rattle.cpi_store.specs.Holders.{Kept, kept_state}
 use Rattle.cpi_wire.specs.declared.fault.WireFault.{WireFault}
 use Rattle.cpi_wire.specs.Records.{AnsweredInput, GaveUp}
 use Rattle.cpi_app.specs.declared.fault.RunFault.{RunFault}
-use Rattle.cpi_app.specs.declared.fault.RunFault.TheVariants.{BadWord, BadZone, BadKey, BadMonth, BadRevision, Database}
-use Rattle.cpi_app.specs.declared.fault.RunFault.TheVariants.{NoTable, NoClock, NoPort, Wire}
+use Rattle.cpi_app.specs.declared.fault.RunFault.TheVariants.{BadZone, Wire}
 
 -- a book in memory before its first record
 abbrev pub empty_book : Kept
@@ -31,13 +30,6 @@ pub record GaveUpReplay (zone : List ℕ) (input was is : Option (List ℕ)) (fa
 
 -- why a replay ended early, and what was answered until then: nothing where the zone's text is no rule
 abbrev pub EndedEarly : List ℕ → Option (List ℕ) → Option (List ℕ) → Option (List ℕ) → RunFault → Type 0
-EndedEarly zone input was is BadWord = ⊥
 EndedEarly zone input was is BadZone = IsNone (read_whole zone)
-EndedEarly zone input was is BadKey = ⊥
-EndedEarly zone input was is BadMonth = ⊥
-EndedEarly zone input was is BadRevision = ⊥
-EndedEarly zone input was is (Database fault) = ⊥
-EndedEarly zone input was is NoTable = ⊥
-EndedEarly zone input was is NoClock = ⊥
-EndedEarly zone input was is NoPort = ⊥
 EndedEarly zone input was is (Wire fault) = GaveUpReplay zone input was is fault
+EndedEarly zone input was is _ = ⊥

@@ -8,7 +8,8 @@ ghost use Rattle.cpi_app.specs.Command.{GivesJob, IsJob};
 use crate::help;
 use crate::job::Job;
 use crate::options::{
-    form_of, limit_of, number, option, port_of, required, second_of, text_of, zone_of,
+    form_of, limit_of, number, option, optional_number, port_of, required, revision_of, second_of,
+    text_of, zone_of,
 };
 use clap::error::ErrorKind;
 use clap::{ArgMatches, Command, Error};
@@ -78,10 +79,12 @@ fn table_command<'a>(alloc: Global) -> Result<Command<'a>, AllocError>
             0,
             9_999_999_999,
         ))?
-        .arg(option(
+        .arg(optional_number(
             alloc,
             "revision",
             "The revision, 1 to 9; else the latest that was published by then",
+            1,
+            9,
         ))
 }
 
@@ -128,7 +131,7 @@ fn table_of<'a>(matches: &ArgMatches<'a>) -> Option<Job<'a>>
     Some(Job::Table {
         db: text_of(matches, "db")?,
         month: text_of(matches, "month")?,
-        revision: text_of(matches, "revision"),
+        revision: revision_of(matches)?,
         form: form_of(matches)?,
         at: second_of(matches)?,
     })
@@ -136,7 +139,8 @@ fn table_of<'a>(matches: &ArgMatches<'a>) -> Option<Job<'a>>
 
 // The job of the subcommand that was used.
 fn job_of<'a>(matches: &ArgMatches<'a>) -> Option<Job<'a>>
-    ensures { IfSome result (λ job. (sub : Text × List Row) × (subcommand_rows_of matches.now ≡ Some sub) × IsJob sub job) }
+    ensures { IfSome result (λ job. (sub : Text × List Row)
+        × (subcommand_rows_of matches.now ≡ Some sub) × IsJob sub job) }
 {
     let (name, options) = matches.subcommand()?;
     match name {

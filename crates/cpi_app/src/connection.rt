@@ -5,6 +5,7 @@ ghost use Rattle.cpi_pages.specs.Served.{messages};
 ghost use Rattle.cpi_app.specs.Connection.{ServesFront, GivesUpFront, is_shaken};
 
 use crate::desk::Desk;
+use crate::offered::Offered;
 use crate::timed::Timed;
 use cpi_codes::Moment;
 use cpi_office::Office;
@@ -73,8 +74,9 @@ pub fn serve_front<R: Read, W: Write, B: Book>(
     )
 }
 
-/// Whether the book has to be opened again after a connection: one of the replies was that the office was unavailable,
-/// a response wasn't written whole, or memory was refused.
+/// Whether the book has to be opened again after a connection, since its store may have failed: one of the replies was
+/// that the office was unavailable, or may have been. Without memory, or where a response wasn't written whole, the
+/// replies aren't known.
 pub fn is_shaken(served: Result<Served, WireFault>) -> bool
     ensures { result ≡ is_shaken served }
 {
@@ -108,8 +110,9 @@ fn bound_waits(stream: &TcpStream) -> io::Result<()> {
     stream.set_write_timeout(Some(time))
 }
 
-/// Serves the message of a connection at a moment. A peer that sends or takes too slowly is given up with `Read` or
-/// `Write`. What the peer sent after its message is thrown away.
+/// Serves the message of a connection at a moment. A peer that sends too slowly is given up with `Read`. What the peer
+/// sent after its message is thrown away, and so is what it doesn't take of the response, or too slowly: the message was
+/// carried out, and that says nothing against the office.
 pub fn serve_connection<C: Clock, B: Book>(
     alloc: Global,
     clock: &C,
@@ -128,10 +131,12 @@ pub fn serve_connection<C: Clock, B: Book>(
     };
     let time = Duration::from_secs(MESSAGE_SECONDS);
     let mut reader = Timed::new(clock, stream, time);
-    let mut writer = Timed::new(clock, stream, time);
+    let mut writer = Offered::new(Timed::new(clock, stream, time));
     let served = serve_front(alloc, &mut reader, &mut writer, now, desk, office);
     if let Ok(Served::Answered(_, _)) = served {
-        let _ = hang_up(clock, stream);
+        if writer.is_taken() {
+            let _ = hang_up(clock, stream);
+        }
     }
     served
 }

@@ -18,8 +18,6 @@ pub enum RunFault {
     BadKey,
     /// The month isn't a year from 2000 to 2199 with a month, like `2026-01`.
     BadMonth,
-    /// The revision isn't a number from 1 to 9.
-    BadRevision,
     /// The database couldn't be opened as an office, or failed later.
     Database(OpenFault),
     /// No table of the month was published by then, or none in the revision.
@@ -49,10 +47,7 @@ impl RunFault {
     {
         match self {
             RunFault::BadWord => 2,
-            RunFault::BadZone | RunFault::BadKey => 1,
-            RunFault::BadMonth | RunFault::BadRevision => 1,
-            RunFault::Database(_) | RunFault::NoTable | RunFault::NoClock | RunFault::NoPort => 1,
-            RunFault::Wire(_) => 1,
+            _ => 1,
         }
     }
 }
@@ -103,7 +98,6 @@ impl fmt::Display for RunFault {
             RunFault::BadZone => write!(f, "cpi: bad zone"),
             RunFault::BadKey => write!(f, "cpi: bad key"),
             RunFault::BadMonth => write!(f, "cpi: bad month"),
-            RunFault::BadRevision => write!(f, "cpi: bad revision"),
             RunFault::Database(fault) => f.write_str(fault_line(fault)),
             RunFault::NoTable => write!(f, "cpi: no table"),
             RunFault::NoClock => write!(f, "cpi: no clock"),

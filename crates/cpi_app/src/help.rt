@@ -45,7 +45,7 @@ Example:   cpi table --db office.db --month 2026-01 --form text --at 1769590800
            (with --revision 1: the same table before it was revised)
 Exit status:
   0        the table was printed
-  1        one line on standard error tells the fault, `cpi: ` and one of: bad month, bad revision,
-           unknown schema, database failed, no table (none of the month, or not this revision, was
-           published by then), write failed, out of memory
+  1        one line on standard error tells the fault, `cpi: ` and one of: bad month, unknown
+           schema, database failed, no table (none of the month, or not this revision, was published
+           by then), write failed, out of memory
   2        the words are refused, and nothing was done; standard error says why";

@@ -1,5 +1,7 @@
 //! What the program is asked to do.
 
+use cpi_release::Revision;
+
 /// A subcommand with the values of its options, as the words give them.
 #[derive(Clone, Copy, PartialEq, Eq)]
 pub enum Job<'a> {
@@ -9,8 +11,8 @@ pub enum Job<'a> {
         zone: &'a str,
         db: Option<&'a str>,
     },
-    /// Pages of the office of the database at a port of this machine, for `limit` connections one after another; the key
-    /// is the desk's.
+    /// Pages of the office of the database at a port of this machine, for `limit` connections one after another; the
+    /// key is the desk's.
     Serve {
         db: &'a str,
         port: u16,
@@ -18,12 +20,12 @@ pub enum Job<'a> {
         limit: u32,
         zone: &'a str,
     },
-    /// The table of a month, in a revision or else in the latest, as it was published by that moment (seconds since 1970
-    /// UTC), as `text` or as `csv`.
+    /// The table of a month, in a revision or else in the latest, as it was published by that moment (seconds since
+    /// 1970 UTC), as `text` or as `csv`.
     Table {
         db: &'a str,
         month: &'a str,
-        revision: Option<&'a str>,
+        revision: Option<Revision>,
         form: &'a str,
         at: u64,
     },

@@ -5,6 +5,7 @@ ghost use Rattle.cpi_app.specs.Command as line;
 
 use clap::builder::ValueParser;
 use clap::{Arg, ArgMatches};
+use cpi_release::Revision;
 use std::alloc::Global;
 
 /// The greatest second that a moment can be.
@@ -27,6 +28,20 @@ pub fn required<'a>(alloc: Global, name: &'a str, help: &'a str) -> Arg<'a>
     ensures local { result.global ≡ false }
 {
     option(alloc, name, help).required(true)
+}
+
+/// A number in a range.
+pub fn optional_number<'a>(
+    alloc: Global,
+    name: &'a str,
+    help: &'a str,
+    low: u64,
+    high: u64,
+) -> Arg<'a>
+    ensures rule { rule_of result ≡ line.optional_number name.entry.now low high }
+    ensures local { result.global ≡ false }
+{
+    option(alloc, name, help).value_parser(ValueParser::Unsigned(low, high))
 }
 
 /// A number in a range, which has to be given.
@@ -84,6 +99,18 @@ pub fn second_of(matches: &ArgMatches) -> Option<u64>
         Some(second) if second <= LAST_SECOND => Some(second),
         _ => None,
     }
+}
+
+/// The revision that was given, if any was.
+pub fn revision_of(matches: &ArgMatches) -> Option<Option<Revision>>
+    ensures { IfSome result (line.HasRevision (rows_of (found_of matches.now))) }
+{
+    if text_of(matches, "revision").is_none() {
+        return Some(None);
+    }
+    let number = matches.get_one::<u8>("revision")?;
+    let revision = Revision::new(u64::from(number))?;
+    Some(Some(revision))
 }
 
 /// The form of a table.

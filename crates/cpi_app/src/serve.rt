@@ -1,6 +1,6 @@
 //! Serving connections, one after another.
 ghost use Rattle.std.specs.Prelude.{◌≡◌, ◌≤◌, List, length, IfOk, IfErr};
-ghost use Rattle.cpi_app.specs.Connection.{Visit, AreServed, AreLeft};
+ghost use Rattle.cpi_app.specs.Connection.{Visit, AreServed, AreCalmBefore, AreLeft, IsUnheard};
 ghost use Rattle.cpi_app.specs.declared.fault.RunFault.TheVariants.{NoClock};
 
 use crate::connection::{is_shaken, serve_connection};
@@ -25,6 +25,7 @@ fn moment_of<C: Clock>(clock: &C) -> Option<Moment> {
 pub fn listen<R>(rt: &R, port: u16) -> Result<TcpListener, RunFault>
 where
     R: Net<Listener = TcpListener, Stream = TcpStream> + Print,
+    ensures { IfErr result IsUnheard }
 {
     let Ok(listener) = TcpListener::bind(rt, ("127.0.0.1", port)) else {
         return Err(RunFault::NoPort);
@@ -47,7 +48,7 @@ pub fn serve_book<C: Clock, B: Book>(
 ) -> (B, Result<u32, RunFault>)
     ensures served { (visits : List Visit) × (length visits ≤ limit)
         × AreServed B.state desk.now.zone desk.now.key book visits result.0
-        × IfOk result.1 (AreLeft limit visits) }
+        × AreCalmBefore visits × IfOk result.1 (AreLeft limit visits) }
     ensures fault { IfErr result.1 (λ fault. fault ≡ NoClock) }
 {
     let mut office = Office::new(alloc, book);

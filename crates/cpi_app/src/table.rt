@@ -1,14 +1,12 @@
 //! The job of a table.
 ghost use Rattle.std.specs.Prelude.{◌≡◌, ◌↔◌, ℕ, List, Option, Some, Ok};
 ghost use Rattle.std.specs.Prelude.{IfOk, OnOk, IfErr, IsErr, IsErrOf, codes};
-ghost use Rattle.std.specs.Option.{option_copied};
 ghost use Rattle.cpi_codes.specs.Month.{month_of};
 ghost use Rattle.cpi_release.specs.PublishedTables.{PublishedTable};
 ghost use Rattle.cpi_release.specs.State.{Keeps, StaysClean};
 ghost use Rattle.cpi_store.specs.Tables.{table_until};
 ghost use Rattle.cpi_office.specs.Answers.{bytes_of};
 ghost use Rattle.cpi_app.specs.Table.{IsTable, IsWritten, IsNotWritten, IsPrinted};
-ghost use Rattle.cpi_app.specs.Table.{revision_asked, HasNoRevision};
 
 use crate::fault::RunFault;
 use cpi_codes::{Moment, Month};
@@ -119,40 +117,21 @@ pub fn print_table<B: Book, W: Write, E: Write>(
     }
 }
 
-// The revision that the word names, or the latest.
-fn revision_of_word(word: Option<&str>) -> Result<Option<Revision>, RunFault>
-    ensures named { IfOk result (λ revision. revision_asked (option_copied word.entry) ≡ Some revision) }
-    ensures fault { IfErr result (λ fault. (fault ≡ RunFault.BadRevision)
-        × (revision_asked (option_copied word.entry) ≡ None)) }
-{
-    let Some(word) = word else {
-        return Ok(None);
-    };
-    match Revision::parse(word.as_bytes()) {
-        Some(revision) => Ok(Some(revision)),
-        None => Err(RunFault::BadRevision),
-    }
-}
-
 /// The table that words ask for. The form is `csv`, or else text; no table is published after the last moment. The
-/// faults are `BadMonth`, `BadRevision` and then `NoTable`.
+/// faults are `BadMonth` and then `NoTable`.
 pub fn asked_table(
     month: &str,
-    revision: Option<&str>,
+    revision: Option<Revision>,
     form: &str,
     at: u64,
 ) -> Result<AskedTable, RunFault>
     ensures asked { IfOk result (λ asked. (month_of month.now ≡ Ok asked.month) × (at ≡ asked.until)
-        × (revision_asked (option_copied revision.entry) ≡ Some asked.revision)
-        × (asked.form ≡ Form.Csv ↔ form.now ≡ codes "csv")) }
+        × (asked.revision ≡ revision) × (asked.form ≡ Form.Csv ↔ form.now ≡ codes "csv")) }
     ensures bad_month { IsErrOf result RunFault.BadMonth ↔ IsErr (month_of month.now) }
-    ensures bad_revision { IsErrOf result RunFault.BadRevision
-        ↔ HasNoRevision month.now (option_copied revision.entry) }
 {
     let Ok(month) = Month::parse(month.as_bytes()) else {
         return Err(RunFault::BadMonth);
     };
-    let revision = revision_of_word(revision)?;
     let Some(until) = Moment::new(at) else {
         return Err(RunFault::NoTable);
     };

@@ -10,9 +10,8 @@ use Rattle.cpi_store.specs.Office.{Office}
 use Rattle.cpi_wire.specs.declared.fault.WireFault.{WireFault}
 use Rattle.cpi_wire.specs.Records.{AnsweredInput, GaveUp}
 use Rattle.cpi_app.specs.declared.fault.RunFault.{RunFault}
-use Rattle.cpi_app.specs.declared.fault.RunFault.TheVariants.{BadWord, BadZone, BadKey, BadMonth, BadRevision, Database}
-use Rattle.cpi_app.specs.declared.fault.RunFault.TheVariants.{NoTable, NoClock, NoPort, Wire}
-use Rattle.cpi_files.specs.Database.{IsDoneIn}
+use Rattle.cpi_app.specs.declared.fault.RunFault.TheVariants.{BadZone, Database, Wire}
+use Rattle.cpi_files.specs.Database.{IsDoneIn, IsRefused}
 
 -- the records of the input were answered in the office of a book by the clock, or after a fault the first of them
 pub record Replays (rule : ZoneRule) (Book : Type 0) (state : Book → State Office) (book now : Book)
@@ -27,25 +26,21 @@ pub record IsReplayedIn {D : Type 0} (g : Ghosts D) (start : Image) (zone : List
   pub clock : IsPosixZone zone rule
   pub done : IsDoneIn g start (Replays rule) input was is outcome
 
--- such a replay ran, and this came of its input
-abbrev pub Ran : {D : Type 0} → Ghosts D → Image → List ℕ → Option (List ℕ) → Option (List ℕ) → Option (List ℕ)
+-- there was such a replay, and this came of its input
+abbrev pub HasReplayed : {D : Type 0} → Ghosts D → Image → List ℕ
+    → Option (List ℕ) → Option (List ℕ) → Option (List ℕ)
     → (Result (Unit {0}) WireFault → Type 0) → Type 0
-Ran g start zone input was is IsOutcome = (outcome : Result (Unit {0}) WireFault)
+HasReplayed g start zone input was is IsOutcome = (outcome : Result (Unit {0}) WireFault)
     × IsOutcome outcome × IsReplayedIn g start zone input was is outcome
 
--- what was answered in the file that is closed now: all; the first records, where the input was given up; nothing, where
--- no replay began; and where the database failed nothing, or all before the file couldn't be closed
-abbrev pub EndsIn : {D T : Type 0} → Ghosts D → Image → List ℕ → Type 0 → Option (List ℕ) → Option (List ℕ)
-    → Option (List ℕ) → Result T RunFault → Type 0
-EndsIn g start zone Untouched input was is (Ok done) = Ran g start zone input was is IsOk
-EndsIn g start zone Untouched input was is (Err BadWord) = ⊥
+-- what was answered in the file that is closed now: all; the first records, where the input was given up; nothing,
+-- where the zone is none or the file was refused; and all, where the file couldn't be closed afterwards
+abbrev pub EndsIn : {D T : Type 0} → Ghosts D → Image → List ℕ → Type 0
+    → Option (List ℕ) → Option (List ℕ) → Option (List ℕ) → Result T RunFault → Type 0
+EndsIn g start zone Untouched input was is (Ok done) = HasReplayed g start zone input was is IsOk
 EndsIn g start zone Untouched input was is (Err BadZone) = IsNone (read_whole zone) × Untouched
-EndsIn g start zone Untouched input was is (Err BadKey) = ⊥
-EndsIn g start zone Untouched input was is (Err BadMonth) = ⊥
-EndsIn g start zone Untouched input was is (Err BadRevision) = ⊥
-EndsIn g start zone Untouched input was is (Err (Database fault)) = Untouched ⊎ Ran g start zone input was is IsOk
-EndsIn g start zone Untouched input was is (Err NoTable) = ⊥
-EndsIn g start zone Untouched input was is (Err NoClock) = ⊥
-EndsIn g start zone Untouched input was is (Err NoPort) = ⊥
+EndsIn g start zone Untouched input was is (Err (Database fault)) =
+    (Untouched × IsRefused g start fault) ⊎ HasReplayed g start zone input was is IsOk
 EndsIn g start zone Untouched input was is (Err (Wire fault)) =
-    Ran g start zone input was is (λ outcome. IsErrOf outcome fault)
+    HasReplayed g start zone input was is (λ outcome. IsErrOf outcome fault)
+EndsIn g start zone Untouched input was is (Err _) = ⊥

@@ -15,6 +15,7 @@ pub record Prints (asked : AskedTable) (Book : Type 0) (state : Book → State O
   pub printed : (state now).is_clean → IsPrinted asked (state book).held was is status
 
 -- that was done in the office that the files held
-abbrev pub IsPrintedFrom : {D : Type 0} → Ghosts D → Image → AskedTable → Option (List ℕ) → Option (List ℕ) → ℕ → Type 0
+abbrev pub IsPrintedFrom : {D : Type 0} → Ghosts D → Image → AskedTable
+    → Option (List ℕ) → Option (List ℕ) → ℕ → Type 0
 IsPrintedFrom g start asked was is status =
     (input : Option (List ℕ)) × IsDoneIn g start (Prints asked) input was is status

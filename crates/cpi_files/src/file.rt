@@ -1,20 +1,39 @@
 //! A job in the office of a database file.
 ghost use Rattle.std.specs.Prelude.{◌≡◌, IfOk, IfErr};
 ghost use Rattle.sqlite.specs.WalFiles.{image_at};
-ghost use Rattle.cpi_files.specs.Database.{IsDoneIn};
+ghost use Rattle.cpi_files.specs.Database.{IsDoneIn, IsRefused};
 
 use crate::job::BookJob;
 use crate::over::job_over;
 use cpi_sql::OpenFault;
 use sqlite::{Connection, FileFrom, Start};
 use sqlite_disk::Disk;
+use std::fs::OpenOptions;
 use std::io::{Read, Write};
+use std::os::unix::fs::OpenOptionsExt;
+
+/// Who may read and write a file that is made here: its owner.
+const OWNER_ALONE: u32 = 0o600;
+
+// Makes the file where there is none, for its owner alone, since the keys of all collectors will stand there. The port
+// gives the log the access that the file has. (Where this fails, so does the open.)
+fn make_private(rt: &HostRuntime, path: &str) {
+    // what the port takes for no path
+    if path == ":memory:" || path.starts_with("file:") {
+        return;
+    }
+    let _made = OpenOptions::new()
+        .write(true)
+        .create_new(true)
+        .mode(OWNER_ALONE)
+        .open(rt, path);
+}
 
 /// Does the job in the office of the file at the path, of which `start` says how a crash is read, and closes the file,
 /// with what its log holds copied into it. A file that is empty or isn't there gets the tables of an office that holds
 /// nothing; else it is to hold those of an office, and stays as it is, or those of schema 1, and is migrated. Where the
-/// file can't be opened so, the job doesn't begin. Beside what the job tells stands what became of the close: each
-/// answered command is kept before that already.
+/// file can't be opened so, the job doesn't begin, and the file is as it was. Beside what the job tells stands what
+/// became of the close: each answered command is kept before that already.
 pub fn job_in_file<S: Start, J: BookJob, R: Read, W: Write, E: Write>(
     rt: &HostRuntime,
     path: &str,
@@ -26,13 +45,20 @@ pub fn job_in_file<S: Start, J: BookJob, R: Read, W: Write, E: Write>(
 ) -> Result<(J::Told, Result<(), OpenFault>), OpenFault>
     ensures done { IfOk result (λ it. IsDoneIn ⟦<FileFrom<S> as Disk>⟧ (image_at S.Start) (J.does job.old)
         (R.remaining reader.old) (W.contents out.old) (W.contents out.new) it.0) }
-    ensures untouched { IfErr result (λ _. (reader.new ≡ reader.old) × (out.new ≡ out.old) × (err.new ≡ err.old)) }
+    ensures refused { IfErr result (IsRefused ⟦<FileFrom<S> as Disk>⟧ (image_at S.Start)) }
+    ensures untouched { IfErr result (λ _. (reader.new ≡ reader.old)
+        × (out.new ≡ out.old) × (err.new ≡ err.old)) }
 {
+    make_private(rt, path);
     let conn = match Connection::open_from(rt, path, false, start) {
         Ok(conn) => conn,
         Err(_) => return Err(OpenFault::Store),
     };
-    let (conn, told) = job_over(rt, conn, job, reader, out, err)?;
-    let closed = conn.close().map_err(|_| OpenFault::Store);
-    Ok((told, closed))
+    match job_over(rt, conn, job, reader, out, err) {
+        Ok((conn, told)) => Ok((told, conn.close().map_err(|_| OpenFault::Store))),
+        Err(unopened) => {
+            let _ = unopened.conn.close();
+            Err(unopened.fault)
+        }
+    }
 }

@@ -1,15 +1,15 @@
 //! A job over a connection, whatever its store is.
 ghost use Rattle.std.specs.Prelude.{◌≡◌, false, IfOk, IfErr};
 ghost use Rattle.sqlite.specs.Held.{state};
-ghost use Rattle.cpi_files.specs.Over.{IsDoneOver};
+ghost use Rattle.cpi_files.specs.Over.{IsDoneOver, IsRefusedOver};
 
 use crate::job::BookJob;
-use cpi_sql::{OpenFault, SqlBook};
+use cpi_sql::{SqlBook, Unopened};
 use sqlite::{Alter, Connection};
 use std::io::{Read, Write};
 
 /// Does the job in the office that the connection holds, and gives the connection back with what the job tells. Where
-/// the connection holds no office the job doesn't begin.
+/// the connection holds no office the job doesn't begin, and the connection is given back as it was.
 pub fn job_over<S: Alter + Drop, J: BookJob, R: Read, W: Write, E: Write>(
     rt: &HostRuntime,
     conn: Connection<S>,
@@ -17,17 +17,19 @@ pub fn job_over<S: Alter + Drop, J: BookJob, R: Read, W: Write, E: Write>(
     reader: &mut R,
     out: &mut W,
     err: &mut E,
-) -> Result<(Connection<S>, J::Told), OpenFault>
+) -> Result<(Connection<S>, J::Told), Unopened<S>>
     requires { (state S.Store conn).in_transaction ≡ false }
     ensures done { IfOk result (λ it. IsDoneOver S.Store conn (J.does job.old) (R.remaining reader.old)
         (W.contents out.old) (W.contents out.new) it.0 it.1) }
-    ensures untouched { IfErr result (λ _. (reader.new ≡ reader.old) × (out.new ≡ out.old) × (err.new ≡ err.old)) }
+    ensures refused { IfErr result (λ e. IsRefusedOver S.Store conn e.fault e.conn) }
+    ensures untouched { IfErr result (λ _. (reader.new ≡ reader.old)
+        × (out.new ≡ out.old) × (err.new ≡ err.old)) }
 {
-    match SqlBook::new(rt.alloc(), conn) {
+    match SqlBook::over(rt.alloc(), conn) {
         Ok(book) => {
             let (book, told) = job.run(rt, book, reader, out, err);
             Ok((book.into_connection(), told))
         }
-        Err(fault) => Err(fault),
+        Err(unopened) => Err(unopened),
     }
 }

@@ -42,8 +42,9 @@ impl BookJob for Replay {
 
 /// Answers the records of the reader, each by its line before the next one is carried out, in the office of the file at
 /// the path, of which `start` says how a crash is read, and closes the file. Civil times are read by the clock of the
-/// zone, input through a buffer. A zone that is no rule of a clock is told before the file is opened, and where it can't
-/// be opened nothing is read and nothing is written. A fault of the input is told before one of the close.
+/// zone, input through a buffer. A zone that is no rule of a clock is told before the file is opened, and where it
+/// can't be opened nothing is read and nothing is written, and it is as it was. A fault of the input is told before one
+/// of the close.
 pub fn replay_in_file<S: Start, R: Read, W: Write>(
     rt: &HostRuntime,
     zone: &str,

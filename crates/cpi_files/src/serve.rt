@@ -1,21 +1,32 @@
 //! The job of serving pages of the office of a file.
-ghost use Rattle.std.specs.Prelude.{IsNone, IsErrOf};
+ghost use Rattle.std.specs.Prelude.{IsNone, IfErr, IsErrOf};
 ghost use Rattle.jiff.specs.Words.{read_whole};
+ghost use Rattle.sqlite.specs.WalFiles.{image_at};
+ghost use Rattle.cpi_app.specs.Connection.{IsUnheard};
 ghost use Rattle.cpi_app.specs.Desk.{HasNoKey};
 ghost use Rattle.cpi_app.specs.declared.fault.RunFault.TheVariants as RunFault;
+ghost use Rattle.cpi_files.specs.Serve.{EndsWithBook};
 
 use crate::file::job_in_file;
 use crate::job::BookJob;
 use cpi_app::{Desk, RunFault, desk_of, listen, serve_book};
 use cpi_store::Book;
-use sqlite::Unknown;
+use sqlite::{FileFrom, Start, Unknown};
+use sqlite_disk::Disk;
 use std::io::{Read, Write, empty, sink};
 use std::net::TcpListener;
 
-// Serving up to so many connections at a port of this machine, whose listener is there once the office was opened.
+// What is left of serving: the listener, and how many connections.
 #[derive(Drop)]
-struct Serve {
-    desk: Desk,
+struct Rest {
+    listener: TcpListener,
+    left: u32,
+}
+
+// Serving up to so many connections at a port of this machine, whose listener is there once an office was opened.
+#[derive(Drop)]
+struct Serve<'a> {
+    desk: &'a Desk,
     port: u16,
     listener: Option<TcpListener>,
     limit: u32,
@@ -26,20 +37,21 @@ fn listener_at(
     rt: &HostRuntime,
     port: u16,
     listener: Option<TcpListener>,
-) -> Result<TcpListener, RunFault> {
+) -> Result<TcpListener, RunFault>
+    ensures { IfErr result (λ why. IsUnheard why × IsNone listener) }
+{
     match listener {
         Some(listener) => Ok(listener),
         None => listen(rt, port),
     }
 }
 
-impl BookJob for Serve {
+impl BookJob for Serve<'_> {
     ghost use Rattle.cpi_files.specs.Serve.{Serves};
 
-    // how many connections are left
-    type Told = Result<u32, RunFault>;
+    type Told = Result<Rest, RunFault>;
 
-    ghost does = { λ job. Serves job.desk job.limit };
+    ghost does = { λ job. Serves job.desk.now job.listener job.limit };
 
     fn run<B: Book, R: Read, W: Write, E: Write>(
         &mut self,
@@ -48,42 +60,55 @@ impl BookJob for Serve {
         _reader: &mut R,
         _out: &mut W,
         _err: &mut E,
-    ) -> (B, Result<u32, RunFault>) {
+    ) -> (B, Result<Rest, RunFault>) {
         let listener = match listener_at(rt, self.port, self.listener.take()) {
             Ok(listener) => listener,
             Err(fault) => return (book, Err(fault)),
         };
-        let served = serve_book(rt.alloc(), rt, &listener, self.limit, &self.desk, book);
-        self.listener = Some(listener);
-        served
+        let (book, served) = serve_book(rt.alloc(), rt, &listener, self.limit, self.desk, book);
+        match served {
+            Ok(left) => (book, Ok(Rest { listener, left })),
+            Err(fault) => (book, Err(fault)),
+        }
     }
 }
 
 // Serves over the office of the file until no connection is left or one of them shook the book, and closes the file. A
 // close that failed is told where none is left.
-fn serve_in_file(rt: &HostRuntime, path: &str, job: &mut Serve) -> Result<(), RunFault> {
+fn serve_in_file<S: Start>(
+    rt: &HostRuntime,
+    path: &str,
+    start: S,
+    job: Serve<'_>,
+) -> Result<Rest, RunFault>
+    ensures { EndsWithBook ⟦<FileFrom<S> as Disk>⟧ (image_at S.Start)
+        job.entry.desk.now job.entry.listener job.entry.limit result }
+{
+    let mut job = job;
     let (outcome, closed) = job_in_file(
         rt,
         path,
-        Unknown,
-        job,
+        start,
+        &mut job,
         &mut empty(),
         &mut sink(),
         &mut sink(),
     )?;
-    job.limit = outcome?;
-    if job.limit == 0 {
+    let rest = outcome?;
+    if rest.left == 0 {
         closed?;
     }
-    Ok(())
+    Ok(rest)
 }
 
-/// Serves the pages of the office in the database file at the path at a port of this machine, for so many connections
-/// one after another. The faults are those of the zone, of the key, of the database and of the port, in this order, and
-/// then those of the run.
-pub fn run_serve(
+/// Serves the pages of the office in the database file at the path, of which `start` says how a crash is read, at a port
+/// of this machine, for so many connections one after another, with the desk of the zone and the key. Where a connection
+/// shook the book, the file is closed and opened again. The faults are those of the zone, of the key, of the database
+/// and of the port, in this order, and then those of the run.
+pub fn run_serve<S: Start>(
     rt: &HostRuntime,
     path: &str,
+    start: S,
     port: u16,
     key: &str,
     limit: u32,
@@ -93,19 +118,26 @@ pub fn run_serve(
     ensures bad_key { HasNoKey zone.now key.now → IsErrOf result RunFault.BadKey }
 {
     let desk = desk_of(zone, key)?;
-    let mut job = Serve {
-        desk,
+    let job = Serve {
+        desk: &desk,
         port,
         listener: None,
         limit,
     };
-    serve_in_file(rt, path, &mut job)?;
-    for _ in 0..limit {
-        if job.limit == 0 {
+    let mut rest = serve_in_file(rt, path, start, job)?;
+    'books: for _ in 0..limit {
+        if rest.left == 0 {
             break;
         }
         // a connection shook the book
-        serve_in_file(rt, path, &mut job)?;
+        let Rest { listener, left } = rest;
+        let job = Serve {
+            desk: &desk,
+            port,
+            listener: Some(listener),
+            limit: left,
+        };
+        rest = serve_in_file(rt, path, Unknown, job)?;
     }
     Ok(())
 }

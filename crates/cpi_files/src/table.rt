@@ -1,7 +1,7 @@
 //! The job of a table of the office of a file.
 ghost use Rattle.std.specs.Prelude.{◌≡◌, IfOk, IfErr};
 ghost use Rattle.sqlite.specs.WalFiles.{image_at};
-ghost use Rattle.cpi_files.specs.Database.{IsUnopened};
+ghost use Rattle.cpi_files.specs.Database.{IsRefusedAs};
 ghost use Rattle.cpi_files.specs.Table.{IsPrintedFrom};
 
 use crate::file::job_in_file;
@@ -41,8 +41,8 @@ impl BookJob for Print {
 }
 
 /// Prints a table from the office of the file at the path, of which `start` says how a crash is read, and answers the
-/// status to end with. Where the file can't be opened nothing is written. The file is closed, and nothing was written to
-/// it, so that nothing is lost where its log can't be copied.
+/// status to end with. Where the file can't be opened nothing is written, and it is as it was. The file is closed, and
+/// nothing was written to it, so that nothing is lost where its log can't be copied.
 pub fn table_in_file<S: Start, W: Write, E: Write>(
     rt: &HostRuntime,
     path: &str,
@@ -53,7 +53,7 @@ pub fn table_in_file<S: Start, W: Write, E: Write>(
 ) -> Result<u8, RunFault>
     ensures printed { IfOk result (λ status. IsPrintedFrom ⟦<FileFrom<S> as Disk>⟧ (image_at S.Start) asked
         (W.contents out.old) (W.contents out.new) status) }
-    ensures fault { IfErr result IsUnopened }
+    ensures fault { IfErr result (IsRefusedAs ⟦<FileFrom<S> as Disk>⟧ (image_at S.Start)) }
     ensures untouched { IfErr result (λ _. (out.new ≡ out.old) × (err.new ≡ err.old)) }
 {
     let mut job = Print { asked };

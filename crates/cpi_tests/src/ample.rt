@@ -1,5 +1,5 @@
 //! Enough memory and a disk that works: then no reply is that the office is unavailable.
-use crate::files::{ENOUGH, End, Held, Told, run, told_in_memory};
+use crate::files::{Held, Told, told_in, told_in_memory};
 use std::alloc::Global;
 use std::test::Fail;
 
@@ -93,8 +93,7 @@ fn nothing_is_unavailable(rt: HostRuntime) -> Result<(), Fail> {
     let sheet = whole_sheet(alloc)?;
     let records = sheet.records.as_str();
     assert!(rt; is_told(&sheet, &told_in_memory(alloc, "", records)));
-    let nothing = Held::nothing(alloc);
-    let left = run(alloc, &nothing, ENOUGH, End::Process, records)?.ok_or("no office")?;
-    assert!(rt; is_told(&sheet, &left.told));
+    let told = told_in(alloc, &Held::nothing(alloc), records)?.map_err(|_| "no office")?;
+    assert!(rt; is_told(&sheet, &told));
     Ok(())
 }

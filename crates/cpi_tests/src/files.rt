@@ -1,7 +1,8 @@
 //! An office in a database file and its log, both in memory.
+use cpi_app::{AskedTable, print_table};
 use cpi_codes::zone_of;
 use cpi_office::Office;
-use cpi_sql::SqlBook;
+use cpi_sql::{OpenFault, SqlBook};
 use cpi_store::{Book, VecBook};
 use cpi_wire::replay;
 use sqlite::{Alter, Connection, FileStore, Files, Options};
@@ -15,8 +16,20 @@ use std::test::Fail;
 #[derive(Drop)]
 pub(crate) struct Told {
     pub(crate) lines: Vec<u8>,
-    /// Whether each record has its line.
+    /// Whether each record has its line, or the table was printed.
     pub(crate) is_whole: bool,
+    /// The line of a fault.
+    pub(crate) fault: Vec<u8>,
+}
+
+impl Told {
+    fn nothing(alloc: Global) -> Told {
+        Told {
+            lines: Vec::new(alloc),
+            is_whole: false,
+            fault: Vec::new(alloc),
+        }
+    }
 }
 
 impl Write for Told {
@@ -36,24 +49,45 @@ impl Write for Told {
 }
 
 // Sends records to the office of a book, up to the first that is unavailable. Gives the book back.
-fn answered<B: Book>(alloc: Global, book: B, records: &str) -> (B, Told) {
-    let mut told = Told {
-        lines: Vec::new(alloc),
-        is_whole: false,
-    };
+fn answered<B: Book>(alloc: Global, book: B, records: &str, told: &mut Told) -> B {
     let Ok(zone) = zone_of("UTC0") else {
-        return (book, told);
+        return book;
     };
     let mut office = Office::new(alloc, book);
-    let done = replay(alloc, records.as_bytes(), &mut told, &zone, &mut office);
+    let done = replay(alloc, records.as_bytes(), told, &zone, &mut office);
     told.is_whole = done.is_ok();
-    (office.into_book(), told)
+    office.into_book()
+}
+
+// Prints a table of the office of a book, or the line of a fault. Gives the book back.
+fn printed<B: Book>(alloc: Global, book: B, asked: AskedTable, told: &mut Told) -> B {
+    let mut book = book;
+    let mut fault = Vec::new(alloc);
+    told.is_whole = print_table(alloc, &mut book, asked, told, &mut fault) == 0;
+    told.fault = fault;
+    book
+}
+
+// Prints the table that is asked for, or else sends the records, with the clock of UTC. Gives the book back.
+fn done<B: Book>(
+    alloc: Global,
+    book: B,
+    records: &str,
+    asked: Option<AskedTable>,
+    told: &mut Told,
+) -> B {
+    match asked {
+        Some(asked) => printed(alloc, book, asked, told),
+        None => answered(alloc, book, records, told),
+    }
 }
 
 /// What is told of records in an office in memory, in which other ones were carried out before.
 pub(crate) fn told_in_memory(alloc: Global, before: &str, records: &str) -> Told {
-    let (book, _) = answered(alloc, VecBook::new(alloc), before);
-    let (_, told) = answered(alloc, book, records);
+    let mut told = Told::nothing(alloc);
+    let book = answered(alloc, VecBook::new(alloc), before, &mut told);
+    let mut told = Told::nothing(alloc);
+    let _book = answered(alloc, book, records, &mut told);
     told
 }
 
@@ -100,7 +134,8 @@ pub(crate) const ENOUGH: Calls = Calls {
 /// What a run leaves.
 #[derive(Drop)]
 pub(crate) struct Left {
-    pub(crate) told: Told,
+    /// What was told in the office; or why there was none.
+    pub(crate) told: Result<Told, OpenFault>,
     /// What the files hold.
     pub(crate) files: Held,
     /// What they hold where the machine stops: what was synced.
@@ -139,18 +174,24 @@ const FRAMES: usize = 6;
 
 // ---- what is done over a connection of any store, so that each such call is proved once
 
-// Sends records to the office of a database. None where it is none, or can't be opened.
-fn sent<S: Alter + Drop>(
+// Prints that table of the office of a database, or sends it the records, or tells why it is none, and gives the connection back.
+fn done_over<S: Alter + Drop>(
     alloc: Global,
     conn: Connection<S>,
     records: &str,
-) -> Option<(Told, Connection<S>)> {
+    asked: Option<AskedTable>,
+) -> (Result<Told, OpenFault>, Connection<S>) {
     if !conn.is_autocommit() {
-        return None;
+        return (Err(OpenFault::Store), conn);
     }
-    let book = SqlBook::new(alloc, conn).ok()?;
-    let (book, told) = answered(alloc, book, records);
-    Some((told, book.into_connection()))
+    match SqlBook::over(alloc, conn) {
+        Ok(book) => {
+            let mut told = Told::nothing(alloc);
+            let book = done(alloc, book, records, asked, &mut told);
+            (Ok(told), book.into_connection())
+        }
+        Err(unopened) => (Err(unopened.fault), unopened.conn),
+    }
 }
 
 // Has another program's statements carried out.
@@ -170,14 +211,17 @@ pub(crate) fn number_in<S: Alter + Drop>(
 
 // ---- the connections of these files: each call at their type stands here
 
-// The database of the files, whatever it holds.
-fn connected(alloc: Global, files: MemoryFiles) -> Option<Database> {
+// The database of the files, whatever it holds; or the files, where they hold none.
+fn connected(alloc: Global, files: MemoryFiles) -> Result<Database, MemoryFiles> {
     if !files.may_be_used() {
-        return None;
+        return Err(files);
     }
     let mut options = Options::new(7);
     options.checkpoint_frames = FRAMES;
-    Connection::open_files(alloc, files, options).ok()
+    match Connection::open_files(alloc, files, options) {
+        Ok(conn) => Ok(conn),
+        Err((_, left)) => Err(left.into_files()),
+    }
 }
 
 /// How an office in files is let go.
@@ -189,66 +233,79 @@ pub(crate) enum End {
     Closed,
 }
 
-// The files, given back. None where they can't be closed.
-fn let_go(conn: Database, end: End) -> Option<MemoryFiles> {
+// The files, given back.
+fn let_go(conn: Database, end: End) -> MemoryFiles {
     if end == End::Process {
-        return Some(conn.into_store().close());
+        return conn.into_store().close();
     }
     match conn.close_files() {
-        Ok(files) => Some(files),
-        Err((_, store)) => {
-            drop(store.close());
-            None
-        }
+        Ok(files) => files,
+        Err((_, store)) => store.close(),
     }
 }
 
-// Sends records to the office of the files, which is then let go.
-fn sent_in(
+// Prints that table of the office of the files, or sends it the records, which is then let go.
+fn done_in(
     alloc: Global,
     files: MemoryFiles,
     end: End,
     records: &str,
-) -> Option<(Told, MemoryFiles)> {
-    let conn = connected(alloc, files)?;
-    let (told, conn) = sent(alloc, conn, records)?;
-    Some((told, let_go(conn, end)?))
+    asked: Option<AskedTable>,
+) -> (Result<Told, OpenFault>, MemoryFiles) {
+    match connected(alloc, files) {
+        Ok(conn) => {
+            let (told, conn) = done_over(alloc, conn, records, asked);
+            (told, let_go(conn, end))
+        }
+        Err(files) => (Err(OpenFault::Store), files),
+    }
 }
 
 /// The database of files that hold so much, to be looked at by another program.
 pub(crate) fn database(alloc: Global, held: &Held) -> Result<Database, Fail> {
     let files = files_of(alloc, held, ENOUGH)?;
-    Ok(connected(alloc, files).ok_or("no database")?)
+    match connected(alloc, files) {
+        Ok(conn) => Ok(conn),
+        Err(_) => Err("no database".into()),
+    }
 }
 
 /// The files after statements of another program, with what the log holds copied into the database file.
 pub(crate) fn changed(alloc: Global, held: &Held, statements: &str) -> Result<Held, Fail> {
     let mut conn = database(alloc, held)?;
     execute(&mut conn, statements)?;
-    let files = let_go(conn, End::Closed).ok_or("not closed")?;
-    held_by(alloc, &files)
+    held_by(alloc, &let_go(conn, End::Closed))
 }
 
-/// Sends records to the office of files that hold so much and take so many calls, and lets it go. None where it can't
-/// be opened or closed.
+/// Prints that table of the office of files that hold so much and take so many calls, or sends it the records where
+/// none is asked for, and lets it go.
 pub(crate) fn run(
     alloc: Global,
     held: &Held,
     calls: Calls,
     end: End,
     records: &str,
-) -> Result<Option<Left>, Fail> {
+    asked: Option<AskedTable>,
+) -> Result<Left, Fail> {
     let files = files_of(alloc, held, calls)?;
-    let Some((told, mut files)) = sent_in(alloc, files, end, records) else {
-        return Ok(None);
-    };
+    let (told, mut files) = done_in(alloc, files, end, records, asked);
     let written = held_by(alloc, &files)?;
     files.log.crash();
     files.db.crash();
     let synced = held_by(alloc, &files)?;
-    Ok(Some(Left {
+    Ok(Left {
         told,
         files: written,
         synced,
-    }))
+    })
+}
+
+/// What records are told in the office of files that hold so much, none of whose calls stops, up to the process's end.
+pub(crate) fn told_in(
+    alloc: Global,
+    held: &Held,
+    records: &str,
+) -> Result<Result<Told, OpenFault>, Fail> {
+    let Left { told, .. } = run(alloc, held, ENOUGH, End::Process, records, None)?;
+    Ok(told)
 }

@@ -1,6 +1,6 @@
 //! What `#[test]` alone can show of the crates below: what becomes of an office over a book each of whose calls is
-//! refused, and in files each of whose calls stops; that no input is read for ever; that nothing is refused where
-//! nothing is wanting; and calls that the program doesn't make.
+//! refused, and in files each of whose calls stops; the jobs of words over such files; that no input is read for ever;
+//! that nothing is refused where nothing is wanting; and calls that the program doesn't make.
 #![tactic(auto)]
 
 #[cfg(test)]
@@ -14,9 +14,11 @@ mod first;
 #[cfg(test)]
 mod index;
 #[cfg(test)]
+mod jobs;
+#[cfg(test)]
 mod laws;
 #[cfg(test)]
-mod migrated;
+mod opens;
 #[cfg(test)]
 mod parts;
 #[cfg(test)]

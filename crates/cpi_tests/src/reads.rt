@@ -1,18 +1,19 @@
 //! The reads of a book, each of which is refused in turn. Writes are counted where the office makes them.
 use crate::records::{at, frozen, january, rice};
-use cpi_codes::{CollectorId, Key, Month, OutletId};
+use cpi_codes::{CollectorId, Key, Month, OutletId, Slot};
 use cpi_release::{Groups, Revision};
 use cpi_store::{Book, FailBook};
 use std::test::Fail;
 
 /// How many reads there are.
-const READS: usize = 15;
+const READS: usize = 16;
 
 // The place of the first read that is refused, one call each.
 fn first_refused<B: Book>(book: &mut B) -> Result<Option<usize>, Fail> {
     let number = CollectorId::new(7).ok_or("no collector")?;
     let key = Key::parse(b"aaaaaaaaaaaaaaaaaaaaaaaaaaaaaaaa").ok_or("no key")?;
     let outlet = OutletId::new(10).ok_or("no outlet")?;
+    let slot = Slot::new(1).ok_or("no slot")?;
     let (month, until, rice) = (january()?, at(3000)?, rice()?);
     let refused: [bool; READS] = [
         book.bearer_of(key).is_err(),
@@ -23,6 +24,7 @@ fn first_refused<B: Book>(book: &mut B) -> Result<Option<usize>, Fail> {
         book.public_part().is_err(),
         book.own(number).is_err(),
         book.parts(number).is_err(),
+        book.given(number, slot).is_err(),
         book.frozen_months().is_err(),
         book.month_rows(month).is_err(),
         book.tables_until(until).is_err(),

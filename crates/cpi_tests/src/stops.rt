@@ -1,5 +1,5 @@
 //! Files that stop at each of their calls.
-use crate::files::{Calls, ENOUGH, End, Held, Told, run};
+use crate::files::{Calls, ENOUGH, End, Held, Told, run, told_in};
 use crate::script::{CHANGES, changes, lines, script, states, trial};
 use std::alloc::Global;
 use std::test::Fail;
@@ -17,7 +17,8 @@ struct Prepared {
 fn prepare(alloc: Global) -> Result<Prepared, Fail> {
     let trial = trial(alloc)?;
     let states = states(alloc, trial.as_str())?;
-    let made = run(alloc, &Held::nothing(alloc), ENOUGH, End::Closed, "")?.ok_or("no office")?;
+    let nothing = Held::nothing(alloc);
+    let made = run(alloc, &nothing, ENOUGH, End::Closed, "", None)?;
     Ok(Prepared {
         script: script().concat(alloc)?,
         trial,
@@ -46,13 +47,13 @@ fn is_state(states: &[Told], count: usize, lines: &[u8]) -> bool {
 }
 
 fn find(alloc: Global, prepared: &Prepared, held: &Held, place: usize) -> Result<Found, Fail> {
-    let Some(left) = run(alloc, held, ENOUGH, End::Process, prepared.trial.as_str())? else {
+    let Ok(told) = told_in(alloc, held, prepared.trial.as_str())? else {
         return Ok(Found::Wrong);
     };
-    if is_state(&prepared.states, place, &left.told.lines) {
+    if is_state(&prepared.states, place, &told.lines) {
         return Ok(Found::Before);
     }
-    if is_state(&prepared.states, place.saturating_add(1), &left.told.lines) {
+    if is_state(&prepared.states, place.saturating_add(1), &told.lines) {
         return Ok(Found::After);
     }
     Ok(Found::Wrong)
@@ -61,10 +62,8 @@ fn find(alloc: Global, prepared: &Prepared, held: &Held, place: usize) -> Result
 // What became of a run.
 #[derive(Clone, Copy, PartialEq, Eq)]
 enum Outcome {
-    // A file stopped before the office was open.
-    Unopened,
     // A file stopped in the command at the place, all before it being answered as they are to be: what is found of it
-    // where the process ended, and where the machine did.
+    // where the process ended, and where the machine did. An open that stopped is one in the first.
     Stopped(usize, Found, Found),
     // No file stopped.
     Whole,
@@ -78,23 +77,16 @@ fn line_count(lines: &[u8]) -> usize {
 }
 
 fn try_with(alloc: Global, prepared: &Prepared, calls: Calls) -> Result<Outcome, Fail> {
-    let Some(left) = run(
-        alloc,
-        &prepared.made,
-        calls,
-        End::Process,
-        prepared.script.as_str(),
-    )?
-    else {
-        return Ok(Outcome::Unopened);
+    let sent = prepared.script.as_str();
+    let left = run(alloc, &prepared.made, calls, End::Process, sent, None)?;
+    let (place, is_whole) = match &left.told {
+        Ok(told) if !lines().starts_with(&told.lines) => return Ok(Outcome::Wrong),
+        Ok(told) => (line_count(&told.lines), told.is_whole),
+        Err(_) => (0, false),
     };
-    if !lines().starts_with(&left.told.lines) {
-        return Ok(Outcome::Wrong);
-    }
-    let place = line_count(&left.told.lines);
     let ended = find(alloc, prepared, &left.files, place)?;
     let synced = find(alloc, prepared, &left.synced, place)?;
-    if !left.told.is_whole {
+    if !is_whole {
         return Ok(Outcome::Stopped(place, ended, synced));
     }
     if place == script().len() && ended == Found::Before && synced == Found::Before {
@@ -131,7 +123,6 @@ impl Seen {
 
     fn see(&mut self, calls: u64, outcome: Outcome) {
         match outcome {
-            Outcome::Unopened => {}
             Outcome::Whole => self.whole = Some(calls),
             Outcome::Wrong => self.wrong = Some(calls),
             Outcome::Stopped(place, ended, synced) => {

@@ -8,6 +8,8 @@ returns-in-Ok-clause-done g c = record {
   found = λ clean. record {
     was_clean = omega (arith, c.in-Ok.ensures.crash.clean, clean.disk);
     office = c.in-Ok.ensures.opened clean;
+    settled = c.in-Ok.ensures.settled clean;
+    whole = c.in-Ok.ensures.whole clean;
     count = c.in-Ok.ensures.count;
   };
   done = c.run-book.ensures;

@@ -1,0 +1,51 @@
+//! A response as it is offered to a peer.
+ghost use Rattle.std.specs.Prelude.{IsOk};
+ghost use Rattle.std.specs.Io.{WritesAtMost};
+
+use std::io;
+use std::io::Write;
+
+/// A writer that takes all bytes. They go on to the writer below until one of its writes fails, or takes nothing; from
+/// then on they are thrown away. So what was carried out is known whatever becomes of its response.
+#[derive(Drop)]
+pub struct Offered<W> {
+    writer: W,
+    is_taken: bool,
+}
+
+impl<W: Write> Offered<W> {
+    /// Offers to the writer whatever is written.
+    pub fn new(writer: W) -> Offered<W> {
+        Offered {
+            writer,
+            is_taken: true,
+        }
+    }
+
+    /// Whether the writer below took all that was written.
+    pub fn is_taken(&self) -> bool {
+        self.is_taken
+    }
+}
+
+impl<W: Write> Write for Offered<W> {
+    fn write(&mut self, buf: &[u8]) -> io::Result<usize>
+        ensures bound { WritesAtMost result buf.now }
+        ensures takes { IsOk result }
+    {
+        if self.is_taken {
+            match self.writer.write(buf) {
+                Ok(count) if count > 0 || buf.is_empty() => return Ok(count),
+                _ => self.is_taken = false,
+            }
+        }
+        Ok(buf.len())
+    }
+
+    fn flush(&mut self) -> io::Result<()> {
+        if self.is_taken && self.writer.flush().is_err() {
+            self.is_taken = false;
+        }
+        Ok(())
+    }
+}
