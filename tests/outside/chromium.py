@@ -59,11 +59,29 @@ class Browser:
             assert time.monotonic() < deadline, path
             time.sleep(0.02)
 
+    def open_whole(self, path: Path, width: int) -> None:
+        """Opens a page of which nothing is told yet, and which is no wider than the window."""
+        self.told.clear()
+        self.open(path, width)
+        assert self.value("document.documentElement.scrollWidth") == width
+
     def value(self, expression: str) -> Any:
         """What an expression of JavaScript is in the page."""
         found = self.ask("Runtime.evaluate", expression=expression, returnByValue=True, awaitPromise=True)
         assert "exceptionDetails" not in found, found
         return found["result"].get("value")
+
+    def press(self, key: str) -> None:
+        """Presses a key, `Tab` or `Enter`."""
+        known = {"Tab": 9, "Enter": 13}
+        named = {"key": key, "code": key, "windowsVirtualKeyCode": known[key], "text": "\r" if key == "Enter" else ""}
+        self.ask("Input.dispatchKeyEvent", type="keyDown", **named)
+        self.ask("Input.dispatchKeyEvent", type="keyUp", key=key, code=key, windowsVirtualKeyCode=known[key])
+
+    def printed(self) -> bytes:
+        """The page as it is printed on A4, a PDF."""
+        found = self.ask("Page.printToPDF", paperWidth=8.27, paperHeight=11.69, printBackground=False)
+        return base64.b64decode(found["data"])
 
     def picture(self, to: Path) -> None:
         """Writes the whole page as a PNG."""

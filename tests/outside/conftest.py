@@ -15,13 +15,14 @@ HERE = Path(__file__).resolve().parent
 ROOT = HERE.parents[1]
 
 sys.dont_write_bytecode = True
-sys.path[:0] = [str(HERE), str(ROOT / "tests" / "tools"), str(ROOT / "tools")]
+sys.path[:0] = [str(HERE), str(ROOT / "tests/tools"), str(ROOT / "tools"), str(ROOT / "tests")]
 
-from cpi_tools.program import Cpi  # noqa: E402
+from lib import fixtures  # noqa: E402
+from lib.fixtures import cpi  # noqa: E402, F401
 
 
 def pytest_addoption(parser: pytest.Parser) -> None:
-    parser.addoption("--program", default=None, help="the program cpi")
+    fixtures.pytest_addoption(parser)
     parser.addoption("--leave-out", action="append", default=[], help="what isn't here on purpose")
 
 
@@ -29,12 +30,6 @@ def pytest_addoption(parser: pytest.Parser) -> None:
 def program(request: pytest.FixtureRequest) -> Path:
     """The program cpi."""
     return Path(request.config.getoption("--program"))
-
-
-@pytest.fixture(scope="session")
-def cpi(program: Path) -> Cpi:
-    """The program, to be run."""
-    return Cpi(program)
 
 
 @pytest.fixture(scope="session")

@@ -3,6 +3,7 @@
 from __future__ import annotations
 
 import os
+import shutil
 import subprocess
 from collections.abc import Callable, Sequence
 from pathlib import Path
@@ -11,7 +12,8 @@ import pytest
 
 from cpi_tools.program import Cpi
 from cpi_tools.sheets import Source
-from spreadsheets import Sheets, replayed, run, sheets, tables, written
+from conftest import ROOT
+from spreadsheets import Ran, Sheets, replayed, rows_of, run, sheets, tables, written
 
 
 @pytest.fixture(autouse=True)
@@ -20,12 +22,13 @@ def soffice(needed: Callable[[str], str]) -> str:
     return needed("soffice")
 
 
-def converted(home: Path, form: str, to: Path, files: Sequence[Path]) -> None:
-    """Files as LibreOffice writes them in another form."""
+def converted(home: Path, form: str, to: Path, files: Sequence[Path], reads: str = "CSV") -> None:
+    """Files as LibreOffice writes them in another form; `reads` is how it reads them, by the words of its filters."""
     words = [
         "soffice",
         f"-env:UserInstallation=file://{home}",
         "--headless",
+        f"--infilter={reads}",
         "--convert-to",
         form,
         "--outdir",
@@ -83,6 +86,68 @@ def test_cells_of_libreoffice_are_those_of_its_csv(tmp_path: Path) -> None:
             for column in one.columns:
                 dropped = {row[column], row[column].rstrip("0").rstrip("."), row[column].lstrip("0") or "0"}
                 assert same[column] in dropped, (name, row.origin, column)
+
+
+EXAMPLE = ROOT / "examples/changing-over"
+WORDS = ("--minor", 100, "--decimal", ",", "--weights", "percent")
+SEMICOLONS = "CSV:59,34,76,1"
+GERMAN = f"{SEMICOLONS},,1031,false,true"
+"""With decimal commas as numbers, and dates as such."""
+
+
+def told(ran: Ran, folder: Path) -> list[tuple[str, str, str]]:
+    """The row, the column and the number of each problem of a check."""
+    assert ran.status == 1
+    return [(row["row"], row["column"], row["number"]) for row in rows_of(folder / "check/problems.csv")]
+
+
+def test_the_spreadsheets_of_the_guide_as_workbooks(cpi: Cpi, tmp_path: Path) -> None:
+    """Each saved under its own name, `basket-items.xlsx`, whose sheet is `basket-items` then: read as texts, the fault
+    of the decimal point is none any more, since LibreOffice takes 2.10 for a number."""
+    converted(tmp_path / "home", "xlsx", tmp_path / "books", sorted(EXAMPLE.glob("*.csv")), SEMICOLONS)
+    ran = run(cpi, "take-in", tmp_path / "books", *WORDS, "--check")
+    assert told(ran, tmp_path / "books") == [("6", "2026-01", "26")]
+    assert "not read" not in ran.err
+    csv, books = (run(cpi, "take-in", folder, *WORDS, "--check", "--confirm-history", "--out", tmp_path / "check")
+                  for folder in (mended(tmp_path / "csv"), tmp_path / "books"))  # fmt: skip
+    assert (csv.status, csv.out) == (0, books.out)
+
+
+def mended(folder: Path) -> Path:
+    """The example with a decimal comma for its point."""
+    shutil.copytree(EXAMPLE, folder)
+    prices = folder / "prices.csv"
+    prices.write_text(prices.read_text(encoding="utf-8").replace("2.10", "2,10"), encoding="utf-8")
+    return folder
+
+
+def test_a_spreadsheet_program_that_reads_decimal_commas_and_dates(cpi: Cpi, tmp_path: Path) -> None:
+    """Prices are numbers then, whatever --decimal says; a code like 01.1.1 is a date, and told in these words."""
+    converted(tmp_path / "home", "xlsx", tmp_path / "books", sorted(EXAMPLE.glob("*.csv")), GERMAN)
+    found = told(run(cpi, "take-in", tmp_path / "books", *WORDS, "--check"), tmp_path / "books")
+    assert found == [("5", "code", "10"), ("12", "code", "10"), ("4", "2026-01", "10"), ("6", "2026-01", "26")]
+    rows = rows_of(tmp_path / "books/check/problems.csv")
+    assert rows[0]["because"].startswith("the plan of 2026: the cell is the date 2001-01, as a spreadsheet takes ")
+    assert rows[2]["because"] == "2.10 is no number with the decimal sign ,"
+
+
+def test_numbers_of_formulas_are_those_that_its_csv_shows(cpi: Cpi, tmp_path: Path) -> None:
+    """What the reckoning in binary digits leaves at the end of a value isn't shown there, and isn't read here."""
+    import openpyxl
+
+    book = openpyxl.Workbook()
+    book.active.append(["outlet", "name"])
+    for formula in ("=0.1+0.2", "=210*1.1", "=2.4*1.05", "=1.1*1.1", "=100*1.15", "=4.35*100"):
+        book.active.append([formula, "x"])
+    book.save(tmp_path / "outlets.xlsx")
+    for form in ("csv", "xlsx"):
+        converted(tmp_path / "home", form, tmp_path / form, [tmp_path / "outlets.xlsx"], "Calc MS Excel 2007 XML")
+    found = []
+    for form in ("csv", "xlsx"):
+        sheet = Source(tmp_path / form, ("outlets",)).sheet("outlets")
+        assert sheet
+        found.append([row["outlet"] for row in sheet.rows])
+    assert found[0] == found[1] == ["0.3", "231", "2.52", "1.21", "115", "435"]
 
 
 def test_formulas_that_libreoffice_computed(cpi: Cpi, tmp_path: Path) -> None:

@@ -188,13 +188,35 @@ OVERLAPS = """(() => {
 @pytest.mark.parametrize("width", [360, 1280])
 @pytest.mark.parametrize("name", PAGES)
 def test_a_page_has_no_fault_at_a_width(opened: Browser, pack: Path, name: str, width: int) -> None:
-    opened.told.clear()
-    opened.open(pack / name, width)
-    assert opened.value("document.documentElement.scrollWidth") == width
+    opened.open_whole(pack / name, width)
     assert opened.value("[...document.querySelectorAll('svg')].every((it) => document.getElementById("
                         "it.getAttribute('aria-labelledby').split(' ')[0]).textContent)")  # fmt: skip
     assert opened.value(OVERLAPS) == 0
     assert opened.told == []
+
+
+def test_a_page_is_gone_through_by_the_keyboard(opened: Browser, pack: Path) -> None:
+    """The first stop leads past the ways to other pages, and what has the focus is outlined."""
+    opened.open(pack / "contract.html", 360)
+    stops = []
+    for _ in range(13):
+        opened.press("Tab")
+        stops.append(opened.value("document.activeElement.id || document.activeElement.textContent"))
+        assert opened.value("getComputedStyle(document.activeElement).outlineStyle") == "solid", stops
+    assert stops[0] == "To the content" and stops[8:12] == ["amount", "code", "then", "now"]
+
+
+def test_a_printed_page_keeps_its_bars_and_leaves_the_ways_out(opened: Browser, pack: Path) -> None:
+    opened.ask("Emulation.setEmulatedMedia", media="print")
+    try:
+        opened.open(pack / "index.html", 720)
+        assert opened.value("getComputedStyle(document.querySelector('header nav')).display") == "none"
+        adjusts = "getComputedStyle(document.querySelector('.track-cell .track i')).getPropertyValue"
+        assert opened.value(f"{adjusts}('print-color-adjust')") == "exact"
+        assert opened.value(f"{adjusts}('background-color')") != "rgba(0, 0, 0, 0)"
+        assert opened.printed().startswith(b"%PDF")
+    finally:
+        opened.ask("Emulation.setEmulatedMedia", media="")
 
 
 def test_the_calculator_in_its_page(opened: Browser, pack: Path, latest: Latest) -> None:

@@ -1,52 +1,69 @@
 """The office: what each record is answered, and what it changes."""
 
+from __future__ import annotations
+
 import json
-from typing import NamedTuple
+from collections.abc import Callable
+from typing import Any, NamedTuple, Optional, TypeVar
 
 from . import tables, values
-from .index import FrozenQuote, Index, before, december_before
-from .requests import MOST_ROWS, caller_of, request_of, rows_of
+from .index import FrozenQuote, Index, Plan, Row, Series, before, december_before
+from .requests import MOST_ROWS, Body, Record, Request, caller_of, request_of, rows_of
+from .values import Mark, Month
 
-DONE = {"done": True}
+Reply = dict[str, Any]
+Place = tuple[int, int]
+"""Collector and slot."""
+
+Own = dict[tuple[int, Month], tuple[Mark, int]]
+"""Of one collector, by slot and month: mark and receipt."""
+
+Published = tuple[int, list[Row]]
+"""A moment of publishing, and the rows of the table."""
+
+K = TypeVar("K")
+V = TypeVar("V")
+
+DONE: Reply = {"done": True}
 MOST_REVISIONS = 9
 
 
-def refused(number, **found):
+def refused(number: int, **found: object) -> Reply:
     return {"refused": number, **found}
 
 
-def month_text(month):
+def month_text(month: Month) -> str:
     return f"{month[0]:04}-{month[1]:02}"
 
 
 class Assignment(NamedTuple):
     outlet: int
     item: str
-    first: tuple
-    last: tuple
-    series: tuple  # collector and slot that it was first given to
-    copied: int = None  # the last price that was handed over with it
+    first: Month
+    last: Month
+    series: Series  # collector and slot that it was first given to
+    copied: Optional[int] = None  # the last price that was handed over with it
 
 
 class Office:
-    def __init__(self):
-        self.items = {}  # by code: text, unit, low, high
-        self.plans = {}
-        self.calendar = {}  # by month: opens, closes, publishes
-        self.outlets = {}
-        self.keys = {}  # by collector
-        self.assignments = {}  # by collector and slot
-        self.quotes = {}  # by collector, slot and month: mark, receipt
+    def __init__(self) -> None:
+        self.items: dict[str, list[Any]] = {}  # by code: text, unit, low, high
+        self.plans: dict[int, Plan] = {}
+        self.calendar: dict[Month, tuple[int, int, int]] = {}  # by month: opens, closes, publishes
+        self.outlets: dict[int, str] = {}
+        self.keys: dict[int, str] = {}  # by collector
+        self.assignments: dict[Place, Assignment] = {}
+        self.quotes: dict[tuple[int, int, Month], tuple[Mark, int]] = {}  # by collector, slot and month: mark, receipt
         self.index = Index(self.plans, {}, {})  # over the frozen months
-        self.tables = {}  # by frozen month: of each revision the moment of publishing and the rows
+        self.tables: dict[Month, list[Published]] = {}  # by frozen month each revision
 
-    def written(self, reply):
+    def written(self, reply: Reply) -> str:
         return json.dumps(reply, separators=(",", ":"), sort_keys=True, ensure_ascii=False)
 
-    def line(self, record):
+    def line(self, record: Record) -> str:
         return self.written(self.reply(record))
 
-    def reply(self, record):
+    def reply(self, record: Record) -> Reply:
         if len(record) < 3:
             return refused(10)
         now, caller, word = values.number(record[0], 0, values.MOST_MOMENT), caller_of(record[1]), record[2]
@@ -59,7 +76,7 @@ class Office:
             return refused(10)
         return {"rows": [self.answer(now, caller, request_of(row[0], row[1:])) for row in rows]}
 
-    def answer(self, now, caller, request):
+    def answer(self, now: int, caller: str, request: Request | None) -> Reply:
         if request is None:
             return refused(10)
         bearer = next((number for number, key in self.keys.items() if key == caller), None)
@@ -76,19 +93,19 @@ class Office:
 
     # ---- all
 
-    def listed_items(self, _):
+    def listed_items(self, _: int) -> Reply:
         return {"items": [[code, *self.items[code]] for code in sorted(self.items)]}
 
-    def published(self, now):
+    def published(self, now: int) -> dict[tuple[Month, int], Published]:
         """The moment of publishing and the rows, by month and revision."""
         every = {(month, at): table for month, of in self.tables.items() for at, table in enumerate(of, 1)}
         return {release: table for release, table in every.items() if table[0] <= now}
 
-    def listed_tables(self, now):
+    def listed_tables(self, now: int) -> Reply:
         published = sorted(self.published(now).items())
         return {"tables": [[month_text(month), revision, publishes] for (month, revision), (publishes, _) in published]}
 
-    def printed_table(self, now, month, form, asked=None):
+    def printed_table(self, now: int, month: Month, form: str, asked: int | None = None) -> Reply:
         """The table of the revision that is asked for, or of the latest one that is published."""
         published = self.published(now)
         revisions = [revision for at, revision in published if at == month and asked in (None, revision)]
@@ -99,25 +116,25 @@ class Office:
 
     # ---- the desk
 
-    def put_once(self, rows, key, content):
+    def put_once(self, rows: dict[K, V], key: K, content: V) -> Reply:
         """Content that stands is done; a row is never replaced."""
         if key in rows:
             return DONE if rows[key] == content else refused(40)
         rows[key] = content
         return DONE
 
-    def put_item(self, code, *content):
+    def put_item(self, code: str, *content: Any) -> Reply:
         return self.put_once(self.items, code, list(content))
 
-    def put_outlet(self, number, name):
+    def put_outlet(self, number: int, name: str) -> Reply:
         return self.put_once(self.outlets, number, name)
 
-    def register(self, number, key):
+    def register(self, number: int, key: str) -> Reply:
         if number not in self.keys and key in self.keys.values():
             return refused(40)
         return self.put_once(self.keys, number, key)
 
-    def assign(self, collector, slot, outlet, item, first, last):
+    def assign(self, collector: int, slot: int, outlet: int, item: str, first: Month, last: Month) -> Reply:
         if (collector, slot) not in self.assignments:
             if item not in self.items:
                 return refused(41)
@@ -128,8 +145,8 @@ class Office:
         place = collector, slot
         return self.put_once(self.assignments, place, Assignment(outlet, item, first, last, place))
 
-    def hand_over(self, collector, slot, to, new_slot, month):
-        """Ends an assignment before the month, and gives another slot the rest of it with the last price at this moment."""
+    def hand_over(self, collector: int, slot: int, to: int, new_slot: int, month: Month) -> Reply:
+        """Ends an assignment before the month, and gives another slot the rest of it with its last price by now."""
         former, new = (collector, slot), (to, new_slot)
         if collector not in self.keys or to not in self.keys:
             return refused(43)
@@ -149,27 +166,27 @@ class Office:
         self.assignments[former] = old._replace(last=before(month))
         return DONE
 
-    def is_handed_over(self, old, new, month):
+    def is_handed_over(self, old: Assignment, new: Assignment, month: Month) -> bool:
         """Whether one assignment goes on from the month where the other ends."""
         return (new.series, new.first, before(month)) == (old.series, month, old.last)
 
-    def stays_frozen(self, month, publishes):
+    def stays_frozen(self, month: Month, publishes: int) -> bool:
         """Whether the month was frozen and can't be reopened by a calendar row with that moment of publishing."""
         revisions = self.tables.get(month)
         if not revisions:
             return False
         return month != max(self.tables) or len(revisions) == MOST_REVISIONS or publishes <= revisions[-1][0]
 
-    def put_calendar(self, month, *window):
-        if self.calendar.get(month) == window:
+    def put_calendar(self, month: Month, opens: int, closes: int, publishes: int) -> Reply:
+        if self.calendar.get(month) == (opens, closes, publishes):
             return DONE
-        if self.stays_frozen(month, window[2]):
+        if self.stays_frozen(month, publishes):
             return refused(50)
-        self.calendar[month] = window
+        self.calendar[month] = opens, closes, publishes
         return DONE
 
-    def put_plan(self, year, body):
-        fault = self.plan_fault(year, *body)
+    def put_plan(self, year: int, body: Body) -> Reply:
+        fault = self.plan_fault(year, body)
         if fault is not None:
             return refused(44, **fault)
         titles, weights, places, references = body
@@ -183,13 +200,14 @@ class Office:
         self.plans[year] = plan
         return DONE
 
-    def plan_fault(self, year, titles, weights, places, references):
+    def plan_fault(self, year: int, body: Body) -> Reply | None:
         """The first fault of a plan, over all of what was sent."""
+        titles, weights, places, references = body
         codes, sum_found = [code for code, _ in weights], sum(weight for _, weight in weights)
         titled, nodes = [code for code, _ in titles], {node for code in codes for node in values.path(code)}
         untitled = sorted(nodes - set(titled))
         items = [item for item, _ in places]
-        faults = [
+        faults: list[tuple[int, bool, Reply]] = [
             (1, len(set(titled)) < len(titled) or len(set(codes)) < len(codes), {}),
             (2, not all(values.is_elementary(code) for code in codes + [code for _, code in places]), {}),
             (3, any(weight == 0 for _, weight in weights), {}),
@@ -204,11 +222,11 @@ class Office:
 
     # ---- freezing
 
-    def last_month_of(self, series):
+    def last_month_of(self, series: Series) -> Month:
         """The greatest last month among the assignments of a series."""
         return max(one.last for one in self.assignments.values() if one.series == series)
 
-    def stored_quotes(self, month):
+    def stored_quotes(self, month: Month) -> list[FrozenQuote]:
         """The quotes of the month by their series, whoever has it then."""
         rows = [(self.assignments[place[:2]], mark) for place, (mark, _) in self.quotes.items() if place[2] == month]
         return [
@@ -216,16 +234,16 @@ class Office:
             for one, mark in sorted(rows, key=lambda row: row[0].series)
         ]
 
-    def is_first(self, month):
+    def is_first(self, month: Month) -> bool:
         """Whether it is the first month of all, frozen already or not."""
         return month == min(self.tables, default=month)
 
-    def is_in_turn(self, month):
+    def is_in_turn(self, month: Month) -> bool:
         if not self.tables:
             return month[1] == 12
         return max(self.tables) in (month, before(month))
 
-    def freeze_refusal(self, now, month, carry):
+    def freeze_refusal(self, now: int, month: Month, carry: list[str]) -> Reply | None:
         is_first = self.is_first(month)
         if month in self.tables and self.stays_frozen(month, self.calendar[month][2]):
             return refused(50)
@@ -240,7 +258,7 @@ class Office:
         weighed = {} if is_first else self.plans[month[0]][1]
         return None if set(carry) <= set(weighed) else refused(44, fault=8)
 
-    def freeze(self, now, month, carry):
+    def freeze(self, now: int, month: Month, carry: list[str]) -> Reply:
         refusal = self.freeze_refusal(now, month, carry)
         if refusal is not None:
             return refusal
@@ -254,11 +272,11 @@ class Office:
 
     # ---- a collector
 
-    def own_quotes(self, collector):
+    def own_quotes(self, collector: int) -> Own:
         return {(slot, month): quote for (holder, slot, month), quote in self.quotes.items() if holder == collector}
 
-    def last_price(self, own, place, month):
-        """The price of the greatest earlier month with one, among a collector's own quotes of a slot; else the copied one."""
+    def last_price(self, own: Own, place: Place, month: Month) -> int | None:
+        """The price of the greatest earlier month with one, among the own quotes of a slot; else the copied one."""
         found = [
             (earlier, mark[1])
             for (slot, earlier), (mark, _) in own.items()
@@ -266,39 +284,39 @@ class Office:
         ]
         return max(found)[1] if found else self.assignments[place].copied
 
-    def work(self, _, collector, month):
+    def work(self, _: int, collector: int, month: Month) -> Reply:
         if month not in self.calendar:
             return refused(21)
         rows, own = [], self.own_quotes(collector)
         for (holder, slot), one in sorted(self.assignments.items()):
             if holder == collector and one.first <= month <= one.last:
-                mark, receipt = own.get((slot, month), ((None,), None))
+                kind, receipt = (own[slot, month][0][0], own[slot, month][1]) if (slot, month) in own else (None, None)
                 text, unit = self.items[one.item][:2]
                 price = self.last_price(own, (holder, slot), month)
-                rows.append([slot, one.outlet, self.outlets[one.outlet], one.item, text, unit, price, mark[0], receipt])
+                rows.append([slot, one.outlet, self.outlets[one.outlet], one.item, text, unit, price, kind, receipt])
         return {"work": rows}
 
-    def quotes_within(self, _, collector, first, last):
+    def quotes_within(self, _: int, collector: int, first: Month, last: Month) -> Reply:
         own = self.own_quotes(collector)
         places = sorted((month, slot) for slot, month in own if first <= month <= last)
         found = [(slot, month, own[slot, month]) for month, slot in places]
         return {"quotes": [[slot, month_text(month), *mark, receipt] for slot, month, (mark, receipt) in found]}
 
-    def put_quote(self, now, collector, slot, month, mark, confirm):
+    def put_quote(self, now: int, collector: int, slot: int, month: Month, mark: Mark, confirm: bool) -> Reply:
         if (collector, slot) not in self.assignments:
             return refused(20)
         stored = self.quotes.get((collector, slot, month))
         if stored and stored[0] == mark:
             return {"receipt": stored[1]}
-        refusal = self.quote_refusal(now, collector, slot, month, mark, confirm)
+        refusal = self.quote_refusal(now, (collector, slot), month, mark, confirm)
         if refusal is not None:
             return refusal
         receipt = 1 + max((receipt for _, receipt in self.own_quotes(collector).values()), default=0)
         self.quotes[collector, slot, month] = (mark, receipt)
         return {"receipt": receipt}
 
-    def quote_refusal(self, now, collector, slot, month, mark, confirm):
-        one = self.assignments[collector, slot]
+    def quote_refusal(self, now: int, place: Place, month: Month, mark: Mark, confirm: bool) -> Reply | None:
+        one = self.assignments[place]
         if month not in self.calendar:
             return refused(21)
         opens, closes, _ = self.calendar[month]
@@ -308,7 +326,7 @@ class Office:
             return refused(23)
         if now >= closes:
             return refused(24)
-        price = self.last_price(self.own_quotes(collector), (collector, slot), month)
+        price = self.last_price(self.own_quotes(place[0]), place, month)
         if price is None:
             return refused(25) if mark[0] in ("comparable", "other") else None
         low, high = -(-price * self.items[one.item][2] // 1000), price * self.items[one.item][3] // 1000
@@ -316,9 +334,9 @@ class Office:
             return refused(26, last=price, low=low, high=high)
         return None
 
-    OF_ALL = {"items": listed_items, "tables": listed_tables, "table": printed_table}
-    OF_COLLECTORS = {"work": work, "quotes": quotes_within, "quote": put_quote}
-    OF_THE_DESK = {
+    OF_ALL: dict[str, Callable[..., Reply]] = {"items": listed_items, "tables": listed_tables, "table": printed_table}
+    OF_COLLECTORS: dict[str, Callable[..., Reply]] = {"work": work, "quotes": quotes_within, "quote": put_quote}
+    OF_THE_DESK: dict[str, Callable[..., Reply]] = {
         "item": put_item,
         "outlet": put_outlet,
         "collector": register,

@@ -1,10 +1,13 @@
 """One message of HTTP and its response, by docs/FORMATS.md, over the second office."""
 
+from __future__ import annotations
+
 import csv
 import io
 import re
 
 from . import values
+from .office import Office
 
 MOST_HEAD, MOST_FIELDS, MOST_BODY = 8192, 64, 65_536
 TOKEN = rb"[!#$%&'*+\-.^_`|~0-9A-Za-z]+"
@@ -24,6 +27,9 @@ PHRASES = {
 OF_REFUSALS = {10: 400, 11: 401, 12: 403, 20: 404, 21: 404, 30: 404, 90: 503}
 TYPES = {"text": "text/plain; charset=utf-8", "csv": "text/csv; charset=utf-8", "json": "application/json"}
 
+Field = tuple[bytes, bytes]
+"""Name and value."""
+
 
 class Cut(Exception):
     """The stream ends too early: nothing is done, and nothing written."""
@@ -33,7 +39,7 @@ class Bad(Exception):
     """A message that is refused before it is a record, with its status."""
 
 
-def request_line(line):
+def request_line(line: bytes) -> tuple[bytes, str]:
     found = REQUEST_LINE.fullmatch(line)
     if not found:
         raise Bad(400)
@@ -43,16 +49,17 @@ def request_line(line):
         raise Bad(400) from None
 
 
-def field(line):
+def field(line: bytes) -> Field:
     found = FIELD.fullmatch(line)
     if not found:
         raise Bad(400)
     return found[1].lower(), found[2].strip(b" \t")
 
 
-def head_of(stream):
+def head_of(stream: bytes) -> tuple[bytes, str, list[Field], bytes]:
     """Method, target, fields, and the bytes behind the head; each line is judged when it ends."""
-    start, at, fields = None, 0, []
+    start: tuple[bytes, str] | None = None
+    at, fields = 0, list[Field]()
     while True:
         end = stream.find(b"\n", at) + 1
         if end == 0 or end > MOST_HEAD:
@@ -71,11 +78,11 @@ def head_of(stream):
                 raise Bad(400)
 
 
-def all_of(fields, name):
+def all_of(fields: list[Field], name: bytes) -> list[bytes]:
     return [value for each, value in fields if each == name]
 
 
-def body_of(fields, rest):
+def body_of(fields: list[Field], rest: bytes) -> bytes:
     if all_of(fields, b"transfer-encoding"):
         raise Bad(501)
     lengths = all_of(fields, b"content-length")
@@ -91,7 +98,7 @@ def body_of(fields, rest):
     return rest[: int(length)]
 
 
-def route(method, target):
+def route(method: bytes, target: str) -> tuple[str, list[str]]:
     """The word of the record and its arguments from the path."""
     if not target.startswith("/"):
         raise Bad(404)
@@ -111,7 +118,7 @@ def route(method, target):
     return first, parts
 
 
-def caller_of(fields, desk_key):
+def caller_of(fields: list[Field], desk_key: str) -> str:
     borne = all_of(fields, b"authorization")
     if not borne:
         return "public"
@@ -122,7 +129,7 @@ def caller_of(fields, desk_key):
     return "desk" if key == desk_key else key
 
 
-def arguments_of(word, parts, body):
+def arguments_of(word: str, parts: list[str], body: bytes) -> list[str]:
     if word not in ("quote", "plan", "import"):
         return parts
     # (bytes that are no UTF-8 spoil the field in which they stand, and so its row)
@@ -135,14 +142,14 @@ def arguments_of(word, parts, body):
     return [*parts, *rows[0]]
 
 
-def response(status, body, kind="json"):
+def response(status: int, body: str, kind: str = "json") -> bytes:
     data = body.encode()
     challenge = "WWW-Authenticate: CPI-Key\r\n" if status == 401 else ""
     head = f"HTTP/1.1 {status} {PHRASES[status]}\r\nContent-Type: {TYPES[kind]}\r\n"
     return f"{head}Content-Length: {len(data)}\r\nConnection: close\r\n{challenge}\r\n".encode() + data
 
 
-def answered(office, stream, now, desk_key):
+def answered(office: Office, stream: bytes, now: int, desk_key: str) -> bytes:
     """The response to the message at the front of a stream that then ends; nothing where it is cut."""
     try:
         method, target, fields, rest = head_of(stream)

@@ -3,8 +3,17 @@
 No month of it is ever frozen. In one half of such offices series are handed over.
 """
 
+from __future__ import annotations
+
 import csv
 import io
+import random
+from collections.abc import Callable, Generator, Iterable, Iterator, Sequence
+from typing import TypeVar
+
+from .requests import Record
+
+T = TypeVar("T")
 
 KEYS = [f"{number * 0x1111:032x}" for number in range(1, 5)]
 SHAPES_OF_KEYS = ["A" * 32, "a" * 31, "Desk"]
@@ -52,14 +61,14 @@ NEW_SLOTS = ["6", *map(str, range(8, 25)), "400"]  # of series that are handed o
 OF_THE_DESK = ("item", "outlet", "collector", "assign", "calendar", "plan", "freeze", "handover")
 
 
-def text_of(rows, end="\n"):
+def text_of(rows: Iterable[Sequence[object]], end: str = "\n") -> str:
     written = io.StringIO()
     csv.writer(written, lineterminator=end).writerows(rows)
     return written.getvalue()
 
 
 class Records:
-    def __init__(self, drawn, count, is_handing_over):
+    def __init__(self, drawn: random.Random, count: int, is_handing_over: bool) -> None:
         self.drawn = drawn
         self.count = count
         self.words = WORDS + ["quote"] * 8 + ["handover"] * 4 if is_handing_over else WORDS
@@ -68,98 +77,100 @@ class Records:
         self.slots = ["1", "2", "3", "4", "5"] if is_handing_over else ["1", "2"]
         self.of_begun = (self.slots, [MONTHS[0], MONTHS[-1]]) if is_handing_over else (self.slots, MONTHS[::2])
 
-    def mostly(self, usual, others, share=0.9):
+    def mostly(self, usual: Sequence[T], others: Sequence[T], share: float = 0.9) -> T:
         return self.drawn.choice(usual if self.drawn.random() < share else others)
 
-    def one(self, values):
+    def one(self, values: Sequence[T]) -> T:
         return self.drawn.choice(values)
 
-    def month(self):
+    def month(self) -> str:
         return self.mostly(MONTHS, OTHER_MONTHS)
 
-    def item(self):
+    def item(self) -> str:
         return self.mostly(ITEMS, OTHER_ITEMS)
 
-    def code(self):
+    def code(self) -> str:
         return self.mostly(CODES, OTHER_CODES)
 
-    def drop(self, rows):
+    def drop(self, rows: list[Record]) -> None:
         rows.remove(self.one(rows))
 
-    def double(self, rows):
+    def double(self, rows: list[Record]) -> None:
         rows.append(self.one(rows)[:])
 
-    def change(self, rows):
+    def change(self, rows: list[Record]) -> None:
         row, texts = self.one(rows), [self.code(), self.item(), self.one(TEXTS), self.one(NUMBERS)]
         row[self.drawn.randrange(1, len(row))] = self.one(texts)
 
-    def add(self, rows):
+    def add(self, rows: list[Record]) -> None:
         weight = self.one(["0", "1", "400000", "1000000", "1000001"])
         rows.append(self.one([["W", self.code(), weight], ["I", self.mostly(OTHER_ITEMS, ITEMS), self.code()]]))
 
-    def refer(self, rows):
+    def refer(self, rows: list[Record]) -> None:
         """A reference month, now and then of another form, or a second one."""
         for _ in range(self.one([1, 1, 1, 2])):
             rows.append(["R", self.mostly(REFERENCES, OTHER_REFERENCES), *self.one([[]] * 9 + [["x"]])])
 
-    def unweigh(self, rows):
+    def unweigh(self, rows: list[Record]) -> None:
         for row in rows:
             if row[0] == "W":
                 row[2] = self.one([row[2], "0"])
 
-    def displace(self, rows):
+    def displace(self, rows: list[Record]) -> None:
         """Places items at an aggregate without weight."""
         for row in rows:
             if row[0] == "I":
                 row[2] = self.one([row[2], "01.1.1.1-02"])
 
-    def plan_body(self):
+    def plan_body(self) -> str:
         """The plan, with up to two changes."""
         rows = [row[:] for row in PLAN]
+        changes: list[Callable[[list[Record]], None]]
         changes = [self.drop, self.double, self.drawn.shuffle, self.change, self.add, self.unweigh, self.displace]
         for change in self.drawn.choices([*changes, self.refer, self.refer], k=self.one([0, 0, 1, 1, 1, 2])):
             change(rows)
         return text_of(rows, self.one(["\n", "\r\n"]))
 
-    def quote(self):
+    def quote(self) -> Record:
         kind = self.one(MARKS)
         value = self.one(REASONS) if kind == "missing" else self.mostly(PRICES[:12], PRICES + NUMBERS)
-        last = self.mostly([[]], [*[["confirm"]] * self.confirmed, ["Confirm"], [""]], 0.8 if self.confirmed == 2 else 0.4)
+        share = 0.8 if self.confirmed == 2 else 0.4
+        last: Record = self.mostly([[]], [*[["confirm"]] * self.confirmed, ["Confirm"], [""]], share)
         month = self.mostly(self.months, OTHER_MONTHS)
         return [self.mostly(self.slots, [*NEW_SLOTS, *NUMBERS], 0.8), month, kind, value, *self.one([last])]
 
-    def assign(self):
+    def assign(self) -> Record:
         collector, slot = self.mostly(["1", "2", "3", "9"], NUMBERS), self.mostly(["1", "2", "3"], NUMBERS)
         outlet = self.mostly(["10", "11", "12"], NUMBERS)
         return [collector, slot, outlet, self.item(), self.month(), self.month()]
 
-    def handover(self):
+    def handover(self) -> Record:
         """A hand-over of one of the first slots to a slot that may stand."""
         collector, to = (self.mostly(["1", "2", "3"], ["4", "9", *NUMBERS], 0.95) for _ in range(2))
         slot, new_slot = self.mostly(self.slots, ["6", *NUMBERS], 0.95), self.mostly(NEW_SLOTS, ["1", *NUMBERS], 0.95)
         return [collector, slot, to, new_slot, self.mostly(MONTHS[2:], [*MONTHS, *OTHER_MONTHS], 0.7)]
 
-    def calendar(self):
+    def calendar(self) -> Record:
         opens = self.one([0, 1000, 1500])
         moments = [opens, opens + self.one([0, 1, 500, 1000]), opens + self.one([500, 1000, 2000])]
         return [self.month(), *(self.mostly([str(moment)], CIVIL) for moment in moments)]
 
-    def table(self):
+    def table(self) -> Record:
         """A table, in one case of two of a revision."""
-        revision = self.one([[], [self.mostly(["1", "2", "9"], NUMBERS)]])
+        revision: Record = self.one([[], [self.mostly(["1", "2", "9"], NUMBERS)]])
         return [self.month(), self.mostly(["text", "csv"], ["", "Text", "html"]), *revision]
 
-    def freeze(self):
+    def freeze(self) -> Record:
         """A freeze of a month that is no December, and so not the first one."""
         return [self.mostly(MONTHS[1:], OTHER_MONTHS), *(self.code() for _ in range(self.one([0, 0, 1, 2])))]
 
-    def import_body(self):
+    def import_body(self) -> str:
         rows = [[word, *self.arguments(word)] for word in self.drawn.choices(self.words, k=self.drawn.randrange(5))]
         return self.one(["", "", "\ufeff"]) + text_of(rows, self.one(["\n", "\r\n"]))
 
-    def arguments(self, word):
+    def arguments(self, word: str) -> Record:
         tolerances = [self.mostly(["700"], ["1", "1000", *NUMBERS]), self.mostly(["1500"], ["1000", "10001", *NUMBERS])]
-        given = {
+        given: dict[str, Callable[[], Record]] = {
             "quote": self.quote,
             "quotes": lambda: [self.month(), self.month()],
             "work": lambda: [self.month()],
@@ -174,14 +185,14 @@ class Records:
             "plan": lambda: [self.mostly(["2026"], ["2000", "2199", "2200", "1999"]), self.plan_body()],
             "import": lambda: [self.import_body()],
         }
-        arguments = given.get(word, list)()
+        arguments = given.get(word, list[str])()
         return self.mostly([arguments], [[*arguments, "x"], arguments[:-1]], 0.97)
 
-    def caller(self, word):
+    def caller(self, word: str) -> str:
         usual = ["desk"] if word in OF_THE_DESK else KEYS[:3]
         return self.mostly(usual, ["public", "desk", *KEYS, *SHAPES_OF_KEYS], 0.92)
 
-    def begun(self):
+    def begun(self) -> Iterator[Record]:
         """The desk's first records."""
         for number, key in enumerate(KEYS[:3], 1):
             yield ["0", "desk", "collector", str(number), key]
@@ -195,7 +206,7 @@ class Records:
         for month in MONTHS:
             yield ["0", "desk", "calendar", month, "1000", "2000", "3000"]
 
-    def __iter__(self):
+    def __iter__(self) -> Generator[Record, object, None]:
         yield from self.begun()
         for _ in range(self.count):
             moment = self.mostly(["999", "1000", "1500", "1500", "1999", "2000"], ["9999999999", *NUMBERS], 0.97)

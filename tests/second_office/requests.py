@@ -1,21 +1,37 @@
 """From the fields of a record to what it asks. A request is a tuple that begins with its word."""
 
+from __future__ import annotations
+
 import csv
 import io
+from collections.abc import Callable
+from typing import Any
 
 from . import values
+from .values import Month
 
 MOST_ROWS = 20_000
 
+Record = list[str]
+"""The fields of a record: a moment, who asks, a word and its arguments; or of a row, from the word on."""
 
-def rows_of(body):
+Request = tuple[Any, ...]
+
+Body = tuple[list[tuple[str, str]], list[tuple[str, int]], list[tuple[str, str]], list[Month]]
+"""Titles, weights, places and reference months."""
+
+
+def rows_of(body: str) -> list[Record]:
     return [row for row in csv.reader(io.StringIO(body.removeprefix("\ufeff"), newline="")) if row]
 
 
-def plan_body(body):
+def plan_body(body: str) -> Body | None:
     """Titles, weights, places and reference months; None where a row is of no form, or where there are too many."""
     rows = rows_of(body)
-    titles, weights, places, references = [], [], [], []
+    titles: list[tuple[str, str]] = []
+    weights: list[tuple[str, int]] = []
+    places: list[tuple[str, str]] = []
+    references: list[Month] = []
     for row in rows:
         kind, first, second = {2: [*row, ""], 3: row}.get(len(row), ("", "", ""))
         weight = values.number(second, 0, 1_000_000)
@@ -25,14 +41,14 @@ def plan_body(body):
             weights.append((first, weight))
         elif kind == "I" and values.item_code(first) and values.code(second):
             places.append((first, second))
-        elif kind == "R" and len(row) == 2 and values.month(first):
-            references.append(values.month(first))
+        elif kind == "R" and len(row) == 2 and (month := values.month(first)):
+            references.append(month)
         else:
             return None
     return (titles, weights, places, references) if len(rows) <= MOST_ROWS else None
 
 
-def number_within(least, most):
+def number_within(least: int, most: int) -> Callable[[str], int | None]:
     return lambda text: values.number(text, least, most)
 
 
@@ -42,7 +58,7 @@ OUTLET = number_within(1, 999_999)
 REVISION = number_within(1, 9)
 
 # the readers of each word's arguments
-ARGUMENTS = {
+ARGUMENTS: dict[str, list[Callable[[str], Any]]] = {
     "items": [],
     "tables": [],
     "work": [values.month],
@@ -57,7 +73,7 @@ ARGUMENTS = {
 }
 
 
-def quote_of(arguments):
+def quote_of(arguments: Record) -> Request | None:
     confirm = arguments[4:] == ["confirm"]
     if len(arguments) != (5 if confirm else 4):
         return None
@@ -65,7 +81,7 @@ def quote_of(arguments):
     return None if None in (slot, month, mark) else ("quote", slot, month, mark, confirm)
 
 
-def table_of(arguments):
+def table_of(arguments: Record) -> Request | None:
     """The month, the form, and the revision where one is named."""
     month = values.month(arguments[0]) if arguments else None
     revisions = [REVISION(text) for text in arguments[2:]]
@@ -74,7 +90,7 @@ def table_of(arguments):
     return ("table", month, arguments[1], *revisions)
 
 
-def freeze_of(arguments):
+def freeze_of(arguments: Record) -> Request | None:
     month = values.month(arguments[0]) if arguments else None
     carry = [values.code(text) for text in arguments[1:]]
     if month is None or not all(code and values.is_elementary(code) for code in carry):
@@ -85,16 +101,16 @@ def freeze_of(arguments):
 OF_SEVERAL_LENGTHS = {"quote": quote_of, "table": table_of, "freeze": freeze_of}
 
 
-def is_in_form(request):
+def is_in_form(request: Request) -> bool:
     word, *parts = request
     if word == "assign":
-        return parts[4] <= parts[5]
+        return bool(parts[4] <= parts[5])
     if word == "calendar":
-        return parts[1] < parts[2] <= parts[3]
+        return bool(parts[1] < parts[2] <= parts[3])
     return True
 
 
-def request_of(word, arguments):
+def request_of(word: str, arguments: Record) -> Request | None:
     """The request, or None where the fields are of no form."""
     if word in OF_SEVERAL_LENGTHS:
         return OF_SEVERAL_LENGTHS[word](arguments)
@@ -107,5 +123,5 @@ def request_of(word, arguments):
     return (word, *parts) if is_in_form((word, *parts)) else None
 
 
-def caller_of(text):
+def caller_of(text: str) -> str | None:
     return text if text in ("public", "desk") else values.key(text)

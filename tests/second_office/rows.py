@@ -1,10 +1,20 @@
 """The second office as the rows of a database: of schema 2, and of schema 1, which databases had before."""
 
+from __future__ import annotations
+
 import contextlib
 import sqlite3
+from collections.abc import Callable, Iterable, Iterator
+from functools import partial
+from typing import Any
 
 from .index import before
-from .office import DONE, Office
+from .office import DONE, Office, Reply
+from .values import Mark, Month
+
+Columns = tuple[Any, ...]
+Rows = dict[str, list[Columns]]
+"""By table."""
 
 # The tables of schema 1, in the order in which they were made.
 FIRST_TABLES = {
@@ -34,9 +44,9 @@ FIRST_TABLES = {
     "slot INTEGER NOT NULL, item TEXT NOT NULL, last_month INTEGER NOT NULL, ticks INTEGER NOT NULL, knum INTEGER NOT "
     "NULL, kden INTEGER NOT NULL, observed INTEGER NOT NULL, imputed INTEGER NOT NULL, PRIMARY KEY (month, collector, "
     "slot)) STRICT",
-    "level": "CREATE TABLE level (month INTEGER NOT NULL REFERENCES release (month), code TEXT NOT NULL, title TEXT NOT "
-    "NULL, weight INTEGER NOT NULL, within INTEGER NOT NULL, chained INTEGER NOT NULL, month_change INTEGER NOT NULL, "
-    "year_change INTEGER, imputed INTEGER NOT NULL, PRIMARY KEY (month, code)) STRICT",
+    "level": "CREATE TABLE level (month INTEGER NOT NULL REFERENCES release (month), code TEXT NOT NULL, title TEXT "
+    "NOT NULL, weight INTEGER NOT NULL, within INTEGER NOT NULL, chained INTEGER NOT NULL, month_change INTEGER NOT "
+    "NULL, year_change INTEGER, imputed INTEGER NOT NULL, PRIMARY KEY (month, code)) STRICT",
 }
 
 # The tables that schema 2 has beside them, and the old ones that are empty there.
@@ -49,25 +59,26 @@ KEPT = [name for name in FIRST_TABLES if name not in ("version", *EMPTY)]
 class Kept(Office):
     """A second office that keeps the rows of each release."""
 
-    def __init__(self):
+    def __init__(self) -> None:
         super().__init__()
-        self.of_releases = {f"{name}_2": [] for name in OF_A_MONTH}
+        self.of_releases: Rows = {f"{name}_2": [] for name in OF_A_MONTH}
 
-    def freeze(self, now, month, carry):
+    def freeze(self, now: int, month: Month, carry: list[str]) -> Reply:
         reply = super().freeze(now, month, carry)
         if reply == DONE:
             revision, publishes = len(self.tables[month]), self.tables[month][-1][0]
-            made = [(now, publishes, " ".join(carry))], frozen(self, month), carried(self, month), levels(self, month)
+            release = [(now, publishes, " ".join(carry))]
+            made: list[Iterable[Columns]] = [release, frozen(self, month), carried(self, month), levels(self, month)]
             for name, rows in zip(OF_A_MONTH, made):
                 self.of_releases[f"{name}_2"] += [(number(month), revision, *row) for row in rows]
         return reply
 
 
-def number(month):
+def number(month: Month) -> int:
     return 100 * month[0] + month[1]
 
 
-def mark_columns(mark):
+def mark_columns(mark: Mark) -> tuple[str, int]:
     kind, value = mark
     return (value or "none", 0) if kind == "missing" else (kind, value)
 
@@ -75,12 +86,12 @@ def mark_columns(mark):
 # ---- what a freeze stores of its month
 
 
-def frozen(office, month):
+def frozen(office: Office, month: Month) -> Iterator[Columns]:
     for quote in office.index.frozen[month][0]:
         yield *quote.series, quote.item, number(quote.last_month), *mark_columns(quote.mark)
 
 
-def carried(office, month):
+def carried(office: Office, month: Month) -> Iterator[Columns]:
     index = office.index
     for code in index.aggregates(month[0]) if before(month) in index.frozen else []:
         for series in index.sample(month[0], code):
@@ -90,15 +101,20 @@ def carried(office, month):
             yield *series, item, number(last), ticks, *scale, int(observed), int(is_imputed)
 
 
-def levels(office, month):
+def levels(office: Office, month: Month) -> Iterator[Columns]:
     for row in office.tables[month][-1][1]:
         yield *row[:7], int(row[7])
+
+
+def released(table: str, office: Kept) -> list[Columns]:
+    """The rows of all releases."""
+    return office.of_releases[table]
 
 
 # ---- all rows
 
 
-def node_rows(office):
+def node_rows(office: Kept) -> list[Columns]:
     return [
         (year, code, title, office.index.weight(year, code))
         for year, (titles, *_) in office.plans.items()
@@ -106,7 +122,7 @@ def node_rows(office):
     ]
 
 
-ROWS = {
+ROWS: dict[str, Callable[[Kept], Iterable[Columns]]] = {
     "version": lambda office: [(2,)],
     "collector": lambda office: office.keys.items(),
     "outlet": lambda office: office.outlets.items(),
@@ -123,12 +139,12 @@ ROWS = {
         (collector, slot, number(month), *mark_columns(mark), receipt)
         for (collector, slot, month), (mark, receipt) in office.quotes.items()
     ],
-    **{f"{name}_2": lambda office, name=name: office.of_releases[f"{name}_2"] for name in OF_A_MONTH},
+    **{f"{name}_2": partial(released, f"{name}_2") for name in OF_A_MONTH},
     "plan_ref": lambda office: [(year, number(plan[3])) for year, plan in office.plans.items() if plan[3]],
 }
 
 
-def rows_of(office, names=tuple(TABLES)):
+def rows_of(office: Kept, names: Iterable[str] = tuple(TABLES)) -> Rows:
     """The rows of some tables that the lists of a second office stand for."""
     return {name: sorted(ROWS[name](office)) for name in names}
 
@@ -136,14 +152,14 @@ def rows_of(office, names=tuple(TABLES)):
 # ---- schema 1
 
 
-def first_of(rows):
+def first_of(rows: Rows) -> Rows:
     """The rows of schema 1 for those of an office without a further revision, a reference month or a hand-over."""
     releases = {name: [(month, *row) for month, _, *row in rows[f"{name}_2"]] for name in OF_A_MONTH}
     own = {"assignment": [row[:6] for row in rows["assignment_2"]], "quote": rows["quote_2"]}
     return {**{name: rows[name] for name in KEPT}, "version": [(1,)], **own, **releases}
 
 
-def migrated(first):
+def migrated(first: Rows) -> Rows:
     """The rows of schema 2 for those of schema 1: each slot has its own series, each release revision 1."""
     releases = {f"{name}_2": [(month, 1, *row) for month, *row in first[name]] for name in OF_A_MONTH}
     own = {"assignment_2": [(*row, *row[:2], None) for row in first["assignment"]], "quote_2": first["quote"]}
@@ -151,7 +167,7 @@ def migrated(first):
     return {**old, "version": [(2,)], **own, **releases, "plan_ref": []}
 
 
-def make_first(path, rows):
+def make_first(path: str, rows: Rows) -> None:
     """A file of schema 1, by Python's sqlite3."""
     with contextlib.closing(sqlite3.connect(path)) as file, file:
         for name, text in FIRST_TABLES.items():

@@ -1,24 +1,34 @@
 """The value of one field, or None where the field has no such value."""
 
+from __future__ import annotations
+
 import calendar
 import re
+from collections.abc import Iterator
+from typing import Any
+
+Month = tuple[int, int]
+"""Year and number."""
+
+Mark = tuple[str, Any]
+"""A kind of quote with its price, or `missing` with its reason or None."""
 
 MOST_PRICE = 100_000_000
 MOST_MOMENT = 9_999_999_999
 REASONS = ("stock", "closed", "gone", "refused")
 
 
-def matched(pattern, text):
+def matched(pattern: str, text: str) -> re.Match[str] | None:
     return re.fullmatch(pattern, text, re.ASCII)
 
 
-def number(text, least, most):
+def number(text: str, least: int, most: int) -> int | None:
     if not matched("0|[1-9][0-9]*", text):
         return None
     return int(text) if least <= int(text) <= most else None
 
 
-def month(text):
+def month(text: str) -> Month | None:
     """A pair of year and month."""
     found = matched("([0-9]{4})-([0-9]{2})", text)
     if not found:
@@ -27,7 +37,7 @@ def month(text):
     return (year, number_in_year) if 2000 <= year <= 2199 and 1 <= number_in_year <= 12 else None
 
 
-def moment(text):
+def moment(text: str) -> int | None:
     """Seconds since 1970 UTC, from a number or from a civil text that is read in UTC."""
     seconds = number(text, 0, MOST_MOMENT)
     if seconds is not None:
@@ -43,7 +53,7 @@ def moment(text):
     return calendar.timegm((year, in_year, day, hour, minute, 0))
 
 
-def name(text):
+def name(text: str) -> str | None:
     data = text.encode(errors="surrogateescape")
     try:
         data.decode()
@@ -52,15 +62,15 @@ def name(text):
     return text if 1 <= len(data) <= 400 and all(byte >= 0x20 and byte != 0x7F for byte in data) else None
 
 
-def item_code(text):
+def item_code(text: str) -> str | None:
     return text if matched("[A-Z0-9]{1,12}", text) else None
 
 
-def key(text):
+def key(text: str) -> str | None:
     return text if matched("[0-9a-f]{32}", text) else None
 
 
-def code(text):
+def code(text: str) -> str | None:
     """A code of the classification, in its one spelling."""
     if text == "00":
         return text
@@ -70,11 +80,11 @@ def code(text):
     return text
 
 
-def is_elementary(node):
+def is_elementary(node: str) -> bool:
     return "-" in node
 
 
-def path(node):
+def path(node: str) -> Iterator[str]:
     """The code and all codes above it."""
     yield node
     while node != "00":
@@ -87,7 +97,7 @@ def path(node):
         yield node
 
 
-def mark(kind, value):
+def mark(kind: str, value: str) -> Mark | None:
     """A mark with its price, or with the reason why there is none."""
     if kind == "missing":
         return (kind, value) if value in REASONS else None

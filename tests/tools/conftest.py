@@ -11,24 +11,20 @@ HERE = Path(__file__).resolve().parent
 ROOT = HERE.parents[1]
 
 sys.dont_write_bytecode = True
-sys.path[:0] = [str(HERE), str(ROOT / "tools")]
+sys.path[:0] = [str(HERE), str(ROOT / "tools"), str(ROOT / "tests")]
 
 from cpi_tools.program import Cpi  # noqa: E402
 from cpi_tools.pack.public import Published, from_file  # noqa: E402
+from lib import fixtures  # noqa: E402
+from lib.fixtures import cpi  # noqa: E402, F401
 from offices import lived  # noqa: E402
 from published import Office, made as made_public  # noqa: E402
 
 
 def pytest_addoption(parser: pytest.Parser) -> None:
-    parser.addoption("--program", default=None, help="the program cpi")
+    fixtures.pytest_addoption(parser)
     parser.addoption("--times", type=int, default=20, help="how many backups each test under load makes")
     parser.addoption("--office", default=None, help="the office of these tests, made before (else it is made)")
-
-
-@pytest.fixture(scope="session")
-def cpi(request: pytest.FixtureRequest) -> Cpi:
-    """The program."""
-    return Cpi(request.config.getoption("--program"))
 
 
 @pytest.fixture(scope="session")

@@ -7,9 +7,7 @@ has tells which receipt each slot has to have: a copy of two moments shows, and 
 from __future__ import annotations
 
 import contextlib
-import socket
 import sqlite3
-import struct
 import subprocess
 import threading
 import time
@@ -18,6 +16,7 @@ from pathlib import Path
 from typing import Optional
 
 from cpi_tools.program import Cpi
+from lib.served import free_port, heard, message, peer_of, reset, words_of
 from offices import LOAD_COLLECTOR, LOAD_KEY, LOAD_MONTH, LOAD_SLOTS
 
 DESK_KEY = "d" * 32
@@ -124,45 +123,24 @@ class Connections(Load):
     def quote(self) -> None:
         number = self.told + 1
         body = f"price,{price_of(number)}"
-        with self.peer() as one:
-            one.sendall(message(f"PUT /quote/{slot_of(number)}/{LOAD_MONTH}", LOAD_KEY, body))
-            answer = b"".join(iter(lambda: one.recv(65536), b""))
+        with peer_of(self.port) as one:
+            one.sendall(message(f"PUT /quote/{slot_of(number)}/{LOAD_MONTH}", key=LOAD_KEY, body=body.encode()))
+            answer = heard(one)
         assert answer.endswith(b'{"receipt":%d}\n' % number), answer
         self.told = number
 
     def shake(self) -> None:
-        with self.peer(is_narrow=True) as one:
-            one.sendall(message("POST /import", LOAD_KEY, "items\n" * 5000))
+        with peer_of(self.port, is_narrow=True) as one:
+            one.sendall(message("POST /import", key=LOAD_KEY, body=b"items\n" * 5000))
             assert one.recv(8) == b"HTTP/1.1"
-            one.setsockopt(socket.SOL_SOCKET, socket.SO_LINGER, struct.pack("ii", 1, 0))
+            reset(one)
         self.shaken += 1
-
-    def peer(self, is_narrow: bool = False) -> socket.socket:
-        one = socket.socket()
-        if is_narrow:
-            one.setsockopt(socket.SOL_SOCKET, socket.SO_RCVBUF, 4096)
-        one.settimeout(60)
-        one.connect(("127.0.0.1", self.port))
-        return one
-
-
-def message(line: str, key: str, body: str) -> bytes:
-    """A message of HTTP with a key and a body."""
-    head = f"{line} HTTP/1.1\r\nAuthorization: CPI-Key {key}\r\nContent-Length: {len(body)}\r\n\r\n"
-    return (head + body).encode()
-
-
-def free_port() -> int:
-    with socket.socket() as one:
-        one.bind(("127.0.0.1", 0))
-        port: int = one.getsockname()[1]
-        return port
 
 
 @contextlib.contextmanager
 def served(cpi: Cpi, file: Path, port: int, limit: int = 1000) -> Iterator[subprocess.Popen[bytes]]:
     """An office that listens at a port; at the end it is killed, if it hasn't ended by itself."""
-    words = ["serve", "--db", str(file), "--port", str(port), "--desk-key", DESK_KEY, "--limit", str(limit)]
+    words = words_of(str(file), port, limit, key=DESK_KEY)
     with subprocess.Popen([str(cpi.path), *words], stdout=subprocess.PIPE) as process:
         try:
             assert process.stdout

@@ -98,7 +98,7 @@ def lived() -> list[str]:
         found += priced(opens + 1, month, drawn, prices)
         found.append(record(opens + 500, "desk", "freeze", month))
         if month == REVISED:
-            found += revised(opens, month, 1200, opens + 950)
+            found += revised(opens, month, 1200, opens + 990)
         if month in (HIDDEN_REVISION, LAST):
             found += revised(opens, month, 1500, LONG_AFTER + 1)
     return found

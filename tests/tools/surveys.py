@@ -17,6 +17,7 @@ from typing import NamedTuple, Optional
 
 from cpi_tools.__main__ import main
 from cpi_tools.program import Cpi, Reply, Session, record
+from lib.offices import RICE_AND_FLOUR, quoted
 
 DAY = 86_400
 MONTHS = ["2025-12", *(f"2026-{number:02}" for number in range(1, 13)), "2027-01", "2027-02"]
@@ -79,19 +80,7 @@ SMALL = f"""0,desk,item,RICE,Rice,1 kg,500,2000
 0,desk,calendar,2025-12,0,1000,1000
 0,desk,calendar,2026-01,1000,2000,3000
 0,desk,calendar,2026-02,2000,4000,5000
-0,desk,plan,2026,"T,00,All items
-T,01,Food and drink
-T,01.1,Food
-T,01.1.1,Cereals
-T,01.1.1.1,Rice
-T,01.1.1.1-01,""Rice, packed""
-T,01.1.1.2,Flour
-T,01.1.1.2-01,""Flour, wheat""
-W,01.1.1.1-01,600000
-W,01.1.1.2-01,400000
-I,RICE,01.1.1.1-01
-I,FLOUR,01.1.1.2-01
-"
+0,desk,plan,2026,{quoted(RICE_AND_FLOUR)}
 10,{key_of(7)},quote,1,2025-12,price,200
 10,{key_of(7)},quote,2,2025-12,price,80
 10,{key_of(8)},quote,1,2025-12,price,240

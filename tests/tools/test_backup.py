@@ -81,6 +81,70 @@ def test_a_destination_that_is_there_stays_unless_it_is_to_be_replaced(
     assert read_note(to) == note and note.sha256 == hash_of(to)
 
 
+def test_a_backup_that_is_replaced_never_has_the_note_of_another(
+    cpi: Cpi, office: Path, tmp_path: Path, monkeypatch: pytest.MonkeyPatch
+) -> None:
+    """Where it breaks off between the two names there is no note."""
+    to, replace = tmp_path / "backup/office.db", Path.replace
+    back_up(cpi, office, to)
+
+    def broken_off(path: Path, at: Path) -> Path:
+        if path.name == "note":
+            raise OSError(5, "Input/output error")
+        return replace(path, at)
+
+    monkeypatch.setattr(Path, "replace", broken_off)
+    with pytest.raises(BackupFailed, match="Input/output error"):
+        back_up(cpi, office, to, is_replacing=True)
+    assert names(to.parent) == ["office.db"]
+
+
+def test_what_has_no_note_is_not_replaced(cpi: Cpi, office: Path, tmp_path: Path) -> None:
+    """It may be an office: a backup has its note beside it."""
+    other = tmp_path / "other.db"
+    other.write_text("an office")
+    with pytest.raises(BackupFailed, match="other.db has no note, so it isn't known to be a backup"):
+        back_up(cpi, office, other, is_replacing=True)
+    assert names(tmp_path) == ["office.db", "other.db"] and other.read_text() == "an office"
+    assert back_up(cpi, office, tmp_path / "new.db", is_replacing=True).tables == TABLES
+
+
+@pytest.mark.parametrize("is_replacing", [False, True])
+def test_a_log_that_lies_at_the_destination_is_never_put_into_the_backup(
+    is_replacing: bool, cpi: Cpi, office: Path, tmp_path: Path
+) -> None:
+    """Somebody opened an earlier backup there, and its log has commands that aren't in the file. A log with nothing in
+    it goes."""
+    to = tmp_path / "backup/office.db"
+    back_up(cpi, office, to)
+    with pytest.raises(KeyError):
+        with cpi.session(to) as session:
+            assert session.ask("0,desk,outlet,77,Kiosk") == {"done": True}
+            raise KeyError
+    log, earlier = log_beside(to), to.read_bytes()
+    if not is_replacing:
+        to.unlink()
+        note_beside(to).unlink()
+    before = names(to.parent)
+    with pytest.raises(BackupFailed, match=rf"{log} is there, and would be put into the backup"):
+        back_up(cpi, office, to, is_replacing)
+    assert names(to.parent) == before and log.stat().st_size > 41
+    assert not is_replacing or to.read_bytes() == earlier
+    log.write_bytes(log.read_bytes()[:41])
+    note = back_up(cpi, office, to, is_replacing)
+    assert names(to.parent) == ["office.db", "office.db.sha256"] and read_note(to) == note
+
+
+def test_a_log_that_came_meanwhile_is_not_put_into_the_backup(
+    cpi: Cpi, office: Path, tmp_path: Path, monkeypatch: pytest.MonkeyPatch
+) -> None:
+    to = tmp_path / "backup/office-1.db"
+    monkeypatch.setattr(backup, "settle", lambda *_: log_beside(to).write_bytes(bytes(42)))
+    with pytest.raises(BackupFailed, match="office-1.db-wal is there"):
+        back_up(cpi, office, to)
+    assert names(to.parent) == ["office-1.db-wal"]
+
+
 def test_a_destination_that_came_meanwhile_stays(
     cpi: Cpi, office: Path, tmp_path: Path, monkeypatch: pytest.MonkeyPatch
 ) -> None:
@@ -136,7 +200,7 @@ def test_what_can_not_be_backed_up_is_one_line_and_leaves_nothing(what: str, cpi
         "none": f"{office}: No such file or directory",
         "folder": f"{office} is no file",
         "empty": f"{office} is empty, so it is no office",
-        "text": "cpi: database failed (the file is no office, another program holds it, or the disk failed;",
+        "text": f"{office}: cpi: database failed (the file is no office, another program holds it, or the disk failed;",
         "itself": f"{office} is the office itself",
         "its log": f"{log_beside(office)} is the office's log",
         "a pipe": f"{tmp_path}/pipe is no file, so nothing takes its place",
@@ -176,6 +240,40 @@ def test_a_program_that_is_missing_is_told_before_anything_is_made(office: Path,
     assert names(tmp_path) == ["office.db"]
 
 
+@pytest.mark.parametrize(
+    ("other", "told"),
+    [
+        ("true", "{program} doesn't list the tables of {office}"),
+        ("echo", "{office}: the program answers otherwise than cpi does: replay --db "),
+        ("false", "{office}: cpi ended with status 1"),
+    ],
+)
+def test_a_program_that_is_another_one_is_told(other: str, told: str, office: Path, tmp_path: Path) -> None:
+    program = f"/bin/{other}"
+    words = [TOOL, "backup", office, tmp_path / "backup/x", "--program", program]
+    ran = subprocess.run(words, capture_output=True, text=True, check=False)
+    assert (ran.returncode, ran.stdout, ran.stderr.count("\n")) == (1, "", 1)
+    assert ran.stderr.startswith(f"cpi-tools backup: {told.format(program=program, office=office)}")
+    assert names(tmp_path / "backup") == []
+
+
+@pytest.mark.parametrize(
+    ("dest", "told"),
+    [
+        (b"folder/", "argument DEST: folder/ names no file"),
+        (b"", "argument DEST: an empty word names no file"),
+        (b"x\xff.db", r"a word isn't a line of UTF-8: 'x\udcff.db'"),
+        (b"x\ny.db", r"a word isn't a line of UTF-8: 'x\ny.db'"),
+    ],
+)
+def test_a_destination_that_is_no_name_is_refused(dest: bytes, told: str, cpi: Cpi, office: Path) -> None:
+    words = [TOOL, "backup", office, dest, "--program", cpi.path]
+    ran = subprocess.run(words, cwd=office.parent, capture_output=True, text=True, check=False)
+    assert (ran.returncode, ran.stdout) == (2, "")
+    assert ran.stderr == f"cpi-tools backup: {told} (see cpi-tools backup --help)\n"
+    assert names(office.parent) == ["office.db"]
+
+
 def may_not_grow(most: int) -> None:
     """A disk on which no file can have more bytes."""
     signal.signal(signal.SIGXFSZ, signal.SIG_IGN)
@@ -211,7 +309,7 @@ def test_a_disk_that_is_full_for_the_log_is_told_and_leaves_nothing(cpi: Cpi, of
         assert log_beside(office).stat().st_size < most
         ran = run(cpi, office, to, preexec_fn=lambda: may_not_grow(most))
     assert (ran.returncode, ran.stdout, ran.stderr.count("\n")) == (1, "", 1)
-    assert ran.stderr == "cpi-tools backup: cpi was ended by the signal SIGXFSZ\n"
+    assert ran.stderr == f"cpi-tools backup: {office}: cpi was ended by the signal SIGXFSZ\n"
     assert names(to.parent) == []
 
 
@@ -260,6 +358,18 @@ def test_a_log_that_is_not_put_in_is_a_fault(tmp_path: Path) -> None:
     with pytest.raises(CpiFailed, match="its log isn't in the file"):
         remove_log(copy)
     assert log_beside(copy).exists()
+
+
+def test_a_program_that_does_not_put_the_log_in_makes_no_backup(cpi: Cpi, office: Path, tmp_path: Path) -> None:
+    """The last quote stands in the log alone, so a copy of the file would lack it."""
+    idle = tmp_path / "idle"
+    idle.write_text("#!/bin/sh\ncat > /dev/null\necho '{\"tables\":[]}'\n")
+    idle.chmod(0o755)
+    with cpi.session(office) as session:
+        assert session.ask(f"50,{LOAD_KEY},quote,2,{LOAD_MONTH},price,1000") == {"receipt": 1}
+        with pytest.raises(CpiFailed, match="its log isn't in the file"):
+            back_up(Cpi(idle), office, tmp_path / "backup/office.db")
+    assert names(tmp_path / "backup") == []
 
 
 def test_a_note_is_read_as_it_is_written(tmp_path: Path) -> None:

@@ -3,6 +3,7 @@
 from __future__ import annotations
 
 import contextlib
+import io
 import os
 import shutil
 import signal
@@ -13,6 +14,7 @@ import threading
 import time
 from collections.abc import Callable, Iterator
 from pathlib import Path
+from typing import Any
 
 import pytest
 
@@ -80,6 +82,43 @@ def test_a_copy_is_made_again_where_the_log_is_emptied_between_the_two(
             assert marks[0] != marks[1] == mark_of(office)
             assert faults_of(copy, before + ENOUGH) == []
     assert faults_of(plain, before) != []
+
+
+def put_into(office: Path, table: int) -> None:
+    """Puts the page of a table, by its number, from the log into the file, as the program does that empties the log,
+    page by page."""
+    log = log_beside(office).read_bytes()
+    frames = [log[at : at + 24 + 4096] for at in range(32, len(log), 24 + 4096)]
+    (page,) = [frame[24:] for frame in frames if int.from_bytes(frame[:4], "big") == table]
+    with office.open("r+b") as file:
+        file.seek((table - 1) * 4096)
+        file.write(page)
+
+
+def test_a_page_that_is_in_the_file_already_stands_whole_in_the_log_that_is_copied(
+    tmp_path: Path, monkeypatch: pytest.MonkeyPatch
+) -> None:
+    """Between the two reads a transaction changes two pages, and one of them comes into the file, with the log not yet
+    emptied. A log that was read before the file would lack both, and the copy would have half of the transaction."""
+    office = tmp_path / "office.db"
+    with contextlib.closing(sqlite3.connect(office, isolation_level=None)) as link:
+        link.executescript("PRAGMA page_size = 4096; PRAGMA journal_mode = WAL; PRAGMA wal_autocheckpoint = 0;")
+        for table in "abc":
+            link.executescript(f"CREATE TABLE {table} (x); INSERT INTO {table} VALUES (1);")
+        link.executescript("PRAGMA wal_checkpoint(TRUNCATE); UPDATE c SET x = 2;")
+        ((page,),) = link.execute("SELECT rootpage FROM sqlite_master WHERE name = 'a'")
+
+        def meanwhile(count: int) -> None:
+            if count == 1:
+                link.executescript("BEGIN; UPDATE a SET x = 2; UPDATE b SET x = 2; COMMIT;")
+                put_into(office, page)
+
+        beside = Beside(monkeypatch, meanwhile)
+        (tmp_path / "copy").mkdir()
+        copy = right_copy(office, tmp_path / "copy")
+        assert beside.count == 2
+    with contextlib.closing(sqlite3.connect(copy)) as link:
+        assert link.execute("SELECT a.x, b.x, c.x FROM a, b, c").fetchall() == [(2, 2, 2)]
 
 
 def test_a_copy_is_made_again_where_the_program_ends_meanwhile(
@@ -259,6 +298,23 @@ def test_of_a_link_the_file_is_copied_with_the_log_beside_the_file(tmp_path: Pat
     assert log_beside(copy).read_bytes() == b"2" * 100
     log_beside(tmp_path / "real/office.db").write_bytes(b"3" * 100)
     assert mark_of(tmp_path / "link.db") == mark_of(tmp_path / "real/office.db")
+
+
+class Narrow(io.RawIOBase):
+    """A file that takes few bytes at once, as a system may."""
+
+    def __init__(self) -> None:
+        self.found = bytearray()
+
+    def write(self, block: Any) -> int:
+        self.found += bytes(block)[:3]
+        return min(3, len(bytes(block)))
+
+
+def test_a_write_that_takes_few_bytes_goes_on() -> None:
+    target = Narrow()
+    copying._write_all(target, b"0123456789", Path("copy"))
+    assert target.found == b"0123456789"
 
 
 def test_an_old_log_beside_a_copy_goes(tmp_path: Path) -> None:

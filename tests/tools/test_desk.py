@@ -23,7 +23,8 @@ from cpi_tools.__main__ import main
 from cpi_tools.desk import aggregates, influence, unusual
 from cpi_tools.program import Cpi, record
 from conftest import ROOT
-from loads import free_port, served
+from lib.served import free_port
+from loads import served
 from surveys import bytes_of, closes, key_of, number_of, opens, publishes, rows_of, run
 
 
@@ -224,6 +225,25 @@ def test_the_small_office_by_hand(cpi: Cpi, small: Path, tmp_path: Path) -> None
     assert cells("homogeneity")[0] == ("01.1.1.1-01", "Rice, packed", "2", "1", "1.2", *month, *year)
 
 
+def test_few_outlets_are_as_few_series(cpi: Cpi, small: Path, tmp_path: Path) -> None:
+    """Three shops' rice at two outlets: fewer than three of the one, and three of the other."""
+    records = surveys.SMALL.partition("1000,desk,freeze,2025-12")
+    begun = f"0,desk,assign,7,3,10,RICE,2025-12,2026-12\n10,{key_of(7)},quote,3,2025-12,price,220\n"
+    sent = [records[0], begun, "".join(records[1:]), f"3500,{key_of(7)},quote,3,2026-02,price,231\n"]
+    again = tmp_path / "again.db"
+    assert not [reply for reply in cpi.replay(sent, db=again) if "refused" in reply]
+    put = [record(3600, key_of(7), "quote", 1, "2026-02", "price", 210)]
+    assert "receipt" in cpi.replay(put, db=again)[0]
+    found = {}
+    for least in (2, 3, 4):
+        out = tmp_path / str(least)
+        words = ("desk", "month", again, "2026-02", "--at", 4000, "--left-out", 0, "--small", least, "--out", out)
+        assert run(cpi, *words).status == 0
+        found[least] = [row for row in cells_of(out, "small") if row[0] == "01.1.1.1-01"]
+    row = ("01.1.1.1-01", "Rice, packed", "600000", "3", "3", "2")
+    assert found == {2: [], 3: [row], 4: [row]}
+
+
 def test_prices_to_look_at_again(cpi: Cpi, small: Path, tmp_path: Path) -> None:
     sent = [record(3500, key_of(8), "quote", 1, "2026-02", "price", 2520, *more) for more in ([], ["confirm"])]
     assert cpi.replay(sent, db=small) == [{"high": 492, "last": 246, "low": 123, "refused": 26}, {"receipt": 4}]
@@ -286,11 +306,13 @@ def test_who_is_silent_missing_for_long_and_gone(cpi: Cpi, small: Path, tmp_path
         record(3600, key_of(7), "quote", 2, "2026-02", "missing", "gone"),
         "4000,desk,freeze,2026-02,01.1.1.2-01",
         "0,desk,calendar,2026-03,4000,6000,7000",
+        # (who begins in the month can't have been missing before it)
+        "0,desk,assign,8,2,11,RICE,2026-03,2026-12",
     ]
     assert not [reply for reply in cpi.replay(sent, db=small) if "refused" in reply]
     ran = run(cpi, "desk", "month", small, "2026-03", "--at", 5000, "--out", tmp_path / "out")
     assert "2026-03 at 1970-01-01 01:23 UTC: the window is open until 1970-01-01 01:40 UTC" in ran.out
-    assert [row["slot"] for row in rows_of(tmp_path / "out" / "silent.csv")] == ["7/1", "7/2", "8/1"]
+    assert [row["slot"] for row in rows_of(tmp_path / "out" / "silent.csv")] == ["7/1", "7/2", "8/1", "8/2"]
     long = rows_of(tmp_path / "out" / "long-missing.csv")
     assert [(row["slot"], row["now"], row["last priced"]) for row in long] == [
         ("7/1", "silent", "2026-01"),
@@ -306,6 +328,8 @@ def test_replacements_with_their_scale(cpi: Cpi, small: Path, tmp_path: Path) ->
     assert run(cpi, "desk", "month", small, "2026-02", "--at", 4000, "--out", tmp_path / "out").status == 0
     (row,) = rows_of(tmp_path / "out" / "replacements.csv")
     assert [*row.values()][4:] == ["84", "other", "168", "0.5000"]
+    # what replaces flour doesn't move it, so it counts as imputed: two of three series, by weight as without a price
+    assert cells_of(tmp_path / "out", "imputed") == [("01", "Food and drink", "3", "2", "66.7", "1000000", "67.6")]
 
 
 # ---- closing
@@ -344,7 +368,9 @@ def test_what_is_decided_is_noted(cpi: Cpi, small: Path, monkeypatch: pytest.Mon
 def test_a_carry_list_that_is_given_is_all_of_it(cpi: Cpi, small: Path) -> None:
     words = ("desk", "close", small, "2026-02", "--at", 4000, "--carry")
     assert run(cpi, *words, "01.1.1.2-01").out == "4000,desk,freeze,2026-02,01.1.1.2-01\n"
-    assert run(cpi, *words, "01.1.1.1-01,01.1.1.2-01").out == "4000,desk,freeze,2026-02,01.1.1.2-01\n"
+    more = run(cpi, *words, "01.1.1.1-01,01.1.1.2-01")
+    assert more.out == "4000,desk,freeze,2026-02,01.1.1.2-01\n"
+    assert "not carried: 01.1.1.1-01; the freeze isn't refused for it\n" in more.err
     other = run(cpi, *words, "01.1.1.1-01")
     assert (other.status, other.out) == (1, "")
     assert "nothing can be compared in 01.1.1.2-01 either: name it too, or wait for a price" in other.err
@@ -379,6 +405,8 @@ def test_what_if_shows_the_nodes_that_differ(cpi: Cpi, small: Path) -> None:
     assert "  00           105.698455      1.5              104.181818               0.0 " in ran.out
     spared = run(cpi, *words, "--price", "7/2=84")
     assert "carry list as it stands: 01.1.1.2-01\ncarry list what if: empty\n" in spared.out
+    listed = run(cpi, *words, "--carry", "01.1.1.1-01")
+    assert "carry list as it stands: 01.1.1.2-01\ncarry list what if: 01.1.1.1-01 01.1.1.2-01\n" in listed.out
 
 
 def test_what_a_revision_would_change_is_tried_beforehand(cpi: Cpi, small: Path) -> None:

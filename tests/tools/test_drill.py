@@ -3,16 +3,28 @@
 from __future__ import annotations
 
 import contextlib
+import re
 import shutil
 import sqlite3
 from pathlib import Path
 
 import pytest
 
+from cpi_tools.__main__ import main
 from cpi_tools.anew import Months, differing
 from cpi_tools.backup import Note, hash_of, note_beside, note_text
 from cpi_tools.copying import CopyFailed, log_beside
-from cpi_tools.drill import Counts, Drilled, computed_faults, differences, drill, figures_of, note_of, told_line
+from cpi_tools.drill import (
+    MOST_TOLD,
+    Counts,
+    Drilled,
+    computed_faults,
+    differences,
+    drill,
+    figures_of,
+    note_of,
+    told_line,
+)
 from cpi_tools.program import Cpi
 from cpi_tools.stored import Level, stored_office
 from offices import LOAD_KEY, LOAD_MONTH, TABLES
@@ -186,6 +198,26 @@ def test_a_torn_file_is_told(cpi: Cpi, office: Path) -> None:
     assert any("integrity_check" in fault or "C library" in fault for fault in found.faults)
 
 
+def test_each_fault_is_a_line_and_of_many_the_first_ones(
+    cpi: Cpi, office: Path, capsys: pytest.CaptureFixture[str]
+) -> None:
+    """Where the rows of frozen quotes begin in their page is lost: SQLite's check tells it in an answer of many lines,
+    and of each row in one."""
+    with contextlib.closing(sqlite3.connect(office)) as link:
+        ((page,),) = link.execute("SELECT rootpage FROM sqlite_master WHERE name = 'frozen_2'")
+    data, at = bytearray(office.read_bytes()), (page - 1) * 4096 + 8
+    data[at : at + 100] = bytes(100)
+    office.write_bytes(data)
+    found = drill(cpi, office)
+    assert sum(fault.startswith("integrity_check: ") for fault in found.faults) > MOST_TOLD
+    assert not any("\n" in fault or "***" in fault for fault in found.faults)
+    status, begin = main(["drill", str(office), "--program", str(cpi.path)]), f"cpi-tools drill: {office}: "
+    ran = capsys.readouterr()
+    lines = [f"{begin}{fault}" for fault in found.faults[:MOST_TOLD]]
+    assert (status, ran.err.splitlines()) == (1, [*lines, f"{begin}and {len(found.faults) - MOST_TOLD:,} more"])
+    assert ran.out.startswith(f"{office}: {len(found.faults)} faults; ")
+
+
 def test_what_is_no_office_is_told(cpi: Cpi, tmp_path: Path) -> None:
     text, empty, other = tmp_path / "text", tmp_path / "empty", tmp_path / "other.db"
     text.write_text("no database\n" * 1000)
@@ -212,6 +244,20 @@ def test_a_log_beside_a_copy_belongs_to_it(cpi: Cpi, office: Path, tmp_path: Pat
     assert log_beside(copy).stat().st_size > 41
 
 
+def test_a_log_beside_a_backup_is_none_of_it(cpi: Cpi, office: Path) -> None:
+    """A backup is one file, of which its note tells: what a log has beside it is of later. One with nothing in it is
+    that of a program that has ended."""
+    with_note(office)
+    log_beside(office).write_bytes(bytes(41))
+    assert drill(cpi, office).faults == ()
+    with pytest.raises(KeyError):
+        with cpi.session(office) as session:
+            assert session.ask("0,desk,outlet,77,Kiosk") == {"done": True}
+            raise KeyError
+    told = "office.db-wal beside it has something in it, of which its note doesn't tell"
+    assert drill(cpi, office).faults == (told,)
+
+
 def test_a_note_that_is_none_is_told(cpi: Cpi, office: Path) -> None:
     note_beside(office).write_text("text")
     assert drill(cpi, office).faults == (f"{note_beside(office)} isn't a note that cpi-tools wrote",)
@@ -228,15 +274,30 @@ def test_figures_are_read_from_what_is_printed() -> None:
             figures_of(other)
 
 
-def test_a_table_that_is_printed_otherwise_is_a_fault(made: Path) -> None:
+def test_a_table_that_is_printed_otherwise_is_a_fault(cpi: Cpi, office: Path) -> None:
+    """As the program prints the last table nothing differs; in another figure, in another title and as none it does."""
+    month, text = (202602, 1), cpi.table(office, "2026-02", "csv", 9_999_999_999).decode()
+    with stored_office(office) as stored:
+        months = Months(stored)
+        for each in stored.releases():
+            wanted = months.computed(each, stored.frozen(each), each[:2] != (202503, 1))
+        found = [
+            [*differences(stored, wanted, {month: told})]
+            for told in (
+                text,
+                re.sub(r"^00,(\d+)", lambda weight: f"00,{int(weight[1]) + 1}", text),
+                text.replace(",Petrol\n", ",Diesel\n", 1),
+                "{'refused': 30}",
+            )
+        ]
+    other = ["cpi prints it in another way than it is stored"]
+    assert found == [[], other, other, ["cpi prints no table of it"]]
+
+
+def test_a_table_that_is_not_listed_is_a_fault(made: Path) -> None:
     with stored_office(made, is_settled=True) as office:
-        release = office.releases()[-1]
-        months = Months(office)
-        for each in office.releases():
-            wanted = months.computed(each, office.frozen(each), each[:2] != (202503, 1))
-        printed = {release[:2]: "00,1,1.000000,1.000000,0.0,,0,x\n"}
-        assert [*differences(office, wanted, printed)] == ["cpi prints it in another way than it is stored"]
-        assert [*differences(office, wanted, {release[:2]: "{'refused': 30}"})] == ["cpi prints no table of it"]
+        told = next(computed_faults(office, {}, Counts()))
+    assert told == [f"{TABLES} releases stored, 0 tables listed by cpi"]
 
 
 def test_what_differs() -> None:

@@ -8,6 +8,7 @@ import contextlib
 import operator
 import re
 import sqlite3
+import weakref
 from collections.abc import Iterator
 from fractions import Fraction
 from pathlib import Path
@@ -16,8 +17,10 @@ import pytest
 
 import surveys
 from cpi_tools.__main__ import main
+from cpi_tools.explain import words as words_of_explain
 from cpi_tools.explain.expressions import NoExpression, value_of
-from cpi_tools.explain.lines import change_expression
+from cpi_tools.explain.lines import Explanation, Line, change_expression
+from cpi_tools.explain.sources import Sources
 from cpi_tools.program import Cpi
 from surveys import Life, bytes_of, key_of, number_of, run
 
@@ -205,6 +208,16 @@ def test_hand_overs_are_told(whole: Whole) -> None:
     assert re.search(words, told)
 
 
+def test_each_month_tells_who_had_a_series_then(whole: Whole, tmp_path: Path) -> None:
+    """What the third collector had goes to the ninth in June."""
+    for month, holders in (("2026-03", {"1", "2", "3"}), ("2026-09", {"1", "2", "9"})):
+        page = tmp_path / f"{month}.html"
+        assert run(None, "explain", whole[0], month, "07.2.2.2-01", "--html", page).status == 0
+        section = page.read_text(encoding="utf-8").partition('<section id="07.2.2.2-01"')[2]
+        rows = re.findall(r"<tr><td>(\d/\d+)</td><td>(\d)/\d+</td>", section)
+        assert {series[0] for series, _ in rows} == {"1", "2", "3"} and {by for _, by in rows} == holders
+
+
 # ---- what isn't true
 
 CHANGED = [
@@ -264,7 +277,12 @@ def test_words_that_name_nothing_are_told(whole: Whole, tmp_path: Path) -> None:
         told = run(None, "explain", *words)
         assert (told.status, told.out, told.err.count("\n")) == (1, "", 1)
         assert because in told.err
-    for words in ((path, "2026-09"), (path, "2026-09", "00", "--series", "1/1"), (path, "2026-9", "00")):
+    for words in (
+        (path, "2026-09"),
+        (path, "2026-09", "00", "--series", "1/1"),
+        (path, "2026-09", "--series", "1/1", "--revision", "1"),
+        (path, "2026-9", "00"),
+    ):
         with pytest.raises(SystemExit) as ended:
             run(None, "explain", *words)
         assert ended.value.code == 2
@@ -305,6 +323,59 @@ def test_the_page_is_escaped_and_private(small: Path, tmp_path: Path) -> None:
     assert page.stat().st_mode & 0o777 == 0o600
     # (the aggregate is on the page of its subclass)
     assert "<h1>Flour " in text and '<section id="01.1.1.2-01"' in text
+
+
+def test_a_page_takes_the_place_of_a_page_alone(small: Path, tmp_path: Path) -> None:
+    """A slip in a name costs no file, the office's least of all, and no folder that others can read."""
+    page, before = tmp_path / "flour.html", small.read_bytes()
+    page.write_text("<!DOCTYPE html>\nof yesterday")
+    assert run(None, "explain", small, "2026-01", "01.1.1.2-01", "--html", page).status == 0
+    assert "yesterday" not in page.read_text(encoding="utf-8")
+    (tmp_path / "site").mkdir(0o755)
+    (tmp_path / "site/00.html").write_text("<!DOCTYPE html>")
+    (tmp_path / "empty").write_text("")
+    for what, to, because in (
+        ("00", small, "is there already, and is no page"),
+        ("00", tmp_path / "empty", "is there already, and is no page"),
+        ("00", tmp_path / "site", "site: Is a directory"),
+        ("00", tmp_path / "nowhere/00.html", "nowhere/00.html: No such file or directory"),
+        ("all", tmp_path / "site", "can be read by others, and its pages may not"),
+    ):
+        told = run(None, "explain", small, "2026-01", what, "--html", to)
+        assert (told.status, told.out, told.err.count("\n")) == (1, "", 1) and because in told.err
+    assert small.read_bytes() == before and not (tmp_path / "empty").read_text()
+    assert [it.name for it in (tmp_path / "site").iterdir()] == ["00.html"]
+
+
+def test_the_life_of_a_series_has_a_page(whole: Whole, tmp_path: Path) -> None:
+    path, life = whole
+    slot, page = next(slot for collector, slot in life.slots if collector == 9), tmp_path / "life.html"
+    words = ("explain", path, "2026-07", "--series", f"9/{slot}")
+    told = run(None, *words, "--html", page)
+    assert (told.status, told.out) == (0, run(None, *words).out)
+    text = page.read_text(encoding="utf-8")
+    cells = re.findall(r"<td[^>]*>([^<]*)</td>", text)
+    assert cells[::9] == surveys.MONTHS[:8]
+    assert f"<h1>{told.out.splitlines()[0]}</h1>" in text and f"<p>{told.out.splitlines()[1]}</p>" in text
+    assert page.stat().st_mode & 0o777 == 0o600
+
+
+def test_explanations_are_held_one_at_a_time(whole: Whole, monkeypatch: pytest.MonkeyPatch) -> None:
+    """Where a node is asked for, no more lines are there than those of the one before."""
+    alive: weakref.WeakSet[Line] = weakref.WeakSet()
+    counts, found_alive = [], []
+    explain = words_of_explain.explained
+
+    def watched(sources: Sources, code: str) -> Explanation:
+        found_alive.append(len(alive))
+        found = explain(sources, code)
+        alive.update(found.lines)
+        counts.append(len([*found.lines]))
+        return found
+
+    monkeypatch.setattr(words_of_explain, "explained", watched)
+    assert run(None, "explain", whole[0], "2026-09", "all").status == 0
+    assert found_alive == [0, *counts[:-1]] and len(counts) > 15
 
 
 def test_all_pages_are_linked_and_one_is_a_subclass(whole: Whole, tmp_path: Path) -> None:

@@ -9,7 +9,8 @@ from pathlib import Path
 
 from cpi_tools.program import Cpi
 from conftest import ROOT
-from loads import free_port, served
+from lib.served import free_port
+from loads import served
 
 
 def block_behind(guide: str, words: str) -> str:

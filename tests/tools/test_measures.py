@@ -13,6 +13,7 @@ from cpi_tools.pack.measures import (
     average,
     average_change,
     full_years,
+    months_linked_to,
     reference_level,
     rereferenced,
     twelve_month_rate,
@@ -66,6 +67,22 @@ def two_years() -> list[Published]:
     second = [second_year(1, ("4.0", "2.0", "6.0"), ("9.5", "8.2", ""))]
     second += [second_year(month, STILL, ("6.3", "4.0", "")) for month in range(2, 12)]
     return first + second + [second_year(12, STILL, ("4.0", "2.0", "6.0"))]
+
+
+def tea_again() -> Published:
+    """January 2028: coffee stands still, and tea comes again, a half each; its level begins at 100 anew."""
+    text = row("00", 1_000_000, "105.00", "114.66", "5.0", "5.0")
+    text += row("01", 500_000, "100.00", "106.08", "0.0", "0.0")
+    text += row("02", 500_000, "110.00", "110.00", "10.0", "")
+    return Published(Listed("2028-01", 1, 201), text.encode())
+
+
+def over_another_december() -> list[Published]:
+    """Up to January 2027, which was computed over a December of all items at 106 that isn't published: 106 * 1.04."""
+    *found, last = two_years()[:14]
+    table = last.table.replace(b"104.000000,109.200000,4.0,9.5", b"104.000000,110.240000,4.0,10.5")
+    assert table != last.table
+    return [*found, last._replace(table=table)]
 
 
 @pytest.fixture(scope="module")
@@ -131,6 +148,26 @@ def test_another_reference_period_by_hand(by_hand: Series) -> None:
     coffee = by_hand.row("2027-12", "01")
     assert month and coffee and decimal(*rereferenced(coffee, month), 6) == "102.000000"
     assert reference_level(by_hand, "03", "2026") is None and reference_level(by_hand, "00", "2028") is None
+
+
+def test_what_left_and_came_again_is_not_linked_to_its_first_months() -> None:
+    series = Series([*two_years(), tea_again()])
+    year = [f"2026-{month:02}" for month in range(1, 13)]
+    assert series.runs("02") == [year, ["2028-01"]] and series.runs("01") == [series.months]
+    assert series.runs("03") == [[f"2027-{month:02}" for month in range(1, 13)]]
+    assert months_linked_to(series, "02", "2026") == months_linked_to(series, "02", "2026-07") == year
+    assert months_linked_to(series, "02", "2028-01") == ["2028-01"] and months_linked_to(series, "03", "2026") == []
+    # in the month before all others, what begins there has 100
+    bases = {code: fraction(reference_level(series, code, "2025-12")) for code in series.titles}
+    assert bases == {"00": 100, "01": 100, "02": 100, "03": None}
+    assert months_linked_to(series, "02", "2025-12") == year
+
+
+def test_annual_contributions_rest_on_the_published_december() -> None:
+    series = Series(over_another_december())
+    assert not series.is_linked("2027-01") and series.is_linked("2026-12")
+    assert Contributions(series).unexplained == {("2027-01", False), ("2027-01", True)}
+    assert given(series, "2027-01") == {}
 
 
 # ---- sums, over an office

@@ -14,8 +14,12 @@ from test_take_in import sums
 
 MONTHS = ["2025-12", *(f"2026-{month:02}" for month in range(1, 13))]
 KEYS = {number: f"{number}" * 32 for number in (7, 8, 9)}
-ITEMS = {"RICE": "01.1.1.1-01", "FLOUR": "01.1.1.2-01", "TEA": "01.2.1.1-01"}
-TITLES = ["00", "01", "01.1", "01.1.1", "01.1.1.1", "01.1.1.1-01", "01.1.1.2", "01.1.1.2-01",
+ITEMS = {"RICE": "01.1.1.1-01", "FLOUR": "01.1.1.2-01", "SALT": "01.1.1.3-01", "TEA": "01.2.1.1-01"}
+UNPLACED = "OIL"
+"""An item that is priced for no aggregate."""
+
+WEIGHTS = {"RICE": 500_000, "FLOUR": 250_000, "SALT": 50_000, "TEA": 200_000}
+TITLES = ["00", "01", "01.1", "01.1.1", "01.1.1.1", "01.1.1.1-01", "01.1.1.2", "01.1.1.2-01", "01.1.1.3", "01.1.1.3-01",
           "01.2", "01.2.1", "01.2.1.1", "01.2.1.1-01"]  # fmt: skip
 SERIES = [
     (7, 1, 10, "RICE", "2025-12", "2027-12"),
@@ -23,21 +27,28 @@ SERIES = [
     (7, 3, 10, "FLOUR", "2025-12", "2026-12"),
     (7, 4, 10, "TEA", "2025-12", "2026-06"),
     (8, 1, 11, "FLOUR", "2025-12", "2027-12"),
-    (8, 2, 12, "RICE", "2026-12", "2027-12"),
+    (8, 2, 10, "RICE", "2026-12", "2027-12"),
     (8, 3, 12, "RICE", "2026-12", "2027-12"),
+    (8, 4, 12, "TEA", "2025-12", "2026-12"),
+    (8, 5, 11, "SALT", "2025-12", "2026-06"),
+    (8, 6, 11, "SALT", "2026-12", "2027-12"),
+    (8, 7, 11, UNPLACED, "2026-12", "2027-12"),
 ]
-"""One that stays, two that end in December, one that ended in June, one that is handed over, two new ones."""
+"""One that stays, two that end in December, one that ended in June, one that is handed over, two new ones; one that is
+handed over and ends in December, one that ended in June and its successor, and one of no aggregate."""
+
+HANDED = {(8, 1): (9, 1), (8, 4): (9, 2)}
+"""Slots that another has from November on."""
 
 
 def plan() -> str:
     rows = [*(f"T,{code},Title of {code}" for code in TITLES), *(f"I,{item},{code}" for item, code in ITEMS.items())]
-    weights = zip(ITEMS.values(), (500_000, 300_000, 200_000))
-    return "\n".join([*rows, *(f"W,{code},{weight}" for code, weight in weights)])
+    return "\n".join([*rows, *(f"W,{ITEMS[item]},{weight}" for item, weight in WEIGHTS.items())])
 
 
 def begun() -> Iterator[str]:
     """What is registered."""
-    yield from (record(0, "desk", "item", item, f"Text of {item}", "1 kg", 500, 2000) for item in ITEMS)
+    yield from (record(0, "desk", "item", item, f"Text of {item}", "1 kg", 500, 2000) for item in (*ITEMS, UNPLACED))
     yield from (record(0, "desk", "outlet", number, f"Shop {number}") for number in (10, 11, 12))
     yield from (record(0, "desk", "collector", *own) for own in KEYS.items())
     yield from (record(0, "desk", "assign", *own) for own in SERIES)
@@ -45,20 +56,21 @@ def begun() -> Iterator[str]:
 
 
 def entry(slot: tuple[int, int], month: str) -> tuple[object, ...]:
-    """The flour of one shop is gone from October on, and that of the other was gone twice; a new one isn't priced."""
+    """The flour of one shop is gone from October on, and that of the other was gone twice; two new ones aren't
+    priced."""
     if (slot == (7, 3) and month >= "2026-10") or (slot in ((8, 1), (9, 1)) and month in ("2026-10", "2026-11")):
         return "missing", "gone"
-    return ("missing", "closed") if slot == (8, 3) else ("price", 100)
+    return ("missing", "closed") if slot in ((8, 3), (8, 6)) else ("price", 100)
 
 
 def live(session: Session, month: str, is_frozen: bool) -> None:
     at = 1000 * (MONTHS.index(month) + 1)
     sent = [record(at, "desk", "calendar", month, at, at + 500, at + 900)]
     if month == "2026-11":
-        sent.append(record(at, "desk", "handover", 8, 1, 9, 1, month))
+        sent += [record(at, "desk", "handover", *own, *to, month) for own, to in HANDED.items()]
     for collector, slot, _, _, first, last in SERIES:
         if first <= month <= last:
-            own = (9, 1) if (collector, slot) == (8, 1) and month >= "2026-11" else (collector, slot)
+            own = HANDED.get((collector, slot), (collector, slot)) if month >= "2026-11" else (collector, slot)
             sent.append(record(at, KEYS[own[0]], "quote", own[1], month, *entry(own, month)))
     assert not [reply for reply in map(session.ask, sent) if "refused" in reply]
     carry: list[str] = []
@@ -86,47 +98,51 @@ def test_the_lists_and_the_draft(cpi: Cpi, december: Path, tmp_path: Path) -> No
     ran = run(cpi, "next-year", december, 2027, tmp_path / "next")
     assert sums(december) == before
     told = [
-        "leave the sample of 2026: 3 of 5 series",
+        "leave the sample of 2026: 5 of 7 series",
         "gone in 2026-10, 2026-11, 2026-12: 1 series",
-        "fewer than 3 series in 2027 so far: 3 aggregates",
-        f"go on in {tmp_path / 'next/draft'}: 1 series",
+        "fewer than 3 series in 2027 so far: 4 aggregates",
+        f"go on in {tmp_path / 'next/draft'}: 2 series",
     ]
     assert ran == Ran(0, "".join(f"{line}\n" for line in told), "")
-    rice, flour, tea = ITEMS.values()
-    assert slots(tmp_path / "next/leaving.csv") == [("7", "2", rice), ("7", "3", flour), ("7", "4", tea)]
-    assert [row["last"] for row in rows_of(tmp_path / "next/leaving.csv")] == ["2026-12", "2026-12", "2026-06"]
+    rice, flour, salt, tea = ITEMS.values()
+    leaving = [("7", "2", rice), ("7", "3", flour), ("7", "4", tea), ("9", "2", tea), ("8", "5", salt)]
+    assert slots(tmp_path / "next/leaving.csv") == leaving
+    last = [row["last"] for row in rows_of(tmp_path / "next/leaving.csv")]
+    assert last == ["2026-12", "2026-12", "2026-06", "2026-12", "2026-06"]
     assert slots(tmp_path / "next/gone.csv") == [("7", "3", flour)]
     few = [
         [row[it] for it in ("code", "series", "outlets", "drafted")]
         for row in rows_of(tmp_path / "next/few-series.csv")
     ]
-    # rice: that which stays and the new one that has a price; flour: what was handed over
-    assert few == [[rice, "2", "2", "1"], [flour, "1", "1", "0"], [tea, "0", "0", "0"]]
+    # rice: that which stays and the new one that has a price, in one outlet; flour: what was handed over; salt: its new
+    # series has no price that it could begin with
+    assert few == [[rice, "2", "1", "1"], [flour, "1", "1", "0"], [salt, "0", "0", "0"], [tea, "0", "0", "1"]]
     draft = tmp_path / "next/draft"
     assert [[*row.values()] for row in rows_of(draft / "series.csv")] == [
-        ["7", "5", "11", "RICE", "2026-12", "2027-12"]
+        ["7", "5", "11", "RICE", "2026-12", "2027-12"],
+        ["9", "3", "12", "TEA", "2026-12", "2027-12"],
     ]
     weights = {row["code"]: row["weight"] for row in rows_of(draft / "classification.csv") if row["weight"]}
-    assert weights == {rice: "500000", flour: "300000", tea: "200000"}
+    assert weights == {rice: "500000", flour: "250000", salt: "50000", tea: "200000"}
     assert {row["year"] for row in rows_of(draft / "classification.csv")} == {"2027"}
 
 
 def test_the_draft_is_taken_in_and_the_sample_is_what_was_told(cpi: Cpi, december: Path, tmp_path: Path) -> None:
-    """The draft without tea, whose weight rice has; January is then frozen by the office itself."""
+    """The draft without salt and tea, whose weights rice has; January is then frozen by the office itself."""
     office = tmp_path / "office.db"
     office.write_bytes(december.read_bytes())
     assert run(cpi, "next-year", office, 2027, tmp_path / "next").status == 0
     draft = tmp_path / "next/draft"
     assert run(cpi, "take-in", draft, "--onto", office, "--check").status == 0
     for name in ("classification", "places"):
-        text = (draft / f"{name}.csv").read_text(encoding="utf-8").replace("500000", "700000")
-        kept = [line for line in text.splitlines() if "01.2" not in line]
+        text = (draft / f"{name}.csv").read_text(encoding="utf-8").replace("500000", "750000")
+        kept = [line for line in text.splitlines() if "01.2" not in line and "01.1.1.3" not in line]
         (draft / f"{name}.csv").write_text("\n".join(kept), encoding="utf-8")
     assert run(cpi, "take-in", draft, "--onto", office, "--write", tmp_path / "records").status == 0
     replayed(cpi, tmp_path / "records", office)
     sent = [
         record(13_001, KEYS[7], "quote", 5, "2026-12", "price", 100),
-        record(20_000, "desk", "freeze", "2026-12", ITEMS["FLOUR"], ITEMS["TEA"]),
+        record(20_000, "desk", "freeze", "2026-12", ITEMS["FLOUR"], ITEMS["SALT"]),
         record(0, "desk", "calendar", "2027-01", 20_000, 20_001, 20_002),
         record(30_000, "desk", "freeze", "2027-01", ITEMS["RICE"], ITEMS["FLOUR"]),
     ]
@@ -147,7 +163,8 @@ def test_a_collector_whose_slots_are_used_up_has_a_new_number(cpi: Cpi, december
     ]
     draft = tmp_path / "next/draft"
     assert [[*row.values()] for row in rows_of(draft / "series.csv")] == [
-        ["10", "1", "11", "RICE", "2026-12", "2027-12"]
+        ["10", "1", "11", "RICE", "2026-12", "2027-12"],
+        ["9", "3", "12", "TEA", "2026-12", "2027-12"],
     ]
     assert run(cpi, "take-in", draft, "--onto", office, "--write", tmp_path / "records").status == 0
     assert [row["collector"] for row in rows_of(tmp_path / "records/keys.csv")] == ["10"]

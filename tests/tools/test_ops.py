@@ -80,20 +80,27 @@ def test_another_key_is_told_and_not_shown(key: str, tmp_path: Path) -> None:
 
 def night(folder: Path, drill_status: int) -> subprocess.CompletedProcess[str]:
     """The night's script, with tools that say what they do; backups are files with their notes."""
-    backup, drill = 'backup) echo new > "$3"; echo new > "$3.sha256" ;;', f"drill) exit {drill_status} ;;"
+    backup = 'backup) mkdir -p "${3%/*}"; echo new > "$3"; echo new > "$3.sha256" ;;'
+    drill = f'drill) test -e "$2.sha256" || exit 9; exit {drill_status} ;;'
     script(folder / "cpi-tools", f'echo "$@"\ncase $1 in {backup} {drill} esac\n')
     kept = {"PATH": f"{folder}:{os.environ['PATH']}", "CPI_BACKUPS": str(folder / "kept"), "CPI_OFFICE": "office.db"}
     return subprocess.run([OPS / "cpi-backup"], env=kept, capture_output=True, text=True, check=False)
 
 
 OLD = {
-    "office-2020-05-17.db": (100, False),
+    "office-2020-05-17.db": (100, True),
+    "office-2020-05-18.db": (100, False),
+    "office-2020-05-31.db": (100, False),
     "office-2020-06-01.db": (100, True),
+    "office-2020-07-01.db": (40, True),
     "office-2020-07-20.db": (33, False),
     "office-2020-07-21.db": (30, True),
-    "other-2020-05-17.db": (100, True),
+    "office-2021-07-20.db": (33, True),
+    "other-2020-05-18.db": (100, True),
 }
 """Files by their names: how many days old they are, and whether they stay."""
+
+TODAY = f"office-{time.strftime('%Y-%m-%d', time.gmtime())}.db"
 
 
 def old_backups(folder: Path) -> None:
@@ -111,19 +118,39 @@ def both(*names: str) -> set[str]:
 
 
 def test_a_night_makes_a_backup_drills_it_and_removes_old_ones(tmp_path: Path) -> None:
+    """Those of a month stay whose first day it is that has one; the machine may have been off on the first."""
     old_backups(tmp_path / "kept")
-    today = f"office-{time.strftime('%Y-%m-%d', time.gmtime())}.db"
     ran = night(tmp_path, 0)
     assert (ran.returncode, ran.stderr) == (0, "")
-    assert ran.stdout == f"backup office.db {tmp_path}/kept/{today} --replace\ndrill {tmp_path}/kept/{today}\n"
-    assert set(os.listdir(tmp_path / "kept")) == both(today, *(name for name, (_, is_kept) in OLD.items() if is_kept))
+    new = tmp_path / "kept/.new" / TODAY
+    assert ran.stdout == f"backup office.db {new}\ndrill {new}\n"
+    kept = both(TODAY, *(name for name, (_, is_kept) in OLD.items() if is_kept))
+    assert {path.name for path in (tmp_path / "kept").iterdir() if path.is_file()} == kept
+    assert {(tmp_path / "kept" / name).read_text() for name in both(TODAY)} == {"new\n"}
+    assert [*new.parent.iterdir()] == []
 
 
 def test_a_copy_that_is_not_whole_counts_for_nothing_and_nothing_is_removed(tmp_path: Path) -> None:
+    """A backup of this morning that was whole isn't lost for it."""
     old_backups(tmp_path / "kept")
-    today = f"office-{time.strftime('%Y-%m-%d', time.gmtime())}.db"
+    for name in both(TODAY):
+        (tmp_path / "kept" / name).write_text("of this morning")
     assert night(tmp_path, 1).returncode == 1
-    assert set(os.listdir(tmp_path / "kept")) == both(*OLD) | {f"{today}.bad", f"{today}.bad-note"}
+    files = {path.name for path in (tmp_path / "kept").iterdir() if path.is_file()}
+    assert files == both(*OLD, TODAY) | {f"{TODAY}.bad", f"{TODAY}.bad-note"}
+    assert (tmp_path / "kept" / TODAY).read_text() == "of this morning"
+
+
+def test_a_night_after_another_one_of_the_day_and_one_that_broke_off(tmp_path: Path) -> None:
+    for name in (*both(TODAY), *(f".new/{name}" for name in both(TODAY))):
+        (tmp_path / "kept/.new").mkdir(parents=True, exist_ok=True)
+        (tmp_path / "kept" / name).write_text("before")
+    bad = tmp_path / "kept/office-2020-06-01.db.bad"
+    bad.write_text("torn")
+    os.utime(bad, (time.time() - 40 * 86_400,) * 2)
+    assert night(tmp_path, 0).returncode == 0
+    assert {path.name for path in (tmp_path / "kept").iterdir() if path.is_file()} == both(TODAY)
+    assert {(tmp_path / "kept" / name).read_text() for name in both(TODAY)} == {"new\n"}
 
 
 FILLED = {

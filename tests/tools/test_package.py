@@ -15,7 +15,7 @@ import pytest
 
 from cpi_tools.program import Cpi
 from conftest import ROOT
-from test_ops import needed
+from test_ops import UNITS, needed
 
 INPUTS = ["tools", "docs", "ops", "web", "examples", "dist", "README.md", "LICENSE", "CHANGELOG.md"]
 """All that a package is made of."""
@@ -141,10 +141,13 @@ def test_the_pages_are_there_as_they_stand(members: dict[str, tarfile.TarInfo]) 
 def test_nothing_is_started_by_it(package: Path, members: dict[str, tarfile.TarInfo], tmp_path: Path) -> None:
     assert [name for name in members if ".wants" in name or ".requires" in name] == []
     subprocess.run(["dpkg-deb", "--control", package, tmp_path / "told"], check=True)
-    assert sorted(os.listdir(tmp_path / "told")) == ["conffiles", "control", "md5sums", "postinst", "prerm"]
+    assert sorted(os.listdir(tmp_path / "told")) == ["conffiles", "control", "md5sums", "postinst", "postrm", "prerm"]
     assert (tmp_path / "told/conffiles").read_text() == "/etc/cpi/office.conf\n"
-    asked = re.findall(r"^  (\S+)", (tmp_path / "told/postinst").read_text(), re.M)
-    assert asked == ["systemd-sysusers"]
+    asked = re.findall(r"^  (.*)", (tmp_path / "told/postinst").read_text(), re.M)
+    assert asked == [
+        'systemd-sysusers ${DPKG_ROOT:+--root="$DPKG_ROOT"} cpi.conf',
+        "systemctl --system daemon-reload",
+    ]
     needs = re.findall(r"^(?:Depends|Recommends): (.*)$", (tmp_path / "told/control").read_text(), re.M)
     assert needs == ["libc6 (>= 2.34), python3 (>= 3.9)", "python3-jinja2, python3-openpyxl"]
 
@@ -188,9 +191,15 @@ def test_the_user_of_the_office_is_made(installed: Path) -> None:
 
 
 def test_it_goes_as_it_came(installed: Path, package: Path, tmp_path: Path) -> None:
-    """What it made for itself goes; the settings stay until they are purged."""
+    """What it made for itself goes, and that its units are enabled; the settings stay until they are purged."""
     dpkg(tmp_path, "--install", package)
+    wants = [f"multi-user.target.wants/{UNITS[0]}", f"timers.target.wants/{UNITS[2]}"]
+    for want in wants:
+        enabled = tmp_path / "etc/systemd/system" / want
+        enabled.parent.mkdir(parents=True)
+        enabled.symlink_to(f"/lib/systemd/system/{enabled.name}")
     dpkg(tmp_path, "--remove", "cpi")
+    assert [path for path in tmp_path.rglob("*") if path.is_symlink()] == []
     left = {str(path.relative_to(tmp_path)) for path in tmp_path.rglob("*") if path.is_file()}
     assert "etc/cpi/office.conf" in left and not any(name.startswith("usr/") for name in left)
     dpkg(tmp_path, "--purge", "cpi")
@@ -240,4 +249,6 @@ def test_each_tool_has_its_page_and_its_line(installed: Path) -> None:
         said = subprocess.run([ROOT / "cpi-tools", name, "--help"], capture_output=True, text=True, check=True).stdout
         text = page(f"cpi-tools-{name}", installed)
         assert options(said) - options(text) == set()
-        assert re.search(rf"^EXAMPLES\n +cpi-tools {name} ", text, re.M) and "\nEXIT STATUS\n" in text
+        examples = re.search(r"^EXAMPLES\n((?: .*\n)+)", text, re.M)
+        assert examples and re.fullmatch(rf"(       cpi-tools {name} .*\n)+", examples[1]), text
+        assert "\nEXIT STATUS\n" in text

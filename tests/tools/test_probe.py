@@ -7,11 +7,12 @@ import contextlib
 import http.server
 import os
 import re
+import ssl
 import subprocess
 import threading
 from collections.abc import Iterator
 from pathlib import Path
-from typing import Any
+from typing import Any, Optional
 
 import pytest
 
@@ -23,8 +24,10 @@ from cpi_tools.program import Cpi
 from cpi_tools.stored import Window
 from cpi_tools.terminal import Fault
 from conftest import ROOT
-from loads import free_port, served
+from lib.served import free_port
+from loads import served
 from offices import TABLES
+from test_ops import needed
 
 NOW = 1_800_000_000
 LIST = b'{"tables":[["2025-12",1,1000],["2026-01",1,1799990000],["2026-01",2,1799993600]]}\n'
@@ -32,8 +35,10 @@ TABLES_OF_LIST = (Table(202512, 1, 1000), Table(202601, 1, 1_799_990_000), Table
 
 
 @contextlib.contextmanager
-def answering(body: bytes, status: int = 200, path: str = "/tables") -> Iterator[str]:
-    """A server that answers one path in one way; its URL."""
+def answering(
+    body: bytes, status: int = 200, path: str = "/tables", certificate: Optional[Path] = None
+) -> Iterator[str]:
+    """A server that answers one path in one way; its URL. With a certificate, and its key, it does so over TLS."""
 
     class Handler(http.server.BaseHTTPRequestHandler):
         """Answers, and logs nothing."""
@@ -47,10 +52,14 @@ def answering(body: bytes, status: int = 200, path: str = "/tables") -> Iterator
             pass
 
     with http.server.HTTPServer(("127.0.0.1", 0), Handler) as server:
+        if certificate:
+            context = ssl.SSLContext(ssl.PROTOCOL_TLS_SERVER)
+            context.load_cert_chain(certificate)
+            server.socket = context.wrap_socket(server.socket, server_side=True)
         thread = threading.Thread(target=server.serve_forever)
         thread.start()
         try:
-            yield f"http://127.0.0.1:{server.server_port}"
+            yield f"http{'s' if certificate else ''}://127.0.0.1:{server.server_port}"
         finally:
             server.shutdown()
             thread.join()
@@ -92,6 +101,29 @@ def test_an_office_behind_a_path_is_asked_there(capsys: pytest.CaptureFixture[st
         assert ran(capsys, "--url", url) == (2, f"CPI CRITICAL: {url} answers with status 404\n")
 
 
+def test_a_front_is_trusted_by_its_authority_alone(capsys: pytest.CaptureFixture[str], tmp_path: Path) -> None:
+    """A certificate that the system doesn't know, as an office has it that made its own."""
+    own, other = certificate(tmp_path / "own.pem"), certificate(tmp_path / "other.pem")
+    with answering(LIST, certificate=own) as url:
+        assert ran(capsys, "--url", url, "--authority", own)[1].startswith("CPI OK: last table 2026-01 revision 2 | ")
+        for words in ([], ["--authority", str(other)]):
+            status, out = ran(capsys, "--url", url, *words)
+            assert status == 2 and out.startswith(f"CPI CRITICAL: {url} doesn't answer: ") and "certificate" in out
+        (tmp_path / "text").write_text("text")
+        for name, told in (("none", ": No such file or directory"), ("text", " has no certificate that can be read")):
+            found = ran(capsys, "--url", url, "--authority", tmp_path / name)
+            assert found == (3, f"CPI UNKNOWN: {tmp_path / name}{told}\n")
+
+
+def certificate(path: Path) -> Path:
+    """A certificate of 127.0.0.1, and its key behind it."""
+    words = [needed("openssl"), "req", "-x509", "-newkey", "rsa:2048", "-nodes", "-days", "2", "-subj", "/CN=x"]
+    words += ["-addext", "subjectAltName=IP:127.0.0.1", "-keyout", str(path), "-out", str(path.with_suffix(".crt"))]
+    subprocess.run(words, capture_output=True, check=True)
+    path.write_text(path.with_suffix(".crt").read_text() + path.read_text())
+    return path
+
+
 @pytest.mark.parametrize(
     "body", [b"", b"text", b"[]", b'{"tables":1}', b'{"tables":[["2026-13",1,1]]}', b'{"tables":[["2026-01","1",1]]}']
 )
@@ -125,10 +157,23 @@ def test_words_that_are_refused_are_unknown_to_nagios(words: list[str], message:
 def test_what_is_named_and_not_there_is_unknown(capsys: pytest.CaptureFixture[str], tmp_path: Path) -> None:
     none, url = tmp_path / "none", f"http://127.0.0.1:{free_port()}"
     assert ran(capsys, "--url", url, "--file", none) == (3, f"CPI UNKNOWN: {none}: No such file or directory\n")
-    assert ran(capsys, "--url", url, "--backups", none) == (3, f"CPI UNKNOWN: {none} is no folder\n")
+    assert ran(capsys, "--url", url, "--backups", none) == (3, f"CPI UNKNOWN: {none}: No such file or directory\n")
     (tmp_path / "x.db.sha256").write_text("text")
     status, out = ran(capsys, "--url", url, "--backups", tmp_path)
     assert (status, out) == (3, f"CPI UNKNOWN: {tmp_path}/x.db.sha256 isn't a note that cpi-tools wrote\n")
+
+
+@pytest.mark.skipif(os.geteuid() != 0, reason="another user is tried by root")
+def test_backups_that_may_not_be_looked_at_are_unknown(tmp_path: Path) -> None:
+    """For another user than theirs they aren't missing."""
+    folder = backup_of(tmp_path / "backups", "a.db", NOW).parent
+    folder.chmod(0o700)
+    os.seteuid(65534)
+    try:
+        with pytest.raises(Fault, match="backups: Permission denied"):
+            probe.last_backup(folder)
+    finally:
+        os.seteuid(0)
 
 
 def test_the_last_backup_is_the_one_that_was_copied_last(tmp_path: Path) -> None:

@@ -2,12 +2,18 @@
 
 from __future__ import annotations
 
+import os
+import re
+import shutil
+import subprocess
+import sys
 from pathlib import Path
 
 import pytest
 
 from cpi_tools import program
 from cpi_tools.program import Cpi, CpiFailed, find_program, record
+from conftest import ROOT
 
 
 def test_a_record_is_quoted_where_it_has_to_be() -> None:
@@ -37,6 +43,19 @@ def test_the_program_is_the_named_one_then_that_of_the_variable_the_repository_a
     assert find_program() == of_repository
     of_repository.unlink()
     assert find_program() == on_path
+
+
+def test_the_package_runs_wherever_it_is_put(cpi: Cpi, made: Path, tmp_path: Path) -> None:
+    """As `pip install` puts it: without the repository round it, and with what links lead to in their place."""
+    shutil.copytree(ROOT / "tools/cpi_tools", tmp_path / "site/cpi_tools", ignore=shutil.ignore_patterns("__pycache__"))
+    assert not [path for path in tmp_path.rglob("*") if path.is_symlink()]
+    kept = {"PATH": os.environ["PATH"], "PYTHONPATH": str(tmp_path / "site"), "PYTHONDONTWRITEBYTECODE": "1"}
+    for tool in ("backup", "drill"):
+        words = [sys.executable, "-m", "cpi_tools", tool, *([str(made)] if tool == "backup" else []), "x.db"]
+        words += ["--program", str(cpi.path)]
+        ran = subprocess.run(words, cwd=tmp_path, env=kept, capture_output=True, text=True, check=False)
+        assert (ran.returncode, ran.stderr) == (0, "")
+    assert ran.stdout.startswith("x.db: nothing is wrong; ")
 
 
 def test_a_program_that_is_none_is_told(tmp_path: Path, monkeypatch: pytest.MonkeyPatch) -> None:
@@ -74,6 +93,27 @@ def test_a_fault_is_the_line_of_the_program_with_what_it_means(cpi: Cpi, tmp_pat
     (tmp_path / "text").write_text("no database\n" * 1000)
     with pytest.raises(CpiFailed, match=r"^cpi: database failed \("):
         cpi.replay(["0,public,items"], db=tmp_path / "text")
+
+
+def test_a_copy_that_is_no_office_is_told_by_the_file_that_was_copied(cpi: Cpi, made: Path, tmp_path: Path) -> None:
+    (tmp_path / "copy.db").write_text("no database\n" * 1000)
+    with pytest.raises(CpiFailed, match=r"^office\.db: cpi: database failed \([^\n]*$") as told:
+        cpi.open(tmp_path / "copy.db", Path("office.db"))
+    assert told.value.status == 1
+    (tmp_path / "copy.db").write_bytes(made.read_bytes())
+    assert cpi.open(tmp_path / "copy.db", Path("office.db"), ["x"]) == [{"refused": 10}]
+
+
+@pytest.mark.parametrize("line", ["text", "5", '["done"]', '{"done":'])
+def test_a_line_that_is_no_reply_is_told(line: str, tmp_path: Path) -> None:
+    other = executable(tmp_path / "other")
+    other.write_text(f"#!/bin/sh\nread -r one\necho '{line}'\n")
+    told = f"^the program answers otherwise than cpi does: {re.escape(line)}$"
+    with pytest.raises(CpiFailed, match=told):
+        Cpi(other).replay(["x"])
+    with pytest.raises(CpiFailed, match=told):
+        with Cpi(other).session() as session:
+            session.ask("x")
 
 
 def test_a_fault_has_the_replies_before_it(tmp_path: Path) -> None:

@@ -33,8 +33,10 @@ from cpi_tools.pack.tables import Series
 from cpi_tools.program import Cpi
 from cpi_tools.publish import CannotPublish, check, publish
 from conftest import ROOT
-from loads import free_port, served
+from lib.served import free_port
+from loads import served
 from published import HIDDEN_REVISION, LAST, LONG_AFTER, REVISED, Office, lived, shown
+from test_measures import tea_again, two_years
 
 INI = """\
 [office]
@@ -197,12 +199,37 @@ def test_the_structure_has_each_id_that_the_data_use(pack: Path) -> None:
     attributes = {it.get("id", "") for it in root.iter(STRUCTURE + "Attribute")}
     head, *rows = csv.reader((pack / "data/cpi.sdmx.csv").open(encoding="utf-8", newline=""))
     assert {*head[3:]} == listed | attributes | {"TIME_PERIOD", "OBS_VALUE"}
+    coded = {"FREQ", "REF_AREA", "MEASURE", "UNIT_MEASURE", "COICOP18", "TRANSFORMATION", "OBS_STATUS", "IMPUTED_PRICES"}
+    assert codes.keys() == {f"CL_{name}" for name in coded}
+    named = [(it.get("class"), it.get("id", "")) for it in root.iter("Ref")]
+    assert sorted(name for kind, name in named if kind == "Codelist") == sorted(codes)
+    concepts = [it.get("id", "") for it in root.iter(STRUCTURE + "Concept")]
+    assert sorted(name for kind, name in named if kind == "Concept") == sorted(concepts) == sorted(head[3:])
     for at, name in enumerate(head):
         used = {row[at] for row in rows} - {""}
-        if f"CL_{name}" in codes:
-            assert used <= codes[f"CL_{name}"] and used, name
+        assert used <= codes.get(f"CL_{name}", used) and used, name
     titles = {it.get("id"): it.findtext(COMMON + "Name") for it in root.iter(STRUCTURE + "Code")}
     assert titles["CP01112-01"] == "Flour & <meal>"
+
+
+def test_a_series_has_the_base_of_its_item(pack: Path, tmp_path: Path) -> None:
+    """December before it came; of one that left and came again both."""
+    publish([*two_years(), tea_again()], CONFIG._replace(reference="2026"), tmp_path / "again", None, quiet)
+    first = {"CPI", "N"}
+    for folder, wanted in (
+        (pack, {"_T": "2024-12", "CP07": "2024-12", "CP08": "2025-12", "CP01112": "2024-12"}),
+        (tmp_path / "again", {"_T": "2025-12", "CP01": "2025-12", "CP02": "2025-12 2027-12", "CP03": "2026-12"}),
+    ):
+        rows = rows_of(folder / "data/cpi.sdmx.csv")
+        found = {it["COICOP18"]: it["BASE_PER"] for it in rows if {it["MEASURE"], it["TRANSFORMATION"]} == first}
+        assert wanted.items() <= found.items()
+        assert {it["BASE_PER"] for it in rows if it["UNIT_MEASURE"] != "IX"} == {""}
+        levels = [it for it in ElementTree.parse(folder / "data/cpi.sdmx.xml").iter("Series") if it.get("BASE_PER")]
+        assert {it.get("COICOP18"): it.get("BASE_PER") for it in levels} == found
+    rows = rows_of(tmp_path / "again/data/rereferenced.csv")
+    # tea is 108 / 105.25 of its mean of 2026 in its December, and not linked to it when it comes again
+    assert {it["month"]: it["rereferenced"] for it in rows if it["code"] == "02"}["2026-12"] == "102.612827"
+    assert [it["code"] for it in rows if it["month"] == "2028-01"] == ["00", "01"]
 
 
 SHEETS = {"Index": 3, "Monthly change": 4, "Annual change": 5, "Weights": 1}
@@ -329,6 +356,10 @@ def test_a_moment_that_is_still_to_come_is_a_draft(
     assert main([*words, "--draft"]) == 0
     assert (tmp_path / "draft").stat().st_mode & 0o777 == 0o700
     assert (tmp_path / f"draft/data/tables/{LAST}-r1.csv").is_file()
+    capsys.readouterr()
+    (tmp_path / "draft").chmod(0o755)
+    assert main([*words, "--draft"]) == 1
+    assert "draft can be read by others, and a draft may not: give it a folder of its own" in capsys.readouterr().err
 
 
 def test_a_chain_of_manifests(published: list[Published], tmp_path: Path) -> None:
@@ -404,6 +435,10 @@ def test_the_sums_are_those_of_the_files(pack: Path) -> None:
         ("[office]\nagency = A\narea = X\noffice = O\ncolour = red\n", "colour is no word of"),
         ("[office]\nagency = A\narea = X\noffice = O\n[sdmx]\nX = Y\n", "X is no id that"),
         ("[office]\nagency = A\narea = X\noffice = O\n[sdmx]\nCPI = a.b\n", "CPI = a.b: no id of SDMX"),
+        ("[office]\nagency = A\narea = X\noffice = O\n[sdmx]\nCOICOP18 = 18X\n", "COICOP18 = 18X: no id of SDMX"),
+        ("[office]\nagency = A\narea = X\noffice = O\n[sdmx]\nTIME_PERIOD = T\n", "TIME_PERIOD is no id that"),
+        ("[office]\nagency = A\narea = X\noffice = O\n[sdmx]\nCPI = CTR\n", "CTR would be the id of two"),
+        ("[office]\nagency = A\narea = X\noffice = O\n[sdmx]\nREVISION = DECIMALS\n", "DECIMALS would be the id"),
         ("[office]\nagency = A\narea = X\noffice = O\n[site]\n", "there is no section .site"),
         ("agency = A\n", "File contains no section headers"),
         ("\udce9", "can't decode byte"),
@@ -415,6 +450,12 @@ def test_a_configuration_with_a_fault_is_one_line(text: str, because: str, tmp_p
     with pytest.raises(BadConfig, match=because) as told:
         read_config(path, KNOWN_IDS)
     assert "\n" not in str(told.value)
+
+
+def test_a_word_without_a_value_is_as_none(tmp_path: Path) -> None:
+    words = "[office]\nagency = A\narea = X\noffice = Office\n  of prices\ntitle =\nreference =\n"
+    (tmp_path / "office.ini").write_text(words)
+    assert read_config(tmp_path / "office.ini") == Config("A", "X", "Office of prices", title="Consumer price index")
 
 
 def test_ids_of_an_office_take_the_place_of_ours(published: list[Published], tmp_path: Path) -> None:
@@ -484,7 +525,7 @@ def test_what_is_not_there_is_one_line(cpi: Cpi, capsys: pytest.CaptureFixture[s
     served = ["--url", "http://127.0.0.1:1"]
     filed = ["--program", str(cpi.path), "--db", str(tmp_path / "no.db"), "--at", "5"]
     for words, because in (
-        ([*served, *config, "--out", str(tmp_path / "public")], "http://127.0.0.1:1/tables can't be read"),
+        ([*served, *config, "--out", str(tmp_path / "public")], "127.0.0.1:1/tables can't be read: Connection refused"),
         ([*served, "--config", str(tmp_path / "x.ini"), "--out", "public"], "x.ini: No such file"),
         ([*filed, *config, "--out", str(tmp_path / "public")], "no.db: No such file"),
     ):

@@ -2,8 +2,9 @@
 
 from __future__ import annotations
 
+import os
 import re
-from collections.abc import Sequence
+from collections.abc import Callable, Sequence
 from datetime import datetime
 from fractions import Fraction
 from pathlib import Path
@@ -109,12 +110,93 @@ def test_a_workbook_whose_sheets_have_the_names(tmp_path: Path) -> None:
     assert read(tmp_path).rows == sheet.rows
 
 
+def test_a_workbook_is_found_by_the_names_that_its_csv_has(tmp_path: Path) -> None:
+    """A spreadsheet program that saves `shops-outlets.csv` as a workbook gives its sheet that name too."""
+    rows = [["outlet", "name"], [10, "x"]]
+    as_book(tmp_path / "shops-outlets.xlsx", **{"shops-outlets": rows})
+    as_book(tmp_path / "2026-Prices.xlsx", Sheet1=[["month", "value"]], other=rows)
+    source = Source(tmp_path, NAMES)
+    outlets, prices = source.sheet("outlets"), source.sheet("prices")
+    assert outlets and prices
+    assert (outlets.file, outlets.rows[0].cells) == ("shops-outlets.xlsx", {"outlet": "10", "name": "x"})
+    assert (prices.file, source.unread) == ("2026-Prices.xlsx:Sheet1", ["2026-Prices.xlsx:other"])
+
+
+def test_a_spreadsheet_of_another_kind_is_told(tmp_path: Path) -> None:
+    for name in ("outlets.ods", "Prices.XLS", "outlets.tsv", "prices.xlsm", "notes.txt"):
+        (tmp_path / name).write_text("x")
+    assert Source(tmp_path, NAMES).unread == ["Prices.XLS", "outlets.ods", "outlets.tsv", "prices.xlsm"]
+
+
+def test_a_file_whose_name_is_no_line_is_told_as_one(tmp_path: Path) -> None:
+    for name in (b"x\xff-outlets.csv", b"y\n.csv"):
+        Path(os.fsdecode(os.path.join(os.fsencode(tmp_path), name))).write_bytes(b"outlet,name\n10,x\n")
+    source = Source(tmp_path, NAMES)
+    outlets = source.sheet("outlets")
+    assert outlets and outlets.file == r"x\udcff-outlets.csv" and source.unread == [r"y\n.csv"]
+
+
 @pytest.mark.parametrize("name", ["nothing", "words.txt", "broken.xlsx"])
 def test_what_is_no_folder_and_no_workbook(tmp_path: Path, name: str) -> None:
     for each in ("words.txt", "broken.xlsx"):
         (tmp_path / each).write_text("x")
     with pytest.raises(Fault, match=name):
         Source(tmp_path / name, NAMES)
+
+
+WHOLE = [["month", "value"], ["2025-12", 5], ["2026-01", 6]]
+
+
+def changed(path: Path, part: str, change: Callable[[bytes], bytes]) -> Path:
+    """A workbook with another content of one part."""
+    with ZipFile(path) as parts:
+        kept = {name: parts.read(name) for name in parts.namelist()}
+    kept[part] = change(kept[part])
+    with ZipFile(path, "w") as parts:
+        for name, data in kept.items():
+            parts.writestr(name, data)
+    return path
+
+
+SHEET, BOOK = "xl/worksheets/sheet1.xml", "xl/workbook.xml"
+
+
+@pytest.mark.parametrize(
+    ("part", "change"),
+    [
+        (SHEET, lambda data: data[:-40]),
+        (SHEET, lambda data: data.replace(b"<row", b"<<row", 1)),
+        (SHEET, lambda data: data.replace(b"<v>5</v>", b"<v>five</v>")),
+        (BOOK, lambda data: data[:-40]),
+        (BOOK, lambda data: data.replace(b"sheetId", b"sheet")),
+        ("xl/styles.xml", lambda data: data[:-40]),
+        ("[Content_Types].xml", lambda data: b""),
+    ],
+)
+def test_a_workbook_whose_parts_are_broken_is_one_line(
+    part: str, change: Callable[[bytes], bytes], tmp_path: Path
+) -> None:
+    path = changed(as_book(tmp_path / "prices.xlsx", x=WHOLE), part, change)
+    with pytest.raises(Fault, match=r"^prices\.xlsx can't be read as a workbook: [^\n]+$"):
+        Source(path, NAMES).sheet("prices")
+
+
+def test_a_workbook_that_is_cut_anywhere_is_one_line(tmp_path: Path) -> None:
+    data = as_book(tmp_path / "prices.xlsx", x=WHOLE).read_bytes()
+    for length in range(0, len(data), 211):
+        (tmp_path / "prices.xlsx").write_bytes(data[:length])
+        with pytest.raises(Fault, match=r"^prices\.xlsx can't be read as a workbook: [^\n]+$"):
+            Source(tmp_path, NAMES)
+
+
+def test_what_openpyxl_warns_of_is_silent(tmp_path: Path, recwarn: pytest.WarningsRecorder) -> None:
+    """Such as parts of a workbook that it doesn't know, which a spreadsheet program of today writes."""
+    odd = b'<extLst><ext uri="{CCE6A557-97BC-4b89-ADB6-D9C93CAAB3DF}"/></extLst></worksheet>'
+    path = changed(
+        as_book(tmp_path / "prices.xlsx", x=WHOLE), SHEET, lambda data: data.replace(b"</worksheet>", odd)
+    )
+    assert len(read(path.parent, "prices").rows) == 2
+    assert [str(each.message) for each in recwarn] == []
 
 
 # ---- cells of workbooks
@@ -133,6 +215,23 @@ def test_cells_are_the_texts_that_csv_has(tmp_path: Path) -> None:
     assert [isinstance(cell, Numeral) for cell in row.cells.values()] == [it in (0, 1, 2, 9) for it in range(10)]
 
 
+def test_a_number_has_the_digits_that_a_spreadsheet_keeps(tmp_path: Path) -> None:
+    """Those of a formula's value end in what its reckoning in binary digits left: its cell shows 2.52 and 0.3."""
+    cells = [2.4 * 1.05, 0.1 + 0.2, 210 * 1.1, 2.515, 1 / 3, 999_999_999_999.25]
+    as_book(tmp_path / "outlets.xlsx", x=[[f"c{at}" for at in range(len(cells))], cells])
+    (row,) = read(tmp_path).rows
+    texts = ["2.52", "0.3", "231", "2.515", "0.333333333333333", "999999999999.25"]
+    assert [repr(cell) for cell in cells[:3]] == ["2.52", "0.30000000000000004", "231.00000000000003"]
+    assert [*row.cells.values()] == texts
+
+
+def test_seconds_are_not_lost_without_a_word(tmp_path: Path) -> None:
+    moments = [datetime(2025, 12, 1, 6, 0, 30), datetime(2025, 12, 1, 0, 0, 1), datetime(2025, 12, 1, 6)]
+    as_book(tmp_path / "outlets.xlsx", x=[["a", "b", "c"], moments])
+    (row,) = read(tmp_path).rows
+    assert [*row.cells.values()] == ["2025-12-01T06:00:30", "2025-12-01T00:00:01", "2025-12-01T06:00"]
+
+
 def test_a_formula_without_a_value_is_told(tmp_path: Path) -> None:
     as_book(tmp_path / "outlets.xlsx", x=[["outlet", "name"], [10, "x"], ["=A2+1", "y"]])
     told = fault_of(tmp_path)
@@ -141,13 +240,8 @@ def test_a_formula_without_a_value_is_told(tmp_path: Path) -> None:
 
 def test_an_error_in_a_cell_is_told(tmp_path: Path) -> None:
     path = as_book(tmp_path / "outlets.xlsx", x=[["outlet", "name"], [10, "x"]])
-    with ZipFile(path) as parts:
-        kept = {name: parts.read(name) for name in parts.namelist()}
-    sheet = kept["xl/worksheets/sheet1.xml"]
-    kept["xl/worksheets/sheet1.xml"] = re.sub(rb'<c r="A2"[^>]*>.*?</c>', b'<c r="A2" t="e"><v>#REF!</v></c>', sheet)
-    with ZipFile(path, "w") as parts:
-        for name, data in kept.items():
-            parts.writestr(name, data)
+    broken = b'<c r="A2" t="e"><v>#REF!</v></c>'
+    changed(path, SHEET, lambda data: re.sub(rb'<c r="A2"[^>]*>.*?</c>', broken, data))
     told = fault_of(tmp_path)
     assert told.origin == Origin("outlets.xlsx", 2, "A") and "#REF!" in told.because
 

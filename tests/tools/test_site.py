@@ -14,10 +14,12 @@ from typing import Optional
 import pytest
 
 from cpi_tools.pack.config import Config
-from cpi_tools.pack.public import Published
+from cpi_tools.pack.pictures import of_imputed, of_node
+from cpi_tools.pack.public import Listed, Published
+from cpi_tools.pack.tables import Series
 from cpi_tools.publish import publish
 from published import CODES
-from test_measures import two_years
+from test_measures import over_another_december, tea_again, two_years
 
 CONFIG = Config("NSO", "XX", "Office <of> prices", country="Exampleland", reference="2025", currency="crowns")
 
@@ -38,6 +40,14 @@ def by_hand(tmp_path_factory: pytest.TempPathFactory) -> Path:
     return out
 
 
+@pytest.fixture(scope="module")
+def again(tmp_path_factory: pytest.TempPathFactory) -> Path:
+    """The site of two years by hand and a January, in which tea comes again."""
+    out = tmp_path_factory.mktemp("again") / "public"
+    publish([*two_years(), tea_again()], CONFIG._replace(reference="2026"), out, None, lambda _: None)
+    return out
+
+
 def words_of(path: Path) -> str:
     """The words of a page without its elements, each space once."""
     text = re.sub(r"<(style|script).*?</\1>", "", path.read_text(encoding="utf-8"), flags=re.S)
@@ -54,6 +64,7 @@ def test_the_first_page_says_what_happened(by_hand: Path) -> None:
     assert "Most came from title of 01 (+5.56 percentage points). Against the month before, prices rose by 4.0" in told
     assert "Against the year before +9.5 % Against the month before +4.0 %" in told
     assert "Index, December 2025 = 100 109.2" in told
+    assert "In January 2027 no price was imputed." in told
     page = (by_hand / "index.html").read_text(encoding="utf-8")
     assert re.findall(r'<th scope="row"><a href="node/(\d\d)\.html">', page) == ["01", "03", "02"]
     assert "Title of 01 50.00 % +8.2 % +5.56 Title of 03 50.00 % \u2013 +3.16" in told
@@ -69,6 +80,52 @@ def test_a_fall_is_told_as_one(tmp_path: Path) -> None:
     assert "Most came from title of 01 (\u22121.50 percentage points); title of 02 worked against it (+1.25)" in told
 
 
+def test_what_left_and_came_again_has_two_bases(again: Path) -> None:
+    told = words_of(again / "node/02.html")
+    assert "Index December 2025 = 100, from January 2028 on December 2027 = 100" in told
+    assert "Index, December 2027\u00a0=\u00a0100 110.0".replace("\u00a0", " ") in told
+    assert "Index December 2025 = 100 " in words_of(again / "node/01.html")
+    # of the items of 2026 the calculator offers December 2025, and tea has nothing in 2027
+    data = json.loads((again / "assets/levels.js").read_text(encoding="utf-8")[len("window.LEVELS = ") : -2])
+    tea = dict(zip(data["months"], data["items"]["02"]["levels"]))
+    assert (tea["2025-12"], tea["2026-12"], tea["2027-06"], tea["2028-01"]) == (10**8, 108 * 10**6, None, 11 * 10**7)
+
+
+def test_annual_contributions_over_a_december_under_embargo_are_not_told(tmp_path: Path) -> None:
+    """The headline is the published change, 110.24 / 99.75; what gave it rests on a December that isn't public."""
+    publish(over_another_december(), CONFIG._replace(reference=""), tmp_path / "public", None, lambda _: None)
+    told = words_of(tmp_path / "public/index.html")
+    assert "In January 2027 consumer prices were 10.5 percent higher than a year before" in told
+    assert "Most came from" not in told
+    untold = "The changes of this month rest on a revision that isn't published yet, so no contributions to them can be"
+    assert untold in told and untold in words_of(tmp_path / "public/node/00.html")
+    assert untold not in words_of(tmp_path / "public/node/01.html")
+    revised = words_of(tmp_path / "public/revisions.html")
+    assert "January 2027: the change on the month before January 2027: the change on the year before" in revised
+
+
+def test_what_left_long_ago_has_its_pictures() -> None:
+    """Pictures show 61 months at most: of tea, which is in the first of seven years alone, up to its last month."""
+    series = Series(seven_years())
+    level, _, month = of_node(series, "02")
+    assert "From 100.0 in January 2020 to 100.0 in December 2020." in level.picture
+    assert month.name == "Change on the month before" and "in January 2020" in month.picture
+    whole = of_node(series, "00")[0].picture
+    assert "From 100.0 in December 2021 to 100.0 in December 2026." in whole
+
+
+def seven_years() -> list[Published]:
+    """Tables in which nothing moves; tea is in the first year alone."""
+    found = [Published(Listed("2019-12", 1, 0), b"")]
+    for year in range(2020, 2027):
+        for month in range(1, 13):
+            codes = ("00", "01", "02") if year == 2020 else ("00", "01")
+            annual = "0.0" if year > 2020 or month == 12 else ""
+            rows = (f"{code},1000000,100.000000,100.000000,0.0,{annual},0,Title of {code}\n" for code in codes)
+            found.append(Published(Listed(f"{year}-{month:02}", 1, len(found)), "".join(rows).encode()))
+    return found
+
+
 def test_the_imputed_share_says_what_it_is_of(site: Path, published: list[Published]) -> None:
     rows = [line.split(",") for line in published[-1].table.decode().splitlines()]
     aggregates = {row[0]: (int(row[1]), row[6]) for row in rows if "-" in row[0]}
@@ -76,7 +133,21 @@ def test_the_imputed_share_says_what_it_is_of(site: Path, published: list[Publis
     # rice has 390,000 of 1,000,000
     told = words_of(site / "index.html")
     assert "at least one price was imputed in elementary aggregates that have 39 percent of all weight" in told
-    assert "That isn't the share of imputed prices" in told
+    assert "The weight of such aggregates isn't the share of imputed prices" in told
+
+
+def test_the_imputed_share_is_by_the_weight_of_elementary_aggregates() -> None:
+    """Of two aggregates of a subclass one has an imputed price, and 0.3 of the weight; so have all nodes above it."""
+    found = [Published(Listed("2025-12", 1, 0), b"")]
+    for at, imputed in enumerate((("1", "0"), ("0", "0"), ("1", "1")), 1):
+        above = [(code, 1_000_000, max(imputed)) for code in ("00", "01", "01.1", "01.1.1", "01.1.1.1")]
+        rows = [*above, ("01.1.1.1-01", 300_000, imputed[0]), ("01.1.1.1-02", 700_000, imputed[1])]
+        text = "".join(f"{code},{weight},100.000000,100.000000,0.0,,{it},Title\n" for code, weight, it in rows)
+        found.append(Published(Listed(f"2026-{at:02}", 1, at), text.encode()))
+    told = of_imputed(Series(found))
+    assert told.last == "100"
+    assert told.figures == [("March 2026", "100"), ("February 2026", "0"), ("January 2026", "30")]
+    assert "Between 0 and 100 percent of the weight." in told.picture
 
 
 def test_a_node_has_its_page_and_its_file(site: Path) -> None:
@@ -86,6 +157,17 @@ def test_a_node_has_its_page_and_its_file(site: Path) -> None:
     assert head.startswith("month,revision,published,code,level,title,weight,index,chained,")
     whole = (site / "data/cpi.csv").read_text(encoding="utf-8").splitlines()
     assert rows == [line for line in whole if line.split(",")[3] == "01"] and len(rows) == 29
+
+
+def test_a_node_has_its_months_by_hand(by_hand: Path) -> None:
+    """Coffee in January 2027: 106.08 is 104 * 1.02; its first month is January 2026, of which there is no year before."""
+    page = (by_hand / "node/01.html").read_text(encoding="utf-8")
+    rows = [line for line in page.splitlines() if 'class="month"' in line]
+    names = [re.sub("<[^>]*>", "", row.partition("</th>")[0]) for row in rows]
+    cells = [re.findall("<td[^>]*>([^<]*)</td>", row) for row in rows]
+    assert (names[0], names[-1], len(names)) == ("January 2027", "January 2026", 13)
+    assert cells[0] == ["106.1", "102.0", "+2.0\u202f%", "+8.2\u202f%", "", "1"]
+    assert cells[-1] == ["98.0", "98.0", "\u22122.0\u202f%", "\u2013", "", "1"]
 
 
 def test_a_node_that_left_says_so(site: Path) -> None:
@@ -103,7 +185,9 @@ def test_titles_are_escaped(site: Path) -> None:
 
 def test_revisions_and_what_is_against_an_embargoed_one_are_told(site: Path) -> None:
     told = words_of(site / "revisions.html")
-    assert "March 2026, revision 2 Published" in told and "6 of 16 levels differ." in told
+    # 15 months of 1,000 seconds after 1970 began, and 990 or 900 seconds
+    moments = "Published 1 January 1970, 04:26 UTC; revision 1 had been published 1 January 1970, 04:25 UTC"
+    assert f"March 2026, revision 2 {moments}. 6 of 16 levels differ." in told
     assert "May 2027: the change on the month before" in told and "the change on the year before" not in told
     assert "data/tables/2026-03-r1.csv" in (site / "revisions.html").read_text(encoding="utf-8")
 
@@ -147,7 +231,9 @@ def test_pages_lead_to_what_is_there_and_to_nothing_else(site: Path) -> None:
         for link in links.links:
             if not link.startswith(("#", "data:,")):
                 assert "//" not in link
-                assert (page.parent / link).resolve().is_file(), (page.name, link)
+                name, _, anchor = link.partition("#")
+                assert (page.parent / name).resolve().is_file(), (page.name, link)
+                assert not anchor or f'id="{anchor}"' in (page.parent / name).read_text(encoding="utf-8"), link
         assert len(links.ids) == len(set(links.ids)) and links.unnamed == 0, page
         assert {*links.fields} <= {*links.named}, page
 
@@ -194,6 +280,20 @@ def test_the_calculator_by_hand(site: Path) -> None:
     assert json.loads(told) == [it[4] for it in sums]
 
 
+@pytest.mark.skipif(shutil.which("node") is None, reason="node isn't there")
+def test_the_calculator_refuses_months_that_are_not_linked(site: Path) -> None:
+    """The levels of all months from the one to the other, and what is said of them."""
+    levels = [[100, 101, 102], [100, None, 102], [None, 101], [101, None], [100]]
+    program = """const c = require(process.argv[1]);
+    const said = (levels) => c.faultOf(1n, { title: "Tea" }, levels, 2);
+    console.log(JSON.stringify(JSON.parse(process.argv[2]).map(said)));"""
+    words = ["node", "-e", program, str(site / "assets/contract.js"), json.dumps(levels)]
+    lacks = "Tea has no index in one of these months."
+    left = "Tea left the index between these months and came again, so its indices can't be compared."
+    told = subprocess.run(words, capture_output=True, text=True, check=True).stdout
+    assert json.loads(told) == ["", left, lacks, lacks, ""]
+
+
 def test_the_calculator_has_the_published_levels(site: Path, published: list[Published]) -> None:
     text = (site / "assets/levels.js").read_text(encoding="utf-8")
     data = json.loads(text[len("window.LEVELS = ") : -2])
@@ -201,5 +301,8 @@ def test_the_calculator_has_the_published_levels(site: Path, published: list[Pub
     last = {row.split(",")[0]: row.split(",")[3] for row in published[-1].table.decode().splitlines()}
     for code, item in data["items"].items():
         assert item["levels"][-1] == int(last[code].replace(".", ""))
-    assert data["items"]["08"]["levels"][:12] == [None] * 12
+    # the month before all others, in which what begins there is 100, and then the months of the tables
+    assert data["months"][:2] == ["2024-12", "2025-01"]
+    assert [data["items"][code]["levels"][0] for code in ("00", "07", "08")] == [100_000_000, 100_000_000, None]
+    assert data["items"]["08"]["levels"][:13] == [None] * 13 and data["items"]["08"]["levels"][13]
     assert data["revisions"][data["months"].index("2026-03")] == 2 and data["sums"][-1] == published[-1].sha256

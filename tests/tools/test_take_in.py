@@ -22,6 +22,7 @@ from spreadsheets import (
     KEY_8,
     Change,
     Ran,
+    Sheets,
     add,
     drop,
     put,
@@ -39,6 +40,32 @@ Cell = tuple[str, int, str, str]
 
 MOST_TITLE = 400
 AGGREGATES = "01.1.1.1-01", "01.1.1.2-01"
+
+
+
+def together(*changes: Change) -> Change:
+    """Several changes."""
+
+    def change(of: Sheets) -> None:
+        for each in changes:
+            each(of)
+
+    return change
+
+
+def of_next_year(of: Sheets) -> None:
+    """Only the year after has a plan."""
+    for name in ("classification", "places", "plans"):
+        for row in of[name][1:]:
+            row[0] = "2027"
+
+
+PAST_THE_GREATEST = together(
+    put("prices", 3, "value", "1"),
+    put("prices", 6, "value", "100000000"),
+    put("prices", 6, "confirm", "confirm"),
+)
+"""A hundred million for one is an index of ten thousand million points."""
 
 FAULTS: list[tuple[Change, Cell]] = [
     (put("items", 2, "item", "rice!"), ("items.csv", 2, "item", "10")),
@@ -107,6 +134,8 @@ FAULTS: list[tuple[Change, Cell]] = [
     (put("releases", 4, "carry", "01.1.1.1-01 01.1"), ("releases.csv", 4, "carry", "10")),
     (put("releases", 3, "month", "2026-03"), ("releases.csv", 3, "month", "46")),
     (drop("releases", 2), ("releases.csv", 2, "month", "46")),
+    (of_next_year, ("releases.csv", 3, "month", "48")),
+    (PAST_THE_GREATEST, ("releases.csv", 3, "month", "49 fault 3")),
     (add("releases", "2026-02", "2", "2000", "4000", "5000", "4000", ""), ("releases.csv", 5, "month", "50")),
     (drop("places", 3), ("releases.csv", 3, "month", "49 fault 1")),
     (without("calendar"), ("calendar.csv", 0, "", "")),
@@ -146,6 +175,7 @@ def test_a_fault_without_consequences_is_told_alone(cpi: Cpi, tmp_path: Path) ->
         put("prices", 5, "value", "0"),
         put("prices", 6, "value", "x"),
         put("items", 1, "unit", "Unit"),
+        add("collectors", "7", "6" * 32),
         add("outlets", "0", "x"),
         add("outlets", "12", "x\x01"),
     ):
@@ -155,6 +185,7 @@ def test_a_fault_without_consequences_is_told_alone(cpi: Cpi, tmp_path: Path) ->
     assert problems(folder) == [
         ("outlets.csv", 4, "outlet", "10"),
         ("outlets.csv", 5, "name", "10"),
+        ("collectors.csv", 4, "key", "40"),
         ("prices.csv", 5, "value", "10"),
         ("prices.csv", 6, "value", "10"),
     ]
@@ -200,6 +231,30 @@ def test_words_of_a_problem(cpi: Cpi, tmp_path: Path) -> None:
     assert told["classification.csv", "9"] == "the plan of 2026: the weights don't add up to 1,000,000, but to 999,999"
     assert told["outlets.csv", "4"].endswith("; a blank stands before or behind a text")
     assert "releases.csv" in {file for file, _ in told}
+
+
+@pytest.mark.parametrize(
+    ("change", "words", "because"),
+    [
+        (put("classification", 7, "weight", "60,0"), ["--weights", "percent"], "60,0 is no number with the decimal"),
+        (put("classification", 7, "weight", "60.5"), [], "60.5 isn't whole in parts per million (--weights)"),
+        (put("classification", 7, "weight", "-5"), [], "the record has no such form, or a number is outside its"),
+        (put("classification", 7, "weight", "-5"), ["--weights", "money"], "the record has no such form, or a number"),
+        (put("classification", 5, "code", "2001-01"), [], "the cell is the date 2001-01, as a spreadsheet takes"),
+        (put("places", 2, "code", "2002-02-07T00:00"), [], "the cell is the date 2002-02-07T00:00, as a spreadsheet "),
+    ],
+)
+def test_words_of_a_cell_of_a_plan_that_can_not_be_read(
+    cpi: Cpi, tmp_path: Path, change: Change, words: list[str], because: str
+) -> None:
+    of = sheets()
+    del of["releases"]
+    change(of)
+    folder = written(tmp_path / "office", of)
+    assert run(cpi, "take-in", folder, "--check", *words).status == 1
+    (told,) = rows_of(folder / "check" / "problems.csv")
+    assert told["because"].startswith(f"the plan of 2026: {because}")
+    assert told["do"] == f"see what the column {told['column']} takes (docs/CHANGING-OVER.md)"
 
 
 # ---- an office that is right
@@ -259,6 +314,9 @@ def test_of_two_prices_of_a_slot_the_later_row_stands_and_is_told(cpi: Cpi, tmp_
     assert (ran.status, ran.err) == (0, f"cpi-tools take-in: {told}\n")
     office = replayed(cpi, tmp_path / "records", tmp_path / "office.db")
     assert tables(cpi, office)["2026-01", 1].startswith("00,1000000,104.181818,")
+    assert run(cpi, "take-in", folder, "--confirm-history", "--check").status == 0
+    page = (folder / "check" / "report.html").read_text(encoding="utf-8")
+    assert "104.181818" in page[page.index("<tr><td>2026-01") :].partition("</tr>")[0]
 
 
 def test_prices_by_outlet_and_item_in_a_column_a_month(cpi: Cpi, tmp_path: Path) -> None:
@@ -332,7 +390,7 @@ def test_a_price_after_a_hand_over_goes_to_the_new_slot(cpi: Cpi, tmp_path: Path
 
 
 def test_civil_times_by_the_clock_of_the_program(cpi: Cpi, tmp_path: Path) -> None:
-    """Windows of an hour, one of them in the hour that the clock shows twice; freezes at their ends."""
+    """Windows of an hour, one of them in the hour that the clock shows twice; freezes at their ends, and one later."""
     of = sheets()
     of["calendar"] = [
         ["month", "opens", "closes", "publishes"],
@@ -340,7 +398,12 @@ def test_civil_times_by_the_clock_of_the_program(cpi: Cpi, tmp_path: Path) -> No
         ["2026-01", "2026-01-01T06:00", "2026-01-01T06:01", "2026-01-28T09:30"],
         ["2026-02", "2026-03-29T02:30", "2026-03-29T03:31", "2026-03-29T09:30"],
     ]
-    of["releases"] = [["month", "carry"], ["2025-12", ""], ["2026-01", ""], ["2026-02", "01.1.1.1-01"]]
+    of["releases"] = [
+        ["month", "carry", "frozen_at"],
+        ["2025-12", "", ""],
+        ["2026-01", "", "2026-01-02T00:00"],
+        ["2026-02", "01.1.1.1-01", ""],
+    ]
     folder = written(tmp_path / "office", of)
     zone = "CET-1CEST,M3.5.0,M10.5.0/3"
     ran = run(cpi, "take-in", folder, "--zone", zone, "--write", tmp_path / "records")
@@ -354,7 +417,8 @@ def test_civil_times_by_the_clock_of_the_program(cpi: Cpi, tmp_path: Path) -> No
             (1_767_243_600, 1_767_243_660),
             (1_774_747_800, 1_774_747_860),
         ]
-        assert stored.frozen_moments()[202512, 1][0] == 1_761_444_000
+        moments = stored.frozen_moments()
+        assert (moments[202512, 1][0], moments[202601, 1][0]) == (1_761_444_000, 1_767_308_400)
 
 
 # ---- what isn't read
@@ -458,6 +522,16 @@ def test_more_is_added_to_an_office_whose_file_keeps_its_bytes(cpi: Cpi, standin
         assert stored.keys()[8] == KEY_8
 
 
+def test_prices_alone_are_sent_within_the_window_that_the_office_has(cpi: Cpi, standing: Path, tmp_path: Path) -> None:
+    assert cpi.replay([record(0, "desk", "calendar", "2026-03", 4000, 5000, 6000)], db=standing) == [{"done": True}]
+    of = {"prices": [["outlet", "item", "2026-03"], ["10", "RICE", "220"]]}
+    ran = run(cpi, "take-in", written(tmp_path / "more", of), "--onto", standing, "--write", tmp_path / "added")
+    assert (ran.status, ran.out.splitlines()[0]) == (0, "1 quote")
+    assert (tmp_path / "added/records-01.csv").read_text().startswith(f"4000,{KEY_7},import,")
+    with stored_office(replayed(cpi, tmp_path / "added", standing)) as stored:
+        assert stored.quotes(202603) == {(7, 1): ("price", 220)}
+
+
 def test_what_an_office_has_is_done_again(cpi: Cpi, standing: Path, tmp_path: Path) -> None:
     """The same spreadsheets without freezes: slots that aren't named are those that stand, and so are keys."""
     of = sheets()
@@ -517,7 +591,7 @@ def test_what_an_office_refuses(
 def test_a_file_that_is_no_office_is_one_line(cpi: Cpi, tmp_path: Path) -> None:
     (tmp_path / "no.db").write_text("no office")
     ran = run(cpi, "take-in", written(tmp_path / "office", sheets()), "--onto", tmp_path / "no.db", "--check")
-    assert ran.status == 1 and ran.err.startswith("cpi-tools take-in: cpi: database failed (")
+    assert ran.status == 1 and ran.err.startswith(f"cpi-tools take-in: {tmp_path / 'no.db'}: cpi: database failed (")
     assert (ran.out, ran.err.count("\n")) == ("", 1)
 
 

@@ -11,7 +11,17 @@ import time
 import pytest
 
 from cpi_tools import terminal
-from cpi_tools.terminal import Progress, at_least, because_of, counted, ends_by_signals, month_text, time_text
+from cpi_tools.terminal import (
+    Progress,
+    at_least,
+    because_of,
+    counted,
+    ends_by_signals,
+    is_line,
+    month_text,
+    naming,
+    time_text,
+)
 
 
 class Terminal(io.StringIO):
@@ -73,8 +83,23 @@ def test_how_values_are_written() -> None:
     assert because_of(OSError("another fault")) == "another fault"
 
 
+def test_a_fault_names_its_file() -> None:
+    for given, told in ((OSError(28, "No space left on device"), "y"), (OSError(2, "No such file", "x"), "x")):
+        with pytest.raises(OSError) as fault:
+            with naming("y"):
+                raise given
+        assert because_of(fault.value).startswith(f"{told}: No s")
+
+
+def test_words_that_are_lines() -> None:
+    assert is_line("a b\u2028é\ufeff") and is_line("")
+    assert not any(map(is_line, ("a\nb", "\r", "x\udcff")))
+
+
 def test_whole_numbers_of_the_command_line() -> None:
     assert at_least(2)("2") == 2
-    for text in ("1", "-3", "2.5", "", "٣", "12345678901", "+4"):
+    for text in ("1", "-3", "2.5", "", "٣", "+4"):
         with pytest.raises(argparse.ArgumentTypeError, match="isn't a whole number from 2 on"):
             at_least(2)(text)
+    with pytest.raises(argparse.ArgumentTypeError, match="12345678901 has more than ten digits"):
+        at_least(2)("12345678901")

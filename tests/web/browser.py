@@ -18,8 +18,8 @@ from selenium.webdriver.support.wait import WebDriverWait
 
 from cpi_tools.front import system_program
 
-SECONDS = 15.0
-"""Within which a page shows what it is waited for."""
+SECONDS = 30.0
+"""Within which a page shows what it is waited for: so much as a busy machine may need, nothing is promised by it."""
 
 WORDS = (
     "--headless=new", "--no-sandbox", "--disable-dev-shm-usage", "--disable-gpu", "--no-first-run",

@@ -12,23 +12,14 @@ HERE = Path(__file__).resolve().parent
 ROOT = HERE.parents[1]
 
 sys.dont_write_bytecode = True
-sys.path[:0] = [str(HERE), str(ROOT / "tools")]
+sys.path[:0] = [str(HERE), str(ROOT / "tools"), str(ROOT / "tests")]
 
 from browser import Browser  # noqa: E402
 from cpi_tools.program import Cpi  # noqa: E402
+from lib.fixtures import cpi, pytest_addoption  # noqa: E402, F401
 from offices import lived  # noqa: E402
 from phone import Phone  # noqa: E402
 from stage import Stage  # noqa: E402
-
-
-def pytest_addoption(parser: pytest.Parser) -> None:
-    parser.addoption("--program", default=None, help="the program cpi")
-
-
-@pytest.fixture(scope="session")
-def cpi(request: pytest.FixtureRequest) -> Cpi:
-    """The program."""
-    return Cpi(request.config.getoption("--program"))
 
 
 @pytest.fixture(scope="session")

@@ -7,6 +7,7 @@ import time
 from collections.abc import Iterator
 
 from cpi_tools.program import record
+from lib.offices import RICE_AND_FLOUR
 
 DESK, ANNA, BENO, NOBODY = "d" * 32, "a" * 32, "b" * 32, "c" * 32
 """The keys of the desk, of collectors 7 and 8, and one that nobody bears."""
@@ -27,19 +28,7 @@ def month_now(by: int = 0) -> str:
 
 NOW, BEFORE = month_now(), month_now(-1)
 
-PLAN = f"""T,00,All items
-T,01,Food {SCRIPT}
-T,01.1,Food
-T,01.1.1,Cereals
-T,01.1.1.1,Rice
-T,01.1.1.1-01,"Rice, packed"
-T,01.1.1.2,Flour
-T,01.1.1.2-01,"Flour, wheat"
-W,01.1.1.1-01,600000
-W,01.1.1.2-01,400000
-I,RICE,01.1.1.1-01
-I,FLOUR,01.1.1.2-01
-"""
+PLAN = RICE_AND_FLOUR.replace("Food and drink", f"Food {SCRIPT}")
 
 ITEMS = (
     ("RICE", "Rice, white", "1 kg", 700, 1500),

@@ -6,6 +6,7 @@ import contextlib
 import http.client
 import socket
 import time
+import warnings
 from collections.abc import Callable
 from concurrent.futures import ThreadPoolExecutor
 from typing import Optional, TypeVar
@@ -80,6 +81,30 @@ def timed(work: Callable[[], T]) -> tuple[float, T]:
     begun = time.monotonic()
     found = work()
     return time.monotonic() - begun, found
+
+
+def answered_within(seconds: float, work: Callable[[], list[tuple[float, T]]]) -> list[T]:
+    """What some peers are answered, each within so many seconds.
+
+    Where one of them waited longer the machine may have been at other work, so it is tried once more, and said so: what
+    is promised holds in that trial.
+    """
+    found = work()
+    if max(waited for waited, _ in found) >= seconds:
+        warnings.warn(f"waited {max(waited for waited, _ in found):.1f} s for {seconds}: tried again", stacklevel=2)
+        found = work()
+    assert max(waited for waited, _ in found) < seconds
+    return [answer for _, answer in found]
+
+
+def once(condition: Callable[[], bool], seconds: float = 10) -> bool:
+    """Whether a condition holds within some seconds, looked at again and again."""
+    begun = time.monotonic()
+    while not condition():
+        if time.monotonic() - begun > seconds:
+            return False
+        time.sleep(0.02)
+    return True
 
 
 def all_at_once(count: int, work: Callable[[int], T]) -> list[T]:

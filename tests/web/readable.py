@@ -67,6 +67,53 @@ WIDE = (
 )
 
 
+FOCUS = (
+    SEEN
+    + """
+const found = [];
+for (const element of all("input, select, textarea, button, a, summary, [tabindex]")) {
+  if (element.disabled) continue;
+  const marked = element.closest(".choice label") ?? element;
+  const told = () => { const style = getComputedStyle(marked); return `${style.outlineStyle} ${style.outlineWidth}`; };
+  element.blur();
+  const before = told();
+  element.focus({ focusVisible: true });
+  if (document.activeElement !== element) found.push(`no focus: ${element.outerHTML.slice(0, 100)}`);
+  else if (told() === before || !told().startsWith("solid")) found.push(`not seen: ${element.outerHTML.slice(0, 100)}`);
+}
+document.activeElement.blur();
+return found;
+"""
+)
+"""What a keyboard can't reach, or what isn't marked when it does."""
+
+
+def faults_for_keys(browser: Browser) -> list[str]:
+    """What is wrong with a page for who has a keyboard alone."""
+    found: list[str] = browser.run(FOCUS)
+    return found
+
+
+def faults_enlarged(browser: Browser) -> list[str]:
+    """What is wrong with a page whose letters are twice as large."""
+    browser.run("document.documentElement.style.fontSize = '200%'")
+    found: list[str] = [*browser.run(WIDE), *browser.run(CUT)]
+    browser.run("document.documentElement.style.fontSize = ''")
+    return found
+
+
+CUT = (
+    SEEN
+    + """
+const isCut = (element) => getComputedStyle(element).overflowX !== "visible" ? false
+  : element.scrollWidth > element.clientWidth + 1 && element.clientWidth > 0;
+return all("button, h1, h2, h3, p, label, legend, dd").filter(isCut)
+  .map((element) => `cut: ${element.outerHTML.slice(0, 100)}`);
+"""
+)
+"""Texts that are wider than their box."""
+
+
 def faults_of_page(browser: Browser) -> list[str]:
     """What is wrong with what is seen of a page, each in a line, and what the page said against itself."""
     found: list[str] = [*browser.run(CONTRASTS), *browser.run(NAMELESS), *browser.run(SMALL, LEAST_PIXELS)]

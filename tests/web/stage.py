@@ -22,7 +22,7 @@ from offices import DESK, NOW
 from relay import Relay
 
 ROOT = Path(__file__).resolve().parents[2]
-LOGS = ("access.log", "error.log")
+LOGS = ("access.log", "access.log-errors", "error.log")
 
 
 class Answer(NamedTuple):
@@ -147,6 +147,11 @@ class Stage:
             time.sleep(0.02)
         return found
 
-    def logs(self) -> str:
-        """What the front has written down."""
-        return "".join((self.folder / name).read_text(encoding="utf-8") for name in LOGS)
+    def logs(self, requests: int = 1) -> str:
+        """What the front has written down, once so many requests stand there: it writes behind its replies."""
+        begun, log = time.monotonic(), self.folder / "access.log"
+        while log.read_text(encoding="utf-8").count("\n") < requests and time.monotonic() - begun < 10:
+            time.sleep(0.02)
+        texts = [(self.folder / name).read_text(encoding="utf-8") for name in LOGS]
+        assert texts[0].count("\n") >= requests, texts
+        return "".join(texts)

@@ -2,13 +2,15 @@
 
 from __future__ import annotations
 
+import time
 from pathlib import Path
+from typing import Optional
 
 import pytest
 
 from browser import Browser
 from offices import ANNA, DESK, SCRIPT
-from readable import faults_of_page
+from readable import faults_enlarged, faults_for_keys, faults_of_page
 from stage import Stage
 
 PLAN = """T,00,All
@@ -27,7 +29,7 @@ def desk(browser: Browser) -> Browser:
     """The page with the desk's key."""
     browser.size(1280, 900)
     browser.open("/desk/")
-    browser.type("#key", DESK)
+    browser.type("#key", "-".join(DESK[at : at + 8] for at in range(0, 32, 8)))
     browser.click("#key-form button.main")
     browser.wait_text("#who", "Signed in as the desk")
     return browser
@@ -40,7 +42,7 @@ def sent(desk: Browser, name: str, words: str) -> None:
 
 
 def refused(desk: Browser) -> list[list[str]]:
-    """The rows of the table of refused rows: number, row, number of the refusal, words."""
+    """The rows of the table of refused rows: line, row, number of the refusal, words."""
     rows: list[list[str]] = desk.run(
         "return [...document.querySelectorAll('#records-told tbody tr')].map((row) =>"
         " [...row.cells].map((cell) => cell.textContent))"
@@ -72,8 +74,8 @@ def test_each_refused_row_is_shown_with_its_words(desk: Browser) -> None:
     desk.type("#records-text", "\n".join(rows))
     sent(desk, "records", "2 accepted, 6 refused of 8")
     found = refused(desk)
-    assert [(number, told) for number, _, told, _ in found] == [
-        ("1", "40"), ("3", "20"), ("4", "10"), ("6", "12"), ("7", "10"), ("8", "42"),
+    assert [(line, told) for line, _, told, _ in found] == [  # (the lines as they were typed: one is empty)
+        ("1", "40"), ("4", "20"), ("5", "10"), ("7", "12"), ("8", "10"), ("9", "42"),
     ]  # fmt: skip
     assert found[0][1] == "outlet,10,Other shop"
     assert found[1][3] == "The former collector has no such slot. Look at the collector and the slot."
@@ -96,6 +98,76 @@ def test_a_file_of_many_rows_goes_in_pieces(desk: Browser, stage: Stage, tmp_pat
     assert refused(desk)[0][:2] == ["501", "outlet,10,No"]
 
 
+def test_a_front_that_says_to_come_again_is_waited_for(desk: Browser, stage: Stage, tmp_path: Path) -> None:
+    """The front lets so many messages of a peer in each second: a long file takes longer then, and goes on."""
+    file = tmp_path / "outlets.csv"
+    file.write_text("".join(f"outlet,{number},Shop\n" for number in range(1000, 1700)))
+    desk.find("#records-file").send_keys(str(file))
+    stage.front.stop()
+    stage.front.start(lambda text: text.replace("rate=20r/s", "rate=1r/s").replace("burst=100", "burst=1"))
+    try:
+        sent(desk, "records", "700 accepted, 0 refused of 700.")
+    finally:
+        stage.front.stop()
+    assert sum(body.count(b"outlet,") for _, body in stage.relay.seen) == 700
+
+
+@pytest.mark.parametrize(
+    ("name", "data", "told"),
+    [
+        ("plan.xlsx", b"PK\x03\x04\x14\x00\x06\x00\xff\xfe", "is no text in UTF-8. Save a spreadsheet as CSV"),
+        ("sixteen.csv", "outlet,60,Shop\n".encode("utf-16"), "is no text in UTF-8."),
+        ("zero.csv", b"outlet,60,Shop\n\0", "is no text in UTF-8."),
+        ("huge.csv", None, "is too large for this page. Send it with cpi replay."),
+    ],
+    ids=["spreadsheet", "utf-16", "zero", "huge"],
+)
+@pytest.mark.parametrize("card", ["records", "plan"])
+def test_a_wrong_file_is_told_and_nothing_of_it_is_sent(
+    desk: Browser, stage: Stage, tmp_path: Path, card: str, name: str, data: Optional[bytes], told: str
+) -> None:
+    file = tmp_path / name
+    with file.open("wb") as made:
+        made.write(data or b"")
+        made.truncate(len(data) if data else 50_000_001)
+    desk.find(f"#{card}-file").send_keys(str(file))
+    desk.type("#plan-year", "2012")
+    before = len(stage.relay.seen)
+    sent(desk, card, f"{name} {told}")
+    assert desk.text(f"#{card}-told").endswith("Nothing was sent.")
+    assert len(stage.relay.seen) == before
+
+
+def test_a_file_that_was_changed_since_it_was_chosen_is_told(desk: Browser, tmp_path: Path) -> None:
+    file = tmp_path / "outlets.csv"
+    file.write_text("outlet,60,Shop\n")
+    desk.find("#records-file").send_keys(str(file))
+    file.write_text("outlet,60,Shop\noutlet,61,Shop\n")
+    sent(desk, "records", "outlets.csv can’t be read. If it was changed since it was chosen, choose it again.")
+    desk.find("#records-file").send_keys(str(file))
+    sent(desk, "records", "2 accepted, 0 refused of 2.")
+
+
+def test_what_is_being_sent_isnt_sent_twice(desk: Browser, stage: Stage) -> None:
+    """A button that was pressed can't be pressed again before the answer."""
+    desk.type("#records-text", "outlet,60,Shop\n")
+    stage.relay.held.set()
+    for _ in range(2):
+        desk.run("document.querySelector('#records button.main').click()")
+    desk.wait(lambda: stage.relay.rows("outlet,60") > 0)
+    time.sleep(0.3)
+    stage.relay.held.clear()
+    desk.wait_text("#records-told", "1 accepted, 0 refused of 1.")
+    assert stage.relay.rows("outlet,60") == 1
+
+
+def test_signing_out_forgets_the_key(desk: Browser) -> None:
+    desk.click("#leave")
+    assert desk.text("#who") == "No key yet"
+    desk.type("#records-text", "outlet,60,Shop\n")
+    sent(desk, "records", "Give the desk’s key first")
+
+
 def test_a_line_end_within_a_text_is_no_end_of_a_row(desk: Browser) -> None:
     desk.type("#records-text", 'outlet,60,"Shop\nof two lines"\noutlet,61,Shop')
     sent(desk, "records", "1 accepted, 1 refused of 2")
@@ -105,7 +177,7 @@ def test_a_line_end_within_a_text_is_no_end_of_a_row(desk: Browser) -> None:
 def test_a_plan(desk: Browser) -> None:
     desk.type("#plan-year", "2012")
     desk.type("#plan-text", PLAN.format(weight=999_000))
-    sent(desk, "plan", "Refused by 44. The weights don't add up to 1,000,000. Fault 4: they add up to 999000.")
+    sent(desk, "plan", "Refused by 44. The weights don’t add up to 1,000,000. Fault 4: they add up to 999000.")
     desk.type("#plan-text", PLAN.format(weight=1_000_000).replace("T,01.1.1.1,Rice\n", ""))
     sent(desk, "plan", "A node has no title. Fault 5: it is 01.1.1.1. Give it a title.")
     desk.type("#plan-text", PLAN.format(weight=1_000_000))
@@ -131,7 +203,7 @@ def test_a_window_and_a_freeze_with_its_carry_list(desk: Browser, stage: Stage) 
 def test_a_reply_that_is_lost_is_told_and_the_same_may_be_sent_again(desk: Browser, stage: Stage) -> None:
     desk.type("#records-text", "outlet,60,Shop\n")
     stage.relay.lose = 1
-    sent(desk, "records", "The office is busy. Send the same again")
+    sent(desk, "records", "No answer came. It may have been done or not: send the same again, that is safe.")
     sent(desk, "records", "1 accepted, 0 refused of 1")
     stage.front.stop()
     sent(desk, "records", "No answer came. It may have been done or not")
@@ -144,14 +216,16 @@ def test_the_key_is_kept_nowhere(desk: Browser) -> None:
     )
     assert DESK not in found
     assert [name for name in desk.run_until("return indexedDB.databases()")] == []
+    desk.run("dispatchEvent(new Event('pagehide'))")  # (a browser may keep the page that one leaves, to go back to it)
+    sent(desk, "records", "Give the desk’s key first")
     desk.driver.refresh()
     assert desk.text("#who") == "No key yet"
 
 
-def test_it_can_be_read_and_touched_at_360_pixels(desk: Browser) -> None:
+def test_it_can_be_read_touched_and_enlarged_at_360_pixels(desk: Browser) -> None:
     desk.size(360, 800)
     desk.type("#records-text", "outlet,10,Other shop\nquote,1,2011-01,price,2\n")
     sent(desk, "records", "0 accepted, 2 refused")
     desk.type("#freeze-month", "2011-03")
     sent(desk, "freeze", "Refused by 21")
-    assert faults_of_page(desk) == []
+    assert [*faults_of_page(desk), *faults_for_keys(desk), *faults_enlarged(desk)] == []

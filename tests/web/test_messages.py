@@ -1,4 +1,4 @@
-"""The messages of tests/messages through the front: odd, cut, random, with a byte changed.
+"""The messages of tests/test_http_messages.py through the front: odd, cut, random, with a byte changed.
 
 None reaches the office under a key that it did not come with, and each is answered, or closed.
 """
@@ -6,19 +6,15 @@ None reaches the office under a key that it did not come with, and each is answe
 from __future__ import annotations
 
 import contextlib
-import importlib.machinery
-import importlib.util
 import random
 import re
 import socket
-import sys
 from collections import Counter
 from collections.abc import Iterator
-from types import ModuleType
 
 import pytest
 
-from conftest import ROOT
+from lib import messages, served
 from offices import DESK, NOW
 from stage import Stage
 
@@ -26,18 +22,7 @@ COUNT = 10_000
 SECONDS = 20.0
 
 
-def corpus() -> ModuleType:
-    """The script tests/messages, for what it draws."""
-    sys.path.insert(0, str(ROOT / "tests"))
-    loader = importlib.machinery.SourceFileLoader("messages_of_the_interface", str(ROOT / "tests/messages"))
-    spec = importlib.util.spec_from_loader(loader.name, loader)
-    assert spec
-    module = importlib.util.module_from_spec(spec)
-    loader.exec_module(module)
-    return module
-
-
-def drawn(messages: ModuleType) -> Iterator[bytes]:
+def drawn() -> Iterator[bytes]:
     """So many of them, with the paths of the front, the key of the desk, and a month whose window is open."""
     chance = random.Random(43)
     given = [*messages.VALID, *messages.limits(), *messages.odd()]
@@ -48,7 +33,7 @@ def drawn(messages: ModuleType) -> Iterator[bytes]:
     chance.shuffle(given)
     for at, text in enumerate(given):
         moved = re.sub(rb"(?<=^GET |^PUT )/(?!/)|(?<=^POST )/(?!/)", b"/api/", text, count=1)
-        moved = moved.replace(messages.DESK.encode(), DESK.encode()).replace(b"2026-01", NOW.encode())
+        moved = moved.replace(served.DESK.encode(), DESK.encode()).replace(b"2026-01", NOW.encode())
         # (the interface asks for no Host, nginx does; a few come without)
         yield moved.replace(b"\n", b"\nHost: localhost\r\n", 1) if at % 20 else moved
 
@@ -71,13 +56,11 @@ def plain_stage(stage: Stage) -> Iterator[Stage]:
 
 def answered(stage: Stage, text: bytes) -> bytes:
     """What is answered to a message whose peer then ends what it sends."""
-    found = b""
     with socket.create_connection(("127.0.0.1", stage.port), SECONDS) as line, contextlib.suppress(ConnectionError):
         line.sendall(text)
         line.shutdown(socket.SHUT_WR)
-        while piece := line.recv(65536):
-            found += piece
-    return found
+        return served.heard_until_reset(line)
+    return b""
 
 
 def keys_of(head: bytes) -> list[bytes]:
@@ -89,7 +72,7 @@ def keys_of(head: bytes) -> list[bytes]:
 def test_no_message_reaches_the_office_under_a_key_that_it_did_not_come_with(plain_stage: Stage) -> None:
     told: Counter[str] = Counter()
     reached, borne = 0, 0
-    for text in drawn(corpus()):
+    for text in drawn():
         before = len(plain_stage.relay.seen)
         answer = answered(plain_stage, text)
         told[answer[9:12].decode(errors="replace") if answer.startswith(b"HTTP/1.1 ") else "closed"] += 1

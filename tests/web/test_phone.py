@@ -3,6 +3,7 @@
 from __future__ import annotations
 
 import json
+import shutil
 import signal
 import time
 from collections.abc import Iterator
@@ -13,9 +14,10 @@ import pytest
 from selenium.webdriver.common.keys import Keys
 
 from browser import Browser
+from conftest import ROOT
 from offices import ANNA, BEFORE, BENO, DESK, IMAGE, NOBODY, NOW, SCRIPT
 from phone import Phone
-from readable import faults_of_page
+from readable import faults_enlarged, faults_for_keys, faults_of_page
 from stage import Stage
 
 NEXT = 10
@@ -70,7 +72,7 @@ def test_a_key_that_the_front_denies_is_told_and_what_waits_stays(phone: Phone, 
     stage.front.start()
     phone.send()
     phone.browser.wait_text("#line", "All sent")
-    assert phone.browser.text("#notice") == ""
+    phone.browser.wait(lambda: phone.browser.text("#notice") == "", "the notice is gone")
     assert stored(stage, 1) == [("price", 310, NEXT)]
 
 
@@ -316,6 +318,24 @@ def test_a_reply_that_is_lost_is_asked_again_and_has_its_receipt(phone: Phone, s
     assert next_receipt(stage) == NEXT + 1
 
 
+def test_a_receipt_is_kept_though_the_lists_behind_it_dont_come(phone: Phone) -> None:
+    phone.sign_in()
+    phone.show("all")
+    phone.browser.cdp("Network.enable")
+    phone.browser.cdp("Network.setBlockedURLs", urls=["*/api/work/*", "*/api/quotes/*"])
+    try:
+        phone.enter(1, "3.21")
+        phone.browser.wait_text("#line", "No line")
+        phone.wait_told(1, f"Receipt {NEXT}")
+        phone.open()
+        phone.browser.wait_text("#line", "No line")
+        phone.show("all")
+        phone.wait_told(1, f"Receipt {NEXT}")
+        assert "3.21" in phone.told(1)
+    finally:
+        phone.browser.cdp("Network.setBlockedURLs", urls=[])
+
+
 def test_a_day_whose_line_breaks_within_an_import(phone: Phone, stage: Stage) -> None:
     """The front is killed after the office stored and before its reply; twenty more are entered; then the line is back.
 
@@ -348,6 +368,65 @@ def test_a_day_whose_line_breaks_within_an_import(phone: Phone, stage: Stage) ->
         assert f"Receipt {receipt}" in phone.told(slot).split("\n")
     assert (stage.relay.rows("quote,1,"), stage.relay.rows("quote,2,")) == (2, 1)
     assert stage.ask("PUT", f"/api/quote/1/{NOW}", NOBODY, "price,322").reply == {"receipt": len(slots) + 1}
+
+
+ENTERED = """
+const { keepEntry } = await import("/collect/store.js"), { state } = await import("/collect/state.js");
+for (const [slot] of state.list.work) {
+  const entry = { month: state.month, slot, mark: "price", value: 100 + slot, confirm: false, state: "waiting" };
+  await keepEntry(state, entry);
+}
+const real = IDBDatabase.prototype.transaction;
+window.writes = 0;
+IDBDatabase.prototype.transaction = function (names, mode, words) {
+  window.writes += Number(mode === "readwrite");
+  return real.call(this, names, mode, words);
+};
+"""
+"""A price in each slot of the list; from then on it is counted how often the phone writes."""
+
+
+def test_a_long_day_is_sent_in_a_few_imports_and_each_is_one_write(phone: Phone, stage: Stage) -> None:
+    slots = range(1, 121)
+    rows = [f"collector,9,{NOBODY}", *(f"assign,9,{slot},12,MILK,2010-12,2199-12" for slot in slots)]
+    assert stage.ask("POST", "/api/import", DESK, "\n".join(rows)).reply == {"rows": [{"done": True}] * len(rows)}
+    phone.sign_in(NOBODY)
+    phone.browser.run_until(ENTERED)
+    before = stage.relay.asked().count("POST /import")
+    phone.send()
+    phone.browser.wait_text("#progress", "120 of 120 stored")
+    phone.browser.wait_text("#line", "All sent")
+    assert stage.relay.asked().count("POST /import") - before == 3  # (fifty rows at most)
+    assert phone.browser.run("return window.writes") <= 3 + 4  # (and the lists, perhaps twice)
+    assert [row[:1] + row[2:] for row in stage.quotes(NOBODY)] == [[at, "price", 100 + at, at] for at in slots]
+    assert phone.browser.text("#list") == "All done: everything of this month is stored."
+
+
+DISK_IS_FULL = """
+const real = window.fetch;
+window.fetch = (path, ...words) => (path !== "/api/import" ? real(path, ...words)
+  : Promise.resolve(Response.json({ rows: [{ receipt: 99 }, { refused: 90 }, { refused: 90 }] })));
+"""
+"""The office stores the first of three rows, and then its disk is full."""
+
+
+def test_what_finds_no_room_at_the_office_waits_and_the_rest_is_settled(phone: Phone, stage: Stage) -> None:
+    phone.sign_in()
+    phone.show("all")
+    stage.front.stop()
+    for slot, price in ((1, "3.10"), (2, "4.90"), (4, "1.10")):
+        phone.enter(slot, price)
+    phone.browser.wait_text("#line", "3 entries kept")
+    phone.browser.run(DISK_IS_FULL)
+    stage.front.start()
+    phone.send()
+    phone.browser.wait_text("#notice", "Memory or the disk failed. Nothing was stored; send the same again.")
+    assert [phone.told(slot).split("\n")[1] for slot in (2, 4)] == ["To be sent"] * 2
+    assert "2 to be sent" in phone.browser.text("#line")
+    phone.open()  # (the office has room again)
+    phone.browser.wait_text("#line", "All sent")
+    phone.browser.wait(lambda: phone.browser.text("#notice") == "", "the notice is gone")
+    assert [row[:1] + row[2:4] for row in stage.quotes(ANNA)] == [[2, "price", 490], [4, "price", 110]]
 
 
 def test_the_office_dies_and_comes_back(phone: Phone, stage: Stage) -> None:
@@ -398,17 +477,94 @@ def test_two_tabs_of_one_phone_send_an_entry_once(phone: Phone, stage: Stage) ->
     assert stage.relay.rows("quote,1,") == 1
 
 
-def test_a_new_version_of_the_files_takes_the_place_of_the_old_one(phone: Phone) -> None:
+@pytest.fixture
+def site(stage: Stage, tmp_path: Path) -> Iterator[Path]:
+    """A copy of the pages that a test may change, in the front's place for them."""
+    copy = tmp_path / "web"
+    shutil.copytree(ROOT / "web", copy)
+    stage.front.stop()
+    stage.front.start(lambda text: text.replace(f"root {ROOT}/web;", f"root {copy};"))
+    yield copy
+    stage.front.stop()
+
+
+VERSION = "return (await caches.keys()).sort().join(' ')"
+
+
+def changed(site: Path, name: str, before: str, after: str) -> None:
+    """Changes a file of the collectors' page."""
+    text = (site / "collect" / name).read_text(encoding="utf-8")
+    assert before in text
+    (site / "collect" / name).write_text(text.replace(before, after), encoding="utf-8")
+
+
+NEW_FILES = """
+ServiceWorker.prototype.postMessage = () => {};
+await (await navigator.serviceWorker.ready).update();
+"""
+"""As a page finds new files before it has loaded all of its own."""
+
+
+def test_a_new_version_of_the_files_takes_the_place_of_the_old_one(phone: Phone, stage: Stage, site: Path) -> None:
+    """The page that finds it is still the old one, whole; the next one that is opened is the new one, whole."""
+    browser = phone.browser
     phone.sign_in()
-    phone.browser.run_until("await caches.open('cpi-collect-before'); await caches.open('another');")
-    phone.browser.run_until(
-        "for (const one of await navigator.serviceWorker.getRegistrations()) await one.unregister();"
-    )
+    browser.run_until("await caches.open('another');")
+    before = browser.run_until(VERSION)
+    changed(site, "index.html", "<h1>Price collection</h1>", "<h1>New collection</h1>")
+    changed(site, "list.js", '"All sent"', '"All is sent"')
+    changed(site, "sw.js", 'const VERSION = "', 'const VERSION = "new')
     phone.open()
-    phone.browser.run_until("await navigator.serviceWorker.ready")
-    phone.browser.wait(lambda: "cpi-collect-before" not in phone.browser.run_until("return caches.keys()"))
-    names = phone.browser.run_until("return caches.keys()")
-    assert len(names) == 2 and "another" in names
+    browser.wait_text("#line", "All sent")
+    assert browser.text("h1") == "Price collection"
+    after = before.replace("collect-", "collect-new")
+    browser.wait(lambda: sorted(browser.run_until(VERSION).split()) == sorted(after.split()), "new files alone")
+    stage.front.stop()  # (what is kept is whole)
+    phone.open()
+    browser.wait_text("h1", "New collection")
+    browser.wait_text("#line", "No line")
+    stage.front.start(lambda text: text.replace(f"root {ROOT}/web;", f"root {site};"))
+    phone.send()
+    browser.wait_text("#line", "All is sent")
+    assert browser.faults() == []
+
+
+def test_new_files_wait_until_a_page_has_loaded_its_own(phone: Phone, site: Path) -> None:
+    phone.sign_in()
+    before = phone.browser.run_until(VERSION)
+    changed(site, "sw.js", 'const VERSION = "', 'const VERSION = "new')
+    phone.browser.run_until(NEW_FILES)
+    waiting = "return (await navigator.serviceWorker.ready).waiting?.state === 'installed'"
+    phone.browser.wait(lambda: phone.browser.run_until(waiting), "new files")
+    time.sleep(2)
+    assert phone.browser.run_until(waiting) and before in phone.browser.run_until(VERSION)
+
+
+# ---- a browser that keeps nothing
+
+
+SHUT = "IDBFactory.prototype.open = () => { throw new DOMException('no', 'SecurityError'); };"
+FULL = "IDBObjectStore.prototype.put = () => { throw new DOMException('full', 'QuotaExceededError'); };"
+
+
+def test_a_browser_that_keeps_nothing_is_told(phone: Phone) -> None:
+    script = phone.browser.cdp("Page.addScriptToEvaluateOnNewDocument", source=SHUT)["identifier"]
+    phone.open()
+    phone.browser.wait_text("#notice", "the browser refuses it (SecurityError). Let it keep data of this site")
+    phone.browser.cdp("Page.removeScriptToEvaluateOnNewDocument", identifier=script)
+    assert not phone.browser.find("#work").is_displayed()
+
+
+def test_an_entry_that_finds_no_room_is_told_and_not_lost_from_the_form(phone: Phone, stage: Stage) -> None:
+    phone.sign_in()
+    phone.browser.run(f"window.put = IDBObjectStore.prototype.put; {FULL}")
+    phone.enter(1, "3.21")
+    phone.browser.wait_text("#price-fault", "This entry isn’t kept: there is no room left. Make room on the phone")
+    assert phone.browser.find("#price").get_attribute("value") == "3.21"
+    assert stage.relay.rows("quote,") == 0
+    phone.browser.run("IDBObjectStore.prototype.put = window.put")
+    phone.browser.click("#entry-save")
+    assert stage.wait_for_quotes(ANNA) == [[1, NOW, "price", 321, NEXT]]
 
 
 # ---- two collectors
@@ -466,6 +622,26 @@ return await new Promise((end) => {
 });
 """
 
+WHOLE = "return document.documentElement.outerHTML + [...document.querySelectorAll('input')].map((it) => it.value)"
+
+WHEN_LEFT = (
+    "new MutationObserver(() => { window.left ??= Date.now(); })"
+    ".observe(document.getElementById('sign-in'), { attributes: true });"
+)
+
+FORGOTTEN = """
+return await new Promise((end) => {
+  const open = indexedDB.open("cpi-collect");
+  open.onsuccess = () => {
+    const change = open.result.transaction(["session", "lists"], "readwrite");
+    change.objectStore("session").clear();
+    const lists = change.objectStore("lists"), all = lists.getAllKeys();
+    all.onsuccess = () => { for (const key of all.result) if (key !== "items") lists.delete(key); };
+    change.oncomplete = () => end();
+  };
+});
+"""
+
 KEY_IS_LOST = """
 return await new Promise((end) => {
   const open = indexedDB.open("cpi-collect");
@@ -478,12 +654,17 @@ return await new Promise((end) => {
 """
 
 
-def test_signing_out_removes_all_and_asks_before(phone: Phone, stage: Stage) -> None:
+def leave_unsent(phone: Phone, stage: Stage) -> None:
+    """Asks to sign out while an entry waits for a line."""
     phone.sign_in()
     stage.front.stop()
     phone.enter(1, "3.10")
     phone.browser.wait_text("#line", "No line: 1 entry")
     phone.browser.click("#leave")
+
+
+def test_signing_out_removes_all_and_asks_before(phone: Phone, stage: Stage) -> None:
+    leave_unsent(phone, stage)
     assert "1 entry on this phone hasn’t been stored" in phone.browser.text("#leaving")
     phone.browser.click('#leaving [value="stay"]')
     assert "To be sent" in phone.told(1)
@@ -500,12 +681,50 @@ def test_signing_out_removes_all_and_asks_before(phone: Phone, stage: Stage) -> 
     assert "Corner shop" not in phone.browser.text("body")
 
 
-def test_escape_in_the_question_signs_nobody_out(phone: Phone, stage: Stage) -> None:
+def test_a_tab_beside_one_that_signs_out_goes_with_it(phone: Phone) -> None:
+    """Nothing of the first collector is left to the second, in no tab and on no disk."""
+    browser = phone.browser
     phone.sign_in()
-    stage.front.stop()
-    phone.enter(1, "3.10")
-    phone.browser.wait_text("#line", "No line: 1 entry")
-    phone.browser.click("#leave")
+    phone.edit(1)
+    browser.run(WHEN_LEFT)
+    first = browser.driver.current_window_handle
+    browser.driver.switch_to.new_window("tab")
+    phone.open()
+    browser.wait_text("#list", "Corner shop")
+    browser.click("#leave")
+    browser.click("#leaving-go")
+    browser.wait_shown("#sign-in")
+    time.sleep(0.5)
+    looked = browser.run("return Date.now()")
+    for tab in (browser.driver.current_window_handle, first):
+        browser.driver.switch_to.window(tab)
+        browser.wait(lambda: browser.find("#sign-in").is_displayed())
+        assert [text for text in ("Corner", "Rice", ANNA) if text in browser.run(WHOLE)] == []
+    assert browser.run("return window.left") < looked  # (not because somebody looks at it)
+    assert browser.run_until(LEFT) == {"lists": ["items"], "queue": [], "session": []}
+    phone.give_key(BENO)
+    for tab in reversed(browser.driver.window_handles):
+        browser.driver.switch_to.window(tab)
+        browser.wait_text("#list", "Market hall")
+        assert "Corner" not in browser.run(WHOLE)
+
+
+def test_lists_that_come_behind_a_sign_out_arent_kept(phone: Phone, stage: Stage) -> None:
+    """Another tab signed out while the office was being asked."""
+    phone.sign_in()
+    before = len(stage.relay.seen)
+    with stage.standing_still():
+        phone.send()
+        phone.browser.wait(lambda: len(stage.relay.seen) > before, "the office is asked")
+        phone.browser.run_until(FORGOTTEN)
+    phone.browser.wait(lambda: len(stage.relay.seen) >= before + 2, "both lists are asked for")
+    phone.send()
+    phone.browser.wait_shown("#sign-in")
+    assert phone.browser.run_until(LEFT) == {"lists": ["items"], "queue": [], "session": []}
+
+
+def test_escape_in_the_question_signs_nobody_out(phone: Phone, stage: Stage) -> None:
+    leave_unsent(phone, stage)
     phone.press(Keys.ESCAPE)
     phone.browser.wait(lambda: not phone.browser.run("return document.getElementById('leaving').open"))
     assert "To be sent" in phone.told(1)
@@ -578,30 +797,40 @@ def test_by_keyboard_alone(phone: Phone, stage: Stage) -> None:
     assert focused("dataset.slot") == "2"
 
 
+def looked_at(browser: Browser) -> list[str]:
+    """What is wrong with what is seen now: for eyes and fingers, and on a phone for keys and at twice the size too."""
+    found = faults_of_page(browser)
+    if browser.run("return innerWidth") < 600:
+        found += [*faults_for_keys(browser), *faults_enlarged(browser)]
+    return found
+
+
 @pytest.mark.parametrize("width", [360, 1280])
-def test_it_can_be_read_and_touched(phone: Phone, width: int) -> None:
+def test_it_can_be_read_touched_and_enlarged(phone: Phone, width: int) -> None:
     browser = phone.browser
     browser.size(width, 740)
     phone.open()
     browser.wait_shown("#sign-in")
-    assert faults_of_page(browser) == []
+    assert looked_at(browser) == []
     phone.sign_in()
     phone.show("all")
     phone.enter(1, "3.21")
     phone.wait_told(1, f"Receipt {NEXT}")
-    assert faults_of_page(browser) == []
+    assert looked_at(browser) == []
     phone.show("quotes")
-    assert faults_of_page(browser) == []
+    assert looked_at(browser) == []
     phone.show("all")
     phone.edit(1)
-    assert faults_of_page(browser) == []
+    assert looked_at(browser) == []
+    browser.click('#entry input[value="missing"]')
+    assert looked_at(browser) == []
     browser.click("#entry-cancel")
     phone.enter(2, "99")
     browser.wait_text("#entry-refusal", "far from")
-    assert faults_of_page(browser) == []
+    assert looked_at(browser) == []
     browser.click("#entry-cancel")
     browser.click("#leave")
-    assert faults_of_page(browser) == []
+    assert looked_at(browser) == []
 
 
 def test_the_page_can_be_put_on_the_phones_first_screen(phone: Phone) -> None:

@@ -9,7 +9,7 @@ import pytest
 
 from browser import Browser
 from offices import DESK, SCRIPT
-from readable import faults_of_page
+from readable import faults_enlarged, faults_for_keys, faults_of_page
 from stage import Stage
 
 
@@ -30,9 +30,9 @@ def ticked(browser: Browser, *codes: str) -> None:
 def test_the_latest_figures(browser: Browser) -> None:
     opened(browser)
     assert browser.text("#latest-title") == "All items, February 2011"
+    assert re.search(r"^Published 1 Jan 1970, 0[01]:08 \S+, revision 2\.$", browser.text("#latest-published"))
     figures = {name: browser.text(f"#latest-{name}") for name in ("year", "month", "level")}
     assert figures == {"year": "–", "month": "2.3 %", "level": "104.8"}
-    assert "revision 2" in browser.text("#latest-published")
     assert browser.text("#latest-base") == "index, December 2010 = 100"
 
 
@@ -55,7 +55,8 @@ def test_each_figure_is_the_offices(browser: Browser, stage: Stage) -> None:
             wanted.append([code, title, weight, within, chained, on_month, on_year, imputed])
         rows = browser.run(CELLS)
         assert len(rows) == 8
-        assert [[cell.replace("−", "-").replace("–", "-") or "." for cell in row] for row in rows] == wanted
+        shown = [[cell.replace("−", "-").replace("–", "-") or "." for cell in row] for row in rows]
+        assert [[code, title, weight.replace(",", ""), *rest] for code, title, weight, *rest in shown] == wanted
 
 
 def test_texts_of_the_office_are_shown_as_texts(browser: Browser) -> None:
@@ -132,6 +133,22 @@ def test_a_table_under_embargo_isnt_on_the_page(browser: Browser, stage: Stage) 
     assert "March 2011" not in browser.text("body")
 
 
+def test_a_table_is_on_the_page_that_is_opened_at_its_moment(browser: Browser, stage: Stage) -> None:
+    """Who waits before the page loads it anew: it has the table two seconds after the moment, in this browser too."""
+    moment = int(time.time()) + 4
+    rows = f"calendar,2011-03,6000,7000,{moment}\nfreeze,2011-03,01.1.1.1-01,01.1.1.2-01\n"
+    assert stage.ask("POST", "/api/import", DESK, rows).reply == {"rows": [{"done": True}] * 2}
+    opened(browser)
+    if time.time() < moment:  # (a busy machine may be late)
+        assert browser.text("#latest-title") == "All items, February 2011"
+    browser.open("/api/table/2011-03/csv/1")
+    time.sleep(max(0.0, moment + 2 - time.time()))
+    opened(browser)
+    assert browser.text("#latest-title") == "All items, March 2011"
+    browser.open("/api/table/2011-03/text/1")
+    assert browser.text("body").startswith("CPI 2011-03\n")
+
+
 def test_before_the_first_table_the_page_says_so(browser: Browser, stage: Stage) -> None:
     stage.stop_office()
     for path in stage.folder.glob("office.db*"):
@@ -150,17 +167,18 @@ def test_the_page_waits_for_an_office_that_is_away(browser: Browser, stage: Stag
 
 
 @pytest.mark.parametrize("width", [360, 1280])
-def test_it_can_be_read_and_touched(browser: Browser, width: int) -> None:
+def test_it_can_be_read_touched_and_enlarged(browser: Browser, width: int) -> None:
     opened(browser, width)
     browser.choose("depth", "5")
     browser.click("details summary")
-    assert faults_of_page(browser) == []
+    assert [*faults_of_page(browser), *faults_for_keys(browser)] == []
     wide = "return [...document.querySelectorAll('.wide')].filter((one) => one.scrollWidth > one.clientWidth).length"
     assert browser.run(wide) == 0
+    assert faults_enlarged(browser) == []
 
 
 def test_the_first_page_leads_to_each_other(browser: Browser) -> None:
     browser.open("/")
-    assert faults_of_page(browser) == []
+    assert [*faults_of_page(browser), *faults_for_keys(browser), *faults_enlarged(browser)] == []
     links = [str(link.get_attribute("href")) for link in browser.all("main a")]
     assert [re.sub(r"^https://[^/]+", "", link) for link in links] == ["/tables/", "/collect/", "/desk/"]

@@ -138,12 +138,15 @@ def test_the_commands_of_the_guide_are_its_words() -> None:
         (["--address", "203.0.113.9"], 1, "ops/try: 203.0.113.9 is no address of this machine: "),
         (["--db", "/nowhere/office.db"], 1, "ops/try: /nowhere/office.db: No such file or directory"),
         (["--program", "/nowhere/cpi"], 1, "ops/try: /nowhere/cpi, named by --program, is no program"),
-        (["--port", "x"], 2, "ops/try: argument --port: x isn't a whole number from 1 on"),
+        (["--zone", "CET"], 1, "ops/try: --zone CET: cpi: bad zone"),
+        (["--db", str(TRY)], 1, "ops/try: /"),  # (it is no office)
+        (["--port", "x"], 2, "ops/try: argument --port: x is no port: 1 to 65535"),
+        (["--port", "65536"], 2, "ops/try: argument --port: 65536 is no port: 1 to 65535"),
         (["--other"], 2, "ops/try: unrecognized arguments: --other"),
     ],
 )
 def test_what_is_wrong_is_one_line(words: list[str], status: int, told: str, tmp_path: Path) -> None:
-    given = [str(TRY), "--folder", str(tmp_path / "try"), *words]
+    given = [str(TRY), "--folder", str(tmp_path / "try"), "--port", str(free_port()), *words]
     ran = subprocess.run(given, capture_output=True, text=True, timeout=SECONDS, check=False)
     assert (ran.returncode, ran.stderr.count("\n")) == (status, 1), ran.stderr
     assert ran.stderr.startswith(told)

@@ -1,0 +1,186 @@
+"""The tables of examples/national by the formulas of the Consumer Price Index Manual (2020), in fractions.
+
+Only the rounding is that of docs/OFFICE.md.
+"""
+
+from __future__ import annotations
+
+import collections
+from collections.abc import Iterable, Iterator
+from fractions import Fraction
+from typing import NamedTuple, Optional
+
+from .nation import Place, Quote, Survey, data, previous, year_before
+
+MILLIONTHS = 10**6
+TICKS = 10_000  # a minor unit
+
+
+class Kept(NamedTuple):
+    """The carried price of a series."""
+
+    price: Fraction
+    scale: Fraction
+    is_imputed: bool
+
+
+Prices = dict[Place, Kept]
+Quotes = dict[Place, Quote]
+Levels = dict[str, Fraction]
+
+
+class Row(NamedTuple):
+    """A row of a table: index, chained index, changes on the month and on the year."""
+
+    code: str
+    weight: int
+    within: Fraction
+    level: Fraction
+    monthly: Optional[Fraction]
+    annual: Optional[Fraction]
+    is_imputed: bool
+    title: str
+
+
+class Month(NamedTuple):
+    """The table of a month, and the aggregates that had to be carried."""
+
+    rows: list[Row]
+    carry: list[str]
+
+
+def nearest(number: Fraction, parts: int) -> Fraction:
+    """The nearest number that is whole in so many parts of one; a half goes up."""
+    up, down = 2 * parts * number.numerator + number.denominator, 2 * number.denominator
+    return Fraction(up // down, parts)
+
+
+def total(prices: Iterable[Fraction]) -> Fraction:
+    """The sum of prices that are whole in ticks."""
+    return Fraction(sum(price.numerator * (TICKS // price.denominator) for price in prices), TICKS)
+
+
+class Year:
+    """A year's aggregates with their weights in use, samples and base prices, and the link level of each node."""
+
+    def __init__(self, survey: Survey, year: int, before: Prices, levels: dict[str, Levels]) -> None:
+        column, december = f"weight_{year}", f"{year - 1}-12"
+        self.titles = {row["code"]: row["title"] for row in data("basket")}
+        self.weights = {row["code"]: int(row[column]) for row in data("basket") if row[column]}
+        self.links = levels.get(december, {})
+        self.samples: dict[str, list[Place]] = {code: [] for code in self.weights}
+        reference = {row["year"]: row["reference"] for row in data("plans")}[str(year)]
+        if reference:
+            self.weights = {code: self.moved(code, levels[reference]) for code in self.weights}
+        self.base: Prices = {}
+        for place, (item, _, last) in sorted(survey.series.items()):
+            code, quote = survey.items[item]["aggregate"], survey.quotes[december].get(place)
+            base = before.get(place)
+            if quote and quote.price is not None:
+                base = Kept(Fraction(quote.price), Fraction(1), False)
+            if base and last >= f"{year}-01" and code in self.weights:
+                self.samples[code].append(place)
+                self.base[place] = base
+        self.nodes: dict[str, list[str]] = collections.defaultdict(list)  # the aggregates below each node
+        for code in self.weights:
+            for end in (2, 4, 6, 8, 11):
+                self.nodes[code[:end]].append(code)
+            self.nodes["00"].append(code)
+
+    def moved(self, code: str, then: Levels) -> int:
+        """The weight of an aggregate, moved by its prices from the reference month to the link month."""
+        return int(nearest(self.weights[code] * self.links[code] / then[code], 1))
+
+    def carry(self, code: str, kept: Prices, now: Quotes, before: Quotes) -> tuple[Prices, bool]:
+        """The carried prices of one aggregate, and whether there was nothing to move a missing one by."""
+        found: Prices = {}
+        lacking: list[tuple[Place, Optional[int]]] = []
+        for place in self.samples[code]:
+            quote = now.get(place)
+            if quote and quote.price is not None and quote.mark in ("price", "comparable"):
+                scale = kept[place].scale
+                found[place] = Kept(nearest(quote.price * scale, TICKS), scale, False)
+            else:
+                lacking.append((place, quote.price if quote else None))
+        matched = [place for place in found if place in before and before[place].price is not None]
+        movement = Fraction(1)
+        if matched:
+            movement = total(found[at].price for at in matched) / total(kept[at].price for at in matched)
+        for place, price in lacking:
+            imputed = nearest(kept[place].price * movement, TICKS)
+            found[place] = Kept(imputed, imputed / price if price else kept[place].scale, True)
+        return found, bool(lacking and not matched)
+
+    def dutot(self, code: str, kept: Prices) -> Fraction:
+        """The mean price now over the mean base price."""
+        sample = self.samples[code]
+        now, base = (total(prices[at].price for at in sample) for prices in (kept, self.base))
+        return nearest(100 * now / base, MILLIONTHS)
+
+    def rows(self, kept: Prices, flags: dict[str, bool], levels: dict[str, Levels], month: str) -> Iterator[Row]:
+        """Code, weight, index, level, the levels that changes are against, whether something was imputed, title."""
+        indices = {code: self.dutot(code, kept) for code in self.weights}
+        for node in sorted(self.nodes):
+            below = self.nodes[node]
+            weight = sum(self.weights[code] for code in below)
+            summed = sum((self.weights[code] * indices[code] for code in below), Fraction())
+            within = nearest(summed / weight, MILLIONTHS)
+            link = self.links.get(node, Fraction(100))
+            level = nearest(link * within / 100, MILLIONTHS)
+            monthly = link if month.endswith("-01") else levels[previous(month)][node]
+            annual = link if month.endswith("-12") else levels.get(year_before(month), {}).get(node)
+            is_imputed = any(flags[code] for code in below)
+            changes = change(monthly, level), change(annual, level)
+            yield Row(node, weight, within, level, *changes, is_imputed, self.titles[node])
+
+
+def change(before: Fraction | None, now: Fraction) -> Fraction | None:
+    """In percent, rounded to a tenth; a fall as a rise of its size."""
+    if before is None:
+        return None
+    size = nearest(100 * abs(now - before) / before, 10)
+    return size if now >= before else -size
+
+
+def tables(survey: Survey) -> dict[str, Month]:
+    """By month: the rows of the table, and the aggregates that had to be carried."""
+    year: Year | None = None
+    kept: Prices = {}
+    levels, found = dict[str, Levels](), dict[str, Month]()
+    for month in survey.months[1:]:
+        if month.endswith("-01"):
+            year = Year(survey, int(month[:4]), dict(kept), levels)
+            kept = year.base
+        assert year
+        carried: Prices = {}
+        flags, carry = dict[str, bool](), list[str]()
+        for code in sorted(year.weights):
+            own, is_idle = year.carry(code, kept, survey.quotes[month], survey.quotes[previous(month)])
+            carried.update(own)
+            flags[code] = any(it.is_imputed for it in own.values())
+            carry += [code] if is_idle else []
+        kept = carried
+        rows = list(year.rows(kept, flags, levels, month))
+        levels[month] = {row.code: row.level for row in rows}
+        found[month] = Month(rows, carry)
+    return found
+
+
+def moving(found: dict[str, Month]) -> Iterator[str]:
+    """What is wrong with the weights of the first Januaries: by months, the sums of all items."""
+    sums = [found[month].rows[0].weight for month in sorted(found) if month.endswith("-01")]
+    if [total == 1_000_000 for total in sums] != [True, False]:
+        yield f"the weights add up to {sums}"
+
+
+def printed(row: Row) -> list[str]:
+    """The fields of a row as the office prints them."""
+    points = [f"{int(it)}.{int(it * MILLIONTHS) % MILLIONTHS:06}" for it in (row.within, row.level)]
+    changes = [tenths(row.monthly), tenths(row.annual)]
+    return [row.code, str(row.weight), *points, *changes, str(int(row.is_imputed)), row.title]
+
+
+def tenths(number: Fraction | None) -> str:
+    if number is None:
+        return ""
+    return f"{'-' if number < 0 else ''}{abs(number * 10) // 10}.{abs(number * 10) % 10}"

@@ -1,0 +1,71 @@
+"""Files of offices that another program has changed: refused by a line and left as they are, or read in part."""
+
+from __future__ import annotations
+
+import os
+import tempfile
+from collections.abc import Callable, Sequence
+
+from .cases import content
+from .filed import QUOTE
+from .harness import Fault
+from .program import Program, failed
+from .stored import change
+
+Begin = Callable[[Program, str], str]
+"""What makes a file in a folder."""
+
+Way = list[str]
+"""Statements that change a file."""
+
+OTHER_VERSIONS: list[Way] = [
+    *([f"UPDATE version SET number = {number}"] for number in (0, 3, 9)),
+    ["INSERT INTO version VALUES (3)"],
+    ["DELETE FROM version"],
+    ["DROP TABLE version", "CREATE TABLE version (number TEXT NOT NULL) STRICT", "INSERT INTO version VALUES ('2')"],
+]
+OTHER_LEVEL = ["DROP TABLE level", "CREATE TABLE level (month INTEGER NOT NULL, code TEXT NOT NULL) STRICT"]
+
+# Rows of the tables of both schemas that can't be in an office.
+NO_ROWS: list[Way] = [
+    ["DELETE FROM outlet"],
+    ["DELETE FROM collector"],
+    ["DELETE FROM item WHERE code = 'RICE'"],
+    ["UPDATE outlet SET name = ''"],
+    ["UPDATE collector SET key = 'none'"],
+    ["UPDATE item SET low = 0 WHERE code = 'FLOUR'"],
+    ["UPDATE calendar SET closes = opens WHERE month = 202601"],
+    ["UPDATE calendar SET month = 202613 WHERE month = 202602"],
+]
+
+
+def opened(program: Program, path: str, line: str) -> Fault:
+    """What is wrong with a replay over a path that can't be opened: one line, status 1, nothing read, and the file as
+    it was."""
+    before = content(path) if os.path.isfile(path) else None
+    ran = program.replay(QUOTE, path)
+    if ran != failed(line):
+        return f"{os.path.basename(path)}: {ran}"
+    is_same = before is None or content(path) == before
+    return None if is_same else f"{os.path.basename(path)}: the file has changed"
+
+
+def opened_each(program: Program, room: str, ways: Sequence[Way], line: str, *begins: Begin) -> Fault:
+    """The same for each of some ways to change each of some files."""
+    for begin in begins:
+        for way in ways:
+            with tempfile.TemporaryDirectory(dir=room) as inner:
+                path = begin(program, inner)
+                change(path, way)
+                fault = opened(program, path, line)
+                if fault:
+                    return f"{begin.__name__}, {way}: {fault}"
+    return None
+
+
+def read_in_part(program: Program, path: str, record: bytes) -> Fault:
+    """What is wrong, if not that record alone is refused by 90."""
+    ran = program.replay(b"5000,public,tables\n" + record + b"5000,public,items\n", path)
+    lines = ran.out.split(b"\n")
+    is_right = lines[1:2] == [b'{"refused":90}'] and b"tables" in lines[0] and b"items" in lines[2]
+    return None if is_right and not ran.status else f"{ran}"

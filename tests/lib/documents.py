@@ -1,0 +1,330 @@
+"""What a document owes besides commands that run: a layout within bounds, and names of things that are there.
+
+`layout_faults`  no paragraph, list item or cell of a table is too long to read; README is two screens.
+`name_faults`    each path, and each name of code, stands in the repository.
+`claim_faults`   where a function is named with its clauses, or a definition with its file, it has them.
+`promise_faults` each sentence of PROMISE names the heading of PROOF that carries it.
+`script_faults`  each script of a folder has its line in the folder's README.
+`index_faults`   each decision stands once, and in the index at its section.
+`running_faults` RUNNING tells what the shipped program needs, and what to do at each line of a fault.
+`example_faults` the example of FORMATS is the case of tests/cases that it names.
+
+Each answers lines, none where nothing is wrong.
+"""
+
+from __future__ import annotations
+
+import json
+import re
+from collections.abc import Iterator
+from dataclasses import dataclass, field
+from functools import lru_cache
+from pathlib import Path
+
+ROOT = Path(__file__).resolve().parents[2]
+FENCED = re.compile(r"^```.*?^```$", re.S | re.M)
+INDENTED = re.compile(r"(?<=\n\n)(?: {4}.*\n)+")
+QUOTED = re.compile(r"`([^`]+)`")
+MOST_OF_PARAGRAPH, MOST_OF_CELL = 600, 160
+# (of FORMATS the cells are what is printed, column by column)
+WIDE_TABLES = {"docs/FORMATS.md"}
+
+
+def prose(text: str) -> str:
+    """The text without its commands, fenced or indented."""
+    return INDENTED.sub("", FENCED.sub("", text))
+
+
+def seen(text: str) -> str:
+    """The text as a reader sees it: a link without where it leads."""
+    return re.sub(r"\]\([^)]*\)", "]", " ".join(text.split()))
+
+
+# ---- the layout
+
+
+def cells(line: str) -> list[str]:
+    return [it.strip() for it in re.split(r"(?<!\\)\|", line.strip().strip("|"))]
+
+
+def paragraphs(text: str) -> Iterator[tuple[bool, str]]:
+    """Each paragraph, list item or row of a table, and whether it is a row."""
+    for block in re.split(r"\n\s*\n", prose(text)):
+        if block.lstrip().startswith("|"):
+            yield from ((True, line) for line in block.strip().splitlines())
+        else:
+            yield from ((False, it) for it in re.split(r"\n(?=\s*(?:[-*]|\d+\.)\s)", block))
+
+
+def layout_faults(name: str, text: str) -> Iterator[str]:
+    for is_row, part in paragraphs(text):
+        if is_row and name not in WIDE_TABLES:
+            wide = [it for it in map(seen, cells(part)) if len(it) > MOST_OF_CELL]
+            yield from (f"a cell of {len(it)} characters: {it[:60]}.." for it in wide)
+        elif not is_row and len(seen(part)) > MOST_OF_PARAGRAPH:
+            yield f"a paragraph of {len(seen(part))} characters: {seen(part)[:60]}.."
+    if name == "README.md":
+        yield from readme_faults(text)
+
+
+def readme_faults(text: str) -> Iterator[str]:
+    lines = text.splitlines()
+    if len(lines) > 110:
+        yield f"{len(lines)} lines, where 110 are two screens"
+    yield from (f"a line of {len(it)} characters: {it[:60]}.." for it in lines if len(it) > 300)
+    rows = [part for is_row, part in paragraphs(text) if is_row]
+    yield from (f"a cell of {len(it)} characters: {it[:60]}.." for row in rows for it in cells(row) if len(it) > 90)
+
+
+# ---- the code
+
+
+@dataclass
+class Code:
+    """What is declared in crates/."""
+
+    # the clauses of each public function, by its name, plain and behind its type, and by its crate
+    clauses: dict[str, dict[str, set[str]]] = field(default_factory=dict)
+    # the definitions of each file of a specs/
+    definitions: dict[str, set[str]] = field(default_factory=dict)
+    # every name of any of these, of types, variants, fields and modules
+    names: set[str] = field(default_factory=set)
+
+    def add(self, crate: str, names: list[str], clauses: set[str]) -> None:
+        for name in names:
+            self.clauses.setdefault(name, {}).setdefault(crate, set()).update(clauses)
+            self.names.add(name)
+        self.names.update(clauses)
+
+
+# (what a trait has, and what is of one, is public)
+OWNER = re.compile(r"^(?:pub )?(?:impl(?:<.*?>)? ([\w<>:, ]+ for )?|(trait ))(\w+)")
+FUNCTION = re.compile(r"^\s*(pub )?(?:pub\(crate\) )?fn (\w+)")
+CLAUSE = re.compile(r"^\s*ensures\*? (\w+) \{")
+DECLARED = re.compile(r"^\s*(?:pub(?:\(crate\))? )?(?:struct|enum|trait|type|const|ghost|mod|fn) (\w+)")
+VARIANT = re.compile(r"^ {4}(?:pub )?(\w+)(?:,|\(| \{|:)")
+DEFINITION = re.compile(r"^\s*(?:\w+ )*pub (?:(?:abbrev|record|data) )?([\w.]+)")
+
+
+def read_code(code: Code, crate: str, lines: list[str]) -> None:
+    """A file of a crate's src/: a function's head goes on to the brace of its body, or to its end."""
+    owner, is_open, names, clauses = "", False, list[str](), set[str]()
+    for line in lines:
+        if found := OWNER.match(line):
+            owner, is_open = found[3], bool(found[1] or found[2])
+        elif line == "}":
+            owner, is_open = "", False
+        if (found := FUNCTION.match(line)) and (found[1] or is_open):
+            names, clauses = [found[2], *([f"{owner}::{found[2]}"] if owner else [])], set()
+        elif found := CLAUSE.match(line):
+            clauses.add(found[1])
+        for pattern in DECLARED, VARIANT:
+            code.names.update(pattern.findall(line))
+        if names and (line.strip() in ("{", "{}") or line.endswith((";", ") {", "> {"))):
+            code.add(crate, names, clauses)
+            names = []
+
+
+@lru_cache(maxsize=1)
+def the_code() -> Code:
+    code = Code()
+    for path in sorted(ROOT.glob("crates/*/src/**/*.rt")):
+        crate = path.relative_to(ROOT / "crates").parts[0]
+        code.names.update((crate, path.stem))
+        read_code(code, crate, path.read_text(encoding="utf-8").splitlines())
+    for path in sorted(ROOT.glob("crates/*/specs/**/*.antt")):
+        found = {it[1] for line in path.read_text(encoding="utf-8").splitlines() if (it := DEFINITION.match(line))}
+        code.definitions[str(path.relative_to(ROOT / "crates"))] = found
+        code.names.update(found)
+    return code
+
+
+# ---- what is said of the code
+
+TOKEN = re.compile(r"`([^`]+)`|\b(clause|part)s?(?= `)|\bby(?= `)|[;:.](?= )")
+
+
+def claims(part: str) -> Iterator[tuple[str, list[str]]]:
+    """The names of a sentence, by what they are said to be: functions, clauses, and the definitions of a file."""
+    kind, names = "function", list[str]()
+    for quoted, word in TOKEN.findall(part):
+        if quoted.endswith(".antt"):
+            yield quoted, names
+            kind, names = "function", []
+        elif quoted:
+            names.append(quoted)
+        else:
+            yield kind, names
+            kind, names = word or "function", []
+    yield kind, names
+
+
+def claim_faults(text: str, code: Code) -> Iterator[str]:
+    """What isn't so of sentences like: `f` and `g`, clause `c`; `D` in `crate/specs/File.antt`."""
+    functions: list[str] = []
+    for is_row, part in paragraphs(text):
+        # (an item that names no function goes on from the one before)
+        functions = [] if is_row else functions
+        for kind, names in claims(part):
+            if kind == "function":
+                functions = [it for it in names if it in code.clauses] or functions
+            elif kind == "clause":
+                yield from (f"{c} is a clause of no function" for c in names if not functions)
+                yield from (f"{it} has no clause {c}" for it in functions for c in names if not has_clause(code, it, c))
+            elif kind.endswith(".antt"):
+                there = code.definitions.get(kind, set())
+                yield from (f"{it} isn't in {kind}" for it in names if it not in there)
+
+
+def has_clause(code: Code, function: str, clause: str) -> bool:
+    return any(clause in clauses for clauses in code.clauses[function].values())
+
+
+# ---- names of things that are there
+
+NAME = re.compile(r"^\w+(?:::\w+)?$")
+PATH = re.compile(r"^[\w.*-]+(?:/[\w.*-]+)*/?$")
+SUFFIXES = (".rt", ".antt", ".py", ".js", ".md", ".conf", ".c", ".cpp")
+# what a path begins with that is told as one of ours
+TOPS = re.compile(r"^(?:crates|docs|tests|bench|examples|ops|tools|web|src|specs|proofs|must-fail|cpi_\w+)/")
+# a path with a word that stands for any, or to what is built
+EXAMPLE = re.compile(r"\b[A-Z]{4,}\b|/out/")
+# programs and packages of others, beginnings of names, and words
+OUTSIDE = {
+    *("xz", "pytest", "jinja2", "openpyxl", "sqlite3", "cc", "curl", "objdump"),
+    *("fn", "returns", "_open", "_writes", "_reads", "UTC0"),
+}
+
+
+@lru_cache(maxsize=1)
+def files() -> list[Path]:
+    """Each file and folder of the repository, but for what was built or written."""
+    left_out = {".git", "out", "__pycache__"}
+    return [it for it in sorted(ROOT.rglob("*")) if not left_out & set(it.relative_to(ROOT).parts)]
+
+
+def found_path(quoted: str, base: Path) -> Path | None:
+    """Where a path leads: beside the one before it, from the top, from crates/ or from a crate.
+
+    A file's name alone, but of a definition or of code, may stand in any folder.
+    """
+    for folder in (base, base.parent, ROOT, ROOT / "crates"):
+        if found := next(folder.glob(quoted.rstrip("/")), None):
+            return found
+    if "*" in quoted:
+        return next(ROOT.glob(f"crates/*/{quoted}"), None)
+    if quoted.endswith((".rt", ".antt")):
+        return None
+    return next((it for it in files() if it.match(quoted.rstrip("/"))), None)
+
+
+def is_path(quoted: str) -> bool:
+    is_ours = TOPS.match(quoted) or ("/" not in quoted and quoted.endswith(SUFFIXES))
+    return bool(PATH.match(quoted) and is_ours and not EXAMPLE.search(quoted))
+
+
+def path_faults(text: str) -> Iterator[str]:
+    for _, part in paragraphs(text):
+        base = ROOT
+        for quoted in QUOTED.findall(part):
+            if (ROOT / "crates" / quoted).is_dir() and "/" not in quoted:
+                base = ROOT / "crates" / quoted
+            elif is_path(quoted):
+                found = found_path(quoted, base)
+                if found is None:
+                    yield f"there is no {quoted}"
+                else:
+                    base = found if found.is_dir() else found.parent
+
+
+@lru_cache(maxsize=1)
+def other_names() -> set[str]:
+    """Names of modules, scripts and crates of the toolchain."""
+    names = set(re.findall(r"\w+", (ROOT / "crates.txt").read_text(encoding="utf-8"))) | OUTSIDE
+    return names | {it.stem for it in files() if it.relative_to(ROOT).parts[0] in ("tools", "web", "tests")}
+
+
+def name_faults(text: str, code: Code) -> Iterator[str]:
+    known = code.names | other_names()
+    for quoted in QUOTED.findall(prose(text)):
+        if NAME.match(quoted) and quoted not in known and not ("::" in quoted and set(quoted.split("::")) <= known):
+            yield f"{quoted} is declared nowhere"
+
+
+# ---- what single documents owe
+
+
+def promise_faults(text: str) -> Iterator[str]:
+    items = (part for _, part in paragraphs(text) if part.lstrip().startswith("- "))
+    yield from (f"no heading of PROOF carries: {seen(it)[:60]}.." for it in items if "](PROOF.md#" not in it)
+
+
+def script_faults(folder: Path, text: str) -> Iterator[str]:
+    scripts = [it.name for it in sorted(folder.iterdir()) if it.is_file() and it.stat().st_mode & 0o111]
+    yield from (f"no word of the script {it}" for it in scripts if not re.search(rf"[`/\[]{re.escape(it)}\b", text))
+
+
+def example_faults(text: str) -> Iterator[str]:
+    """Its blocks are the records of the case, and what its last two records print."""
+    example = text[text.index("### An example") :]
+    named = re.search(r"The case `(\S+)`", example)
+    if not named:
+        yield "it names no case as its example"
+        return
+    case = ROOT / named[1]
+    replies = (case / "stdout").read_text(encoding="utf-8").splitlines()
+    wanted = [(case / "stdin").read_text(encoding="utf-8"), *(json.loads(it)["table"] for it in replies[-2:])]
+    shown = [it.split("\n", 1)[1][:-3] for it in FENCED.findall(example)[:3]]
+    yield from (f"its block {at} isn't that of {case.name}" for at in range(3) if shown[at] != wanted[at])
+
+
+def running_faults(text: str) -> Iterator[str]:
+    """What the shipped program needs is told, and what to do at each line of a fault."""
+    made = (ROOT / "dist/MADE").read_text(encoding="utf-8") if (ROOT / "dist/MADE").exists() else ""
+    needed = re.findall(r"^machine: (\S+)$|\b(GLIBC_[\d.]+)", made, re.M)
+    yield from (f"no word of {it}, which dist/MADE names" for pair in needed for it in pair if it and it not in text)
+    formats = (ROOT / "docs/FORMATS.md").read_text(encoding="utf-8")
+    row = re.search(r"^\| 1 \| .*$", formats.partition("\n## The program\n")[2], re.M)
+    told = re.findall(r"`cpi: [^`]*`", row[0] if row else "")
+    yield from (f"no word of {it}, which FORMATS has" for it in told or ["the lines of faults"] if it not in text)
+
+
+DECISION = re.compile(r"^\*\*(\d+)\. ", re.M)
+
+
+def index_faults(text: str) -> Iterator[str]:
+    """Each decision has a number of its own, and the index at the top has it at its section."""
+    sections = {it.split("\n", 1)[0]: set(DECISION.findall(it)) for it in text.split("\n### ")[1:]}
+    for section, told in re.findall(r"^- \[(.*?)\]\(#.*?\): (.*)$", text, re.M):
+        ends = [it.split(" to ") for it in told.split(", ")]
+        numbers = {str(it) for pair in ends for it in range(int(pair[0]), int(pair[-1]) + 1)}
+        if numbers != sections.pop(section, None):
+            yield f"the index has other numbers of {section} than the section"
+    yield from (f"the index has no {section}" for section in sections)
+    every = sorted(map(int, DECISION.findall(text)))
+    if every != [*range(1, 1 + len(every))]:
+        yield "a number is missing, or stands twice"
+
+
+NAMED = {"README.md", *(f"docs/{it}.md" for it in ("PROOF", "AUDIT", "ARCHITECTURE", "CHANGING"))}
+CLAIMING = {"README.md", "docs/PROOF.md", "docs/AUDIT.md"}
+ALONE = {
+    "docs/DECISIONS.md": index_faults,
+    "docs/FORMATS.md": example_faults,
+    "docs/PROMISE.md": promise_faults,
+    "docs/RUNNING.md": running_faults,
+}
+
+
+def document_faults(name: str, text: str) -> Iterator[str]:
+    """What is wrong with a document, by its name from the top of the repository."""
+    yield from layout_faults(name, text)
+    yield from path_faults(text)
+    if name in NAMED:
+        yield from name_faults(text, the_code())
+    if name in CLAIMING:
+        yield from claim_faults(text, the_code())
+    if name in ALONE:
+        yield from ALONE[name](text)
+    if name in ("tests/README.md", "bench/README.md"):
+        yield from script_faults((ROOT / name).parent, text)

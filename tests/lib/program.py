@@ -1,0 +1,130 @@
+"""The program that is tried: its runs, and what a run may have of memory and of the disk."""
+
+from __future__ import annotations
+
+import contextlib
+import resource
+import signal
+import subprocess
+import threading
+from collections.abc import Callable, Sequence
+from typing import IO, Any, NamedTuple
+
+
+class Ran(NamedTuple):
+    """How a run ended: its status, standard output and standard error."""
+
+    status: int
+    out: bytes
+    err: bytes
+
+    def __str__(self) -> str:
+        return f"status {self.status}, {self.out[:160]!r}, {self.err[:160]!r}"
+
+    def lines(self) -> list[bytes]:
+        """What was written, by lines without their ends; what stands behind the last end is none."""
+        return self.out.split(b"\n")[:-1]
+
+
+WELL = Ran(0, b"", b"")
+"""A run that writes nothing, and has no fault."""
+
+
+def failed(line: str) -> Ran:
+    """A run that writes nothing but the line of its fault."""
+    return Ran(1, b"", f"cpi: {line}\n".encode())
+
+
+PATIENCE = 900
+"""How many seconds a run goes on at most."""
+
+
+class Going:
+    """A run that goes on, with pipes to it; where a `with` ends it is killed, if it is still there, and so it is after
+    `patience` seconds, so that nobody waits for it for ever."""
+
+    def __init__(self, words: Sequence[str], patience: float = PATIENCE, **how: Any) -> None:
+        how = {"stdin": subprocess.PIPE, "stdout": subprocess.PIPE, **how}
+        self.process: subprocess.Popen[bytes] = subprocess.Popen(words, **how)
+        self.timer = threading.Timer(patience, self.process.kill)
+        self.timer.daemon = True
+        self.timer.start()
+
+    def __enter__(self) -> Going:
+        return self
+
+    def __exit__(self, *_: object) -> None:
+        self.timer.cancel()
+        self.process.kill()
+        self.process.wait()
+        for pipe in (self.process.stdin, self.process.stdout, self.process.stderr):
+            if pipe:
+                with contextlib.suppress(BrokenPipeError):
+                    pipe.close()
+
+    @property
+    def given(self) -> IO[bytes]:
+        """The pipe to its standard input."""
+        assert self.process.stdin
+        return self.process.stdin
+
+    @property
+    def out(self) -> IO[bytes]:
+        """The pipe from its standard output."""
+        assert self.process.stdout
+        return self.process.stdout
+
+    def send(self, data: bytes) -> None:
+        """Sends it at once."""
+        self.given.write(data)
+        self.given.flush()
+
+    def line(self) -> bytes:
+        """The next line that it writes, with its end."""
+        return self.out.readline()
+
+    def end(self, seconds: float = 60) -> Ran:
+        """Ends its input, and gives what it wrote since it was read last, once it is at its end."""
+        out, err = self.process.communicate(timeout=seconds)
+        self.timer.cancel()
+        return Ran(self.process.returncode, out or b"", err or b"")
+
+
+class Program:
+    """A file that is run, such as cpi."""
+
+    def __init__(self, path: str) -> None:
+        self.path = path
+
+    def run(self, *words: str | bytes, given: bytes = b"", seconds: float = 300, **how: Any) -> Ran:
+        """A run with these words over this standard input; `how` goes to subprocess."""
+        how = {"stdout": subprocess.PIPE, "stderr": subprocess.PIPE, **how}
+        how = how if "stdin" in how else {"input": given, **how}
+        ran = subprocess.run([self.path, *words], timeout=seconds, check=False, **how)
+        return Ran(ran.returncode, ran.stdout or b"", ran.stderr or b"")
+
+    def replay(self, given: bytes = b"", db: str | None = None, *words: str, **how: Any) -> Ran:
+        """A replay of these records, in memory or over the file."""
+        return self.run("replay", *([] if db is None else ["--db", db]), *words, given=given, **how)
+
+    def begin(self, *words: str, **how: Any) -> Going:
+        """A run that goes on; `how` goes to subprocess."""
+        return Going([self.path, *words], **how)
+
+
+# ---- what is done in a process before it becomes the program
+
+
+def with_memory(size: int) -> Callable[[], None]:
+    """So many bytes of addresses."""
+    return lambda: resource.setrlimit(resource.RLIMIT_AS, (size, size))
+
+
+def with_disk(most: int) -> Callable[[], None]:
+    """Files of at most so many bytes; a write past that fails, and kills nobody."""
+
+    def limit() -> None:
+        signal.signal(signal.SIGXFSZ, signal.SIG_IGN)
+        resource.setrlimit(resource.RLIMIT_FSIZE, (most, most))
+
+    return limit

@@ -1,0 +1,150 @@
+"""An office that is served, and who talks to it: messages of HTTP/1.1, responses byte for byte, connections."""
+
+from __future__ import annotations
+
+import contextlib
+import socket
+import struct
+import subprocess
+from typing import Any, TypeVar
+
+from .program import PATIENCE, Program, Ran
+
+DESK = "d" * 31 + "e"
+"""The key of the desk."""
+
+S = TypeVar("S", bound="Served")
+
+SECONDS = 40
+"""How long a peer waits at most, and who waits for the end of the program."""
+
+
+def message(line: str, *fields: str, key: str | None = None, body: bytes | None = None, end: str = "\r\n") -> bytes:
+    """A message with these fields; it may bear a key, and the length of a body is told."""
+    lines = [f"{line} HTTP/1.1", *fields]
+    lines += [f"Authorization: CPI-Key {key}"] if key else []
+    lines += [] if body is None else [f"Content-Length: {len(body)}"]
+    return "".join(each + end for each in [*lines, ""]).encode() + (body or b"")
+
+
+def padded(size: int) -> bytes:
+    """A message whose head has so many bytes."""
+    start, end = b"GET /items HTTP/1.1\r\nX: ", b"\r\n\r\n"
+    return start + b"y" * (size - len(start) - len(end)) + end
+
+
+def response(status: str, body: str, media: str = "application/json", more: str = "") -> bytes:
+    """A response with this body, and perhaps one more field."""
+    head = f"HTTP/1.1 {status}\r\nContent-Type: {media}\r\nContent-Length: {len(body)}\r\nConnection: close\r\n"
+    return (head + more + "\r\n" + body).encode()
+
+
+def refused(status: str, number: int) -> bytes:
+    """The response of a refusal."""
+    return response(status, f'{{"refused":{number}}}\n')
+
+
+FULL = refused("503 Service Unavailable", 90)
+
+
+def free_port() -> int:
+    """A port of this machine that nobody listens at now."""
+    with socket.socket() as one:
+        one.bind(("127.0.0.1", 0))
+        port: int = one.getsockname()[1]
+        return port
+
+
+def words_of(path: str, port: int, limit: int, *more: str, key: str = DESK) -> list[str]:
+    """The words of cpi that serve a file for so many connections."""
+    return ["serve", "--db", path, "--port", str(port), "--desk-key", key, "--limit", str(limit), *more]
+
+
+def peer_of(port: int, is_narrow: bool = False) -> socket.socket:
+    """A connection; of a narrow one little goes out before the peer takes any."""
+    one = socket.socket()
+    if is_narrow:
+        one.setsockopt(socket.SOL_SOCKET, socket.SO_RCVBUF, 4096)
+        one.setsockopt(socket.IPPROTO_TCP, socket.TCP_MAXSEG, 536)
+    one.settimeout(SECONDS)
+    one.connect(("127.0.0.1", port))
+    return one
+
+
+def reset(peer: socket.socket) -> None:
+    """Lets a connection end by a reset once it is closed."""
+    peer.setsockopt(socket.SOL_SOCKET, socket.SO_LINGER, struct.pack("ii", 1, 0))
+
+
+def heard(peer: socket.socket) -> bytes:
+    """All that a peer is told from now on."""
+    return b"".join(iter(lambda: peer.recv(1 << 16), b""))
+
+
+def heard_until_reset(peer: socket.socket) -> bytes:
+    """The same, where the connection may be broken off."""
+    parts = []
+    with contextlib.suppress(ConnectionError):
+        while part := peer.recv(1 << 16):
+            parts.append(part)
+    return b"".join(parts)
+
+
+class Served:
+    """A program that serves a file, for so many connections; where a `with` ends it is killed, if it is still there."""
+
+    def __init__(self, program: Program, path: str, limit: int, *more: str, **how: Any) -> None:
+        for _ in range(5):
+            self.port = free_port()
+            words = words_of(path, self.port, limit, *more)
+            self.going = program.begin(*words, stderr=subprocess.PIPE, patience=PATIENCE + limit, **how)
+            self.first = self.going.line()
+            # (another program may have taken the port meanwhile)
+            if self.first or self.end().err != b"cpi: no port\n":
+                break
+
+    def __enter__(self: S) -> S:
+        return self
+
+    def __exit__(self, *_: object) -> None:
+        self.going.__exit__()
+
+    @property
+    def is_listening(self) -> bool:
+        """Whether its first line says so."""
+        return self.first == f"cpi: listening on 127.0.0.1:{self.port}\n".encode()
+
+    def peer(self, is_narrow: bool = False) -> socket.socket:
+        """A connection to it."""
+        if not self.is_listening:
+            raise OSError(f"the first line is {self.first!r}")
+        return peer_of(self.port, is_narrow)
+
+    def ask(self, text: bytes, ends: bool = False) -> bytes:
+        """The whole response to a message; the peer may end what it sends, and else keeps that open."""
+        with self.peer() as one:
+            one.sendall(text)
+            if ends:
+                one.shutdown(socket.SHUT_WR)
+            return heard(one)
+
+    def ask_until_reset(self, text: bytes, ends: bool = False) -> bytes:
+        """What is heard of the response to a message, where the connection may be broken off."""
+        with contextlib.suppress(ConnectionError), self.peer() as one:
+            one.sendall(text)
+            if ends:
+                one.shutdown(socket.SHUT_WR)
+            return heard_until_reset(one)
+        return b""
+
+    def ask_and_go(self, text: bytes) -> bytes:
+        """The first bytes of a long response to a message, whose peer resets the connection behind them."""
+        with self.peer(is_narrow=True) as one:
+            one.sendall(text)
+            begun = one.recv(8)
+            reset(one)
+        return begun
+
+    def end(self) -> Ran:
+        """Status, what was written after the first line, and the faults, once the program is at its end."""
+        return self.going.end(SECONDS)

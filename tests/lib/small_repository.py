@@ -1,0 +1,182 @@
+"""A small repository of five crates, with the scripts that start, build and ship the program, and stand-ins.
+
+The stand-in of `rt` builds a crate only where all below it is built, keeps the folders that it works in to itself as
+`rt` does, and writes down what it does.
+"""
+
+from __future__ import annotations
+
+import hashlib
+import lzma
+import os
+import shutil
+import subprocess
+import sys
+from pathlib import Path
+from typing import Any, NamedTuple
+
+TOP = Path(__file__).resolve().parents[2]
+SCRIPTS = ["cpi", "cpi-build", "test", "tools/setup", "tools/sources", "tools/dist", "tools/minutes.py"]
+TRIED = ["test_shipped_program.py", "test_cases.py"]
+"""The parts of ./test that are run as they are; the others have stand-ins."""
+
+CRATES = "low:\nleft: low\nright: low\ncpi: low left right # the program\ncpi_tests: low left right\n"
+KIT = "rattle-kit-0 logic 0123"
+# What the scripts call beside Python; so they find no real `rt`.
+TOOLS = """
+awk basename bash cat chmod cmp cp cut date dirname echo env find flock grep head mkdir mktemp mv nproc readlink
+realpath rm sed sh sha256sum sleep sort sync tail tee timeout touch tr true uname wc xargs xz
+"""
+
+# Words in the text of a crate tell the stand-in what to do: slow (never end, unless it was begun before), wrong (prove
+# nothing), moving (change the sources meanwhile), stuck (a gate that ends before it begins).
+RT = """#!/usr/bin/env bash
+set -eu
+below() { sed -n "s/#.*//; s/^$1: *//p" ../../crates.txt; }
+stamp() { for it in $1 $(below $1); do cat ../$it/src/*; done | sha256sum; }
+name=$(basename "$PWD")
+tell() { echo "$1 $name" >> "$RT_LOG"; }
+case $1 in
+version) echo "KIT" ;;
+ci)
+  if grep -q stuck crates/*/src/*; then echo "0 passed, 1 failed"; exit 2; fi
+  mkdir -p crates/cpi/out && cp /usr/bin/env crates/cpi/out/cpi
+  (exec -a rattle bash -c 'sleep 0.7; true' check --crate-name low)
+  echo "2 passed, 0 failed" ;;
+lib | run)
+  for it in $name $(below $name); do
+    exec {lock}< ../$it
+    flock -n $lock || { tell locked; exit 2; }
+  done
+  tell begins
+  for it in $(below $name); do
+    [ "$(cat ../$it/out/rlib/stamp)" = "$(stamp $it)" ] || { echo "$it isn't built"; exit 1; }
+  done
+  mkdir -p out/rlib
+  if grep -q moving src/*; then echo x >> ../low/src/lib.rt; fi
+  if grep -q wrong src/*; then echo "fn $name::f: not proved"; exit 1; fi
+  if [ "$(cat out/rlib/stamp 2> /dev/null)" = "$(stamp $name)" ]; then tell same; exit 0; fi
+  if grep -q slow src/* && [ ! -f out/waited ]; then
+    touch out/waited
+    for _ in {1..200}; do sleep 0.1; done
+    exit 3
+  fi
+  sleep 0.2
+  stamp $name > out/rlib/stamp
+  [ $1 = lib ] || { echo '#!/bin/bash'; echo "text='$(cat ../low/src/*)'"; cat "$PROGRAM"; } > out/cpi
+  [ $1 = lib ] || chmod +x out/cpi
+  tell built ;;
+esac
+""".replace(
+    "KIT", KIT
+)
+
+# What it says of a program that needs two libraries, of one of them symbols of two versions.
+OBJDUMP = """#!/usr/bin/env bash
+printf '  %-20s %s\\n' NEEDED libm.so.6 NEEDED libc.so.6 INIT 0x1000
+echo 'Version References:'
+echo '  required from libc.so.6:'
+printf '    0x0%d 0x00 0%d GLIBC_%s\\n' 1 2 2.4 3 4 2.34 5 6 2.14
+"""
+
+PROGRAM = """
+[ "$1" != --help ] || exit 0
+echo "$text: $# words"
+printf '<%s>' "$@"
+cat
+exit 7
+"""
+
+
+class Ran(NamedTuple):
+    status: int
+    out: str
+    err: str
+
+    def lines(self) -> list[str]:
+        return self.err.splitlines()
+
+    def is_refused(self, *words: str) -> bool:
+        """Whether it ended with one line, which has these words, and ran nothing."""
+        return (self.status, self.out, len(self.lines())) == (1, "", 1) and all(it in self.err for it in words)
+
+
+SHIPPED = Ran(7, "as shipped: 3 words\n<a b><><*>input", "")
+BUILT = Ran(7, "low as it is: 0 words\n<>", "")
+
+
+def put(path: Path, text: str, mode: int = 0o644) -> None:
+    path.parent.mkdir(parents=True, exist_ok=True)
+    path.write_text(text, encoding="utf-8")
+    path.chmod(mode)
+
+
+def made_of(values: dict[str, str]) -> str:
+    return "".join(f"{name}: {value}\n" for name, value in values.items())
+
+
+class Repository:
+    """A small repository in a folder of its own, with the stand-ins beside it."""
+
+    def __init__(self, room: Path) -> None:
+        self.room, self.top, self.last = room, room / "a folder/repository", Ran(0, "", "")
+        self.out, self.made, self.crates = self.top / "out", self.top / "dist/MADE", self.top / "crates"
+        library = [str(it.relative_to(TOP)) for it in (TOP / "tests/lib").glob("*.py")]
+        for name in [*SCRIPTS, *(f"tests/{it}" for it in TRIED), *library]:
+            put(self.top / name, (TOP / name).read_text(encoding="utf-8"), 0o755)
+        put(self.top / "crates.txt", CRATES)
+        put(self.top / "HANDLES", "Handles allowed: none.\n")
+        for name in ("low", "left", "right", "cpi", "cpi_tests"):
+            self.write(name, f"{name} as it was")
+        put(room / "rt/rt", RT, 0o755)
+        put(room / "rt/objdump", OBJDUMP, 0o755)
+        put(room / "program", PROGRAM)
+        put(room / "log", "")
+        (room / "tools").mkdir()
+        for name, path in [("python3", sys.executable), *((it, shutil.which(it)) for it in TOOLS.split())]:
+            if path:
+                (room / "tools" / name).symlink_to(path)
+        self.no_rt = {"PATH": f"{room}/tools", "HOME": f"{room}/home", "LC_ALL": "C"}
+        self.environment = {**self.no_rt, "PATH": f"{room}/tools:{room}/rt"}
+        self.environment.update(RT_LOG=f"{room}/log", PROGRAM=f"{room}/program")
+
+    def write(self, crate: str, text: str, name: str = "lib.rt") -> None:
+        put(self.crates / crate / "src" / name, text)
+
+    def start(self, *words: str, **how: Any) -> subprocess.Popen[bytes]:
+        streams = {it: subprocess.PIPE for it in ("stdin", "stdout", "stderr")}
+        how = {"cwd": self.room, "env": self.environment, **streams, **how}
+        return subprocess.Popen([self.top / words[0], *words[1:]], **how)
+
+    def run(self, *words: str, given: str = "", **how: Any) -> Ran:
+        running = self.start(*words, **how)
+        out, err = running.communicate(given.encode(), timeout=60)
+        self.last = Ran(running.returncode, out.decode(), err.decode())
+        return self.last
+
+    def answers(self, **how: Any) -> Ran:
+        return self.run("cpi", "a b", "", "*", given="input", **how)
+
+    def sources(self, **how: Any) -> str:
+        return self.run("tools/sources", **how).out.strip()
+
+    def ship(self, other: bytes = b"", **values: str) -> None:
+        """Makes dist/ as of the sources at hand, with a program that says so, or with another one."""
+        program = other or f"#!/bin/bash\ntext='as shipped'\n{PROGRAM}".encode()
+        made = {"sources": self.sources(), "program": hashlib.sha256(program).hexdigest(), "kit": KIT}
+        made.update(machine=os.uname().machine, needs="libc.so.6 GLIBC_2.34")
+        put(self.made, made_of({**made, **values}))
+        (self.top / "dist/cpi.xz").write_bytes(lzma.compress(program))
+
+    def told(self) -> list[str]:
+        """What the stand-in of rt did since this was asked last."""
+        lines = (self.room / "log").read_text().splitlines()
+        put(self.room / "log", "")
+        return lines
+
+    def kept(self) -> list[str]:
+        """What stands in out/ beside the files of a build."""
+        return sorted({it.name for it in self.out.glob("*")} - {"logs", "lock"})
+
+    def copies(self) -> int:
+        return len([*self.top.parent.iterdir()]) - 1

@@ -1,0 +1,183 @@
+"""`ops/Caddyfile` before an office: Caddy hands it whole messages of known length alone, however slow a peer is."""
+
+from __future__ import annotations
+
+import contextlib
+import http.client
+import os
+import shutil
+import socket
+import ssl
+import subprocess
+import threading
+import time
+from collections.abc import Callable, Iterator
+from pathlib import Path
+from typing import NamedTuple
+
+import pytest
+
+from conftest import ROOT
+from loads import free_port
+
+KEY = "0123456789abcdef0123456789abcdef"
+REPLY = b'{"tables":[]}\n'
+
+
+class Office:
+    """What listens at the office's port: one connection after another, and each message as it came."""
+
+    def __init__(self) -> None:
+        self.socket = socket.create_server(("127.0.0.1", 0))
+        self.port: int = self.socket.getsockname()[1]
+        self.messages: list[bytes] = []
+        threading.Thread(target=self._serve, daemon=True).start()
+
+    def _serve(self) -> None:
+        while True:
+            peer, _ = self.socket.accept()
+            with peer:
+                self.messages.append(whole(peer))
+                head = f"HTTP/1.1 200 OK\r\nContent-Type: application/json\r\nContent-Length: {len(REPLY)}\r\n"
+                peer.sendall(f"{head}Connection: close\r\n\r\n".encode() + REPLY)
+
+
+def whole(peer: socket.socket) -> bytes:
+    """A message with its body."""
+    data = b""
+    while b"\r\n\r\n" not in data:
+        data += peer.recv(65536)
+    head, _, body = data.partition(b"\r\n\r\n")
+    length = [line for line in head.lower().split(b"\r\n") if line.startswith(b"content-length:")]
+    while length and len(body) < int(length[0].partition(b":")[2]):
+        body += peer.recv(65536)
+    return head + b"\r\n\r\n" + body
+
+
+class Front(NamedTuple):
+    """Caddy with the file of `ops/`, the office behind it, and its log."""
+
+    port: int
+    office: Office
+    log: Path
+
+    def line(self) -> http.client.HTTPSConnection:
+        """A connection to it."""
+        trusting = ssl.SSLContext(ssl.PROTOCOL_TLS_CLIENT)
+        trusting.check_hostname, trusting.verify_mode = False, ssl.CERT_NONE
+        return http.client.HTTPSConnection("localhost", self.port, timeout=20, context=trusting)
+
+    def asked(self, method: str, path: str, **named: object) -> tuple[int, bytes]:
+        """The status and the body of an answer."""
+        with contextlib.closing(self.line()) as line:
+            line.request(method, path, **named)  # type: ignore[arg-type]
+            answer = line.getresponse()
+            return answer.status, answer.read()
+
+
+@pytest.fixture
+def front(needed: Callable[[str], str], tmp_path: Path) -> Iterator[Front]:
+    """Caddy, with a certificate of its own and nothing of it outside a folder."""
+    caddy, office, port = needed("caddy"), Office(), free_port()
+    shutil.copytree(ROOT / "web", tmp_path / "web")
+    text = (ROOT / "ops/Caddyfile").read_text(encoding="utf-8")
+    own = f"{{\n\tskip_install_trust\n\tadmin off\n\thttp_port {free_port()}\n\thttps_port {port}\n\tservers {{"
+    assert text.count("{\n\tservers {") == 1
+    text = text.replace("{\n\tservers {", own)
+    filled = {"HOST": "localhost", "PORT": office.port, "LOG": tmp_path / "log", "WEB": tmp_path / "web"}
+    for word, value in filled.items():
+        text = text.replace(f"@{word}@", str(value))
+    (tmp_path / "Caddyfile").write_text(text)
+    home = {name: str(tmp_path) for name in ("HOME", "XDG_DATA_HOME", "XDG_CONFIG_HOME")}
+    words = [caddy, "run", "--adapter", "caddyfile", "--config", str(tmp_path / "Caddyfile")]
+    with (tmp_path / "told").open("wb") as told:
+        with subprocess.Popen(words, stdout=told, stderr=told, env={**os.environ, **home}) as process:
+            try:
+                found = Front(port, office, tmp_path / "log")
+                until_it_answers(found)
+                yield found
+            finally:
+                process.terminate()
+
+
+def until_it_answers(front: Front) -> None:
+    """Waits until the pages are served."""
+    deadline = time.monotonic() + 60
+    while time.monotonic() < deadline:
+        with contextlib.suppress(OSError, http.client.HTTPException):
+            if front.asked("GET", "/")[0] == 200:
+                return
+        time.sleep(0.1)
+    pytest.fail("caddy doesn't answer")
+
+
+def keyed(**others: str) -> dict[str, str]:
+    return {"Authorization": f"CPI-Key {KEY}", **others}
+
+
+def test_a_message_is_the_offices_as_it_was_sent(front: Front) -> None:
+    assert front.asked("GET", "/api/tables") == (200, REPLY)
+    headers = keyed(Cookie="a=b", **{"X-Forwarded-For": "1.2.3.4"})
+    assert front.asked("POST", "/api/import", body="items\n", headers=headers) == (200, REPLY)
+    assert len(front.office.messages) == 2
+    for message, line in zip(front.office.messages, (b"GET /tables ", b"POST /import ")):
+        assert message.startswith(line)
+        names = {name.partition(b":")[0].lower() for name in message.partition(b"\r\n\r\n")[0].split(b"\r\n")[1:]}
+        assert names & {b"transfer-encoding", b"cookie", b"x-forwarded-for", b"accept-encoding"} == set()
+    assert front.office.messages[1].endswith(b"\r\n\r\nitems\n")
+    assert f"CPI-Key {KEY}".encode() in front.office.messages[1]
+
+
+@pytest.mark.parametrize(
+    ("method", "path", "status"),
+    [
+        ("GET", "/api/", 404),
+        ("GET", "/api/table/2026-01/pdf", 404),
+        ("DELETE", "/api/tables", 404),
+        ("GET", f"/api/{KEY}", 404),
+        ("GET", f"/nothing?key={KEY}", 404),
+    ],
+)
+def test_what_the_office_has_no_page_for_does_not_reach_it(method: str, path: str, status: int, front: Front) -> None:
+    assert front.asked(method, path)[0] == status
+    assert front.office.messages == []
+
+
+def test_a_body_whose_length_is_not_told_does_not_reach_the_office(front: Front) -> None:
+    told = front.asked("POST", "/api/import", body=iter([b"items\n"]), headers=keyed(), encode_chunked=True)
+    assert (told[0], front.office.messages) == (411, [])
+
+
+def test_a_body_that_is_too_long_does_not_reach_the_office(front: Front) -> None:
+    longest = 65_536
+    for length, status in ((longest + 1, 413), (10 * longest, 413), (longest, 200)):
+        assert front.asked("POST", "/api/import", body=b"x" * length, headers=keyed())[0] == status
+    assert [len(message.partition(b"\r\n\r\n")[2]) for message in front.office.messages] == [longest]
+
+
+def test_a_slow_peer_holds_nobody_up(front: Front) -> None:
+    """Half a message stays at the front, while others are answered; whole it goes to the office."""
+    with contextlib.closing(front.line()) as slow:
+        slow.putrequest("POST", "/api/import")
+        for name, value in keyed(**{"Content-Length": "12"}).items():
+            slow.putheader(name, value)
+        slow.endheaders(b"items\n")
+        with contextlib.closing(front.line()) as other:
+            for _ in range(20):
+                other.request("GET", "/api/items")
+                assert other.getresponse().read() == REPLY
+        assert not [message for message in front.office.messages if message.startswith(b"POST")]
+        slow.send(b"items\n")
+        assert slow.getresponse().status == 200
+    assert front.office.messages[-1].endswith(b"items\nitems\n")
+
+
+def test_no_key_stands_in_its_log(front: Front) -> None:
+    front.asked("POST", "/api/import", body="items\n", headers=keyed())
+    front.asked("GET", f"/api/tables?key={KEY}")
+    front.asked("GET", f"/api/work/{KEY.upper()}", headers=keyed())
+    deadline = time.monotonic() + 20
+    while front.log.read_text().count("handled request") < 3 and time.monotonic() < deadline:
+        time.sleep(0.1)
+    text = front.log.read_text()
+    assert text.count("handled request") >= 3 and KEY not in text.lower()

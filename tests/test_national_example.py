@@ -1,0 +1,180 @@
+#!/usr/bin/env python3
+"""Computes the tables of the example examples/national once more, from the quotes that its collectors sent.
+
+The example is run with the built program. From the data files and the quotes as `examples/national/prices` writes them,
+and from nothing that the program answered, this finds which quotes stand (lib/nation.py), which aggregates had nothing
+to compare, and all tables (lib/by_the_manual.py), by the formulas of the Consumer Price Index Manual (2020) with the
+rounding of docs/OFFICE.md, in fractions. A check is a month's table with every figure, a month's carry list, or one of
+these:
+
+- one seed gives the same quotes twice, and another seed gives others;
+- prices move the weights of the second year from its reference month to its link month, and those of the first stand;
+- as many entries were refused, by 23, 24 and 26, and as many quotes stand, as were counted here;
+- the records that were sent give the same lines when they are replayed at once;
+- each collector was shown the own slots alone, and from a hand-over on those that were handed over, with their last
+  prices;
+- the site of the tables has each figure in its file and on its pages, contributions add up, pictures have titles, and
+  pages lead to what is there (lib/site.py).
+"""
+
+from __future__ import annotations
+
+import collections
+import csv
+import json
+import os
+import subprocess
+import sys
+import tempfile
+from collections.abc import Iterable, Iterator
+from functools import partial
+from typing import Any
+
+from lib.by_the_manual import Month, moving, printed, tables
+from lib.cases import content
+from lib.harness import Check, Checks, Fault, program_of, words_of
+from lib.nation import EXAMPLE, ZONE, Survey
+from lib.program import Program
+from lib.records import rows_of
+from lib.site import site_faults
+from second_office.requests import Record
+
+
+def first_of(faults: Iterable[str]) -> Fault:
+    """The first faults of a check, in one line."""
+    return " | ".join(fault[:400] for fault, _ in zip(faults, range(3))) or None
+
+
+def quotes_of(seed: str) -> list[Record]:
+    """The records of all collectors."""
+    wrote = subprocess.run([os.path.join(EXAMPLE, "prices"), seed], stdout=subprocess.PIPE, check=True)
+    return rows_of(wrote.stdout.decode())
+
+
+def first_quotes(seed: str) -> list[Record]:
+    """The first records of a seed; the rest isn't waited for."""
+    with subprocess.Popen([os.path.join(EXAMPLE, "prices"), seed], stdout=subprocess.PIPE) as running:
+        assert running.stdout
+        begun = running.stdout.read(100_000).decode()
+        running.kill()
+    return rows_of(begun)[:9]
+
+
+class Ran:
+    """A run of the example: what was sent, what was answered, and what is computed here."""
+
+    def __init__(self, program: Program, seed: str, folder: str) -> None:
+        self.program, self.seed, self.folder = program, seed, folder
+        words = ["--seed", seed, "--program", program.path, "--out", folder]
+        ran = subprocess.run([os.path.join(EXAMPLE, "run"), *words], capture_output=True, text=True, check=False)
+        if ran.returncode:
+            raise ChildProcessError(f"examples/national/run: status {ran.returncode}, {ran.stderr[-300:]}")
+        self.quotes = quotes_of(seed)
+        self.survey = Survey(self.quotes)
+        self.sent = rows_of(content(folder, "records.csv").decode())
+        self.told: list[dict[str, Any]] = [json.loads(line) for line in content(folder, "lines").splitlines()]
+        self.found = tables(self.survey)
+
+    def same_seed(self) -> Fault:
+        """One seed gives the same quotes twice."""
+        sent = [record for record in self.sent if record[2] == "import" and record[1] != "desk"]
+        return None if self.quotes == sent else "it gives other quotes than the run sent"
+
+    def other_seed(self) -> Fault:
+        """Another one gives others."""
+        return None if first_quotes("1" + self.seed) != self.quotes[:9] else "two seeds give the same"
+
+    def refusals(self) -> Fault:
+        """As many as were counted here, of each kind some."""
+        told = collections.Counter(row.get("refused") for reply in self.told for row in reply.get("rows", []))
+        wanted = {number: self.survey.refused[number] for number in (23, 24, 26)}
+        if {number: told[number] for number in wanted} != wanted or set(told) - {None, *wanted}:
+            return f"refused {dict(told)}, wanted {wanted}"
+        frozen = sum("freeze" in record[2] for record in self.sent)
+        is_enough = frozen >= len(self.survey.months) and all(wanted.values())
+        return None if is_enough else f"{frozen} freezes; {wanted}"
+
+    def at_once(self) -> Fault:
+        """The records give the same lines when they are replayed at once."""
+        ran = self.program.replay(content(self.folder, "records.csv"), None, "--zone", ZONE, seconds=600)
+        return None if ran == (0, content(self.folder, "lines"), b"") else "they give other lines"
+
+    def own_slots(self) -> Iterator[str]:
+        """Each collector was shown the own slots alone."""
+        slots = collections.defaultdict(list)
+        for (number, slot), (_, first, last) in self.survey.slots.items():
+            slots[number].append((slot, first, last))
+        for record, reply in zip(self.sent, self.told):
+            if record[2] == "work":
+                number, month = self.survey.bearer[record[1]], record[3]
+                own = [slot for slot, first, last in slots[number] if first <= month <= last]
+                if [row[0] for row in reply["work"]] != own:
+                    yield f"the work list of collector {number} in {month}"
+
+    def handed_over(self) -> Iterator[str]:
+        """The hand-overs that the desk sent, and the last prices that the new collectors were shown with them."""
+        imports = [record for record in self.sent if record[1:3] == ["desk", "import"]]
+        sent = [row[1:] for record in imports for row in rows_of(record[3]) if row[0] == "handover"]
+        handed = self.survey.handed
+        wanted = [[*map(str, (*former, *new)), month] for _, former, new, month in handed]
+        if sent != wanted or len({series for series, *_ in handed}) == len(handed):
+            yield f"{len(sent)} hand-overs were sent, wanted {len(wanted)}, some of them of one series"
+        shown = {}
+        for record, reply in zip(self.sent, self.told):
+            if record[2] == "work":
+                number = self.survey.bearer[record[1]]
+                shown.update({(number, row[0], record[3]): row[6] for row in reply["work"]})
+        for series, _, new, month in handed:
+            earlier = {at: price for at, price in self.survey.last.get(series, {}).items() if at < month}
+            last = earlier[max(earlier)] if earlier else None
+            if shown[(*new, month)] != last:
+                yield f"slot {new} was shown the last price {shown[(*new, month)]} in {month}, wanted {last}"
+
+    def first_table(self) -> Fault:
+        """The table of the first month has no rows."""
+        first = content(self.folder, "tables", f"{self.survey.months[0]}.csv")
+        return "it has rows" if first else None
+
+    def table(self, month: str, wanted: Month) -> Fault:
+        """Every figure of a month."""
+        wrote = rows_of(content(self.folder, "tables", f"{month}.csv").decode())
+        rows = [printed(row) for row in wanted.rows]
+        if len(wrote) != len(rows):
+            return f"{len(wrote)} rows, wanted {len(rows)}"
+        return first_of(f"wrote {own}, wanted {row}" for own, row in zip(wrote, rows) if own != row)
+
+    def carried(self, month: str, wanted: Month) -> Fault:
+        """The carry list of a month, as the desk froze it at last."""
+        frozen = [record[4:] for record in self.sent if record[2:4] == ["freeze", month]][-1]
+        return None if frozen == wanted.carry else f"the desk carried {frozen}, wanted {wanted.carry}"
+
+    def checks(self) -> Iterator[Check]:
+        """All of them."""
+        first = self.survey.months[0]
+        yield Check("one seed", self.same_seed)
+        yield Check("two seeds", self.other_seed)
+        yield Check("refusals", self.refusals)
+        yield Check("all records at once", self.at_once)
+        yield Check("own slots", lambda: first_of(self.own_slots()))
+        yield Check("hand-overs", lambda: first_of(self.handed_over()))
+        yield Check("moved weights", lambda: first_of(moving(self.found)))
+        yield Check("the first table", self.first_table)
+        for month, wanted in self.found.items():
+            yield Check(f"the table of {month}", partial(self.table, month, wanted))
+            yield Check(f"the carry list of {month}", partial(self.carried, month, wanted))
+        yield Check("the site", lambda: first_of(site_faults(self.folder, self.found, first)))
+
+
+def main() -> int:
+    words = words_of(__doc__)
+    words.add_argument("--seed", default="1", help="what the country's prices are drawn by (1)")
+    chosen = program_of(words)
+    csv.field_size_limit(10**8)
+    with Checks() as checks, tempfile.TemporaryDirectory() as folder:
+        checks.note("examples/national/run, and the tables once more: some 20 seconds")
+        checks.run(Ran(chosen.program, chosen.seed, folder).checks(), lanes=1)
+    return checks.status
+
+
+if __name__ == "__main__":
+    sys.exit(main())

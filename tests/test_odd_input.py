@@ -1,0 +1,186 @@
+#!/usr/bin/env python3
+"""Sends `cpi replay` bytes that no office sends, and compares its lines with those of the second office.
+
+Records of every kind come in a stream that ends after each of its bytes; with NUL put in at each place, and in place of
+each byte; with bytes that aren't UTF-8 in each field; in N streams (400) with some bytes changed at random; and in some
+of random bytes. The second office (tests/second_office) reads them by Python's `csv`.
+"""
+
+from __future__ import annotations
+
+import csv
+import io
+import random
+import sys
+from collections.abc import Iterator
+from functools import partial
+from itertools import chain
+
+from lib.harness import Check, Checks, Fault, program_of, words_of
+from lib.offices import RICE_AND_FLOUR, quoted
+from lib.program import Program
+from second_office.office import Office
+
+Stream = tuple[str, bytes]
+"""What is odd about it, and what it is."""
+
+KEY = b"a" * 32
+SETUP = (
+    b"""0,desk,item,RICE,"Rice, white",1 kg,700,1500
+0,desk,item,FLOUR,Flour,1 kg,700,1500
+0,desk,outlet,10,Corner shop
+0,desk,collector,7,%s
+0,desk,assign,7,1,10,RICE,2025-12,2026-12
+0,desk,assign,7,2,10,FLOUR,2025-12,2026-12
+0,desk,calendar,2025-12,0,1000,1000
+0,desk,calendar,2026-01,1000,2000,3000
+"""
+    % KEY
+)
+TITLED = RICE_AND_FLOUR.replace("Rice, packed", "Rice, wh\u00efte").replace('"Flour, wheat"', "Flour")
+PLAN = f"0,desk,plan,2026,{quoted(TITLED)}\n".encode()
+
+# A record of each kind; the next one is asked of what they leave.
+KINDS = [
+    b"0,public,items\n",
+    '0,desk,item,TEA,"Th\u00e9 ""vert"", \u8336",100 g,500,2000\r\n'.encode(),
+    b'0,desk,outlet,11,"Market\n"\r',
+    b"0,desk,outlet,11,Market\r",
+    b"0,desk,collector,8,%s\n" % (b"b" * 32),
+    b"0,desk,assign,8,1,11,RICE,2025-12,2026-12\r\n",
+    PLAN,
+    b"500,%s,quote,1,2025-12,price,200\n" % KEY,
+    b"500,%s,quote,2,2025-12,missing,stock\r\n" % KEY,
+    b"500,%s,quote,2,2025-12,price,500,confirm\n" % KEY,
+    b'500,%s,import,"quote,1,2025-12,price,210\r\n""quote"",2,2025-12,price,490\nitems,""x""""y""\n"\n' % KEY,
+    b"500,%s,work,2025-12\n" % KEY,
+    b"1000,desk,freeze,2025-12\n",
+    b"1500,%s,quotes,2025-12,2026-01\r" % KEY,
+    b"1500,%s,quote,1,2026-01,price,215\n" % KEY,
+    b"0,desk,calendar,2026-02,2026-01-31T00:00,2026-02-28T24:00,2026-03-01T08:30\n",
+    b"0,desk,calendar,2026-02,2026-01-31T00:00,2026-02-28T23:59,2026-03-01T08:30\n",
+    b"2000,desk,freeze,2026-01,01.1.1.1-01,01.1.1.2-01\n",
+    b"2999,public,table,2026-01,csv\n",
+    b"3000,public,tables\n",
+    b"3000,public,table,2026-01,text\n",
+    b"3000,desk,calendar,2026-01,1000,2000,3001\n",
+    b"3000,desk,freeze,2026-01,01.1.1.2-01\r\n",
+    b"3001,public,table,2026-01,text,2\n",
+    b"3001,desk,handover,7,1,8,2,2026-02\r\n",
+]
+PROBES = [
+    b"1500,%s,work,2025-12\n" % KEY,
+    b"1500,%s,work,2026-02\n" % (b"b" * 32),
+    b"1500,%s,quotes,2025-12,2026-12\n" % KEY,
+    b"9999,public,items\n",
+    b"9999,public,tables\n",
+    b"9999,public,table,2026-01,csv\n",
+    b"9999,public,table,2026-01,text,1\n",
+]
+
+
+MARK = b"\xef\xbb\xbf"
+ALONE = [b"", MARK[:1], MARK[:2], MARK, MARK + b'"', b'"', b'""', b'"""', b",", b"\r", b"\n", b"\r\n", b"\0"]
+
+
+def wanted_of(stream: bytes) -> bytes:
+    """The lines of the second office. (Python before 3.11 reads no NUL, which counts as any other control byte.)"""
+    text = stream.replace(b"\0", b"\1").decode(errors="surrogateescape").removeprefix("\ufeff")
+    office = Office()
+    rows = [row for row in csv.reader(io.StringIO(text, newline="")) if row]
+    return "".join(f"{office.line(row)}\n" for row in rows).encode()
+
+
+def fault_of(program: Program, stream: bytes) -> Fault:
+    wanted = wanted_of(stream)
+    ran = program.replay(stream, seconds=60)
+    if ran == (0, wanted, b""):
+        return None
+    pairs = zip(ran.out.splitlines(), wanted.splitlines())
+    first = next((f"{line!r}, wanted {other!r}" for line, other in pairs if line != other), "")
+    return f"status {ran.status}, {ran.err[:100]!r}, {ran.out.count(10)} lines for {wanted.count(10)}, {first}"
+
+
+def cut() -> Iterator[Stream]:
+    """The stream of all kinds, ended after each of its bytes."""
+    whole = b"".join(KINDS)
+    for end in range(len(whole) + 1):
+        yield f"cut after {end} bytes, {whole[max(end - 40, 0) : end]!r}", SETUP + whole[:end]
+    for text in ALONE:
+        yield f"{text!r} alone", text
+
+
+def with_nul() -> Iterator[Stream]:
+    """Each kind again and again, with NUL in place of each of its bytes, and before each."""
+    for at, kind in enumerate(KINDS):
+        changed = [kind[:place] + b"\0" + kind[place + more :] for place in range(len(kind) - 1) for more in (0, 1)]
+        yield f"NUL in {kind[:60]!r}", SETUP + b"".join(KINDS[:at] + changed + KINDS[at:] + PROBES)
+    yield "NUL after each byte", b"".join(bytes([byte, 0]) for byte in SETUP + b"".join(KINDS))
+    yield "NUL alone", b"\0" * 100_000 + b"\n" + b"0,desk,item,TEA,Tea,1 kg,500,2000\n0,public,items\n"
+
+
+NOT_UTF_8 = [
+    b"\xff",
+    b"\xfe",
+    b"\x80",
+    b"\xc0\xaf",
+    b"\xed\xa0\x80",
+    b"\xf4\x90\x80\x80",
+    b"\xe2\x82",
+    b"\xf8\x88\x80\x80\x80",
+]
+
+
+def not_utf_8() -> Iterator[Stream]:
+    """Such bytes in each field of each kind: at its front, and at its end."""
+    for bad in NOT_UTF_8:
+        records = []
+        for kind in KINDS:
+            if b'"' not in kind:
+                fields = kind.rstrip(b"\r\n").split(b",")
+                for at, field in enumerate(fields):
+                    for text in (bad + field, field + bad):
+                        records.append(b",".join([*fields[:at], text, *fields[at + 1 :]]) + b"\n")
+            else:
+                records += [kind.replace(b"T,01.1,", b"T,01.1," + bad), kind.replace(b"items", b"items" + bad)]
+        yield f"{bad!r} in each field", SETUP + b"".join(records + PROBES)
+
+
+def changed(drawn: random.Random, count: int) -> Iterator[Stream]:
+    """Streams with some bytes changed, left out, doubled or put in."""
+    whole = b"".join(KINDS)
+    for at in range(count):
+        text = bytearray(whole)
+        for _ in range(drawn.choice([1, 2, 5, 20])):
+            place = drawn.randrange(len(text))
+            byte = drawn.choice([drawn.randrange(256), *b'",\n\r\0\xef\xbb\xbf'])
+            text[place : place + drawn.choice([0, 1, 1])] = bytes([byte] * drawn.choice([0, 1, 1, 1, 2]))
+        yield f"stream {at} of those with some bytes changed", SETUP + bytes(text) + b"\n" + b"".join(PROBES)
+
+
+def drawn_bytes(drawn: random.Random, count: int) -> Iterator[Stream]:
+    for at in range(count):
+        yield f"stream {at} of random bytes", drawn.randbytes(drawn.choice([10, 1000, 30_000]))
+
+
+def streams(count_changed: int, seed: int) -> Iterator[Stream]:
+    drawn = random.Random(seed)
+    return chain(cut(), with_nul(), not_utf_8(), changed(drawn, count_changed), drawn_bytes(drawn, 40))
+
+
+def main() -> int:
+    words = words_of(__doc__)
+    words.add_argument(
+        "--changed", type=int, default=400, metavar="N", help="how many streams have some bytes changed (400)"
+    )
+    words.add_argument("--seed", type=int, default=4, help="what these are drawn by (4)")
+    chosen = program_of(words)
+    csv.field_size_limit(10_000_000)
+    with Checks() as checks:
+        made = streams(chosen.changed, chosen.seed)
+        checks.run(Check(name, partial(fault_of, chosen.program, stream)) for name, stream in made)
+    return checks.status
+
+
+if __name__ == "__main__":
+    sys.exit(main())

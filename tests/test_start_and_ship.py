@@ -1,0 +1,367 @@
+#!/usr/bin/env python3
+"""Tests what starts, builds and ships the program: ./cpi, ./cpi-build, ./test, tools/ and test_shipped_program.py.
+
+They run in copies of a small repository of five crates, with stand-ins for `rt`, for `objdump`, for the program and for
+the parts of ./test (lib/small_repository.py).
+"""
+
+import fcntl
+import hashlib
+import os
+import re
+import shutil
+import signal
+import subprocess
+import sys
+import tempfile
+import time
+from collections.abc import Callable, Iterator
+from functools import partial
+from pathlib import Path
+
+from lib.harness import Checks, Job, words_of
+from lib.small_repository import BUILT, CRATES, KIT, SHIPPED, TOP, TRIED, Ran, Repository, made_of, put
+
+Seen = tuple[str, bool]
+"""What is looked at, and whether it is as it should be."""
+
+
+# ---- starting what is shipped
+
+
+def a_fresh_clone(it: Repository) -> Iterator[Seen]:
+    it.ship()
+    first, second = it.answers(), it.answers()
+    yield "words, standard input and status are handed on", first[:2] == SHIPPED[:2]
+    yield "the first call says in one line that it unpacks", len(first.lines()) == 1 and "unpacked" in first.err
+    yield "the second says nothing", second == SHIPPED
+    (it.room / "tools/cpi").symlink_to(it.top / "cpi")
+    yield "it runs by a link, from another folder", it.run(f"{it.room}/tools/cpi", cwd="/").status == 7
+    yield "rt wasn't called", it.told() == []
+    yield "out/ has the program and when it was looked at", it.kept() == sorted(["current", it.sources()])
+
+
+def without_xz(it: Repository) -> Iterator[Seen]:
+    it.ship()
+    tools = it.room / "tools"
+    (tools / "xz").unlink(missing_ok=True)
+    (tools / "python3").rename(it.room / "python3")
+    yield "with neither xz nor Python it says so", it.answers().is_refused("can't be unpacked", "python3")
+    (it.room / "python3").rename(tools / "python3")
+    yield "Python unpacks it", it.answers()[:2] == SHIPPED[:2]
+
+
+def sources_that_did_not_change(it: Repository) -> Iterator[Seen]:
+    it.ship()
+    it.answers()
+    before = (it.out / "current").stat().st_mtime_ns
+    it.write("low", "low as it was")
+    put(it.crates / "low/out/rlib/any", "")
+    yield "the same text, written again, is the same", it.answers() == SHIPPED
+    seen = (it.out / "current").stat().st_mtime_ns
+    yield "it was looked at, and the time noted", seen > before
+    yield "then the times alone are", it.answers() == SHIPPED and (it.out / "current").stat().st_mtime_ns == seen
+    yield "rt wasn't called", it.told() == []
+
+
+def many_at_once(it: Repository) -> Iterator[Seen]:
+    it.ship()
+    running = [it.start("cpi", "a b", "", "*") for _ in range(8)]
+    outs = [each.communicate(b"input", timeout=60)[0].decode() for each in running]
+    yield "each answers", outs == [SHIPPED.out] * 8
+    yield "nothing is left of them but the program", len(it.kept()) == 2
+
+
+def damage(it: Repository) -> Iterator[Seen]:
+    it.ship()
+    packed = it.top / "dist/cpi.xz"
+    packed.write_bytes(packed.read_bytes()[:-20])
+    yield "a file that is cut", it.answers().is_refused("can't be unpacked")
+    it.ship(program="0")
+    yield "another program", it.answers().is_refused("isn't the program")
+    packed.unlink()
+    yield "no file", it.answers().is_refused("can't be unpacked")
+    for name in ("sources", "program", "machine", "needs"):
+        it.ship()
+        put(it.made, re.sub(f"^{name}: .*\n", "", it.made.read_text(), flags=re.M))
+        yield f"MADE without a line {name}", it.answers().is_refused(f"no line '{name}'")
+    yield "rt wasn't called, and nothing is left", it.told() == [] and it.kept() == []
+
+
+def a_checkout_that_can_not_be_written(it: Repository) -> Iterator[Seen]:
+    it.ship()
+    put(it.room / "home/file", "")
+    (it.room / "home").chmod(0o777)
+    subprocess.run(["chmod", "-R", "a-w", it.top], check=True)
+    # (whoever may write everywhere becomes nobody)
+    how = {"user": 65534, "group": 65534, "extra_groups": []} if os.geteuid() == 0 else {}
+    first, second = it.answers(**how), it.answers(**how)
+    yield "it is unpacked to the user's cache", first[:2] == SHIPPED[:2] and "/home/.cache/" in first.err
+    yield "once", second == SHIPPED and not it.out.exists()
+    nowhere = {**it.environment, "HOME": f"{it.top}/home"}
+    yield "where there is no room at all, it says so", it.answers(env=nowhere, **how).is_refused("can be written")
+    subprocess.run(["chmod", "-R", "u+w", it.top], check=True)
+    it.write("low", "low as it is")
+    put(it.out, "no folder")
+    yield "nothing is built there", it.answers().is_refused("other sources", "can't be written")
+    yield "./cpi-build says so too", it.run("cpi-build").is_refused("out")
+
+
+# ---- building
+
+
+def sources_that_changed(it: Repository) -> Iterator[Seen]:
+    it.ship()
+    it.answers()
+    it.write("low", "low as it is")
+    ran, told = it.run("cpi"), it.told()
+    yield "they are built and run", ran[:2] == BUILT[:2] and "other sources" in ran.lines()[0]
+    did = [f"{did} {crate}" for did in ("begins", "built") for crate in ("cpi", "left", "low", "right")]
+    yield "each crate of the program, once", sorted(told) == did
+    words = ("cpi (4 of 4) begins", "right is built, in 0.0 minutes; at minute 0, about ", " minutes to go")
+    yield "it tells which crate of how many, and the minutes", all(each in ran.err for each in words)
+    yield "the next call starts it at once", it.run("cpi") == BUILT and it.told() == []
+    it.write("left", "more", "new file")
+    yield "a new file is a source", it.run("cpi")[:2] == BUILT[:2] and "built left" in it.told()
+    (it.crates / "left/src/new file").unlink()
+    it.write("low", "low as it was")
+    yield "with the sources of dist/ its program runs again", it.answers()[:2] == SHIPPED[:2] and it.told() == []
+    yield "programs of other sources are removed", len(it.kept()) == 2
+
+
+def programs_of_no_use(it: Repository) -> Iterator[Seen]:
+    cases: dict[str, Callable[[], object]] = {
+        "there is no program in dist/": lambda: None,
+        "is for vax": lambda: it.ship(machine="vax"),
+        "doesn't start here (it needs libc.so.6 GLIBC_2.34)": lambda: it.ship(b"#!/no/such/loader\n"),
+        "dist/ was made of other sources": lambda: it.ship(sources="0"),
+    }
+    for why, make in cases.items():
+        make()
+        yield f"{why}: without rt there is one line", it.run("cpi", env=it.no_rt).is_refused(why, "without rt")
+        ran = it.run("cpi")
+        yield f"{why}: it is built", ran.out.startswith("low as it was") and why in ran.lines()[0]
+        shutil.rmtree(it.out)
+    yield "./cpi-build wants rt too", it.run("cpi-build", env=it.no_rt).is_refused("no rt")
+
+
+def within_seconds(is_so: Callable[[], bool]) -> bool:
+    for _ in range(100):
+        if is_so():
+            return True
+        time.sleep(0.1)
+    return False
+
+
+def is_free(it: Repository) -> bool:
+    """Whether nothing that a build began holds its lock any more."""
+    with open(it.out / "lock", encoding="utf-8") as lock:
+        try:
+            fcntl.flock(lock, fcntl.LOCK_EX | fcntl.LOCK_NB)
+            return True
+        except BlockingIOError:
+            return False
+
+
+def broken_off(it: Repository, number: int) -> Iterator[Seen]:
+    it.write("left", "slow")
+    it.write("right", "slow")
+    running = it.start("cpi-build", "--lanes", "2", start_new_session=True)
+    both = within_seconds(lambda: len([*it.top.parent.glob("*/crates/*/out/waited")]) == 2)
+    yield "two are built side by side, one in a copy", both and it.copies() == 1
+    if number == signal.SIGKILL:
+        os.killpg(running.pid, number)
+        running.communicate(timeout=20)
+    else:
+        running.send_signal(number)
+        last = running.communicate(timeout=20)[1].decode().splitlines()[-1]
+        yield "the last line says what is next", running.returncode == 1 and "goes on where this one was" in last
+        yield "no copy and no process is left", it.copies() == 0 and within_seconds(lambda: is_free(it))
+    it.told()
+    ran, told = it.run("cpi-build", "--lanes", "2"), it.told()
+    yield "the next goes on where it was", ran.status == 0 and "same low" in told and "built cpi" in told
+    yield "it leaves no copy", it.copies() == 0 and not any(line.startswith("locked") for line in told)
+
+
+def lanes(it: Repository) -> Iterator[Seen]:
+    for count in ("1", "2"):
+        for folder in it.crates.glob("*/out"):
+            shutil.rmtree(folder)
+        ran, told = it.run("cpi-build", "--lanes", count, "--jobs", "4"), it.told()
+        yield f"{count}: all is built, here", ran.status == 0 and len([*it.crates.glob("*/out/rlib/stamp")]) == 4
+        yield f"{count}: the jobs are shared", ("with 2 jobs" in ran.err) == (count == "2")
+        is_beside = sorted(told[2:4]) == ["begins left", "begins right"]
+        yield f"{count}: side by side", is_beside == (count == "2") and len(told) == 8
+    again = it.run("cpi-build", "--lanes", "2")
+    yield "once more is a look", again.status == 0 and not any(line.startswith("built") for line in it.told())
+    (it.crates / "link").symlink_to("nowhere")
+    ran = it.run("cpi-build", "--lanes", "2")
+    yield "where no copy can be made there is one lane", ran.status == 0 and "one crate at a time" in ran.err
+    yield "--help tells", it.run("cpi-build", "--help").status == 0 and it.run("cpi-build", "--jobs", "0").status == 2
+
+
+def proofs_that_fail(it: Repository) -> Iterator[Seen]:
+    it.write("right", "wrong")
+    ran = it.run("cpi")
+    yield "the log is printed, and nothing runs", ran[:2] == (1, "") and "fn right::f: not proved" in ran.lines()
+    yield "the last line names the crate", "right isn't proved" in ran.lines()[-1]
+    it.write("right", "right")
+    it.told()
+    yield "what was built stays", it.run("cpi").status == 7 and "same low" in it.told()
+    it.write("cpi", "moving")
+    ran = it.run("cpi")
+    yield "sources that change meanwhile are told", ran[:2] == (1, "") and "changed" in ran.lines()[-1]
+    put(it.top / "crates.txt", "cpi: low\nlow: cpi\n")
+    yield "a circle of crates is told", it.run("cpi-build").is_refused("below itself")
+    put(it.top / "crates.txt", "low:\n")
+    yield "no crate cpi is told", it.run("cpi-build").is_refused("no crate cpi")
+
+
+# ---- sums, shipping and comparing
+
+
+def sums(it: Repository) -> Iterator[Seen]:
+    for name in ("B", "a", "\u00e4", "two words", "two\nlines", "-n"):
+        it.write("low", name, name)
+    first = it.sources()
+    yield "it is a SHA-256", bool(re.fullmatch("[0-9a-f]{64}", first))
+    shutil.copytree(it.top, it.room / "other")
+    yield "the same in another folder", it.run(f"{it.room}/other/tools/sources").out == f"{first}\n"
+    locales = [{**it.environment, "LC_ALL": to} for to in ("C.UTF-8", "en_US.UTF-8")]
+    yield "the same by other locales", {it.sources(env=each) for each in locales} == {first}
+    put(it.crates / "low/out/any", "")
+    put(it.top / "README.md", "")
+    yield "what isn't a source doesn't count", it.sources() == first
+    changes: list[Callable[[], object]] = [
+        lambda: put(it.top / "HANDLES", ""),
+        lambda: put(it.top / "crates.txt", f"{CRATES}\n"),
+        lambda: it.write("low", "other", "two\nlines"),
+        lambda: (it.crates / "low/src/B").rename(it.crates / "low/src/C"),
+        lambda: it.write("left", "", "empty"),
+    ]
+    found = [first, *(it.sources() for change in changes if [change()])]
+    yield "each change is another sum", len(set(found)) == 6
+
+
+def stand_in(it: Repository, name: str, last: str, status: int = 0) -> None:
+    """Puts something in place of a part of ./test that ends with this line and this status."""
+    put(it.top / "tests" / name, f"#!/bin/sh\necho '{last}'\nexit {status}\n", 0o755)
+
+
+def parts_of_test() -> set[str]:
+    """The scripts that ./test runs."""
+    looped = re.search(r"for name in ([\w\s\\]+); do", (TOP / "test").read_text())
+    assert looped
+    return {f"test_{name}.py" for name in ["start_and_ship", *looped[1].replace("\\", "").split()]}
+
+
+def begin_test(it: Repository) -> int:
+    """Makes the parts of ./test, of which all but two are stand-ins; how many checks pass."""
+    parts = parts_of_test() - {*TRIED}
+    for name in parts:
+        stand_in(it, name, "1 passed, 0 failed")
+    for name, text in {"args": "echo\nhi\n", "stdin": "", "stdout": "hi\n", "status": "0\n"}.items():
+        put(it.top / "tests/cases/one" / name, text)
+    # (two of the gate, and one case)
+    return len(parts) + 3
+
+
+def parts_that_fail(it: Repository) -> Iterator[Seen]:
+    count, part = begin_test(it), "test_command_line.py"
+    # (one is run before a release alone)
+    scripts = {path.name for path in (TOP / "tests").glob("test_*.py")} - {"test_outside.py"}
+    yield "each script of tests/ is a part", scripts == parts_of_test()
+    yield "nothing is shipped without a test", "wasn't green" in it.run("tools/dist").err
+    for how, last, status in (
+        ("that fails", "1 passed, 1 failed", 1),
+        ("that ends without its line", "Traceback", 1),
+        ("that ends with no line and no status", "", 0),
+        ("with another status than its line says", "1 passed, 0 failed", 3),
+    ):
+        stand_in(it, part, last, status)
+        ran, passed = it.run("test"), count - (" passed" not in last)
+        yield f"a part {how} fails it all", ran.status == 1 and ran.out.endswith(f"{passed} passed, 1 failed\n")
+        yield f"nothing is shipped after a part {how}", "wasn't green" in it.run("tools/dist").err and it.kept() == []
+
+
+def tests_and_shipping(it: Repository) -> Iterator[Seen]:
+    begin_test(it)
+    ran = it.run("test")
+    yield "a green test names the kit", ran.status == 0 and ran.out.startswith(f"{KIT}\n")
+    yield "there is no dist/ to compare", "no program to compare" in ran.out
+    minutes = [f"minutes: {each}: " in ran.err for each in ("low, proof", "gate", "command line")]
+    yield "it tells the minutes of each part, and of each crate", all(minutes)
+    yield "./cpi runs what it built", it.run("cpi", "echo", "a b") == Ran(0, "a b\n", "")
+    program = it.crates / "cpi/out/cpi"
+    built = program.read_bytes()
+    wanted = {"sources": it.sources(), "program": hashlib.sha256(built).hexdigest(), "kit": KIT}
+    wanted["machine"] = os.uname().machine
+    is_shipped = it.run("tools/dist").status == 0
+    yield "it is shipped, and MADE says what it is", is_shipped and it.made.read_text().startswith(made_of(wanted))
+    needs = it.made.read_text().splitlines()[-1]
+    yield "and what it needs, each in its newest version", needs == "needs: libm.so.6, libc.so.6 GLIBC_2.34"
+    yield "once more, nothing is written", "nothing was written" in it.run("tools/dist").out
+    program.write_bytes(built + b"more")
+    yield "another program isn't shipped", "isn't the program" in it.run("tools/dist").err
+    it.write("low", "low as it is")
+    yield "nor one of other sources", "other sources" in it.run("tools/dist").err
+    it.write("low", "low is stuck")
+    yield "nor is it tried", it.run("test").status == 1 and "there is no program" in it.last.out and it.told() != []
+    it.write("low", "low as it was")
+    shutil.rmtree(it.out / it.sources())
+    yield "./cpi unpacks it", "unpacked" in it.run("cpi", "true").err and it.told() == []
+    yield from comparing(it, built)
+
+
+def comparing(it: Repository, text: bytes) -> Iterator[Seen]:
+    def shipped() -> Ran:
+        return it.run("tests/test_shipped_program.py", "--program", f"{it.room}/built")
+
+    put(it.room / "built", "", 0o755)
+    (it.room / "built").write_bytes(text)
+    yield "the same program: its cases run too", shipped() == Ran(0, "3 passed, 0 failed\n", "")
+    it.ship(text + b"more")
+    yield "another program fails", shipped().status == 1 and it.last.out.endswith("2 passed, 1 failed\n")
+    yield "and fails ./test", it.run("test").status == 1 and "wasn't green" in it.run("tools/dist").err
+    it.ship(text + b"more", kit="rattle-kit-1")
+    yield "of another kit it isn't compared", shipped().status == 0 and "rattle-kit-1" in it.last.out
+    it.ship(text + b"more", sources="0")
+    yield "of other sources it isn't compared", shipped().status == 0 and "other sources" in it.last.out
+    it.ship(text, program="0", sources="0")
+    yield "one that MADE doesn't name fails", shipped().status == 1
+
+
+CASES: dict[str, Callable[[Repository], Iterator[Seen]]] = {
+    **{case.__name__: case for case in (parts_that_fail, tests_and_shipping, a_fresh_clone, without_xz)},
+    **{
+        case.__name__: case
+        for case in (sources_that_did_not_change, many_at_once, damage, a_checkout_that_can_not_be_written, lanes, sums)
+    },
+    **{case.__name__: case for case in (sources_that_changed, programs_of_no_use, proofs_that_fail)},
+    **{f"broken_off_by_{it.name}": partial(broken_off, number=it) for it in signal.Signals if it in (2, 9, 15)},
+}
+
+
+def try_case(checks: Checks, name: str) -> None:
+    """Counts each check of a case, in a repository of its own."""
+    with tempfile.TemporaryDirectory() as room:
+        os.chmod(room, 0o755)
+        it = Repository(Path(room))
+        for check, is_right in CASES[name](it):
+            checks.count(f"{name}: {check}", None if is_right else f"the last call: {it.last}")
+
+
+def main() -> int:
+    words = words_of(__doc__)
+    words.add_argument("--only", choices=[*CASES], help="one case alone")
+    chosen = words.parse_args()
+    # (another user reads these folders)
+    os.umask(0o022)
+    with Checks() as checks:
+        names = [chosen.only] if chosen.only else CASES
+        checks.do((Job(name, partial(try_case, checks, name)) for name in names), lanes=4)
+    return checks.status
+
+
+if __name__ == "__main__":
+    sys.exit(main())

@@ -1,0 +1,123 @@
+#!/usr/bin/env python3
+"""Runs a command and tells how many processor minutes it took, user and system time, of all processors together.
+
+    tools/minutes.py FILE NAME COMMAND..
+
+The command's output passes through, and its exit status is this one's. FILE gets one line more: NAME and the minutes.
+Of the gate, `rt ci`, it gets lines for each crate besides, and for each kind of check: the proof, the proof of the
+tests, and the edits with the check that they begin from. These are seen by looking every half second at which checks
+the command is running: a check names its crate, one in a folder of edits is an edit's, and one of the tests says so in
+its words. What ends between two looks is counted up to the last one, so they are a little short.
+
+On standard error all of this is told as it ends, so that a run that is cut off tells where it was: a kind of check of a
+crate once none has been seen for half a minute (where more of it comes, that is told with it). The minutes of the clock
+are counted from the second TEST_BEGUN, where that is set.
+"""
+
+import os
+import resource
+import subprocess
+import sys
+import time
+from collections.abc import Iterable
+
+TICKS = os.sysconf("SC_CLK_TCK")
+QUIET = 30
+BEGUN = float(os.environ.get("TEST_BEGUN") or time.time())
+Kind = tuple[str, str]
+
+
+def fields_of(process: str) -> list[str]:
+    """What the system says of a process, from its parent on."""
+    with open(f"/proc/{process}/stat", encoding="utf-8", errors="replace") as it:
+        return it.read().rpartition(")")[2].split()[1:]
+
+
+def is_below(process: str, top: int) -> bool:
+    while int(process) > 1 and int(process) != top:
+        process = fields_of(process)[0]
+    return int(process) == top
+
+
+def kind_of(process: str, top: int) -> Kind:
+    """The crate of a check, and what it is for. A LookupError says that this process is no check of the command's."""
+    with open(f"/proc/{process}/cmdline", "rb") as it:
+        words = it.read().decode(errors="replace").split("\0")
+    if os.path.basename(words[0]) != "rattle" or "--crate-name" not in words or not is_below(process, top):
+        raise LookupError
+    crate = words[words.index("--crate-name") + 1]
+    if "/rt-edit-" in os.readlink(f"/proc/{process}/cwd"):
+        return crate, "edits"
+    return crate, "tests" if "--test" in words else "proof"
+
+
+def seconds_of(process: str) -> float:
+    """The processor seconds of a process so far."""
+    fields = fields_of(process)
+    return (int(fields[10]) + int(fields[11])) / TICKS
+
+
+class Seen:
+    """The checks that were seen: the seconds of each process, and when one of its kind was last there."""
+
+    def __init__(self) -> None:
+        self.seconds: dict[tuple[str, Kind], float] = {}
+        self.running: dict[Kind, float] = {}
+
+    def look(self, top: int) -> None:
+        for process in filter(str.isdigit, os.listdir("/proc")):
+            try:
+                kind = kind_of(process, top)
+                self.seconds[process, kind] = max(self.seconds.get((process, kind), 0), seconds_of(process))
+                self.running[kind] = time.time()
+            except (OSError, ValueError, LookupError):
+                # it is another one, or has ended meanwhile
+                continue
+
+    def minutes(self, kinds: Iterable[Kind]) -> float:
+        return sum(value for (_, kind), value in self.seconds.items() if kind in kinds) / 60
+
+    def tell_quiet(self, since: float) -> None:
+        """Tells of the kinds of which none was seen since then."""
+        for kind in [kind for kind, at in self.running.items() if at <= since]:
+            del self.running[kind]
+            tell(", ".join(kind), self.minutes([kind]))
+
+    def lines(self) -> list[str]:
+        kinds = sorted({kind for _, kind in self.seconds})
+        sums = [(f"all, {of}", [it for it in kinds if it[1] == of]) for of in ("proof", "tests", "edits")]
+        sums += [(", ".join(kind), [kind]) for kind in kinds]
+        return [f"  {name}: {self.minutes(of):.1f}\n" for name, of in sums]
+
+
+def tell(name: str, minutes: float) -> None:
+    at = (time.time() - BEGUN) / 60
+    print(f"minutes: {name}: {minutes:.1f} (at minute {at:.0f})", file=sys.stderr, flush=True)
+
+
+def main() -> int:
+    if len(sys.argv) < 4:
+        sys.exit(__doc__)
+    told, name, command = sys.argv[1], sys.argv[2], sys.argv[3:]
+    seen = Seen()
+    running = subprocess.Popen(command)
+    while True:
+        if command[0] == "rt":
+            seen.look(running.pid)
+            seen.tell_quiet(time.time() - QUIET)
+        try:
+            running.wait(0.5)
+            break
+        except subprocess.TimeoutExpired:
+            continue
+    seen.tell_quiet(time.time())
+    used = resource.getrusage(resource.RUSAGE_CHILDREN)
+    minutes = (used.ru_utime + used.ru_stime) / 60
+    tell(name, minutes)
+    with open(told, "a", encoding="utf-8") as it:
+        it.writelines([f"{name}: {minutes:.1f}\n", *(seen.lines() if command[0] == "rt" else [])])
+    return running.returncode if running.returncode >= 0 else 1
+
+
+if __name__ == "__main__":
+    sys.exit(main())
