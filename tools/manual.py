@@ -81,7 +81,8 @@ def ending(text: str) -> Iterator[str]:
         head = HEADS[begun[1]] if begun else "NOTES"
         said = part[begun.end() :].lstrip(", ") if begun else part
         if head == "EXAMPLES":
-            found[head].append(f".EX\n{roff(said)}\n.EE\n")
+            lines = "\n".join(line.strip() for line in said.splitlines())
+            found[head].append(f".EX\n{roff(lines)}\n.EE\n")
         elif said:
             line = " ".join(said.split())
             found[head].append(f"{roff(line[:1].upper() + line[1:])}{'' if line.endswith('.') else '.'}\n")

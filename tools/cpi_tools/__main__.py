@@ -8,7 +8,7 @@ from collections.abc import Sequence
 from typing import Optional
 
 from . import backup, desk, drill, explain, next_year, probe, publish, take_in, take_out
-from .terminal import Fault, ToolWords, ends_by_signals
+from .terminal import Fault, ToolWords, ends_by_signals, is_line
 
 TOOLS = (backup, drill, probe, desk, explain, publish, take_in, take_out, next_year)
 
@@ -31,7 +31,10 @@ def main(given: Optional[Sequence[str]] = None) -> int:
 
     What a tool is known to meet is one line on standard error and status 1; words that aren't its own are 2.
     """
-    chosen, others = parser().parse_known_args(given)
+    words = sys.argv[1:] if given is None else given
+    chosen, others = parser().parse_known_args(words)
+    if odd := [word for word in words if not is_line(word)]:
+        chosen.words.error(f"a word isn't a line of UTF-8: {odd[0]!a}")
     if others:
         # (told by the tool whose words they were to be, which has its own status for it)
         chosen.words.error(f"unrecognized arguments: {' '.join(others)}")

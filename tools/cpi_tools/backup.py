@@ -14,9 +14,9 @@ import time
 from pathlib import Path
 from typing import NamedTuple, Optional
 
-from .copying import PATIENCE, has_frames, log_beside, right_copy
+from .copying import EMPTIED_BYTES, PATIENCE, has_frames, log_beside, right_copy
 from .program import LAST_MOMENT, Cpi, CpiFailed, add_program, record
-from .terminal import Fault, Progress, ToolWords, at_least, because_of, counted, time_text
+from .terminal import Fault, Progress, ToolWords, a_file, at_least, because_of, counted, time_text
 
 
 class BackupFailed(Fault):
@@ -78,17 +78,17 @@ def hash_of(path: Path) -> str:
 # ---- the backup
 
 
-def settle(cpi: Cpi, copy: Path) -> int:
-    """Lets the program open a copy and end, so that the log is in the file, and removes the log; how many tables it
-    has.
+def settle(cpi: Cpi, copy: Path, of: Path) -> int:
+    """Lets the program open a copy of the file `of` and end, so that the log is in it, and removes the log; how many
+    tables it has.
 
-    The program reads and tests every row as it opens the file. Raises CpiFailed where it is no office for the program.
+    Raises CpiFailed where it is no office for the program.
     """
-    listed = cpi.replay([record(LAST_MOMENT, "public", "tables")], db=copy)[0]
-    if "tables" not in listed:
-        raise CpiFailed(f"cpi doesn't list the tables of the copy: {listed}")
+    replies = cpi.open(copy, of, [record(LAST_MOMENT, "public", "tables")])
+    if len(replies) != 1 or "tables" not in replies[0]:
+        raise CpiFailed(f"{cpi.path} doesn't list the tables of {of}")
     remove_log(copy)
-    return len(listed["tables"])
+    return len(replies[0]["tables"])
 
 
 def remove_log(copy: Path) -> None:
@@ -121,7 +121,7 @@ def back_up(
             begun = int(time.time())
             copy = right_copy(path, Path(folder), patience, pause)
             now("cpi opens the copy")
-            tables = settle(cpi, copy)
+            tables = settle(cpi, copy, path)
             now("writing it to the disk")
             note = Note(path.name, begun, tables, copy.stat().st_size, hash_of(copy))
             written = Path(folder) / "note"
@@ -131,6 +131,11 @@ def back_up(
     except OSError as fault:
         raise BackupFailed(because_of(fault)) from fault
     return note
+
+
+def log_of(to: Path) -> Path:
+    """The log that would be put into a backup in its place: by its name, whatever a link there leads to now."""
+    return to.with_name(f"{to.name}-wal")
 
 
 def _look_at(path: Path, to: Path, is_replacing: bool) -> None:
@@ -147,6 +152,17 @@ def _look_at(path: Path, to: Path, is_replacing: bool) -> None:
     for each in () if is_replacing else (to, note_beside(to)):
         if os.path.lexists(each):
             raise BackupFailed(f"{each} is there already (--replace puts the backup in its place)")
+    if to.exists() and not note_beside(to).exists():
+        raise BackupFailed(f"{to} has no note, so it isn't known to be a backup, and nothing takes its place")
+    _look_at_log(to)
+
+
+def _look_at_log(to: Path) -> None:
+    """Tells a log with something in it where a backup is to lie: it would be put into the backup as that is opened, and
+    has what somebody did to an office there."""
+    log = log_of(to)
+    if os.path.lexists(log) and log.lstat().st_size > EMPTIED_BYTES:
+        raise BackupFailed(f"{log} is there, and would be put into the backup: look whose it is, or name another file")
 
 
 def _put(copy: Path, written: Path, to: Path, is_replacing: bool) -> None:
@@ -156,6 +172,8 @@ def _put(copy: Path, written: Path, to: Path, is_replacing: bool) -> None:
     """
     for each in (copy, written):
         _sync(each)
+    _look_at_log(to)
+    log_of(to).unlink(missing_ok=True)
     if is_replacing:
         note_beside(to).unlink(missing_ok=True)
         copy.replace(to)
@@ -225,8 +243,8 @@ def add_words(tools: argparse._SubParsersAction[ToolWords]) -> None:
         epilog=EPILOG,
     )
     words.add_argument("file", type=Path, metavar="FILE", help="the office's file, which is only read")
-    words.add_argument("dest", type=Path, metavar="DEST", help="the backup: a file that isn't there yet")
-    words.add_argument("--replace", action="store_true", help="DEST and its note take the place of what is there")
+    words.add_argument("dest", type=a_file, metavar="DEST", help="the backup: a file that isn't there yet")
+    words.add_argument("--replace", action="store_true", help="DEST and its note take the place of another backup")
     words.add_argument(
         "--patience",
         type=at_least(0),

@@ -89,21 +89,25 @@ class Frame(NamedTuple):
 
     def axes(self) -> Iterator[str]:
         """The lines of the marks, and the months below all of them."""
+        lines = {"grid": "", "zero": ""}
         for mark in self.marks:
-            kind = "zero" if abs(mark) < 1e-9 else "grid"
-            yield f'<path class="{kind}" d="M{LEFT} {self.y(mark):.1f}H{WIDTH - RIGHT}"/>'
+            lines["zero" if abs(mark) < 1e-9 else "grid"] += f"M{LEFT} {self.y(mark):.1f}H{WIDTH - RIGHT}"
             yield f'<text class="end" x="{LEFT - 6}" y="{self.y(mark) + 4:.1f}">{ticked(mark)}</text>'
-        yield from self._months()
+        named = [*self._named()]
+        lines["grid"] += "".join(f"M{self.x(at):.1f} {HEIGHT - FOOT}v4" for at in named)
+        yield from (f'<path class="{kind}" d="{path}"/>' for kind, path in lines.items() if path)
+        yield from self._months(named)
 
-    def _months(self) -> Iterator[str]:
+    def _named(self) -> Iterator[int]:
+        """Which months are named below."""
         count = len(self.months)
         every = 1 if count <= 3 else 3 if count <= 14 else 6 if count <= 36 else 12
+        return (at for at, month in enumerate(self.months) if (int(month[5:]) - 1) % every == 0)
+
+    def _months(self, named: Sequence[int]) -> Iterator[str]:
         is_first = True
-        for at, month in enumerate(self.months):
-            if (int(month[5:]) - 1) % every:
-                continue
-            x = f"{self.x(at):.1f}"
-            yield f'<path class="grid" d="M{x} {HEIGHT - FOOT}v4"/>'
+        for at in named:
+            month, x = self.months[at], f"{self.x(at):.1f}"
             yield f'<text class="middle" x="{x}" y="{HEIGHT - FOOT + 17}">{month_name(month)[:3]}</text>'
             if is_first or month.endswith("-01"):
                 yield f'<text class="middle year" x="{x}" y="{HEIGHT - FOOT + 34}">{month[:4]}</text>'

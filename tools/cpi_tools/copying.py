@@ -32,7 +32,7 @@ from io import RawIOBase
 from pathlib import Path
 from typing import NamedTuple, Optional
 
-from .terminal import Fault, because_of
+from .terminal import Fault, because_of, naming
 
 BLOCK = 1 << 20
 """Bytes that are read at once. The blocks of a file are read in their order, which the log needs."""
@@ -154,19 +154,22 @@ def _copy_bytes(path: Path, copy: Path) -> None:
     with path.open("rb", buffering=0) as source:
         copy.unlink(missing_ok=True)
         with os.fdopen(os.open(copy, os.O_WRONLY | os.O_CREAT | os.O_EXCL, 0o600), "wb", buffering=0) as target:
-            while block := source.read(BLOCK):
+            while block := _read(source, path):
                 _write_all(target, block, copy)
 
 
+def _read(source: RawIOBase, path: Path) -> bytes:
+    """The next block of a file, empty at its end."""
+    with naming(path):
+        return source.read(BLOCK) or b""
+
+
 def _write_all(target: RawIOBase, block: bytes, copy: Path) -> None:
-    """Writes a block; a fault names the file."""
+    """Writes a block."""
     left = memoryview(block)
-    try:
+    with naming(copy):
         while left:
             left = left[target.write(left) or 0 :]
-    except OSError as fault:
-        fault.filename = str(copy)
-        raise
 
 
 def _remove(copy: Path) -> None:

@@ -18,10 +18,13 @@ from typing import NamedTuple, Optional
 
 from .anew import Computed, Months, differing
 from .backup import BackupFailed, Note, hash_of, note_beside, read_note, remove_log
-from .copying import private_copy
+from .copying import has_frames, log_beside, private_copy
 from .program import LAST_MOMENT, Cpi, CpiFailed, Reply, add_program, record
 from .stored import Level, Release, StoredOffice, stored_office
 from .terminal import Fault, Progress, ToolWords, because_of, counted, month_text, time_text
+
+MOST_TOLD = 20
+"""So many faults have a line; the others are counted."""
 
 Printed = dict[tuple[int, int], str]
 """The CSV that the program prints, by month and revision."""
@@ -74,11 +77,14 @@ def drill(cpi: Cpi, path: Path, progress: Optional[Progress] = None) -> Drilled:
 
 
 def note_of(path: Path, faults: list[str]) -> Optional[Note]:
-    """The note beside a copy; a fault where it isn't of these bytes, or isn't one."""
+    """The note beside a copy; a fault where it isn't of these bytes, or isn't one. A backup is one file, so a log with
+    something in it makes it another state than that of its note."""
     try:
         note = read_note(path)
         if note and note.sha256 != hash_of(path):
             faults.append(f"its bytes aren't those of its note {note_beside(path).name}")
+        if note and has_frames(path):
+            faults.append(f"{log_beside(path).name} beside it has something in it, of which its note doesn't tell")
     except BackupFailed as fault:
         faults.append(str(fault))
         return None
@@ -247,7 +253,9 @@ def run(chosen: argparse.Namespace) -> int:
     """Runs the tool by its words; its exit status."""
     with Progress("cpi-tools drill") as progress:
         found = drill(Cpi(chosen.program), chosen.copy, progress)
-    for fault in found.faults:
+    for fault in found.faults[:MOST_TOLD]:
         print(f"cpi-tools drill: {chosen.copy}: {fault}", file=sys.stderr)
+    if len(found.faults) > MOST_TOLD:
+        print(f"cpi-tools drill: {chosen.copy}: and {len(found.faults) - MOST_TOLD:,} more", file=sys.stderr)
     print(told_line(chosen.copy, found))
     return 1 if found.faults else 0

@@ -14,6 +14,12 @@ class NotPlaced(Fault):
     """A folder that can't be put in its place; one line."""
 
 
+def refuse_shared(out: Path, what: str) -> None:
+    """Raises NotPlaced where others can read what stands at `out`, so that something private doesn't take its place."""
+    if out.exists() and out.stat().st_mode & 0o077:
+        raise NotPlaced(f"{out} can be read by others, and {what} may not: give it a folder of its own")
+
+
 @contextlib.contextmanager
 def written_folder(out: Path, known_by: str, is_private: bool = True) -> Iterator[Path]:
     """A new folder, which takes the place of `out` at the end; after a fault nothing is left of it.

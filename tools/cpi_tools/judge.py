@@ -11,7 +11,7 @@ from typing import NamedTuple, Optional
 
 from .odd_cells import odd_columns
 from .office_files import Taken
-from .plan_faults import faulty_cells, has_too_many_rows
+from .plan_faults import faulty_cells, has_too_many_rows, unreadable
 from .program import LAST_MOMENT, Cpi, Reply, Session, record
 from .sent import DESK, MOST_RECORDS, MOST_ROWS, Bundle, Problem, Sent, bundled
 from .sheets import Origin
@@ -168,16 +168,15 @@ class Judge:
                 yield Problem(row.origin.at(column), number_of(reply), words.because, words.do)
 
     def _plan_problems(self, plan: Bundle, reply: Reply) -> Iterator[Problem]:
-        words = refusal_words(reply, DESK, "plan")
-        because = f"the plan of {plan.year}: {words.because}"
-        if "found" in reply:
-            because += f", but to {reply['found']:,}"
-        if "code" in reply:
-            because += f": {reply['code']}"
-        if reply["refused"] == 10 and has_too_many_rows(plan):
-            because = f"the plan of {plan.year} has {len(plan.rows):,} rows, and {MOST_ROWS:,} are the most"
-        for origin in faulty_cells(self._cpi, plan, reply, self._items):
-            yield Problem(origin, number_of(reply), because, words.do)
+        unread = unreadable(self._cpi, plan) if reply["refused"] == 10 else []
+        for row, column in unread:
+            words = words_of(row, reply, column)
+            because = f"the plan of {plan.year}: {words.because}"
+            yield Problem(row.origin.at(column), number_of(reply), because, words.do)
+        if not unread:
+            words = words_of_plan(plan, reply)
+            cells = faulty_cells(self._cpi, plan, reply, self._items)
+            yield from (Problem(origin, number_of(reply), *words) for origin in cells)
 
 
 def is_unread(bundle: Bundle, reply: Reply) -> bool:
@@ -189,6 +188,18 @@ def number_of(reply: Reply) -> str:
     """The number of a refusal with its fault, as the guides write it: `26`, `49 fault 2`."""
     fault = f" fault {reply['fault']}" if "fault" in reply else ""
     return f"{reply['refused']}{fault}"
+
+
+def words_of_plan(plan: Bundle, reply: Reply) -> Words:
+    """Why a whole plan was refused, with what the reply tells beside, and what to do."""
+    because, do = refusal_words(reply, DESK, "plan")
+    if "found" in reply:
+        because += f", but to {reply['found']:,}"
+    if "code" in reply:
+        because += f": {reply['code']}"
+    if reply["refused"] == 10 and has_too_many_rows(plan):
+        return Words(f"the plan of {plan.year} has {len(plan.rows):,} rows, and {MOST_ROWS:,} are the most", do)
+    return Words(f"the plan of {plan.year}: {because}", do)
 
 
 def words_of(row: Sent, reply: Reply, column: str) -> Words:

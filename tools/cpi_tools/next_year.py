@@ -224,7 +224,7 @@ def next_year(cpi: Cpi, file: Path, year: int, folder: Path) -> tuple[Now, Lists
     folder.parent.mkdir(parents=True, exist_ok=True)
     with private_copy(file) as copy, tempfile.TemporaryDirectory(prefix=".cpi-next-", dir=folder.parent) as room:
         # (the program opens it first, so it is an office, and of the schema that is read here)
-        cpi.replay([], db=copy)
+        cpi.open(copy, file)
         with stored_office(copy) as stored:
             now = read(stored, year)
         found = lists(now, next_sample(cpi, copy, now.plan, now.last.month))

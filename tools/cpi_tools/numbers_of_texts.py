@@ -29,6 +29,10 @@ class Numbers:
             plain = plain.replace(self.decimal, ".")
         return Fraction(plain) if PLAIN.fullmatch(plain) else None
 
+    def told_none(self, text: str) -> str:
+        """Why a text is no number."""
+        return f"{text} is no number with the decimal sign {self.decimal}"
+
 
 def decimal(number: Fraction, sign: str = "") -> str:
     """A number with three digits behind the point, halves away from zero; `sign` `+` has one before what isn't below

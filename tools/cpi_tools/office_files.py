@@ -6,6 +6,7 @@ that is missing.
 
 from __future__ import annotations
 
+import re
 import secrets
 from collections import defaultdict
 from collections.abc import Callable, Iterable, Iterator, Sequence
@@ -58,7 +59,7 @@ Clock = Callable[[Iterable[str]], dict[str, int]]
 
 class Options(NamedTuple):
     """How texts are read: minor units in a unit of the prices, the decimal sign, what the weights are given in (`ppm`
-    are sent as they are), and whether prices outside the tolerance are confirmed."""
+    aren't scaled), and whether prices outside the tolerance are confirmed."""
 
     minor: int = 1
     decimal: str = "."
@@ -264,14 +265,15 @@ class OfficeFiles:
         weights = self._weights()
         years: dict[str, list[str]] = defaultdict(list)
         for row in self._rows("classification"):
-            year, code = row["year"], self._code(row)
-            rows[year].append(Sent(["T", code, row["title"]], row.origin, FIELDS["T"], "year"))
+            year, code, hint = row["year"], self._code(row), hint_of_code(row["code"])
+            rows[year].append(Sent(["T", code, row["title"]], row.origin, FIELDS["T"], "year", hint))
             if row["weight"]:
                 years[code].append(year)
-                weight = weights.get(row.origin, row["weight"])
-                rows[year].append(Sent(["W", code, weight], row.origin, FIELDS["W"], "year"))
+                weight, hint = weights.get(row.origin, row["weight"]), hint or self._hint_of_weight(row["weight"])
+                rows[year].append(Sent(["W", code, weight], row.origin, FIELDS["W"], "year", hint))
         for year, row in self._placed(years):
-            rows[year].append(Sent(["I", row["item"], self._code(row)], row.origin, FIELDS["I"], "year"))
+            fields = ["I", row["item"], self._code(row)]
+            rows[year].append(Sent(fields, row.origin, FIELDS["I"], "year", hint_of_code(row["code"])))
         for row in self._rows("plans"):
             if row["reference"]:
                 rows[row["year"]].append(Sent(["R", row["reference"]], row.origin, FIELDS["R"], "year"))
@@ -295,15 +297,24 @@ class OfficeFiles:
             return f"0{code}"
         return code
 
+    def _hint_of_weight(self, text: str) -> str:
+        """What is known of a weight that the program can't read."""
+        number = self._numbers.of(text)
+        if number is None:
+            return self._numbers.told_none(text)
+        is_whole = self._options.weights != "ppm" or number.denominator == 1
+        return "" if is_whole else f"{text} isn't whole in parts per million (--weights)"
+
     def _weights(self) -> dict[Origin, str]:
-        """Weights in parts per million, by their rows, where they are given in anything else."""
-        if self._options.weights == "ppm":
-            return {}
+        """Weights in parts per million, by their rows; what is no number, or isn't whole then, isn't among them."""
         given: dict[str, list[tuple[Row, Fraction]]] = defaultdict(list)
         for row in self._rows("classification"):
             number = self._numbers.of(row["weight"])
             if number is not None and number >= 0:
                 given[row["year"]].append((row, number))
+        if self._options.weights == "ppm":
+            pairs = (pair for rows in given.values() for pair in rows)
+            return {row.origin: str(number) for row, number in pairs if number.denominator == 1}
         for year, rows in sorted(given.items()):
             total = sum((number for _, number in rows), Fraction(0)) or Fraction(1)
             wanted = WHOLE.get(self._options.weights, total)
@@ -388,3 +399,12 @@ class OfficeFiles:
 
 
 MOVED = FIELDS["handover"]
+
+DATE = re.compile(r"[0-9]{4}-[0-9]{2}(-[0-9]{2}T.*)?")
+
+
+def hint_of_code(code: str) -> str:
+    """What is known of a code of the classification that the program can't read."""
+    if not DATE.fullmatch(code):
+        return ""
+    return f"the cell is the date {code}, as a spreadsheet takes 01.1.1 for one: give the column the format of text"

@@ -6,6 +6,7 @@ their folder, which is searched first.
 
 from __future__ import annotations
 
+import contextlib
 import os
 from collections.abc import Callable, Mapping
 from pathlib import Path
@@ -15,6 +16,7 @@ import jinja2
 from markupsafe import Markup
 
 from . import charts, exact
+from .terminal import Fault, because_of
 
 TEMPLATES = Path(__file__).resolve().parent / "templates"
 
@@ -62,6 +64,22 @@ def environment(own: Optional[Path] = None) -> jinja2.Environment:
     return made
 
 
+PAGE_BEGINS = b"<!DOCTYPE html>"
+
+
+def refuse_other_files(to: Path) -> None:
+    """Raises Fault where something stands that is no page, so that a slip in a name doesn't cost it."""
+    try:
+        with to.open("rb") as file:
+            is_page = file.read(len(PAGE_BEGINS)) == PAGE_BEGINS
+    except FileNotFoundError:
+        return
+    except OSError as fault:
+        raise Fault(because_of(fault)) from fault
+    if not is_page:
+        raise Fault(f"{to} is there already, and is no page: give the page a name of its own")
+
+
 def write_page(pages: jinja2.Environment, template: str, to: Path, **named: object) -> None:
     """Writes a page of a template, whole or not at all."""
     text = pages.get_template(template).render(**named)
@@ -69,6 +87,9 @@ def write_page(pages: jinja2.Environment, template: str, to: Path, **named: obje
     try:
         beside.write_bytes(text.encode())
         os.replace(beside, to)
-    except BaseException:
-        beside.unlink(missing_ok=True)
+    except BaseException as fault:
+        with contextlib.suppress(OSError):
+            beside.unlink()
+        if isinstance(fault, OSError):
+            fault.filename = str(to)
         raise

@@ -15,25 +15,21 @@ Rows = dict[str, list[Sent]]
 
 
 def faulty_cells(cpi: Cpi, plan: Bundle, reply: Reply, items: Collection[str]) -> list[Origin]:
-    """The cells that a refusal of a plan speaks of, at least one; `items` are those that the office knows."""
+    """The cells that a refusal of a whole plan speaks of, at least one; `items` are those that the office knows."""
     rows: Rows = defaultdict(list)
     for row in plan.rows:
         rows[row.word].append(row)
-    if reply["refused"] == 10:
-        found = unreadable(cpi, plan)
-    elif reply["refused"] == 44:
-        found = [*cells_of_fault(cpi, rows, reply, items)]
-    else:
-        found = []
+    found = [*cells_of_fault(cpi, rows, reply, items)] if reply["refused"] == 44 else []
     first = plan.rows[0]
     return found or [first.origin.at(first.own)]
 
 
-def unreadable(cpi: Cpi, plan: Bundle) -> list[Origin]:
-    """The cells of a plan that the program can't read; none where it is its year, or that it has too many rows."""
+def unreadable(cpi: Cpi, plan: Bundle) -> list[tuple[Sent, str]]:
+    """The rows of a plan that the program can't read, each with the column that it can't; none where it is its year, or
+    that it has too many rows."""
     read = are_read(cpi, [row.fields for row in plan.rows])
     bad = [row for row, is_read in zip(plan.rows, read) if not is_read]
-    return [row.origin.at(column) for row, column in zip(bad, odd_columns(cpi, bad))]
+    return [*zip(bad, odd_columns(cpi, bad))]
 
 
 def has_too_many_rows(plan: Bundle) -> bool:

@@ -185,7 +185,7 @@ class PriceCells:
         what is known of it."""
         number = self._numbers.of(text)
         if number is None:
-            return text, f"{text} is no number with the decimal sign {self._numbers.decimal}" if text else ""
+            return text, self._numbers.told_none(text) if text else ""
         minor = number * self._minor
         if minor.denominator == 1:
             return str(minor.numerator), ""

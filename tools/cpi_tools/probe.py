@@ -95,16 +95,15 @@ class Judged(NamedTuple):
 # ---- looking
 
 
-def asked(url: str, seconds: int, authority: Optional[Path] = None) -> Answer:
+def asked(url: str, seconds: int, trusted: ssl.SSLContext) -> Answer:
     """The published tables that the office at a URL lists; `/tables` is put behind it.
 
-    `seconds` bound each wait for it. `authority` is a file of certificates that are trusted beside the system's. Raises
-    Fault where there is no answer, or it isn't an office's.
+    `seconds` bound each wait for it. Raises Fault where there is no answer, or it isn't an office's.
     """
     at = urllib.parse.urlsplit(url)
     begun = time.monotonic_ns()
     try:
-        line = _line_to(at, seconds, authority)
+        line = _line_to(at, seconds, trusted)
         line.request("GET", f"{at.path.rstrip('/')}/tables", headers={"Connection": "close"})
         response = line.getresponse()
         text = response.read(MOST_BYTES)
@@ -121,13 +120,23 @@ def asked(url: str, seconds: int, authority: Optional[Path] = None) -> Answer:
     return Answer(tables, (time.monotonic_ns() - begun) // 1_000_000)
 
 
-def _line_to(at: urllib.parse.SplitResult, seconds: int, authority: Optional[Path]) -> http.client.HTTPConnection:
-    """A connection to the machine of a URL."""
-    if at.scheme == "https":
-        context = ssl.create_default_context()
+def trusting(authority: Optional[Path]) -> ssl.SSLContext:
+    """Trusts the system's certificates, and those of a file beside them. Raises Fault where it can't be read."""
+    context = ssl.create_default_context()
+    try:
         if authority:
             context.load_verify_locations(authority)
-        return http.client.HTTPSConnection(at.hostname or "", at.port, timeout=seconds, context=context)
+    except ssl.SSLError as fault:
+        raise Fault(f"{authority} has no certificate that can be read") from fault
+    except OSError as fault:
+        raise Fault(f"{authority}: {fault.strerror}") from fault
+    return context
+
+
+def _line_to(at: urllib.parse.SplitResult, seconds: int, trusted: ssl.SSLContext) -> http.client.HTTPConnection:
+    """A connection to the machine of a URL."""
+    if at.scheme == "https":
+        return http.client.HTTPSConnection(at.hostname or "", at.port, timeout=seconds, context=trusted)
     return http.client.HTTPConnection(at.hostname or "", at.port, timeout=seconds)
 
 
@@ -159,13 +168,11 @@ def last_backup(folder: Path) -> Optional[Backup]:
     """
     found = list[Backup]()
     try:
-        for beside in folder.glob("*.sha256"):
+        for beside in folder.iterdir():
             path = beside.with_suffix("")
-            note = read_note(path)
+            note = read_note(path) if beside.suffix == ".sha256" else None
             if note and path.is_file() and path.stat().st_size == note.size:
                 found.append(Backup(path, note.copied, note.size))
-        if not folder.is_dir():
-            raise Fault(f"{folder} is no folder")
     except OSError as fault:
         raise Fault(because_of(fault)) from fault
     return max(found, key=lambda each: each.copied) if found else None
@@ -200,9 +207,9 @@ def late_months(calendar: Sequence[Window], tables: Sequence[Table], now: int) -
 
 def look(chosen: argparse.Namespace, now: int) -> Seen:
     """Looks at everything that was named. Raises Fault where something that was named can't be looked at."""
-    answer, fault = None, ""
+    trusted, answer, fault = trusting(chosen.authority), None, ""
     try:
-        answer = asked(chosen.url, chosen.timeout, chosen.authority)
+        answer = asked(chosen.url, chosen.timeout, trusted)
     except Fault as told:
         fault = str(told)
     files = files_of(chosen.file) if chosen.file else None

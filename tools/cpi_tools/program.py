@@ -109,10 +109,21 @@ class Cpi:
         ran = self._run(replay_words(db, zone), sent.encode())
         # (a line that was cut off as the process ended is no reply)
         whole = [line for line in ran.stdout.splitlines(keepends=True) if line.endswith(b"\n")]
-        replies: list[Reply] = [json.loads(line) for line in whole]
+        replies = [reply_of(line) for line in whole]
         if ran.returncode:
             raise CpiFailed(told(ran.returncode, ran.stderr), ran.returncode, replies)
         return replies
+
+    def open(self, copy: Path, of: Path, asked: Iterable[str] = ()) -> list[Reply]:
+        """Opens a copy of the file `of`, in which each row is tested, and which has the tables of this program then;
+        the replies to some records.
+
+        Raises CpiFailed, which names the file and not the copy, where it is no office.
+        """
+        try:
+            return self.replay(asked, db=copy)
+        except CpiFailed as fault:
+            raise CpiFailed(f"{of}: {fault}", fault.status, fault.replies) from fault
 
     def table(self, db: Path, month: str, form: str, at: int, revision: Optional[int] = None) -> bytes:
         """The bytes of a table as it was published by the moment `at`: month like `2026-01`, form `text` or `csv`.
@@ -181,8 +192,7 @@ class Session:
         line = self._output.readline()
         if not line.endswith(b"\n"):
             self._fail()
-        reply: Reply = json.loads(line)
-        return reply
+        return reply_of(line)
 
     def close(self) -> None:
         """Ends the input, and waits until the program has ended. Raises CpiFailed where it ends with a fault."""
@@ -197,6 +207,17 @@ class Session:
         errors = self._errors.read()
         status = self._process.wait()
         raise CpiFailed(told(status, errors) if status else "cpi ended before its reply", status)
+
+
+def reply_of(line: bytes) -> Reply:
+    """The reply of a line. Raises CpiFailed where it is none, since another program was named."""
+    try:
+        reply = json.loads(line)
+    except ValueError:
+        reply = None
+    if not isinstance(reply, dict):
+        raise CpiFailed(f"the program answers otherwise than cpi does: {line[:60].decode(errors='replace').strip()}")
+    return reply
 
 
 def replay_words(db: Optional[Path], zone: Optional[str]) -> list[str]:

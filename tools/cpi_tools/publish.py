@@ -13,7 +13,7 @@ from collections.abc import Callable
 from pathlib import Path
 from typing import NamedTuple, Optional
 
-from .folders import written_folder
+from .folders import refuse_shared, written_folder
 from .pack.config import Config, read_config
 from .pack.manifest import (
     MANIFEST,
@@ -93,11 +93,13 @@ def publish(
 ) -> Series:
     """Writes a pack beside the folder `out` and puts it in its place; its tables.
 
-    A draft is readable for its owner alone. `before` is the manifest before, else that of `out` where a pack stands
-    there. Raises Fault, and leaves `out` as it is, where a table that was published is another one now, or is there no
-    more.
+    A draft is readable for its owner alone, and takes the place of no pack that others can read. `before` is the
+    manifest before, else that of `out` where a pack stands there. Raises Fault, and leaves `out` as it is, where a
+    table that was published is another one now, or is there no more.
     """
     series = Series(published)
+    if is_draft:
+        refuse_shared(out, "a draft")
     with written_folder(out, MANIFEST, is_private=is_draft) as new:
         standing = read_manifest(out / MANIFEST) if out.exists() else None
         last = read_manifest(before) if before else standing

@@ -1,14 +1,19 @@
 """Sheets of an office outside the program: CSV files and workbooks, read as texts that know their file, row and column.
 
-A sheet is found by its name, in any case of letters: `items.csv`; `basket-items.csv`, as spreadsheet programs name the
-sheets of a workbook that they save as CSV; `items.xlsx`, whose first sheet it is then; or the sheet `items` of any
-workbook. CSV is UTF-8 with commas, semicolons or tabs, whichever the heading has most of.
+A sheet is found by its name, in any case of letters: `items.csv`; `items.xlsx`, whose first sheet it is then; or the
+sheet `items` of any workbook. It may have another name and a hyphen before it, like `basket-items.csv`, as spreadsheet
+programs name the sheets of a workbook that they save as CSV. CSV is UTF-8 with commas, semicolons or tabs, whichever
+the heading has most of.
 """
 
 from __future__ import annotations
 
+import contextlib
 import csv
+import functools
 import io
+import re
+import warnings
 import zipfile
 from collections.abc import Callable, Collection, Iterator, Sequence
 from dataclasses import dataclass
@@ -16,7 +21,7 @@ from datetime import datetime
 from pathlib import Path
 from typing import Any, NamedTuple, Optional
 
-from .terminal import Fault, because_of, needs
+from .terminal import Fault, because_of, is_line, needs
 
 
 class Origin(NamedTuple):
@@ -109,31 +114,46 @@ class Source:
 
     def _look_at(self, file: Path) -> None:
         """Notes which sheet or sheets a file has."""
-        if file.name.startswith((".", "~$")) or file.suffix.lower() not in (".csv", ".xlsx"):
+        kind = file.suffix.lower()
+        if file.name.startswith((".", "~$")):
             return
-        stem = file.stem.lower()
-        name = stem if stem in self._names else stem.rpartition("-")[2]
-        if file.suffix.lower() == ".csv":
-            self._note(name, file.name, lambda: texts_of_csv(file))
-        else:
-            self._look_into(file, stem)
+        if kind == ".csv":
+            self._note(self._name(file.stem), label_of(file), functools.partial(texts_of_csv, file))
+        elif kind == ".xlsx":
+            self._look_into(file)
+        elif kind in OTHER_KINDS:
+            self.unread.append(label_of(file))
 
-    def _look_into(self, file: Path, stem: str) -> None:
+    def _look_into(self, file: Path) -> None:
         """Notes the sheets of a workbook; where it has one of the names itself, its first sheet has that name."""
-        titles = titles_of_workbook(file)
-        if stem in self._names and stem not in (title.lower() for title in titles):
-            first, *titles = titles
-            label = f"{file.name}:{first}" if titles else file.name
-            self._note(stem, label, lambda: texts_of_workbook(file, first))
-        for title in titles:
-            label = file.name if title.lower() == stem else f"{file.name}:{title}"
-            self._note(title.lower(), label, lambda title=title: texts_of_workbook(file, title))  # type: ignore[misc]
+        own, titles = self._name(file.stem), titles_of_workbook(file)
+        names = [self._name(title) for title in titles]
+        if own in self._names and own not in names:
+            names[:1] = [own]
+        for name, title in zip(names, titles):
+            is_named_so = len(titles) == 1 or title.lower() == file.stem.lower()
+            label = label_of(file) if is_named_so else f"{label_of(file)}:{title}"
+            self._note(name, label, functools.partial(texts_of_workbook, file, title))
+
+    def _name(self, text: str) -> str:
+        """The name that a file or a sheet goes by: all of its text, or what stands behind the last hyphen."""
+        whole = text.lower()
+        return whole if whole in self._names else whole.rpartition("-")[2]
 
     def _note(self, name: str, label: str, read: Callable[[], Texts]) -> None:
         if name in self._names:
             self._found.setdefault(name, []).append((label, read))
         else:
             self.unread.append(label)
+
+
+OTHER_KINDS = (".ods", ".tsv", ".xls", ".xlsb", ".xlsm")
+"""Files of spreadsheets that aren't read here, but are told."""
+
+
+def label_of(path: Path) -> str:
+    """The name of a file as one line of UTF-8, whatever it is to the system."""
+    return path.name if is_line(path.name) else ascii(path.name)[1:-1]
 
 
 def sheet_of(file: str, texts: Texts) -> Sheet:
@@ -156,7 +176,7 @@ def sheet_of(file: str, texts: Texts) -> Sheet:
 
 
 MOST_DIGITS = 10**15
-"""The least number that a spreadsheet may have changed, such as a key whose characters are all digits."""
+"""The least whole number that a spreadsheet may have changed, such as a key whose characters are all digits."""
 
 UNNAMED = "name the column in the first row, or put quotation marks round a text that has the separator in it"
 
@@ -169,18 +189,19 @@ def texts_of_csv(path: Path) -> Texts:
         data = path.read_bytes()
         text = data.decode("utf-8-sig")
     except OSError as fault:
-        raise BadSheet(Origin(path.name, 0), because_of(fault), "see why the file can't be read") from fault
+        raise BadSheet(Origin(label_of(path), 0), because_of(fault), "see why the file can't be read") from fault
     except UnicodeDecodeError as fault:
         row = data[: fault.start].count(b"\n") + 1
-        raise BadSheet(Origin(path.name, row), "the file isn't UTF-8", "save it as CSV in UTF-8") from fault
-    heading = text.split("\n", 1)[0]
+        raise BadSheet(Origin(label_of(path), row), "the file isn't UTF-8", "save it as CSV in UTF-8") from fault
+    heading = re.split("[\r\n]", text, maxsplit=1)[0]
     texts: Texts = []
     try:
         for line in csv.reader(io.StringIO(text, newline=""), delimiter=max(",;\t", key=heading.count), strict=True):
             texts.append(line)
     except csv.Error as fault:
         told = str(fault).splitlines()[0]
-        raise BadSheet(Origin(path.name, len(texts) + 1), f"the row is no CSV: {told}", "look at its quotes") from fault
+        origin = Origin(label_of(path), len(texts) + 1)
+        raise BadSheet(origin, f"the row is no CSV: {told}", "look at its quotes") from fault
     return texts
 
 
@@ -188,37 +209,49 @@ def texts_of_csv(path: Path) -> Texts:
 
 
 def titles_of_workbook(path: Path) -> list[str]:
-    """The titles of a workbook's sheets, in their order."""
-    book = opened(path, is_formula=False)
-    try:
+    """The titles of a workbook's sheets, in their order. Raises Fault where it can't be read."""
+    with reading(path), opened(path, is_formula=False) as book:
         return [sheet.title for sheet in book.worksheets]
-    finally:
-        book.close()
 
 
 def texts_of_workbook(path: Path, title: str) -> Texts:
-    """The cells of a workbook's sheet. Raises BadSheet where a cell's formula has no value, or an error for one."""
-    book = opened(path, is_formula=False)
-    try:
-        texts = [[text_of_cell(cell, path.name) for cell in row] for row in rows_of(book, title)]
-    finally:
-        book.close()
-    if has_formulas(path):
-        look_at_formulas(path, title, texts)
+    """The cells of a workbook's sheet. Raises BadSheet where a cell's formula has no value, or an error for one, and
+    Fault where the workbook can't be read."""
+    with reading(path):
+        with opened(path, is_formula=False) as book:
+            texts = [[text_of_cell(cell, label_of(path)) for cell in row] for row in rows_of(book, title)]
+        if has_formulas(path):
+            look_at_formulas(path, title, texts)
     while texts and not any(texts[-1]):
         texts.pop()
     return texts
 
 
-def opened(path: Path, is_formula: bool) -> Any:
-    """A workbook of openpyxl, with the values that stand for formulas or with these. Raises BadSheet or Fault."""
+@contextlib.contextmanager
+def reading(path: Path) -> Iterator[None]:
+    """Meanwhile what openpyxl meets in a broken workbook is a Fault, and what it doesn't know of a whole one is silent.
+
+    Its exceptions are those of its parsers, of many kinds.
+    """
     needs("openpyxl", "python3-openpyxl")
+    with warnings.catch_warnings():
+        warnings.simplefilter("ignore")
+        try:
+            yield
+        except (BadSheet, Fault):
+            raise
+        except Exception as fault:
+            told = (str(fault) or type(fault).__name__).splitlines()[0]
+            raise Fault(f"{label_of(path)} can't be read as a workbook: {told}") from fault
+
+
+@contextlib.contextmanager
+def opened(path: Path, is_formula: bool) -> Iterator[Any]:
+    """A workbook of openpyxl, with its formulas, or with the values that stand for them."""
     from openpyxl import load_workbook
 
-    try:
-        return load_workbook(path, read_only=True, data_only=not is_formula)
-    except (OSError, KeyError, ValueError, TypeError, zipfile.BadZipFile) as fault:
-        raise Fault(f"{path} can't be read as a workbook: {fault}") from fault
+    with contextlib.closing(load_workbook(path, read_only=True, data_only=not is_formula)) as book:
+        yield book
 
 
 def rows_of(book: Any, title: str) -> Iterator[Sequence[Any]]:
@@ -230,7 +263,8 @@ def rows_of(book: Any, title: str) -> Iterator[Sequence[Any]]:
 
 
 def text_of_cell(cell: Any, file: str) -> str:
-    """A cell as the text that a CSV file would have: whole numbers without a point, dates as months or times."""
+    """A cell as the text that a CSV file would have: dates as months or times, and numbers with the 15 digits that a
+    spreadsheet keeps, so that 2.4 * 1.05 is 2.52 there and here."""
     value = cell.value
     if value is None:
         return ""
@@ -244,7 +278,7 @@ def text_of_cell(cell: Any, file: str) -> str:
             origin = Origin(file, cell.row, cell.column_letter)
             because = f"the cell is the number {value!r}, and a spreadsheet keeps 15 digits of it"
             raise BadSheet(origin, because, "give the column the format of text, and write the cell again")
-        return Numeral(int(value) if value == int(value) else repr(value))
+        return Numeral(f"{value:.15g}")
     if isinstance(value, datetime):
         return time_of_cell(value, "h" in cell.number_format.lower())
     return str(value)
@@ -252,27 +286,24 @@ def text_of_cell(cell: Any, file: str) -> str:
 
 def time_of_cell(value: datetime, has_hours: bool) -> str:
     """A date as the month that it was typed as, `2026-01`, or as a time where its cell shows one."""
-    if not has_hours and (value.day, value.hour, value.minute) == (1, 0, 0):
+    if not has_hours and (value.day, value.hour, value.minute, value.second) == (1, 0, 0, 0):
         return value.strftime("%Y-%m")
-    return value.strftime("%Y-%m-%dT%H:%M")
+    return value.strftime("%Y-%m-%dT%H:%M:%S" if value.second else "%Y-%m-%dT%H:%M")
 
 
 def has_formulas(path: Path) -> bool:
     """Whether any sheet of a workbook has a formula."""
     with zipfile.ZipFile(path) as parts:
-        names = [name for name in parts.namelist() if name.startswith("xl/worksheets/")]
-        return any(b"<f>" in parts.read(name) or b"<f " in parts.read(name) for name in names)
+        sheets = (parts.read(name) for name in parts.namelist() if name.startswith("xl/worksheets/"))
+        return any(b"<f>" in sheet or b"<f " in sheet for sheet in sheets)
 
 
 def look_at_formulas(path: Path, title: str, texts: Texts) -> None:
     """Raises BadSheet where a formula has no value: the program that wrote the workbook didn't compute it."""
-    book = opened(path, is_formula=True)
-    try:
+    with opened(path, is_formula=True) as book:
         for row, line in zip(rows_of(book, title), texts):
             for cell, text in zip(row, line):
                 if cell.data_type == "f" and not text:
-                    origin = Origin(path.name, cell.row, cell.column_letter)
+                    origin = Origin(label_of(path), cell.row, cell.column_letter)
                     do = "open the workbook in a spreadsheet program and save it"
                     raise BadSheet(origin, "the cell's formula has no value", do)
-    finally:
-        book.close()

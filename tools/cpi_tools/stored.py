@@ -138,10 +138,11 @@ class StoredOffice:
     # ---- whether the file is sound
 
     def broken(self) -> Iterator[str]:
-        """What the C library finds wrong with the file, and which rows lack the row that they name."""
-        for (line,) in self.ask("PRAGMA integrity_check"):
-            if line != "ok":
-                yield f"integrity_check: {line}"
+        """What the C library finds wrong with the file, and which rows lack the row that they name; a line each."""
+        for (text,) in self.ask("PRAGMA integrity_check"):
+            # (one of its rows may be many lines, behind one that names the database)
+            lines = [line for line in text.splitlines() if line != "ok" and not line.startswith("*** ")]
+            yield from (f"integrity_check: {line}" for line in lines)
         for table, row, parent, _ in self.ask("PRAGMA foreign_key_check"):
             yield f"foreign_key_check: row {row} of {table} names no row of {parent}"
 

@@ -15,7 +15,7 @@ import sys
 import tempfile
 from collections.abc import Iterable, Iterator, Sequence
 from pathlib import Path
-from typing import NamedTuple, Optional
+from typing import NamedTuple, Optional, TextIO
 
 from .copying import private_copy
 from .judge import Judge, Judged, moments_of
@@ -26,7 +26,7 @@ from .sent import MOST_RECORDS
 from .sheets import Source
 from .stored import stored_office
 from .taken_page import page, summary
-from .terminal import Fault, Progress, ToolWords, at_least, because_of, counted
+from .terminal import Fault, Progress, ToolWords, at_least, because_of, counted, naming
 
 
 class TakenIn(NamedTuple):
@@ -53,16 +53,16 @@ def taken_in(
     now(f"reading {folder}")
     source = Source(folder, SHEETS)
     with private_copy(onto) if onto else contextlib.nullcontext() as copy:
-        known = known_from(cpi, copy, zone) if copy else NOTHING
+        known = known_from(cpi, copy, onto) if copy and onto else NOTHING
         files = OfficeFiles(source, options, known, lambda texts: moments_of(cpi, texts, zone), is_new=onto is None)
         taken = files.in_order()
         now(f"cpi judges {counted(sum(len(it.rows) for it in taken.bundles), 'row')}")
         return TakenIn(taken, Judge(cpi, zone, options.is_confirmed, known.items).judge(taken, copy))
 
 
-def known_from(cpi: Cpi, copy: Path, zone: str) -> Known:
-    """What a copy has, which the program has opened before: so its schema is the one that is read here."""
-    cpi.replay([], db=copy, zone=zone)
+def known_from(cpi: Cpi, copy: Path, onto: Path) -> Known:
+    """What the copy of an office has, once the program has opened it: so its schema is the one that is read here."""
+    cpi.open(copy, onto)
     with stored_office(copy) as stored:
         return known_of(stored)
 
@@ -70,15 +70,18 @@ def known_from(cpi: Cpi, copy: Path, zone: str) -> Known:
 # ---- what is written
 
 
-def private_file(path: Path) -> int:
-    """A new file of mode 0600, opened for writing; keys stand in some of them."""
-    return os.open(path, os.O_WRONLY | os.O_CREAT | os.O_EXCL, 0o600)
+@contextlib.contextmanager
+def private_file(path: Path) -> Iterator[TextIO]:
+    """A new file of mode 0600, open for writing, in place of one that is there; keys stand in some of them."""
+    path.unlink(missing_ok=True)
+    opened = os.open(path, os.O_WRONLY | os.O_CREAT | os.O_EXCL, 0o600)
+    with naming(path), open(opened, "w", encoding="utf-8", newline="") as file:
+        yield file
 
 
 def write_rows(path: Path, heads: Sequence[str], rows: Iterable[Sequence[object]]) -> None:
     """Writes a CSV file of mode 0600, in place of one that is there."""
-    path.unlink(missing_ok=True)
-    with open(private_file(path), "w", encoding="utf-8", newline="") as file:
+    with private_file(path) as file:
         out = csv.writer(file, lineterminator="\n")
         out.writerow(heads)
         out.writerows(rows)
@@ -96,8 +99,7 @@ def write_check(out: Path, name: str, over: str, told: TakenIn) -> None:
             for it in told.taken.weighed
         )
         write_rows(out / "weights.csv", ("year", "code", "given", "share", "weight", "change"), weights)
-    (out / "report.html").unlink(missing_ok=True)
-    with open(private_file(out / "report.html"), "w", encoding="utf-8") as file:
+    with private_file(out / "report.html") as file:
         file.write(page(name, over, told.taken, told.judged))
 
 
@@ -113,7 +115,7 @@ def write_records(out: Path, taken: Taken, most: int = MOST_RECORDS) -> list[Pat
         names = []
         for number, lines in enumerate(parted([it.line() for it in taken.bundles], most), 1):
             names.append(f"records-{number:02}.csv")
-            with open(private_file(made / names[-1]), "w", encoding="utf-8", newline="") as file:
+            with private_file(made / names[-1]) as file:
                 file.writelines(f"{line}\n" for line in lines)
         if taken.drawn:
             write_rows(made / "keys.csv", ("collector", "key"), taken.drawn.items())

@@ -192,7 +192,7 @@ def take_out(cpi: Cpi, file: Path, folder: Path) -> dict[str, int]:
     folder.parent.mkdir(parents=True, exist_ok=True)
     with private_copy(file) as copy, tempfile.TemporaryDirectory(prefix=".cpi-take-out-", dir=folder.parent) as room:
         # (the program opens it first, so it is an office, and of the schema that is read here)
-        cpi.replay([], db=copy)
+        cpi.open(copy, file)
         made = Path(room) / "files"
         made.mkdir(mode=0o700)
         with stored_office(copy) as stored:

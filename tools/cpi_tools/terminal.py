@@ -12,8 +12,9 @@ import threading
 import time
 from collections.abc import Callable, Iterator
 from datetime import datetime, timezone
+from pathlib import Path
 from types import FrameType
-from typing import Any, NoReturn, Optional, TextIO
+from typing import Any, NoReturn, Optional, TextIO, Union
 
 QUIET_SECONDS = 1.0
 """Work that takes no longer than this is done without a word."""
@@ -27,6 +28,16 @@ def because_of(fault: OSError) -> str:
     """A fault of the system in one line: the file, and why."""
     named = f"{fault.filename}: " if fault.filename else ""
     return f"{named}{fault.strerror or fault}"
+
+
+@contextlib.contextmanager
+def naming(path: Union[str, Path]) -> Iterator[None]:
+    """Meanwhile a fault of the system that names no file names this one: a read and a write don't say theirs."""
+    try:
+        yield
+    except OSError as fault:
+        fault.filename = fault.filename or str(path)
+        raise
 
 
 # ---- values as texts
@@ -62,6 +73,11 @@ def counted(count: int, one: str) -> str:
     return f"{count:,} {one if count == 1 else one + 's'}"
 
 
+def is_line(text: str) -> bool:
+    """Whether a text is one line of UTF-8: the name of a file may be none, and can't be told then."""
+    return not re.search("[\r\n\ud800-\udfff]", text)
+
+
 # ---- words of the command line
 
 
@@ -83,11 +99,20 @@ def at_least(least: int) -> Callable[[str], int]:
     """A type of argparse: a whole number that isn't below `least`."""
 
     def number(text: str) -> int:
+        if re.fullmatch(r"[0-9]{11,}", text):
+            raise argparse.ArgumentTypeError(f"{text} has more than ten digits")
         if not re.fullmatch(r"[0-9]{1,10}", text) or int(text) < least:
             raise argparse.ArgumentTypeError(f"{text} isn't a whole number from {least} on")
         return int(text)
 
     return number
+
+
+def a_file(text: str) -> Path:
+    """A type of argparse: the name of a file."""
+    if not text or text.endswith("/"):
+        raise argparse.ArgumentTypeError(f"{text or 'an empty word'} names no file")
+    return Path(text)
 
 
 def a_month(text: str) -> int:

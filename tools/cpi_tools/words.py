@@ -211,7 +211,6 @@ FAULTS: Mapping[str, Words] = {
     "bad zone": Words("the zone is no rule of a clock as POSIX writes it", "write it like CET-1CEST,M3.5.0,M10.5.0/3"),
     "bad key": Words("the desk's key isn't 32 characters 0-9 and a-f", "draw one by `openssl rand -hex 16`"),
     "bad month": Words("the month isn't one like 2026-01, from 2000-01 to 2199-12", "mend the month"),
-    "bad revision": Words("the revision isn't 1 to 9", "mend the revision"),
     "unknown schema": Words(
         "the file is of a later version of the program, or of another one", "open it with the version that wrote it"
     ),

@@ -108,10 +108,15 @@ def decision_on(it: Named, ask: Optional[Answer]) -> Decision:
     return Decision(it.code, it.title, why.strip() or because)
 
 
-def told(closed: Closed, decisions: Sequence[Decision], by: Optional[str]) -> Iterator[str]:
-    """The note on a month that is closed: who decided what and why, and what its table will be."""
+def told(
+    closed: Closed, decisions: Sequence[Decision], by: Optional[str], allowed: Optional[Sequence[str]] = None
+) -> Iterator[str]:
+    """The note on a month that is closed: who decided what and why, which codes need no place on the list though they
+    may be carried, and what its table will be."""
     for it in decisions:
         yield f"carried: {it.code} {it.title}; {it.because}{f'; decided by {by}' if by else ''}"
+    for code in sorted({*(allowed or ())} - {it.code for it in decisions}):
+        yield f"not carried: {code}; the freeze isn't refused for it"
     yield (
         f"{month_text(closed.month)}, revision {closed.revision}: {counted(closed.rows, 'row')}, {closed.priced:,} of"
         f" {counted(closed.slots, 'slot')} priced, {counted(len(decisions), 'aggregate')} carried"

@@ -52,5 +52,5 @@ def table(facts: Facts) -> Section:
 def top(whole: Section) -> Section:
     """All items and the divisions of the whole table."""
     rows = [row for row in whole.rows if depth_of(str(row[0])) <= 1]
-    note = "All items and the divisions. What one adds is in percentage points of the change of all items."
-    return Section("top", "Provisional table, beside the month before", note, HEADS, rows, whole.empty)
+    note = "What one adds is in percentage points of the change of all items."
+    return Section("top", "All items and divisions, beside the month before", note, HEADS, rows, whole.empty)

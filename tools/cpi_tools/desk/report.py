@@ -169,8 +169,9 @@ def lead(facts: Facts, is_frozen: bool) -> str:
     if top is None:
         return ""
     begun = "All items are at" if is_frozen else "As things stand, all items would be at"
-    year = "" if top.year_change is None else f", {tenths(top.year_change)} percent on the year before"
-    told = f"{begun} {points(top.chained, 1)}: {tenths(top.month_change)} percent on the month before{year}."
+    month, annual = (tenths(it).replace("-", "\u2212") for it in (top.month_change, top.year_change))
+    year = f", {annual} percent on the year before" if annual else ""
+    told = f"{begun} {points(top.chained, 1)}: {month} percent on the month before{year}."
     most = sorted(divisions(facts), key=lambda it: -abs(it.points))[:2]
     by = " and ".join(f"{it.title} ({it.text})" for it in most if it.points)
     return f"{told} Most percentage points of the month come from {by}." if by else told

@@ -87,7 +87,7 @@ def run_close(chosen: argparse.Namespace) -> int:
     for it in closed.named:
         print(text_of(it.series, SHOWN_SERIES), file=sys.stderr)
     decisions = closing.decided(closed, at, codes, asks)
-    for line in closing.told(closed, decisions, chosen.by):
+    for line in closing.told(closed, decisions, chosen.by, codes):
         print(line, file=sys.stderr)
     print(closing.freeze_record(closed, at))
     return 0

@@ -11,6 +11,7 @@ import jinja2
 
 from .. import pages, section_pages
 from ..exact import at_and_above, depth_of, parent_of
+from .life import Life
 from .lines import Explanation
 from .sources import AGGREGATE, Sources
 from .whole import explained
@@ -38,6 +39,11 @@ def write_one(sources: Sources, code: str, to: Path) -> list[Explanation]:
     found = [explained(sources, each) for each in on_page(sources, page_of(code))]
     _write(section_pages.environment(TEMPLATES), found, to, None)
     return found
+
+
+def write_life(life: Life, to: Path) -> None:
+    """Writes the page of a series."""
+    pages.write_page(section_pages.environment(TEMPLATES), "life.html", to, life=life)
 
 
 def write_all(sources: Sources, folder: Path) -> Iterator[Explanation]:

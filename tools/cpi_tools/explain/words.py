@@ -8,13 +8,15 @@ import os
 import sys
 from collections.abc import Iterable, Iterator
 from pathlib import Path
+from types import ModuleType
+from typing import NamedTuple, Optional
 
 from ..copying import private_copy
-from ..folders import written_folder
+from ..folders import refuse_shared, written_folder
 from ..sections import text_of
-from ..stored import StoredOffice, read_copy
+from ..stored import read_copy
 from ..terminal import Fault, Progress, ToolWords, a_month, a_slot, at_least, because_of, counted, month_text, needs
-from .life import life_of
+from .life import Life, life_of
 from .lines import Explanation
 from .sources import Sources
 from .whole import explained
@@ -27,6 +29,8 @@ def run(chosen: argparse.Namespace) -> int:
     """Runs the tool by its words; its exit status."""
     if (chosen.code is None) == (chosen.series is None):
         chosen.words.error("give CODE or --series")
+    if chosen.series and chosen.revision:
+        chosen.words.error("--series tells of the latest revision of each month: leave --revision away")
     if chosen.html:
         needs("jinja2", "python3-jinja2")
     with Progress("cpi-tools explain") as progress:
@@ -34,14 +38,16 @@ def run(chosen: argparse.Namespace) -> int:
         with private_copy(chosen.file) as copy, read_copy(copy) as office:
             progress.now("explaining")
             if chosen.series:
-                return told_life(office, chosen.series, chosen.month)
+                return told_life(life_of(office, chosen.series, chosen.month), chosen.html)
             sources = Sources(office, chosen.month, chosen.revision)
             return (told_all if chosen.code == ALL else told_one)(sources, chosen)
 
 
-def told_life(office: StoredOffice, place: tuple[int, int], until: int) -> int:
-    """Prints the life of a series."""
-    life = life_of(office, place, until)
+def told_life(life: Life, html: Optional[Path]) -> int:
+    """Prints the life of a series, and writes its page where that is asked."""
+    if html:
+        with page_at(html) as pages:
+            pages.write_life(life, html)
     print("\n".join([life.title, *life.facts]))
     print(text_of(life.months, len(life.months.rows)))
     return 0
@@ -50,47 +56,66 @@ def told_life(office: StoredOffice, place: tuple[int, int], until: int) -> int:
 def told_one(sources: Sources, chosen: argparse.Namespace) -> int:
     """Prints the lines of a node, and writes its page where that is asked."""
     found = explained(sources, chosen.code)
-    print(found.text)
     if chosen.html:
-        from .pages import write_one  # (its package is needed for pages alone)
-
-        with private_files():
-            write_one(sources, chosen.code, chosen.html)
-    return told_faults([found])
+        with page_at(chosen.html) as pages:
+            pages.write_one(sources, chosen.code, chosen.html)
+    print(found.text)
+    return 1 if told_faults(found) else 0
 
 
 def told_all(sources: Sources, chosen: argparse.Namespace) -> int:
-    """Looks at each line of each node, and writes all pages where that is asked."""
+    """Looks at each line of each node, one node after the other, and writes all pages where that is asked."""
     if chosen.html:
         from .pages import FIRST_PAGE, write_all
 
+        refuse_shared(chosen.html, "its pages")
         with written_folder(chosen.html, FIRST_PAGE) as folder:
-            found = [*write_all(sources, folder)]
+            count = counted_lines(write_all(sources, folder))
     else:
-        found = [explained(sources, code) for code in sources.own.levels]
-    expressions = sum(bool(line.expression) for each in found for line in each.lines)
-    untrue = sum(len(each.untrue) for each in found)
+        count = counted_lines(explained(sources, code) for code in sources.own.levels)
     print(
-        f"{month_text(sources.month)}, revision {sources.own.release.revision}: {counted(len(found), 'node')},"
-        f" {counted(expressions, 'expression')}, {untrue} untrue"
+        f"{month_text(sources.month)}, revision {sources.own.release.revision}: {counted(count.nodes, 'node')},"
+        f" {counted(count.expressions, 'expression')}, {count.untrue} untrue"
     )
-    return told_faults(found)
+    return 1 if count.untrue else 0
 
 
-def told_faults(found: Iterable[Explanation]) -> int:
-    """Tells each line that isn't true, with the row of the file; the exit status."""
-    faults = [f"cpi-tools explain: {it.code}: not true: {line.fault}" for it in found for line in it.untrue]
-    for fault in faults:
-        print(fault, file=sys.stderr)
-    return 1 if faults else 0
+class Count(NamedTuple):
+    """How many nodes were explained, by how many expressions, and how many lines of them aren't true."""
+
+    nodes: int
+    expressions: int
+    untrue: int
+
+
+def counted_lines(explanations: Iterable[Explanation]) -> Count:
+    """The counts of some explanations, of which one at a time is held; each line that isn't true is told."""
+    nodes = expressions = untrue = 0
+    for each in explanations:
+        nodes += 1
+        expressions += sum(bool(line.expression) for line in each.lines)
+        untrue += told_faults(each)
+    return Count(nodes, expressions, untrue)
+
+
+def told_faults(it: Explanation) -> int:
+    """Tells each line that isn't true, with the row of the file; how many there are."""
+    for line in it.untrue:
+        print(f"cpi-tools explain: {it.code}: not true: {line.fault}", file=sys.stderr)
+    return len(it.untrue)
 
 
 @contextlib.contextmanager
-def private_files() -> Iterator[None]:
-    """Meanwhile files are made that can be read by their owner alone, since they have prices of shops in them."""
+def page_at(to: Path) -> Iterator[ModuleType]:
+    """What writes pages, where a page can stand; they can be read by their owner alone, since they have prices of shops
+    in them."""
+    from .. import pages as all_pages
+    from . import pages  # (their package is needed for pages alone)
+
+    all_pages.refuse_other_files(to)
     before = os.umask(0o077)
     try:
-        yield
+        yield pages
     except OSError as fault:
         raise Fault(because_of(fault)) from fault
     finally:
@@ -137,6 +162,7 @@ def add_words(tools: argparse._SubParsersAction[ToolWords]) -> None:
         "--html",
         type=Path,
         metavar="OUT",
-        help="writes a page OUT, of an aggregate that of its subclass; of all nodes a folder OUT, a page a subclass",
+        help="writes a page OUT, of an aggregate that of its subclass; of all nodes a folder OUT, a page a subclass;"
+        " of --series a page of its life",
     )
     words.set_defaults(run=run, tool="explain", words=words)

@@ -11,6 +11,9 @@ from typing import NamedTuple
 from ..terminal import Fault, because_of
 
 ID = re.compile(r"[A-Za-z0-9_$@-]{1,60}")
+NAME = re.compile(r"[A-Za-z][A-Za-z0-9_-]{0,59}")
+"""An id that stands in XML as a name too, so that it begins with a letter."""
+
 AGENCY = re.compile(r"[A-Za-z][A-Za-z0-9_-]*(\.[A-Za-z][A-Za-z0-9_-]*)*")
 REFERENCE = re.compile(r"2[01][0-9]{2}(-(0[1-9]|1[0-2]))?")
 
@@ -20,6 +23,20 @@ NEEDED = ("agency", "area", "office")
 
 class BadConfig(Fault):
     """A configuration with a fault; one line."""
+
+
+class KnownIds(NamedTuple):
+    """The ids of SDMX that an office can have otherwise: those that are names in XML too, those of codes, and the
+    groups in which each is another."""
+
+    names: frozenset[str] = frozenset()
+    codes: frozenset[str] = frozenset()
+    apart: tuple[frozenset[str], ...] = ()
+
+    @property
+    def all(self) -> frozenset[str]:
+        """All of them."""
+        return self.names | self.codes
 
 
 class Config(NamedTuple):
@@ -47,8 +64,8 @@ class Config(NamedTuple):
         return self.ids.get(name, name)
 
 
-def read_config(path: Path, known_ids: frozenset[str] = frozenset()) -> Config:
-    """The sections `[office]` and `[sdmx]` of a file; `known_ids` are those that the latter may name.
+def read_config(path: Path, known: KnownIds = KnownIds()) -> Config:
+    """The sections `[office]` and `[sdmx]` of a file; `known` are the ids that the latter may name.
 
     Raises BadConfig.
     """
@@ -65,15 +82,16 @@ def read_config(path: Path, known_ids: frozenset[str] = frozenset()) -> Config:
     for section in parser.sections():
         if section not in ("office", "sdmx"):
             raise BadConfig(f"{path}: there is no section [{section}], but [office] and [sdmx]")
-    found = dict(parser["office"])
+    # (a word without a value is as one that isn't there; a value of several lines is one)
+    found = {name: " ".join(value.split()) for name, value in parser["office"].items() if value.strip()}
     ids = dict(parser["sdmx"]) if "sdmx" in parser else {}
     try:
-        return _config(found, ids, known_ids)
+        return _config(found, ids, known)
     except BadConfig as fault:
         raise BadConfig(f"{path}: {fault}") from None
 
 
-def _config(found: dict[str, str], ids: dict[str, str], known_ids: frozenset[str]) -> Config:
+def _config(found: dict[str, str], ids: dict[str, str], known: KnownIds) -> Config:
     """The values of both sections, tested."""
     for name in found:
         if name not in NAMES:
@@ -90,9 +108,19 @@ def _config(found: dict[str, str], ids: dict[str, str], known_ids: frozenset[str
     digits = found.pop("minor_digits", "2")
     if digits not in ("0", "1", "2", "3", "4"):
         raise BadConfig(f"minor_digits: {digits} isn't 0 to 4")
-    for name, own in ids.items():
-        if name not in known_ids:
-            raise BadConfig(f"{name} is no id that [sdmx] can name; they are {', '.join(sorted(known_ids))}")
-        if not ID.fullmatch(own):
-            raise BadConfig(f"{name} = {own}: no id of SDMX")
+    _test_ids(ids, known)
     return Config(**found, minor_digits=int(digits), ids=ids)
+
+
+def _test_ids(ids: dict[str, str], known: KnownIds) -> None:
+    """Raises BadConfig where an id of the office can't be one, or would stand for two."""
+    for name, own in ids.items():
+        if name not in known.all:
+            raise BadConfig(f"{name} is no id that [sdmx] can name; they are {', '.join(sorted(known.all))}")
+        if not (NAME if name in known.names else ID).fullmatch(own):
+            raise BadConfig(f"{name} = {own}: no id of SDMX")
+    for group in known.apart:
+        others = [ids.get(name, name) for name in sorted(group)]
+        twice = next((own for own in others if others.count(own) > 1), None)
+        if twice:
+            raise BadConfig(f"{twice} would be the id of two in [sdmx]")

@@ -149,11 +149,25 @@ def _twelve(series: Series, code: str, months: list[str]) -> Optional[int]:
 
 
 def reference_level(series: Series, code: str, reference: str) -> Optional[Ratio]:
-    """The level of a node in a reference period, a year like `2025` or a month like `2025-12`; None without it."""
+    """The level of a node in a reference period, a year like `2025` or a month like `2025-12`; None without it.
+
+    In the first month of all, whose table has no rows, each node that begins there has 100.
+    """
     if len(reference) == 4:
         return average(series, code, int(reference))
+    if reference == series.base:
+        return Ratio(100, 1) if series.row(series.months[0], code) else None
     row = series.row(reference, code)
     return Ratio(row.chained, 10**6) if row else None
+
+
+def months_linked_to(series: Series, code: str, reference: str) -> list[str]:
+    """The months of a node whose levels are linked to that of a reference period, in which it has one.
+
+    They are all its months, but where it left the index and came again.
+    """
+    first = f"{reference}-01" if len(reference) == 4 else series.months[0] if reference == series.base else reference
+    return next((run for run in series.runs(code) if first in run), [])
 
 
 def rereferenced(row: Row, base: Ratio) -> Ratio:

@@ -34,15 +34,17 @@ def _ends(values: Sequence[Optional[float]], months: Sequence[str]) -> list[tupl
 
 
 def of_node(series: Series, code: str) -> list[Chart]:
-    """The level, beside that of all items, and both changes."""
-    months, title = series.months, series.titles[code]
-    rows = series.rows(code)
-    found = [_level(series, code, rows)]
+    """The level, beside that of all items, and both changes: up to the last month of the node."""
+    title, whole, all_rows = series.titles[code], series.rows(ALL_ITEMS), series.rows(code)
+    end = max(at for at, row in enumerate(all_rows, 1) if row)
+    span = slice(max(0, end - charts.MOST_MONTHS), end)
+    months, rows = series.months[span], all_rows[span]
+    found = [_level(series, code, months, rows, whole[span])]
     for name, key in (("year_change", "year"), ("month_change", "month")):
         values = [_of(row, name, 10) for row in rows]
         known = _ends(values, months)
         if known:
-            (low_month, low), (high_month, high) = (end(known, key=lambda it: it[1]) for end in (min, max))
+            (low_month, low), (high_month, high) = (most(known, key=lambda it: it[1]) for most in (min, max))
             says = f"Between {charts.signed(low)} percent in {month_name(low_month)}"
             says += f" and {charts.signed(high)} percent in {month_name(high_month)}."
             # (what isn't known yet isn't drawn: the annual change begins with the second year)
@@ -53,29 +55,45 @@ def of_node(series: Series, code: str) -> list[Chart]:
     return found
 
 
-def _level(series: Series, code: str, rows: list[Optional[Row]]) -> Chart:
-    months, title = series.months, series.titles[code]
-    levels = [_of(row, "chained", 10**6) for row in rows]
+def base_text(series: Series, code: str) -> str:
+    """Where the level of a node is 100, anew where it left the index and came again."""
+    first, *others = [(run[0], f"{month_name(link_of(run[0]))} = 100") for run in series.runs(code)]
+    return "".join([first[1], *(f", from {month_name(month)} on {base}" for month, base in others)])
+
+
+def _level(
+    series: Series, code: str, months: Sequence[str], rows: Sequence[Optional[Row]], whole: Sequence[Optional[Row]]
+) -> Chart:
+    """The level of a node in some months, beside that of all items."""
+    title, levels = series.titles[code], [_of(row, "chained", 10**6) for row in rows]
     known = _ends(levels, months)
-    came = known[0][0]
-    base = f"{month_name(series.base if came == months[0] else link_of(came))} = 100"
-    says = f"From {known[0][1]:.1f} in {month_name(came)} to {known[-1][1]:.1f} in {month_name(known[-1][0])}."
+    says = f"From {known[0][1]:.1f} in {month_name(known[0][0])} to {known[-1][1]:.1f} in {month_name(known[-1][0])}."
     lines, key = [Line(OWN, levels)], Markup("")
     if code != ALL_ITEMS:
-        lines.append(Line(OTHER, [_of(row, "chained", 10**6) for row in series.rows(ALL_ITEMS)]))
+        lines.append(Line(OTHER, [_of(row, "chained", 10**6) for row in whole]))
         key = Markup("<b>Full line</b>: {}. <i>Broken line</i>: {}.").format(title, series.titles[ALL_ITEMS])
-    return Chart("Index", base, charts.lines(Picture("level", f"{title}: index", says), months, lines), key)
+    drawn = charts.lines(Picture("level", f"{title}: index", says), months, lines)
+    return Chart("Index", base_text(series, code), drawn, key)
 
 
-def of_imputed(series: Series) -> tuple[str, Markup]:
-    """The weight of aggregates in which a price was imputed: of the last month as a text, and all as a picture."""
-    shares: list[Optional[float]] = []
-    for month in series.months:
+class Imputed(NamedTuple):
+    """The weight of aggregates in which a price was imputed, in percent: of the last month, of those that the
+    picture shows, and the picture."""
+
+    last: str
+    figures: list[tuple[str, str]]
+    picture: Markup
+
+
+def of_imputed(series: Series) -> Imputed:
+    """How much of the weight is that of aggregates in which a price was imputed."""
+    shares, months = [], series.months[-charts.MOST_MONTHS :]
+    for month in months:
         rows = series.latest[month].rows
         imputed = sum(row.weight for row in rows.values() if row.is_imputed and depth_of(row.code) == 5)
-        last = decimal(100 * imputed, rows[ALL_ITEMS].weight, 0)
-        shares.append(float(last))
-    known = [each for each in shares if each is not None]
-    says = f"Between {min(known):.0f} and {max(known):.0f} percent of the weight."
+        shares.append(decimal(100 * imputed, rows[ALL_ITEMS].weight, 0))
+    values = [float(it) for it in shares]
+    says = f"Between {min(values):.0f} and {max(values):.0f} percent of the weight."
     picture = Picture("imputed", "Weight of the aggregates in which a price was imputed", says)
-    return last, charts.columns(picture, series.months, shares)
+    figures = [(month_name(month), share) for month, share in zip(months, shares)][::-1]
+    return Imputed(shares[-1], figures, charts.columns(picture, months, values))

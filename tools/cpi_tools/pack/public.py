@@ -117,4 +117,5 @@ def _got(address: str) -> bytes:
     except urllib.error.HTTPError as fault:
         raise NotPublic(f"{address} was answered with status {fault.code}") from fault
     except (OSError, http.client.HTTPException, ValueError) as fault:
-        raise NotPublic(f"{address} can't be read: {getattr(fault, 'reason', fault)}") from fault
+        because = getattr(fault, "reason", fault)
+        raise NotPublic(f"{address} can't be read: {getattr(because, 'strerror', None) or because}") from fault

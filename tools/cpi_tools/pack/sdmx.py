@@ -24,11 +24,11 @@ from typing import NamedTuple
 
 from ..exact import ALL_ITEMS
 from . import figures
-from .config import Config
+from .config import Config, KnownIds
 from .figures import Figure
 from .markup import attributes_of
 from .measures import Contributions
-from .tables import Series, Table, iso
+from .tables import Series, Table, iso, link_of
 
 VERSION = "1.0"
 FLOW, DEFINITION, SCHEME = "DF_CPI", "DSD_CPI", "CS_CPI"
@@ -74,8 +74,17 @@ CONCEPTS: Mapping[str, str] = {
     "EMBARGO_TIME": "Moment of publication",
 }
 
-KNOWN_IDS = frozenset({*CONCEPTS, *(code for _, codes in LISTS.values() for code in codes), FLOW, DEFINITION, SCHEME})
-"""The ids that an office can have otherwise (but those of codes 0 and 1)."""
+FIXED = {TIME, VALUE}
+"""The concepts whose ids are those of SDMX itself."""
+
+CODES = [frozenset(codes) for name, (_, codes) in LISTS.items() if name != "IMPUTED_PRICES"]
+
+KNOWN_IDS = KnownIds(
+    names=frozenset({*CONCEPTS, FLOW, DEFINITION, SCHEME} - FIXED),
+    codes=frozenset().union(*CODES),
+    apart=(frozenset(CONCEPTS), *CODES),
+)
+"""The ids that an office can have otherwise."""
 
 
 class Measure(NamedTuple):
@@ -123,13 +132,14 @@ def observed(series: Series, contributions: Contributions, config: Config) -> It
     """All series that have an observation, in the order of the table above and of codes."""
     tables = [(series.latest[month], iso(series.latest[month].moment)) for month in series.months]
     for it in MEASURES:
-        base = series.base if it.unit == "IX" else ""
         ids = [config.id(each) for each in (it.measure, it.unit, it.transformation)]
         for code in series.titles:
             key = (config.id("M"), config.area, *ids[:2], item_id(code), ids[2])
             found = [*_observations(it, contributions, code, tables, config.id("A"))]
             if found:
-                yield Observed(key, (base, str(it.decimals)), found)
+                # (a node that left and came again has two, one after the other)
+                bases = " ".join(link_of(run[0]) for run in series.runs(code)) if it.unit == "IX" else ""
+                yield Observed(key, (bases, str(it.decimals)), found)
 
 
 def _observations(

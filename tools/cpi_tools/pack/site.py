@@ -15,13 +15,13 @@ from typing import NamedTuple, Optional
 
 from .. import charts
 from ..charts import month_name
-from ..exact import ALL_ITEMS, Ratio, depth_of
+from ..exact import ALL_ITEMS, HUNDRED, Ratio, depth_of
 from ..pages import TEMPLATES, environment, write_page
 from .config import Config
 from .measures import Contributions, reference_level
 from .pictures import of_imputed, of_node
 from .public import Published
-from .tables import Row, Series, Table
+from .tables import Row, Series, Table, link_of
 from .tidy import HEAD, figure_row, write_rows
 from .wording import FILTERS, day, page_of, share
 
@@ -29,6 +29,10 @@ HERE = Path(__file__).resolve().parent
 
 CLAUSE_DEPTH = 2
 """The calculator offers all items, divisions and groups."""
+
+FILES = ("cpi.xlsx", "cpi.csv", "vintages.csv", "contributions.csv", "averages.csv", "twelve-month-rates.csv",
+         "rereferenced.csv", "releases.csv", "cpi.sdmx.csv", "cpi.sdmx.xml", "structure.sdmx.xml")  # fmt: skip
+"""The files of the folder `data`, as they are offered."""
 
 GREATEST_DIFFERENCES = 10
 """Nodes whose levels a revision changed that its page shows."""
@@ -69,6 +73,8 @@ class Site:
     def __init__(self, series: Series, contributions: Contributions, config: Config, folder: Path):
         self.series, self.contributions, self.config, self.folder = series, contributions, config, folder
         self.month = series.months[-1]
+        # (in the month before all others each item that begins there has 100, which a contract can count from)
+        self.clause_months = [*([series.base] if series.base in series.latest else []), *series.months]
         self.pages = environment(HERE / "templates")
         self.pages.filters.update(FILTERS)
         self.pages.globals.update(
@@ -89,7 +95,7 @@ class Site:
         (self.folder / "assets" / "levels.js").write_text(self._levels(), encoding="utf-8")
         self._page("index.html", **self._home())
         self._page("nodes.html")
-        self._page("contract.html", items=self.series.down_to(CLAUSE_DEPTH))
+        self._page("contract.html", items=self.series.down_to(CLAUSE_DEPTH), months=self.clause_months)
         self._page("revisions.html", revised=self._revised(), sources=self._sources(), unexplained=self._unexplained())
         self._page("data.html", files=self._files(), lacking=self._lacking())
         self._page("method.html")
@@ -123,15 +129,10 @@ class Site:
         ]
         return rows, track.zero
 
-    def _is_annual(self, row: Optional[Row]) -> bool:
-        """Whether contributions to the annual change of a node are shown, else those to the monthly one."""
-        has_annual = row is not None and row.year_change is not None
-        return has_annual and (self.month, True) not in self.contributions.unexplained
-
     def _home(self) -> dict[str, object]:
         whole = self.series.last.rows[ALL_ITEMS]
-        is_annual = self._is_annual(whole)
-        change = whole.year_change if is_annual and whole.year_change is not None else whole.month_change
+        is_annual = whole.year_change is not None
+        change = whole.month_change if whole.year_change is None else whole.year_change
         rows, zero = self._given(self.month, ALL_ITEMS, is_annual)
         # (the first row gives most to a rise, the last one to a fall)
         ends = rows[::-1] if change < 0 else rows
@@ -140,7 +141,6 @@ class Site:
         total = Ratio(0, 1)
         for it in rows:
             total = total.plus(it.value)
-        imputed, picture = of_imputed(self.series)
         return {
             "is_annual": is_annual,
             "change": change,
@@ -150,13 +150,12 @@ class Site:
             "against": against[0] if against else None,
             "total": total,
             "charts": of_node(self.series, ALL_ITEMS),
-            "imputed": imputed,
-            "imputed_picture": picture,
+            "imputed": of_imputed(self.series),
         }
 
     def _node(self, code: str) -> dict[str, object]:
         row = self.series.row(self.month, code)
-        is_annual = self._is_annual(row)
+        is_annual = row is not None and row.year_change is not None
         rows, zero = self._given(self.month, code, is_annual) if row else ([], "0")
         rows_of_months = zip(self.series.months, self.series.rows(code))
         history = [(self.series.latest[month], it) for month, it in rows_of_months if it]
@@ -168,9 +167,11 @@ class Site:
             "is_annual": is_annual,
             "rows": rows,
             "zero": zero,
+            "is_untold": bool(self.series.children(code)) and (self.month, is_annual) in self.contributions.unexplained,
             "path": self.series.path(code),
             "history": history[::-1],
             "given": given.to_year if is_annual else given.to_month,
+            "last_base": link_of(self.series.runs(code)[-1][0]),
             "charts": of_node(self.series, code),
         }
 
@@ -197,8 +198,9 @@ class Site:
         return [*zip(self.series.vintages, self.series.sources)][::-1]
 
     def _files(self) -> list[tuple[str, int]]:
-        """The files of the folder `data` with their sizes in bytes."""
-        return [(it.name, it.stat().st_size) for it in sorted((self.folder / "data").iterdir()) if it.is_file()]
+        """The files of the folder `data` with their sizes in bytes, in the order of their page."""
+        found = [(self.folder / "data" / name) for name in FILES]
+        return [(it.name, it.stat().st_size) for it in found if it.is_file()]
 
     def _lacking(self) -> list[str]:
         """The nodes that have no level in the whole reference period."""
@@ -209,11 +211,12 @@ class Site:
     def _item(self, code: str) -> dict[str, object]:
         """Title and levels of a node for the calculator."""
         levels = [row.chained if row else None for row in self.series.rows(code)]
-        return {"title": self.series.titles[code], "levels": levels}
+        begun = [] if len(self.clause_months) == len(levels) else [HUNDRED if levels[0] else None]
+        return {"title": self.series.titles[code], "levels": begun + levels}
 
     def _levels(self) -> str:
         """What the calculator counts with, as a script: levels in millionths of a point, as whole numbers."""
-        series, months = self.series, self.series.months
+        series, months = self.series, self.clause_months
         tables = [series.latest[month] for month in months]
         data = {
             "currency": self.config.currency,

@@ -149,7 +149,7 @@ class Series:
     @property
     def base(self) -> str:
         """The first month, a December, whose level is 100."""
-        return next(iter(self.latest))
+        return link_of(self.months[0])
 
     @property
     def last(self) -> Table:
@@ -173,6 +173,21 @@ class Series:
         """What a node's level in the month of a year is linked to, in millionths of a point: 100 in its first year."""
         row = self.row(link_of(month), code)
         return row.chained if row else HUNDRED
+
+    def runs(self, code: str) -> list[list[str]]:
+        """The months of a node, parted where it left the index and came again: the levels of two parts aren't linked.
+
+        Each part has a base of its own, December before its first month.
+        """
+        found: list[list[str]] = []
+        for at, (month, row) in enumerate(zip(self.months, self.rows(code))):
+            if row is None:
+                continue
+            if found and found[-1][-1] == self.months[at - 1]:
+                found[-1].append(month)
+            else:
+                found.append([month])
+        return found
 
     def children(self, code: str) -> list[str]:
         """The nodes next below one, in any month."""
@@ -206,8 +221,11 @@ class Series:
         """Whether the changes of a month are those of the published levels.
 
         They aren't where a revision of the month that they are against isn't published yet: the office computes with
-        the latest revision, published or not.
+        the latest revision, published or not. An annual change goes over December before, to whose level the month is
+        linked, so that December has to be the published one too.
         """
+        if is_annual and not self.is_linked(month):
+            return False
         base_of = self.year_base if is_annual else self.month_base
         for row in self.latest[month].rows.values():
             change = row.year_change if is_annual else row.month_change
@@ -215,6 +233,11 @@ class Series:
             if change is not None and (base is None or change != _rounded_change(base, row.chained)):
                 return False
         return True
+
+    def is_linked(self, month: str) -> bool:
+        """Whether the levels of a month are its indices within the year on the published levels of December before."""
+        rows = self.latest[month].rows.values()
+        return all(row.chained == rounded(self.link_level(month, row.code) * row.within, HUNDRED) for row in rows)
 
     def unexplained(self) -> Iterator[tuple[str, bool]]:
         """The months, and whether it is the annual change, whose changes aren't those of the published levels."""

@@ -13,6 +13,7 @@ from .measures import (
     average,
     average_change,
     full_years,
+    months_linked_to,
     reference_level,
     rereferenced,
     twelve_month_rate,
@@ -91,10 +92,11 @@ def _rate_rows(series: Series) -> Iterator[Sequence[object]]:
 
 
 def _rereferenced_rows(series: Series, reference: str) -> Iterator[Sequence[object]]:
-    """Points with six decimals; a node without a level in the whole reference period has no row."""
+    """Points with six decimals; a node without a level in the whole reference period, or a link to it, has no row."""
     bases = {code: reference_level(series, code, reference) for code in series.titles}
+    linked = {code: {*months_linked_to(series, code, reference)} for code, base in bases.items() if base}
     for month in series.months:
         for row in _rows_of(series, month):
             base = bases[row.code]
-            if base is not None:
+            if base is not None and month in linked[row.code]:
                 yield month, row.code, series.titles[row.code], reference, written(rereferenced(row, base), 6)

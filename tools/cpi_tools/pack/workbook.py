@@ -108,7 +108,7 @@ def _read_me(series: Series, config: Config) -> Iterator[str]:
         (config.title, f"{config.office}, {config.country or config.area}"),
         ("Months", f"{series.months[0]} to {series.months[-1]}, the latest revision of each"),
         ("Published", iso(series.moment)),
-        ("Index", f"Chained level, {series.base} = 100; six decimals are stored, one is shown"),
+        ("Index", f"Chained level, {series.base} = 100 (of an item that came later, the December before)"),
         ("Changes", "Percent, rounded from the levels before rounding, halves away from zero"),
         ("Weights", "As in use in the month's year; parts per million, unless prices moved them"),
         ("Contributions", "To the annual change of all items, in percentage points; six decimals are stored"),

@@ -33,11 +33,12 @@ function levelText(level, decimals) {
 /** What a contract pays, in minor units: amount * now / then. */
 const clause = (amount, then, now) => rounded(amount * now, then);
 
-/** What is wrong with what stands in the form, or an empty text. */
+/** What is wrong with what stands in the form, or an empty text. `levels` are those of all months from the one to the other. */
 function faultOf(amount, item, levels, digits) {
   if (amount === null && digits === 0) return "Write the amount as a whole number, without a point or a comma.";
   if (amount === null) return `Write the amount as a number with a point before at most ${digits} decimals, and without commas.`;
-  return levels.includes(null) ? `${item.title} has no index in one of these months.` : "";
+  if (levels[0] === null || levels[levels.length - 1] === null) return `${item.title} has no index in one of these months.`;
+  return levels.includes(null) ? `${item.title} left the index between these months and came again, so its indices can't be compared.` : "";
 }
 
 function show(form, data) {
@@ -47,7 +48,8 @@ function show(form, data) {
   const item = data.items[at("code")];
   const [then, now] = [at("then"), at("now")].map((month) => data.months.indexOf(month));
   const levels = [item.levels[then], item.levels[now]];
-  const fault = faultOf(amount, item, levels, data.digits);
+  const between = item.levels.slice(Math.min(then, now), Math.max(then, now) + 1);
+  const fault = faultOf(amount, item, between, data.digits);
   document.getElementById("fault").textContent = fault;
   document.getElementById("result").hidden = fault !== "";
   if (fault) return;
@@ -79,7 +81,7 @@ function keep(form) {
 }
 
 if (typeof module !== "undefined") {
-  module.exports = { amountOf, moneyText, levelUsed, levelText, clause };
+  module.exports = { amountOf, moneyText, levelUsed, levelText, clause, faultOf };
 } else {
   const form = document.getElementById("clause");
   const showAll = () => show(form, window.LEVELS);

@@ -1,0 +1,105 @@
+#!/usr/bin/python3
+"""Makes pictures of each page, at 360 and at 1280 pixels, as one looks at them after a change.
+
+    tools/pictures.py URL FOLDER --authority FILE --key KEY --desk-key KEY
+
+The office is the one that ops/try has started: URL, both keys and FILE, its ca.crt, are what that tells. Two prices of
+the collector are entered, one of them far from the last. The pictures are FOLDER/PAGE-WIDTH.png.
+
+example: tools/pictures.py https://localhost:8443 out/pictures --authority out/try/ca.crt --key KEY --desk-key KEY
+"""
+
+from __future__ import annotations
+
+import argparse
+import sys
+import tempfile
+from pathlib import Path
+
+sys.dont_write_bytecode = True
+
+HERE = Path(__file__).resolve().parent
+sys.path[:0] = [str(HERE), str(HERE.parent / "tests/web"), str(HERE.parent / "tests")]
+
+from browser import Browser  # noqa: E402
+from phone import Phone  # noqa: E402
+
+WIDTHS = {360: 740, 1280: 900}
+
+
+def of_phone(browser: Browser, width: int, key: str, folder: Path) -> None:
+    """Signing in, the list, an entry, a second look, what is stored."""
+    phone = Phone(browser)
+
+    def taken(name: str, is_whole: bool = False) -> None:
+        browser.picture(folder / f"collect-{name}-{width}.png", is_whole)
+
+    phone.open()
+    browser.wait_shown("#sign-in")
+    taken("key")
+    phone.sign_in(key)
+    phone.show("all")
+    first, second = (int(str(slot.get_attribute("data-slot"))) for slot in browser.all("[data-slot]")[:2])
+    phone.edit(first)
+    bounds = browser.text("#entry-last").rstrip(".").split()
+    browser.type("#price", bounds[2].rstrip("."))
+    taken("entry")
+    browser.click("#entry-save")
+    phone.wait_told(first, "Receipt")
+    phone.enter(second, "999.99")
+    browser.wait_text("#entry-refusal", "Look again")
+    taken("again")
+    browser.click("#entry-cancel")
+    browser.run("scrollTo(0, 0)")
+    taken("list")
+    phone.show("quotes")
+    taken("stored")
+
+
+def of_others(browser: Browser, width: int, desk_key: str, folder: Path) -> None:
+    """The first page, the tables, and the desk's page with something refused."""
+    browser.open("/")
+    browser.picture(folder / f"first-{width}.png")
+    browser.open("/tables/")
+    browser.wait_text("#legend", "All items")
+    browser.wait_text("#releases", "December")
+    for code in ("01", "04"):
+        browser.click(f'#table input[value="{code}"]')
+    browser.run("scrollTo(0, 0)")
+    browser.picture(folder / f"tables-{width}.png", is_whole=True)
+    browser.open("/desk/")
+    browser.type("#key", desk_key)
+    browser.click("#key-form button.main")
+    browser.wait_text("#who", "Signed in")
+    browser.type("#records-text", "outlet,101,Other shop\noutlet,9001,New shop\nhandover,7,999,8,999,2030-11\n")
+    browser.click("#records button.main")
+    browser.wait_text("#records-told", "refused of 3")
+    browser.type("#freeze-month", "2030-01")
+    browser.click("#freeze button.main")
+    browser.wait_text("#freeze-told", "Refused")
+    browser.picture(folder / f"desk-{width}.png", is_whole=True)
+
+
+def main() -> int:
+    words = argparse.ArgumentParser(description=__doc__, formatter_class=argparse.RawDescriptionHelpFormatter)
+    words.add_argument("url", metavar="URL")
+    words.add_argument("folder", metavar="FOLDER", type=Path)
+    for word in ("--authority", "--key", "--desk-key"):
+        words.add_argument(word, required=True)
+    chosen = words.parse_args()
+    chosen.folder.mkdir(parents=True, exist_ok=True)
+    with tempfile.TemporaryDirectory() as home:
+        browser = Browser(chosen.url, Path(chosen.authority), Path(home) / "home")
+        try:
+            for width, height in WIDTHS.items():
+                browser.fresh()
+                browser.size(width, height)
+                of_phone(browser, width, chosen.key, chosen.folder)
+                of_others(browser, width, chosen.desk_key, chosen.folder)
+        finally:
+            browser.close()
+    return 0
+
+
+if __name__ == "__main__":
+    sys.exit(main())

@@ -1,0 +1,176 @@
+#!/usr/bin/env python3
+"""Compares `cpi` with the second readings over random records and messages, for as long as is asked.
+
+It isn't part of ./test, which does the same for a minute with seeds of its own. In turn, each with a further seed:
+
+- four runs of tests/test_second_office.py: records round every limit, and the lives of offices through one to three
+  years, in memory and over files, and without the records of others,
+- an office that is served for some 1,500 messages as tests/test_http_messages.py has them: some as they should be, some
+  cut, some with bytes changed, some of random bytes; between them peers that close at once, that send byte by byte, or
+  that send more than is read; and at the end what `cpi replay` lists of the office's file.
+
+The first seed is drawn from the clock where it isn't given. The counts are told each minute and at the end. A check is
+a run of records, a message, a peer, or a file.
+"""
+
+from __future__ import annotations
+
+import collections
+import os
+import random
+import socket
+import sys
+import tempfile
+import time
+from collections.abc import Iterator
+from functools import partial
+
+sys.path.insert(0, os.path.join(os.path.dirname(os.path.abspath(__file__)), "../tests"))
+
+from lib.harness import Check, Checks, Fault, program_of, words_of  # noqa: E402
+from lib.kinds import KINDS  # noqa: E402
+from lib.messages import Compared  # noqa: E402
+from lib.open_office import ITEMS, KA, KC, QUOTES  # noqa: E402
+from lib.program import Program  # noqa: E402
+from lib.records import first_difference  # noqa: E402
+from lib.runs import fault_of  # noqa: E402
+from lib.served import DESK, heard, message, reset  # noqa: E402
+from second_office.records import text_of  # noqa: E402
+
+RUNS, MESSAGES, PEERS, MINUTE = 4, 1500, 15, 60
+WAYS = ["closes", "resets", "sends and resets", "byte by byte", "too much"]
+RECORDS = [
+    ["1500", KA, "quotes", "2000-01", "2199-12"],
+    ["1500", KA, "work", "2026-01"],
+    ["0", "public", "items"],
+    ["1500", "public", "tables"],
+    ["1500", "public", "table", "2025-12", "text"],
+]
+
+
+def drawn_entry(drawn: random.Random) -> str:
+    price = drawn.randrange(1, 2000)
+    return drawn.choice([f"price,{price}", f"price,{price},confirm", "missing,closed", "other,5"])
+
+
+def drawn_import(drawn: random.Random, month: str) -> bytes:
+    code = drawn.choice(["TEA", "SALT", f"N{drawn.randrange(50)}"])
+    rows = [f"quote,1,{month},{drawn_entry(drawn)}", "items", f"item,{code},Text,1 kg,700,1500"]
+    rows += [f"outlet,{drawn.randrange(20)},Shop", f"calendar,2025-12,0,1,{drawn.randrange(1, 9)}"]
+    rows += ["freeze,2025-12", "tables"]
+    rows += [f"handover,7,{drawn.randrange(1, 4)},7,{drawn.randrange(2, 6)},{month}"]
+    return "\n".join(drawn.choices(rows, k=drawn.randrange(6))).encode()
+
+
+def drawn_message(drawn: random.Random) -> bytes:
+    """A message that may change the office, or list what stands."""
+    key = drawn.choice([KA] * 6 + [KC, DESK, None])
+    month = drawn.choice(["2026-01", "2026-01", "2026-02"])
+    form, revision = drawn.choice(["text", "csv"]), drawn.choice(["", "/1", "/2", "/0"])
+    lines = [f"GET /quotes/2026-01/{month}", f"GET /work/{month}", "GET /items", "GET /tables"]
+    lines += [f"GET /table/{drawn.choice(['2025-12', '2025-12', month])}/{form}{revision}"]
+    return drawn.choice(
+        [
+            message(f"PUT /quote/{drawn.choice('1112')}/{month}", key=key, body=drawn_entry(drawn).encode()),
+            message("POST /import", key=key, body=drawn_import(drawn, month)),
+            *(message(line, key=key) for line in lines),
+        ]
+    )
+
+
+def changed(drawn: random.Random, text: bytes) -> bytes:
+    """The same with some bytes changed."""
+    found = bytearray(text)
+    for _ in range(drawn.choice([1, 1, 2, 5])):
+        found[drawn.randrange(len(found))] = drawn.randrange(256)
+    return bytes(found)
+
+
+def sent(drawn: random.Random) -> Iterator[tuple[str, bytes]]:
+    """The messages of one office."""
+    for _ in range(MESSAGES):
+        text, kind = drawn_message(drawn), drawn.random()
+        if kind < 0.5:
+            yield "as they should be", text
+        elif kind < 0.7:
+            yield "with bytes changed", changed(drawn, text)
+        elif kind < 0.85:
+            yield "cut", text[: drawn.randrange(len(text))]
+        else:
+            yield "of random bytes", drawn.randbytes(drawn.choice([1, 30, 300, 9000])) + drawn.choice(
+                [b"", b"\r\n\r\n"]
+            )
+
+
+def peer(drawn: random.Random, served: Compared) -> Fault:
+    """A peer of another kind, which changes nothing, and what it is told otherwise."""
+    with served.peer() as one:
+        way = drawn.choice(WAYS)
+        if way == "sends and resets":
+            one.sendall(ITEMS)
+        if way in ("resets", "sends and resets"):
+            reset(one)
+        if way in ("closes", "resets", "sends and resets"):
+            return None
+        text = drawn.choice([ITEMS, QUOTES]) + (b"x" * 300_000 if way == "too much" else b"")
+        wanted = served.wanted(text)
+        for part in [text] if way == "too much" else [text[at : at + 1] for at in range(len(text))]:
+            one.sendall(part)
+        one.shutdown(socket.SHUT_WR)
+        return None if heard(one) == wanted else f"one that is sent {way} is answered otherwise"
+
+
+def in_the_file(program: Program, served: Compared) -> Fault:
+    """What is listed otherwise in the file of an office that was served, or another end of the program."""
+    ended = served.end()
+    ran = program.replay(text_of(RECORDS).encode(), served.path)
+    wanted = [served.office.line(record) for record in RECORDS]
+    fault = first_difference(RECORDS, ran.out.decode().splitlines(), wanted)
+    return fault or (None if (ended.status, ran.status) == (0, 0) else f"{ended}; {ran}")
+
+
+def serve(checks: Checks, program: Program, seed: int, counts: collections.Counter[str]) -> None:
+    """Compares what is answered by one office."""
+    drawn, name = random.Random(seed), f"office {seed}"
+    texts = [*sent(drawn)]
+    peers = {drawn.randrange(len(texts)) for _ in range(PEERS)}
+    with tempfile.TemporaryDirectory() as room, Compared(program, room, len(texts) + len(peers)) as served:
+        for at, (kind, text) in enumerate(texts):
+            if at in peers:
+                counts["peers of another kind"] += 1
+                checks.run([Check(f"{name}, a peer", partial(peer, drawn, served))], lanes=1)
+            counts[f"messages {kind}"] += 1
+            checks.run([Check(f"{name}, message {at}", partial(served.fault, text))], lanes=1)
+        checks.run([Check(f"{name}, its file", partial(in_the_file, program, served))], lanes=1)
+    counts["offices served"] += 1
+
+
+def main() -> int:
+    words = words_of(__doc__)
+    words.add_argument("seconds", type=int, help="how long")
+    words.add_argument("--first", type=int, default=int(time.time()), metavar="SEED", help="the first seed")
+    chosen, met, counts = program_of(words), set[str](), collections.Counter[str]()
+    began = minute = time.monotonic()
+    with Checks() as checks:
+        checks.note(f"from seed {chosen.first}")
+        seed = chosen.first
+        while time.monotonic() - began < chosen.seconds:
+            runs = range(seed, seed + RUNS)
+            checks.run((Check(f"run {at}", partial(fault_of, chosen.program, at, met)) for at in runs), lanes=1)
+            counts["runs of records"] += RUNS
+            serve(checks, chosen.program, seed, counts)
+            seed += RUNS
+            if time.monotonic() - minute > MINUTE:
+                minute = time.monotonic()
+                checks.note(f"{minute - began:.0f} s: {told(counts)}")
+        checks.note(f"{time.monotonic() - began:.0f} s: {told(counts)}")
+        checks.note(f"{len(met & KINDS)} of {len(KINDS)} kinds of replies were met")
+    return checks.status
+
+
+def told(counts: collections.Counter[str]) -> str:
+    return ", ".join(f"{count} {name}" for name, count in counts.items())
+
+
+if __name__ == "__main__":
+    sys.exit(main())
