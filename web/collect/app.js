@@ -1,13 +1,15 @@
-// The page of a collector: signing in and out, and what is shown. Each entry goes to the phone first, then to the office.
-import { ask, isKey, NoAnswer } from "../shared/api.js";
+// The page of a collector: signing in and out, and what is shown. An entry goes to the phone first, then to the office.
+import { ask, keyOf, NO_KEY, NoAnswer } from "../shared/api.js";
 import { find } from "../shared/dom.js";
 import { moved } from "../shared/months.js";
 import { toCollector } from "../shared/refusals.js";
 import * as entry from "./entry.js";
 import * as line from "./line.js";
 import { notice, render, show, showLine } from "./list.js";
-import { counted, signedOut, state, takeItems } from "./state.js";
+import { counted, signedOut, state, takeItems, takeKept, whyNotKept } from "./state.js";
 import * as store from "./store.js";
+
+const others = new BroadcastChannel("cpi-collect"); // the tabs beside this one
 
 async function start() {
   const key = await store.storedKey();
@@ -21,7 +23,18 @@ async function keepFiles() {
   const address = new URL("sw.js", import.meta.url).href;
   const policy = globalThis.trustedTypes
     ?.createPolicy("cpi-worker", { createScriptURL: (url) => (url === address ? url : "") });
-  await navigator.serviceWorker.register(policy?.createScriptURL(address) ?? address, { scope: "./" }).catch(() => {});
+  const kept = await navigator.serviceWorker.register(policy?.createScriptURL(address) ?? address, { scope: "./" })
+    .catch(() => null);
+  if (!kept) return;
+  takesOver(kept.waiting ?? kept.installing);
+  kept.addEventListener("updatefound", () => takesOver(kept.installing));
+}
+
+/** Lets new files take the place of the old ones: all of this page are loaded by now, so it has none of both. */
+function takesOver(worker) {
+  const go = () => { if (worker.state === "installed") worker.postMessage("go"); };
+  worker?.addEventListener("statechange", go);
+  if (worker) go();
 }
 
 // ---- Signing in and out
@@ -37,27 +50,27 @@ function showSignIn() {
 
 async function signIn(event) {
   event.preventDefault();
-  const key = find("key").value.replace(/[\s-]/g, "").toLowerCase();
-  const fault = isKey(key) ? await keyFault(key) : "A key is 32 characters, each 0 to 9 or a to f.";
+  const key = keyOf(find("key").value);
+  const fault = key ? await keyFault(key) : NO_KEY;
   find("key-fault").textContent = fault;
   if (fault) return;
   await store.keepKey(key);
   await navigator.storage?.persist?.().catch(() => false); // asks the browser not to clear what isn't sent
-  find("key").value = "";
+  find("sign-in-form").reset();
   find("key").type = "password";
-  find("key-shown").checked = false;
+  others.postMessage("key");
   await enter(key);
 }
 
 /** Why a key opens nothing here, or no text. */
 async function keyFault(key) {
   try {
-    const { refused } = await ask("GET", `/work/${state.month}`, { key });
-    if (refused === 11) return toCollector({ refused });
-    return refused === 12 ? "This key isn’t a collector’s." : "";
+    const { work, refused } = await ask("GET", `/work/${state.month}`, { key });
+    if (work || refused === 21) return "";
+    return refused === 12 ? "This key isn’t a collector’s." : toCollector({ refused });
   } catch (fault) {
     if (!(fault instanceof NoAnswer)) throw fault;
-    if (fault.kind === "busy") return "The office is busy. Try again in a moment.";
+    if (fault.kind !== "line") return "The office is busy. Try again in a moment.";
     return "There is no line to the office. Sign in once with a line; afterwards the page works without.";
   }
 }
@@ -86,12 +99,29 @@ function signOut() {
 
 async function left() {
   if (find("leaving").returnValue !== "leave") return;
-  line.rest();
   const { who } = state;
-  Object.assign(state, signedOut());
+  cleared();
   await store.forget(who);
-  notice("");
+  others.postMessage("key");
   showSignIn();
+}
+
+/** Leaves nothing of a collector in the page. */
+function cleared() {
+  line.rest();
+  entry.forget();
+  Object.assign(state, signedOut());
+  takeKept(null, []);
+  notice("");
+  render();
+}
+
+/** Another tab signed out, or another collector in: this one goes the same way. */
+async function follow() {
+  if ((await store.storedKey()) === (state.key ?? undefined)) return;
+  cleared();
+  find("leaving").close("stay");
+  await start();
 }
 
 // ---- Events
@@ -129,9 +159,18 @@ function listen() {
     if (state.who) showLine();
   });
   document.addEventListener("visibilitychange", () => { if (!document.hidden) line.again(); });
+  others.addEventListener("message", follow);
+  addEventListener("unhandledrejection", ({ reason }) => notice(told(reason)));
+}
+
+/** A fault that nothing else has told: the browser's, which keeps nothing, or the page's own. */
+function told(fault) {
+  return fault instanceof DOMException ? `The page can’t keep what it needs here: ${whyNotKept(fault)}`
+    : `The page met a fault: ${fault?.message ?? fault}. Load it anew.`;
 }
 
 line.on.far = entry.lookAgain;
+line.on.gone = follow;
 entry.listen();
 listen();
 keepFiles();

@@ -4,7 +4,7 @@ import { bounds, figures, shown, typed } from "../shared/money.js";
 import { toCollector } from "../shared/refusals.js";
 import { again } from "./line.js";
 import { focusAfter, show } from "./list.js";
-import { entryOf, rowOf, state, storedOf } from "./state.js";
+import { entryOf, rowOf, state, storedOf, whyNotKept } from "./state.js";
 import * as store from "./store.js";
 
 let editing = null; // { slot, row, month }
@@ -104,34 +104,49 @@ function farFrom({ mark, value }, row) {
   return found && (value < found.low || value > found.high) ? { refused: 26, ...found } : null;
 }
 
-/** Keeps what the form says on the phone, and sends it. */
+/** Keeps what the form says on the phone, and sends it: the office gives what it has stored already its receipt. */
 export async function save(isConfirmed) {
   const choice = chosen();
   if (!choice) return;
   const { slot, row, month } = editing;
+  find("price-fault").textContent = "";
   const far = isConfirmed ? null : farFrom(choice, row);
   if (far) {
-    find("price-fault").textContent = "";
     showRefusal(far);
     find("entry-confirm").focus();
     return;
   }
-  const stored = storedOf(slot);
-  const isStored = stored && stored[2] === choice.mark && stored[3] === choice.value;
-  if (!isStored || entryOf(slot)) {
-    await store.keepEntry({ who: state.who, month, slot, ...choice, confirm: isConfirmed, state: "waiting" });
-  }
+  if (!(await isKept({ slot, month, ...choice, confirm: isConfirmed, state: "waiting" }))) return;
   find("entry").close();
   await show();
   focusAfter(slot);
   await again();
 }
 
+/** Whether an entry is on the phone's disk. Where there is no room, say, the form stays and tells so. */
+async function isKept(entry) {
+  try {
+    return await store.keepEntry(state, entry);
+  } catch (fault) {
+    find("price-fault").textContent = `This entry isn’t kept: ${whyNotKept(fault)}`;
+    return false;
+  }
+}
+
 async function drop() {
-  await store.dropEntry(state.who, editing.month, editing.slot);
+  const { slot, month } = editing;
+  await store.dropEntry(state.who, month, slot);
   find("entry").close();
   await show();
-  focusAfter(editing.slot);
+  focusAfter(slot);
+}
+
+/** Closes the form, and leaves nothing of its slot in the page. */
+export function forget() {
+  find("entry").close();
+  editing = null;
+  for (const name of ["outlet", "item", "last", "refusal", "hint"]) find(`entry-${name}`).textContent = "";
+  form().reset();
 }
 
 /** The events of the form. */

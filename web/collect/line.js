@@ -12,8 +12,11 @@ let isGoing = false; // a try is under way
 let isAsked = false; // another one was asked for meanwhile
 let tries = 0, timer = 0;
 
-/** What is done where the office finds a price far from the last one, by its slot; the page sets it. */
-export const on = { far: () => {} };
+/**
+ * What is done where the office finds a price far from the last one, by its slot, and where another tab has signed out;
+ * the page sets both.
+ */
+export const on = { far: () => {}, gone: () => {} };
 
 /** Tries now, however long the page meant to wait. */
 export async function again() {
@@ -37,14 +40,16 @@ export function rest() {
   isAsked = false;
 }
 
+/** One tab at a time: what it is told of the lists is never older than what another one has sent. */
+const alone = (work) => navigator.locks.request("cpi-collect-line", work);
+
 async function once() {
   const { who } = state;
   clearTimeout(timer);
   showLine();
   let wait = null; // seconds to wait at least, where not all went well
   try {
-    wait = await sent();
-    if (state.who === who) await asked(wait === null);
+    wait = await alone(exchanged);
   } catch (fault) {
     if (!(fault instanceof NoAnswer)) throw fault;
     if (state.who === who) state.line = fault.kind === "line" ? "down" : "busy";
@@ -66,29 +71,40 @@ async function later() {
   await going;
 }
 
-/** Sends what waits; seconds to wait where the office didn't take it, else null. */
-async function sent() {
+/** Sends and asks; seconds to wait where the office didn't take all, else null. */
+async function exchanged() {
   const { key, who } = state;
-  const ended = await sendAll(who, key, async (entry, told) => {
-    if (state.who !== who) return;
+  if ((await store.storedKey()) !== key) {
+    await on.gone();
+    return null;
+  }
+  const wait = await sent({ key, who });
+  if (state.who === who) await asked({ key, who }, wait === null);
+  return wait;
+}
+
+async function sent(collector) {
+  const refusal = await sendAll(collector, async (answered) => {
+    if (state.who !== collector.who) return;
     state.line = "up";
     await show();
-    if (told.refused === 26 && entry.month === state.month) on.far(entry.slot);
+    const far = answered.find(([{ month }, { refused }]) => refused === 26 && month === state.month);
+    if (far) on.far(far[0].slot);
   });
-  if (state.who !== who || ended === "done") return null;
-  notice(toCollector({ refused: ended === "key" ? 11 : 90 }));
-  return ended === "key" ? LONGEST_WAIT : 0;
+  if (state.who !== collector.who || !refusal) return null;
+  notice(toCollector(refusal));
+  return refusal.refused === 11 ? LONGEST_WAIT : 0;
 }
 
 /** Asks for the lists of the month. Where all that waited was taken, what was told before is over. */
-async function asked(isTaken) {
-  const { key, who, month } = state;
+async function asked(collector, isTaken) {
+  const { key, who } = collector, { month } = state;
   const paths = [`/work/${month}`, `/quotes/${month}/${month}`, "/items"];
   const [work, quotes, items] = await Promise.all(paths.map((path, n) => ask("GET", path, n < 2 ? { key } : {})));
   if (state.who !== who) return;
   state.line = "up";
   if (work.work && quotes.quotes) {
-    await store.keepList(who, month, { work: work.work, quotes: quotes.quotes, at: Date.now() });
+    await store.keepList(collector, month, { work: work.work, quotes: quotes.quotes, at: Date.now() });
     if (isTaken && state.month === month) notice("");
   } else if (state.month === month) {
     notice(toCollector(work.refused ? work : quotes));

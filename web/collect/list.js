@@ -1,8 +1,8 @@
 // The work list of a month by outlet, what the office has stored, and the state of the line above them.
 import { becomes, find, make } from "../shared/dom.js";
 import { shown } from "../shared/money.js";
-import { inWords } from "../shared/months.js";
-import { counted, entryOf, inMarks, rowOf, state, storedOf, toldOf, waitingCount } from "./state.js";
+import { clockOf, dayOf, inWords } from "../shared/months.js";
+import { counted, entryOf, inMarks, rowOf, state, storedOf, takeKept, toldOf, waitingCount } from "./state.js";
 import * as store from "./store.js";
 
 /** Reads what the phone has kept, and shows it. */
@@ -10,8 +10,7 @@ export async function show() {
   const { who, month } = state;
   const [list, entries] = await Promise.all([store.listOf(who, month), store.entries(who)]);
   if (state.who !== who || state.month !== month) return; // (another one shows what is there by now)
-  state.list = list ?? null;
-  state.entries = entries;
+  takeKept(list ?? null, entries);
   render();
 }
 
@@ -35,20 +34,22 @@ export function render() {
   for (const view of ["todo", "all", "quotes"]) {
     find(`show-${view}`).setAttribute("aria-pressed", String(state.view === view));
   }
-  find("progress").textContent = progress();
+  showProgress();
   becomes(find("list"), make("div", { id: "list" }, ...listed()));
 }
 
-function progress() {
-  if (!state.list) return "";
-  const stored = state.list.work.filter((row) => toldOf(row[0])[0] === "good").length;
-  return `${stored} of ${state.list.work.length} stored, as of ${timeOf(state.list.at)}`;
+function showProgress() {
+  const { work = [], at } = state.list ?? {};
+  const stored = work.filter((row) => toldOf(row[0])[0] === "good").length;
+  find("progress").textContent = state.list ? `${stored} of ${work.length} stored, as of ${timeOf(at)}` : "";
+  find("done").hidden = work.length === 0;
+  find("done").max = work.length || 1;
+  find("done").value = stored;
 }
 
+/** The time of today, or the day. */
 function timeOf(at) {
-  const date = new Date(at);
-  const isToday = date.toDateString() === new Date().toDateString();
-  return isToday ? date.toLocaleTimeString([], { hour: "2-digit", minute: "2-digit" }) : date.toLocaleDateString();
+  return new Date(at).toDateString() === new Date().toDateString() ? clockOf(at) : dayOf(at);
 }
 
 const empty = (text) => make("p", { class: "empty" }, text);
@@ -80,7 +81,7 @@ function outletSection(number, rows) {
   const shownRows = state.view === "todo" ? rows.filter((row) => toldOf(row[0])[0] !== "good") : rows;
   if (shownRows.length === 0) return null;
   return make("section", { class: "outlet", id: `at-${number}`, "aria-labelledby": `outlet-${number}` },
-    make("h3", { id: `outlet-${number}` }, make("span", {}, rows[0][2]),
+    make("h3", { id: `outlet-${number}` }, make("span", { class: "others" }, rows[0][2]),
       make("span", { class: "count" }, open ? `${open} to do` : "all entered")),
     make("ul", {}, ...shownRows.map((row) => make("li", { id: `slot-${row[0]}` }, slotButton(row)))));
 }
@@ -90,9 +91,10 @@ function slotButton([slot, , , , text, unit, last]) {
   const entry = entryOf(slot), stored = storedOf(slot);
   const mark = entry ? inMarks(entry.mark, entry.value) : stored ? inMarks(stored[2], stored[3]) : "";
   return make("button", { class: "slot", type: "button", "data-slot": slot },
-    make("span", { class: "what" }, make("span", { class: "item" }, text), make("span", { class: "unit" },
+    make("span", { class: "what others" }, make("span", { class: "item" }, text), make("span", { class: "unit" },
       `${unit} · last ${last === null ? "none" : shown(last)}`)),
-    make("span", { class: "told" }, make("span", { class: "mark" }, mark), make("span", { class: `chip ${kind}` }, told)));
+    make("span", { class: "told" },
+      make("span", { class: "mark" }, mark), make("span", { class: `chip ${kind}` }, told)));
 }
 
 function quotesTable() {
@@ -107,7 +109,7 @@ function quotesTable() {
 function quoteRow([slot, , mark, value, receipt]) {
   const row = rowOf(slot);
   return make("tr", { "data-quote": slot },
-    make("td", {}, make("span", { class: "item" }, row?.[4] ?? `Slot ${slot}`),
+    make("td", { class: "others" }, make("span", { class: "item" }, row?.[4] ?? `Slot ${slot}`),
       make("span", { class: "unit" }, row?.[2] ?? "")),
     make("td", { class: "number" }, inMarks(mark, value)), make("td", { class: "number" }, receipt));
 }

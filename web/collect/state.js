@@ -21,9 +21,19 @@ export function takeItems(items) {
   if (items) state.tolerance = new Map(items.map(([code, , , low, high]) => [code, [low, high]]));
 }
 
-export const entryOf = (slot) => state.entries.find((entry) => entry.month === state.month && entry.slot === slot);
-export const storedOf = (slot) => state.list?.quotes.find((row) => row[0] === slot);
-export const rowOf = (slot) => state.list?.work.find((row) => row[0] === slot);
+const bySlot = { entries: new Map(), stored: new Map(), rows: new Map() }; // of the month
+
+/** Takes what the phone has kept: the list of the month, or null, and all entries. */
+export function takeKept(list, entries) {
+  Object.assign(state, { list, entries });
+  bySlot.entries = new Map(entries.filter(({ month }) => month === state.month).map((entry) => [entry.slot, entry]));
+  bySlot.stored = new Map((list?.quotes ?? []).map((row) => [row[0], row]));
+  bySlot.rows = new Map((list?.work ?? []).map((row) => [row[0], row]));
+}
+
+export const entryOf = (slot) => bySlot.entries.get(slot);
+export const storedOf = (slot) => bySlot.stored.get(slot);
+export const rowOf = (slot) => bySlot.rows.get(slot);
 export const waitingCount = () => state.entries.filter((entry) => entry.state === "waiting").length;
 
 export const counted = (n, one, many) => `${n} ${n === 1 ? one : many}`;
@@ -41,3 +51,8 @@ export function toldOf(slot) {
   if (stored) return ["good", `Receipt ${stored[4]}`];
   return ["todo", "To do"];
 }
+
+/** Why something isn't on the phone, from the browser's fault. */
+export const whyNotKept = ({ name }) => (name === "QuotaExceededError"
+  ? "there is no room left. Make room on the phone, and save again."
+  : `the browser refuses it (${name}). Let it keep data of this site, or leave the private window.`);

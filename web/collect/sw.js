@@ -1,7 +1,7 @@
 // Keeps the files of the collectors' page, so that it opens without a line. It never touches the office's interface.
 // VERSION is the hash of FILES: tools/pages writes it. What an office sets itself (SET) is kept too, and read anew
 // behind each start, so that the next one has it.
-const VERSION = "bee5ab29b295f19e";
+const VERSION = "70d9aab23fc820ec";
 const FILES = [
   "./", "app.js", "collect.css", "entry.js", "icon.svg", "line.js", "list.js", "manifest.webmanifest", "send.js",
   "state.js", "store.js", "../shared/api.js", "../shared/base.css", "../shared/dom.js", "../shared/money.js",
@@ -16,9 +16,11 @@ self.addEventListener("install", (event) => {
   event.waitUntil((async () => {
     const cache = await caches.open(NAME);
     await cache.addAll([...FILES.map(fresh), fresh(SET)]);
-    await self.skipWaiting();
   })());
 });
+
+// A page says so once it has loaded all of its files: none has files of two versions.
+self.addEventListener("message", () => self.skipWaiting());
 
 self.addEventListener("activate", (event) => {
   event.waitUntil((async () => {

@@ -1,31 +1,33 @@
 // The page of the desk: sends records, a plan, a window, a freeze, and tells in words what the office answered.
-import { ask, isKey, MOST_BYTES } from "../shared/api.js";
+import { ask, keyOf, MOST_BYTES, NO_KEY } from "../shared/api.js";
 import { written } from "../shared/csv.js";
 import { find, make } from "../shared/dom.js";
 import { thisMonth } from "../shared/months.js";
 import { toDesk } from "../shared/refusals.js";
 import { sendRecords, stop } from "./records.js";
-import { bearer, bytesOf, hasKey, noAnswer, takesFiles, tell } from "./told.js";
+import { bearer, busy, bytesOf, hasKey, noAnswer, takesFiles, tell } from "./told.js";
 
 const SECONDS = 300; // that a plan or a freeze may take
 
 // ---- The key
 
 async function takeKey() {
-  const text = find("key").value.trim().toLowerCase();
-  const fault = isKey(text) ? await keyFault(text) : "A key is 32 characters, each 0 to 9 or a to f.";
+  const key = keyOf(find("key").value);
+  const fault = key ? await keyFault(key) : NO_KEY;
   find("key-told").textContent = fault;
   if (fault) return;
-  bearer.key = text;
+  bearer.key = key;
   find("key").value = "";
   find("who").textContent = "Signed in as the desk";
+  find("leave").hidden = false;
 }
 
 /** Why a key isn't the desk's, or no text: a work list is a collector's, so the desk alone is told 12. */
 async function keyFault(key) {
   try {
-    const { refused } = await ask("GET", `/work/${thisMonth()}`, { key });
-    return refused === 12 ? "" : "This isn’t the desk’s key.";
+    const reply = await ask("GET", `/work/${thisMonth()}`, { key });
+    if (reply.refused === 12) return "";
+    return reply.refused === 90 ? toDesk(reply) : "This isn’t the desk’s key.";
   } catch (fault) {
     return noAnswer(fault);
   }
@@ -34,6 +36,7 @@ async function keyFault(key) {
 function forgetKey() {
   bearer.key = null;
   find("who").textContent = "No key yet";
+  find("leave").hidden = true;
 }
 
 // ---- Plan, window, freeze
@@ -41,6 +44,7 @@ function forgetKey() {
 async function sendPlan() {
   if (!hasKey("plan-told")) return;
   const body = await bytesOf("plan");
+  if (!body) return;
   if (body.length > MOST_BYTES) {
     tell("plan-told", "bad", "The plan is longer than 65,536 bytes. Send it with cpi replay.");
     return;
@@ -80,19 +84,17 @@ async function one(fields) {
 /** Asks once, and tells what came of it; the reply, or null where none came. */
 async function send(place, word, asked, done) {
   tell(place, "", "Sent; waiting for the office.");
-  const button = find(place).closest("form").querySelector("button.main");
-  button.disabled = true;
-  try {
-    const reply = await asked();
-    if (reply.done) tell(place, "good", done);
-    else tell(place, "bad", make("strong", {}, `Refused by ${reply.refused}. `), toDesk(reply, word));
-    return reply;
-  } catch (fault) {
-    tell(place, "bad", noAnswer(fault));
-    return null;
-  } finally {
-    button.disabled = false;
-  }
+  return busy(place, async () => {
+    try {
+      const reply = await asked();
+      if (reply.done) tell(place, "good", done);
+      else tell(place, "bad", make("strong", {}, `Refused by ${reply.refused}. `), toDesk(reply, word));
+      return reply;
+    } catch (fault) {
+      tell(place, "bad", noAnswer(fault));
+      return null;
+    }
+  });
 }
 
 // ---- Events
@@ -105,5 +107,9 @@ for (const [name, work] of Object.entries(forms)) {
   });
 }
 find("records-stop").addEventListener("click", stop);
+find("leave").addEventListener("click", () => {
+  forgetKey();
+  find("key").focus();
+});
 for (const name of ["records", "plan"]) takesFiles(name);
 addEventListener("pagehide", forgetKey);

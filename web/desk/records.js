@@ -1,28 +1,34 @@
 // Sends a file of records, piece by piece, and tells which rows were refused and why.
-import { ask, MOST_BYTES } from "../shared/api.js";
-import { bodiesOf, fieldsOf, rowsOf } from "../shared/csv.js";
+import { ask, MOST_BYTES, NoAnswer } from "../shared/api.js";
+import { bodiesOf, fieldsOf, linesOf, rowsOf } from "../shared/csv.js";
 import { find, make } from "../shared/dom.js";
 import { toDesk } from "../shared/refusals.js";
-import { bearer, bytesOf, hasKey, noAnswer, tell } from "./told.js";
+import { bearer, busy, bytesOf, hasKey, noAnswer, tell } from "./told.js";
 
 const ROWS = 200; // rows of one import: collectors are served between two
 const SHOWN = 200; // refused rows that are shown
 const SHOWN_BYTES = 300; // of each
 const SECONDS = 300; // that an import may take
+const TRIES = 10; // of an import while the front says to come again
 const PLACE = "records-told";
 
 let isStopped = false;
 
 export async function sendRecords() {
-  if (!hasKey(PLACE)) return;
-  const rows = rowsOf(await bytesOf("records"));
+  if (hasKey(PLACE)) await busy(PLACE, sent);
+}
+
+async function sent() {
+  const data = await bytesOf("records");
+  if (!data) return;
+  const rows = rowsOf(data);
   if (rows.length === 0) return tell(PLACE, "bad", "There are no rows.");
   const bodies = bodiesOf(rows, MOST_BYTES, ROWS);
   if (!bodies) {
     return tell(PLACE, "bad", "A row is longer than 65,536 bytes. Send it with cpi replay; a plan may go below.");
   }
   find("records-stop").hidden = false;
-  await sendBodies(bodies, rows.length);
+  await sendBodies(bodies, linesOf(data, rows));
   find("records-stop").hidden = true;
 }
 
@@ -30,8 +36,8 @@ export function stop() {
   isStopped = true;
 }
 
-async function sendBodies(bodies, count) {
-  const told = { done: 0, refused: [], answered: 0, count };
+async function sendBodies(bodies, lines) {
+  const told = { done: 0, refused: [], answered: 0, lines };
   isStopped = false;
   for (const { rows, bytes } of bodies) {
     show(told, "");
@@ -44,11 +50,11 @@ async function sendBodies(bodies, count) {
 /** Sends some rows and counts their answers; why nothing more is to be sent, or no text. */
 async function sendBody(rows, body, told) {
   try {
-    const reply = await ask("POST", "/import", { key: bearer.key, body, seconds: SECONDS });
+    const reply = await answered(body);
     if (!Array.isArray(reply.rows)) return toDesk(reply);
     if (reply.rows.length !== rows.length) return "The office counts other rows than this page. Look at the file.";
     for (const [n, answer] of reply.rows.entries()) {
-      if (answer.refused) told.refused.push({ number: told.answered + n + 1, row: rows[n], answer });
+      if (answer.refused) told.refused.push({ line: told.lines[told.answered + n], row: rows[n], answer });
       else told.done += 1;
     }
     told.answered += rows.length;
@@ -58,7 +64,19 @@ async function sendBody(rows, body, told) {
   }
 }
 
-function show({ done, refused, answered, count }, ended) {
+/** The reply to an import, which is sent again while the front says to come again: it lets so many in a second in. */
+async function answered(body) {
+  for (let tries = 1; ; tries += 1) {
+    try {
+      return await ask("POST", "/import", { key: bearer.key, body, seconds: SECONDS });
+    } catch (fault) {
+      if (!(fault instanceof NoAnswer) || fault.kind !== "busy" || tries === TRIES || isStopped) throw fault;
+      await new Promise((resolve) => setTimeout(resolve, 1000 * Math.max(fault.wait, 1)));
+    }
+  }
+}
+
+function show({ done, refused, answered, lines: { length: count } }, ended) {
   const left = answered < count ? `; ${count - answered} not answered yet` : "";
   tell(PLACE, ended || refused.length ? "" : "good", make("strong", {}, `${done} accepted, ${refused.length} refused`),
     ` of ${count}${left}. ${ended}`);
@@ -69,9 +87,9 @@ function show({ done, refused, answered, count }, ended) {
 }
 
 function table(refused) {
-  const heads = ["Row", "Sent", "No", "Because, and what to do"].map((text) => make("th", { scope: "col" }, text));
+  const heads = ["Line", "Sent", "No", "Because, and what to do"].map((text) => make("th", { scope: "col" }, text));
   const decoder = new TextDecoder();
-  const rows = refused.slice(0, SHOWN).map(({ number, row, answer }) => make("tr", {}, make("td", {}, number),
+  const rows = refused.slice(0, SHOWN).map(({ line, row, answer }) => make("tr", {}, make("td", {}, line),
     make("td", { class: "row" }, decoder.decode(row.subarray(0, SHOWN_BYTES))), make("td", {}, answer.refused),
     make("td", { class: "because" }, toDesk(answer, fieldsOf(decoder.decode(row))[0]))));
   return make("table", {}, make("thead", {}, make("tr", {}, ...heads)), make("tbody", {}, ...rows));

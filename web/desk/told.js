@@ -1,6 +1,8 @@
-// What a card of the page tells, and the key that the page bears.
+// What a card of the page tells, the key that the page bears, and the bytes that a card sends.
 import { NoAnswer } from "../shared/api.js";
 import { find, make } from "../shared/dom.js";
+
+const MOST_BYTES = 50_000_000; // of a file: what is longer is work for `cpi replay`
 
 /** The desk's key: in this page alone. */
 export const bearer = { key: null };
@@ -15,17 +17,49 @@ export function hasKey(place) {
   return bearer.key !== null;
 }
 
+/** Does the work of a card, whose button can't be pressed again meanwhile. */
+export async function busy(place, work) {
+  const button = find(place).closest("form").querySelector("button.main");
+  button.disabled = true;
+  try {
+    return await work();
+  } finally {
+    button.disabled = false;
+  }
+}
+
 /** The words for an answer that never came. Any other fault is thrown on. */
 export function noAnswer(fault) {
   if (!(fault instanceof NoAnswer)) throw fault;
-  return fault.kind === "line" ? "No answer came. It may have been done or not: send the same again, that is safe."
-    : "The office is busy. Send the same again in a moment.";
+  return fault.kind === "busy" ? "The office is busy. Send the same again in a moment."
+    : "No answer came. It may have been done or not: send the same again, that is safe.";
 }
 
-/** The bytes of a file that was chosen or dropped, else those that were typed. */
+/** The bytes of a file that was chosen or dropped, else of what was typed; null, and told, where they are no text. */
 export async function bytesOf(name) {
   const [file] = find(`${name}-file`).files;
-  return file ? new Uint8Array(await file.arrayBuffer()) : new TextEncoder().encode(find(`${name}-text`).value);
+  if (!file) return new TextEncoder().encode(find(`${name}-text`).value);
+  if (file.size > MOST_BYTES) return refusedFile(name, file, "is too large for this page. Send it with cpi replay.");
+  try {
+    const bytes = new Uint8Array(await file.arrayBuffer());
+    return isText(bytes) ? bytes : refusedFile(name, file, "is no text in UTF-8. Save a spreadsheet as CSV, in UTF-8.");
+  } catch {
+    return refusedFile(name, file, "can’t be read. If it was changed since it was chosen, choose it again.");
+  }
+}
+
+function refusedFile(name, file, why) {
+  tell(`${name}-told`, "bad", `${file.name} ${why} Nothing was sent.`);
+  return null;
+}
+
+function isText(bytes) {
+  try {
+    new TextDecoder("utf-8", { fatal: true }).decode(bytes);
+    return !bytes.includes(0);
+  } catch {
+    return false;
+  }
 }
 
 /** Lets a file be dropped on a card; what is typed afterwards goes before it. */

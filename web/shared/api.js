@@ -4,7 +4,9 @@
 export class NoAnswer extends Error {
   constructor(kind, wait = 0) {
     super(kind);
-    this.kind = kind; // "line": nothing came; "busy": the front said to come again
+    // "line": nothing came; "busy": the front said to come again, and the office wasn't asked; "lost": the front was
+    // not answered.
+    this.kind = kind;
     this.wait = wait; // seconds
   }
 }
@@ -12,7 +14,13 @@ export class NoAnswer extends Error {
 /** A body of more bytes than this is refused before it is read. */
 export const MOST_BYTES = 65_536;
 
-export const isKey = (text) => /^[0-9a-f]{32}$/.test(text);
+/** The key that was typed, with blanks or hyphens perhaps, or null where it is none. */
+export function keyOf(text) {
+  const key = text.replace(/[\s-]/g, "").toLowerCase();
+  return /^[0-9a-f]{32}$/.test(key) ? key : null;
+}
+
+export const NO_KEY = "A key is 32 characters, each 0 to 9 or a to f.";
 
 /** The reply as an object, or a table as { text }. */
 export async function ask(method, path, { key, body, seconds = 60 } = {}) {
@@ -38,7 +46,8 @@ export async function ask(method, path, { key, body, seconds = 60 } = {}) {
   // It was the front, not the office, that answered.
   if (response.status === 401) return { refused: 11 }; // a key that is denied there
   if (response.status === 400 || response.status === 404 || response.status === 413) return { refused: 10 };
-  throw new NoAnswer("busy", Number(response.headers.get("Retry-After")) || 0);
+  const kind = response.status === 429 || response.status === 503 ? "busy" : "lost";
+  throw new NoAnswer(kind, Number(response.headers.get("Retry-After")) || 0);
 }
 
 function parsed(text) {

@@ -37,5 +37,5 @@ function more({ refused, fault, code, found, last, low, high }) {
 
 function told(parts) {
   const sentence = (part) => part[0].toUpperCase() + part.slice(1) + (part.endsWith(".") ? "" : ".");
-  return parts.filter(Boolean).map(sentence).join(" ");
+  return parts.filter(Boolean).map(sentence).join(" ").replaceAll("'", "’");
 }

@@ -47,9 +47,10 @@ function levels(axis, hasZero, { width, y }) {
   const count = Math.round((axis.high - axis.low) / axis.step) + 1;
   return Array.from({ length: count }, (_, n) => axis.low + n * axis.step).flatMap((value) => {
     const isZero = Math.abs(value) < 1e-9, kind = hasZero && isZero ? "zero" : "grid";
+    const written = (isZero ? 0 : value).toFixed(digits).replace("-", "−");
     return [
       makeSvg("line", { class: kind, x1: LEFT, x2: width - RIGHT, y1: y(value), y2: y(value) }),
-      makeSvg("text", { x: LEFT - 8, y: y(value) + 4, "text-anchor": "end" }, (isZero ? 0 : value).toFixed(digits)),
+      makeSvg("text", { x: LEFT - 8, y: y(value) + 4, "text-anchor": "end" }, written),
     ];
   });
 }

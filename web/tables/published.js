@@ -30,7 +30,7 @@ export async function askReleases() {
 export const months = () => [...new Set(releases.map(([month]) => month))];
 export const revisionsOf = (month) => releases.filter(([found]) => found === month).map(([, revision]) => revision);
 export const latestOf = (month) => Math.max(...revisionsOf(month));
-export const momentOf = (month, revision) => releases.find((row) => row[0] === month && row[1] === revision)[2];
+export const publishedAt = (month, revision) => releases.find((row) => row[0] === month && row[1] === revision)[2];
 export const firstMonth = () => releases[0][0];
 
 /** The rows of a table: code, weight, within, chained, month, year, imputed, title. Figures are texts. */
@@ -62,6 +62,9 @@ export function oneDecimal(text) {
   const tenths = (BigInt(whole + part) / 50_000n + 1n) / 2n;
   return `${tenths / 10n}.${tenths % 10n}`;
 }
+
+/** A whole number with its thousands parted. */
+export const grouped = (text) => text.replace(/\B(?=(?:\d{3})+$)/g, ",");
 
 /** A change as it is printed, with a true minus; a dash where there is none. */
 export const change = (text) => (text === "" ? "–" : text.replace("-", "−"));

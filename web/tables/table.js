@@ -1,16 +1,16 @@
 // The table of one month in one revision, and the list of all publications.
 import { find, make } from "../shared/dom.js";
-import { inWords } from "../shared/months.js";
-import { change, depthOf, latestOf, momentOf, months, oneDecimal, revisionsOf, tableOf } from "./published.js";
+import { inWords, momentOf } from "../shared/months.js";
+import {
+  change, depthOf, grouped, latestOf, months, oneDecimal, publishedAt, revisionsOf, tableOf,
+} from "./published.js";
 
 const FIRST_MONTH = " The first month of all has no rows: later months are compared with it.";
 
 /** What is done where a row is ticked, and which rows are; the page sets both. */
 export const on = { ticked: () => {}, isTicked: () => false };
 
-export function dateOf(moment) {
-  return new Date(moment * 1000).toLocaleString([], { dateStyle: "medium", timeStyle: "short" });
-}
+export const dateOf = (moment) => momentOf(moment * 1000);
 
 export function fillMonths() {
   const options = months().reverse().map((month) => make("option", { value: month }, inWords(month)));
@@ -33,7 +33,7 @@ export async function showTable() {
   if (find("month").value !== month || Number(find("revision").value) !== revision) return;
   find("table-title").textContent = `Table of ${inWords(month)}`;
   const which = revision > 1 ? `Revision ${revision}, published` : "Published";
-  find("said").textContent = `${which} ${dateOf(momentOf(month, revision))}.${rows.length ? "" : FIRST_MONTH}`;
+  find("said").textContent = `${which} ${dateOf(publishedAt(month, revision))}.${rows.length ? "" : FIRST_MONTH}`;
   for (const form of ["csv", "text"]) find(form).href = `/api/table/${month}/${form}/${revision}`;
   find("csv").download = fileName(month, revision);
   find("table").replaceChildren(head(), make("tbody", {}, ...rows.filter(isSought).map(tableRow)));
@@ -68,7 +68,8 @@ function tableRow(row) {
     make("td", { class: "code small-off" }, row.code),
     make("th", { scope: "row", class: `title indent-${depth}` }, row.title,
       make("span", { class: "small-code", "aria-hidden": "true" }, row.code)),
-    number(row.weight, "small-off"), number(oneDecimal(row.within), "small-off"), number(oneDecimal(row.chained)),
+    number(grouped(row.weight), "small-off"), number(oneDecimal(row.within), "small-off"),
+    number(oneDecimal(row.chained)),
     number(change(row.month)), number(change(row.year)), make("td", { class: "small-off" }, row.imputed ? "i" : ""));
 }
 
