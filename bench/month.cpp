@@ -1,4 +1,4 @@
-// A yardstick for the freeze of a month: the same plan and quotes as tests/month makes by its rule for a nation, and
+// A yardstick for the freeze of a month: the same plan and quotes as tests/lib/by_rule.py makes for a nation, and
 // the same tables, computed plainly with maps; with no proofs, no limits looked at and no handling of faults. It
 // measures; it is no product. It prints the tables as CSV, and the seconds of each month to standard error.
 //
