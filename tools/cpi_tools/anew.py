@@ -1,6 +1,7 @@
 """Each release of an office computed anew from its frozen quotes, in one pass over all months and revisions.
 
-The rules are the functions of `recompute`. What is said of an earlier month is taken of its latest revision, as computed here: no carried price and no level that the file has is used.
+The rules are the functions of `recompute`. What is said of an earlier month is taken of its latest revision, as computed
+here: no carried price and no level that the file has is used.
 """
 
 from __future__ import annotations
