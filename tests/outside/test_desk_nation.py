@@ -9,7 +9,7 @@ from pathlib import Path
 import pytest
 
 from cpi_tools.program import Cpi, record
-from surveys import run
+from ran import run
 
 EXAMPLE = Path(__file__).resolve().parents[2] / "examples/national/run"
 

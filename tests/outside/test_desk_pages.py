@@ -10,7 +10,7 @@ import pytest
 import surveys
 from chromium import Browser, browser
 from cpi_tools.program import Cpi
-from surveys import run
+from ran import run
 from test_published import OVERLAPS
 
 Needed = Callable[[str], str]

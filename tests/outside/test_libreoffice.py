@@ -13,7 +13,8 @@ import pytest
 from cpi_tools.program import Cpi
 from cpi_tools.sheets import Source
 from conftest import ROOT
-from spreadsheets import Ran, Sheets, replayed, rows_of, run, sheets, tables, written
+from ran import Ran, rows_of, run
+from spreadsheets import Sheets, replayed, sheets, tables, written
 
 
 @pytest.fixture(autouse=True)

@@ -8,7 +8,7 @@ from pathlib import Path
 import pytest
 
 from cpi_tools.program import Cpi, record
-from spreadsheets import run
+from ran import run
 from test_take_in import sums
 from wide import in_percent, rewrite, wide_prices
 

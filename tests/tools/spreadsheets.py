@@ -3,14 +3,10 @@ changes of them."""
 
 from __future__ import annotations
 
-import contextlib
 import csv
-import io
 from collections.abc import Callable, Sequence
 from pathlib import Path
-from typing import NamedTuple
 
-from cpi_tools.__main__ import main
 from cpi_tools.program import Cpi, record
 
 KEY_7, KEY_8 = "a7" * 16, "b8" * 16
@@ -121,29 +117,7 @@ def without(name: str) -> Change:
     return change
 
 
-# ---- running the tool
-
-
-class Ran(NamedTuple):
-    """How a tool ended, and what it wrote."""
-
-    status: int
-    out: str
-    err: str
-
-
-def run(cpi: Cpi, *words: object) -> Ran:
-    """Runs cpi-tools in this process."""
-    out, err = io.StringIO(), io.StringIO()
-    with contextlib.redirect_stdout(out), contextlib.redirect_stderr(err):
-        status = main([*map(str, words), "--program", str(cpi.path)])
-    return Ran(status, out.getvalue(), err.getvalue())
-
-
-def rows_of(path: Path) -> list[dict[str, str]]:
-    """The rows of a CSV file by the names of its columns."""
-    with open(path, encoding="utf-8", newline="") as file:
-        return [*csv.DictReader(file)]
+# ---- what an office holds
 
 
 def tables(cpi: Cpi, file: Path) -> dict[tuple[str, int], str]:

@@ -7,15 +7,11 @@ enters.
 
 from __future__ import annotations
 
-import contextlib
-import csv
-import io
 import random
 from collections.abc import Iterator
 from pathlib import Path
 from typing import NamedTuple, Optional
 
-from cpi_tools.__main__ import main
 from cpi_tools.program import Cpi, Reply, Session, record
 from lib.offices import RICE_AND_FLOUR, quoted
 
@@ -30,35 +26,12 @@ def key_of(collector: int) -> str:
     return "a" * 28 + f"{collector:04}"
 
 
-# ---- the tools
-
-
-class Ran(NamedTuple):
-    """How a tool ended, and what it wrote."""
-
-    status: int
-    out: str
-    err: str
-
-
-def run(cpi: Optional[Cpi], *words: object) -> Ran:
-    """Runs cpi-tools in this process, with the program that is tested where the tool runs one."""
-    out, err = io.StringIO(), io.StringIO()
-    program = ["--program", str(cpi.path)] if cpi else []
-    with contextlib.redirect_stdout(out), contextlib.redirect_stderr(err):
-        status = main([*map(str, words), *program])
-    return Ran(status, out.getvalue(), err.getvalue())
+# ---- its files and months
 
 
 def bytes_of(path: Path) -> dict[str, bytes]:
     """The bytes of an office's file and of its log, by their names."""
     return {it.name: it.read_bytes() for it in path.parent.glob(f"{path.name}*")}
-
-
-def rows_of(path: Path) -> list[dict[str, str]]:
-    """The rows of a CSV file by the names of its columns."""
-    with path.open(encoding="utf-8", newline="") as file:
-        return list(csv.DictReader(file))
 
 
 def number_of(month: str) -> int:

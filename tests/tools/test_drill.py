@@ -10,7 +10,7 @@ from pathlib import Path
 
 import pytest
 
-from cpi_tools.__main__ import main
+from cpi_tools.command_line import main
 from cpi_tools.anew import Months, differing
 from cpi_tools.backup import Note, hash_of, note_beside, note_text
 from cpi_tools.copying import CopyFailed, log_beside

@@ -16,13 +16,14 @@ from pathlib import Path
 import pytest
 
 import surveys
-from cpi_tools.__main__ import main
+from cpi_tools.command_line import main
 from cpi_tools.explain import words as words_of_explain
 from cpi_tools.explain.expressions import NoExpression, value_of
 from cpi_tools.explain.lines import Explanation, Line, change_expression
 from cpi_tools.explain.sources import Sources
 from cpi_tools.program import Cpi
-from surveys import Life, bytes_of, key_of, number_of, run
+from ran import run
+from surveys import Life, bytes_of, key_of, number_of
 
 Whole = tuple[Path, Life]
 

@@ -127,7 +127,7 @@ def test_each_file_of_ops_has_its_place(members: dict[str, tarfile.TarInfo]) -> 
     assert places == {
         "cpi.service": units, "cpi-backup.service": units, "cpi-backup.timer": units, "cpi-serve": programs,
         "cpi-backup": programs, "nginx.conf": others, "Caddyfile": others, "logrotate-cpi": others,
-        "try": others, "office.conf": {"etc/cpi"},
+        "try": others, "try.py": others, "office.conf": {"etc/cpi"},
     }  # fmt: skip
     assert "usr/lib/sysusers.d/cpi.conf" in members
 

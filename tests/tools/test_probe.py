@@ -17,7 +17,7 @@ from typing import Any, Optional
 import pytest
 
 from cpi_tools import probe
-from cpi_tools.__main__ import parser
+from cpi_tools.command_line import parser
 from cpi_tools.backup import Note, note_beside, note_text
 from cpi_tools.probe import Answer, Backup, Files, Levels, Seen, Table, late_months
 from cpi_tools.program import Cpi

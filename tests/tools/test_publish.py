@@ -23,7 +23,7 @@ from xml.etree import ElementTree
 import openpyxl
 import pytest
 
-from cpi_tools.__main__ import main
+from cpi_tools.command_line import main
 from cpi_tools.folders import NotPlaced
 from cpi_tools.pack.config import BadConfig, Config, read_config
 from cpi_tools.pack.manifest import manifest_text, previous_of, read_manifest

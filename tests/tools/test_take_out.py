@@ -13,7 +13,8 @@ import pytest
 
 from cpi_tools.program import Cpi, record
 from offices import KEY, TABLES
-from spreadsheets import replayed, rows_of, run, sheets, tables, written
+from ran import rows_of, run
+from spreadsheets import replayed, sheets, tables, written
 from test_take_in import sums
 from wide import in_percent, wide_prices
 

@@ -119,7 +119,7 @@ def test_another_office_is_copied_and_the_certificate_stays(cpi: Cpi, made: Path
 
 
 def test_the_commands_of_the_guide_are_its_words() -> None:
-    loader = importlib.machinery.SourceFileLoader("ops_try", str(TRY))
+    loader = importlib.machinery.SourceFileLoader("ops_try", f"{TRY}.py")
     spec = importlib.util.spec_from_loader(loader.name, loader)
     assert spec
     module = importlib.util.module_from_spec(spec)

@@ -1,0 +1,276 @@
+"""Starts an office behind the front, to be tried by hand with a phone or a browser, and stops all of it at Ctrl-C.
+
+    ops/try [--address ADDRESS] [--port PORT] [--db FILE] [--zone RULE] [--folder FOLDER] [--program FILE]
+
+The office is the made-up country of examples/national: two years of published tables up to last month, and this month's
+window is open. It is made by the first call in a month, which takes a few minutes, and stays in FOLDER (out/try) with
+what is sent to it. With --db it is a copy of the office in FILE instead. Nothing else on the machine is changed.
+
+It listens at this machine alone, or at the ADDRESS of it that is named, for a phone in the same network: who can reach
+that address can read and send what its pages can, so let it be a network that you trust. The certificate is drawn for
+this address by an authority that can speak for no other, whose key is thrown away; it stays for 90 days.
+
+It needs nginx and openssl (Debian: nginx-light, openssl), and Python 3.9 or later. Exit status: 0 after Ctrl-C, 1 where
+something fails, in one line, 2 where the words are refused.
+
+example: ops/try --address 192.168.1.5
+"""
+
+# ruff: noqa: E402
+from __future__ import annotations
+
+import sys
+
+sys.dont_write_bytecode = True
+
+from cpi_tools import ctrl_c  # (ops/try says where it is)
+
+if __name__ == "__main__":
+    ctrl_c.ends_silently()
+
+import argparse
+import contextlib
+import csv
+import datetime
+import fcntl
+import re
+import secrets
+import shutil
+import subprocess
+import time
+from collections.abc import Iterator
+from functools import partial
+from pathlib import Path
+from typing import NoReturn, Optional
+
+from cpi_tools.copying import right_copy
+from cpi_tools.front import (
+    LOCALHOST,
+    Front,
+    Place,
+    fingerprint,
+    free_port,
+    is_listening,
+    keep_certificate,
+    standing,
+    system_program,
+)
+from cpi_tools.program import Cpi, CpiFailed, add_program, told as told_end
+from cpi_tools.terminal import Fault, ToolWords, because_of, ends_by_signals
+
+ROOT = Path(__file__).resolve().parents[1]
+
+ZONE = "CET-1CEST,M3.5.0,M10.5.0/3"
+"""The clock of the made-up country."""
+
+LOOK_SECONDS = 0.2
+"""How often it is looked whether office and front still run."""
+
+
+# ---- the office
+
+
+def made_up_country(folder: Path, cpi: Cpi, month: str) -> Path:
+    """The file of the made-up country with this month open; it is made where it isn't there yet."""
+    file = folder / f"{month}.db"
+    if file.exists():
+        return file
+    print("The made-up country lives through two years first: a few minutes, once a month.", flush=True)
+    making = folder / "making"
+    shutil.rmtree(making, ignore_errors=True)
+    making.mkdir()
+    run = [sys.executable, str(ROOT / "examples/national/run"), "--program", str(cpi.path), "--open", month]
+    ran = subprocess.run([*run, "--db", f"{making}/office.db", "--out", f"{making}/out"], stdout=subprocess.DEVNULL)
+    if ran.returncode:
+        raise Fault(f"examples/national/run ended with status {ran.returncode}")
+    (making / "office.db").rename(file)
+    shutil.rmtree(making)
+    return file
+
+
+def copy_of(office: Path, folder: Path) -> Path:
+    """A copy of an office's own file, as it is now."""
+    copies = folder / "copy"
+    shutil.rmtree(copies, ignore_errors=True)
+    copies.mkdir()
+    return right_copy(office, copies)
+
+
+class Office:
+    """A running `cpi serve`; it ends after its connections, and is started again then."""
+
+    def __init__(self, cpi: Cpi, file: Path, port: int, zone: str):
+        self.cpi, self.file, self.port, self.zone = cpi, file, port, zone
+        self.desk_key = secrets.token_hex(16)
+        self.process: Optional[subprocess.Popen[bytes]] = None
+
+    def start(self) -> None:
+        """Starts it, and waits until it listens: it reads its whole file first."""
+        words = ["serve", "--db", str(self.file), "--port", str(self.port), "--desk-key", self.desk_key]
+        words = [str(self.cpi.path), *words, "--limit", "1000000", "--zone", self.zone]
+        pipes = {"stdout": subprocess.PIPE, "stderr": subprocess.PIPE}
+        self.process = subprocess.Popen(words, stdin=subprocess.DEVNULL, **pipes)
+        assert self.process.stdout
+        if not self.process.stdout.readline():
+            self._fail()
+
+    def look(self) -> None:
+        """Starts it again where it ended after its connections."""
+        assert self.process
+        status = self.process.poll()
+        if status == 0:
+            self.start()
+        elif status is not None:
+            self._fail()
+
+    def _fail(self) -> NoReturn:
+        assert self.process and self.process.stderr
+        errors, status = self.process.stderr.read(), self.process.wait()
+        raise Fault(f"{self.file}: {told_end(status, errors)}")
+
+    def stop(self) -> None:
+        if self.process:
+            with self.process:
+                self.process.terminate()
+
+
+# ---- what is told
+
+
+def told(place: Place, office: Office, is_country: bool, folder: Path) -> str:
+    """Where to point a phone, and the keys."""
+    with open(ROOT / "examples/national/collectors.csv", encoding="utf-8", newline="") as file:
+        collector = next(csv.DictReader(file))["key"]
+    rows = [
+        ("collectors", f"{place.url}/collect/", f"key {collector}" if is_country else "with their keys"),
+        ("everybody", f"{place.url}/tables/", ""),
+        ("the desk", f"{place.url}/desk/", f"key {office.desk_key}"),
+    ]
+    addresses = "".join(f"  {who:<11} {address}  {key}".rstrip() + "\n" for who, address, key in rows)
+    return (
+        f"\n{addresses}\n"
+        "Browsers warn of the certificate, which is this trial's own. To use the phone's page without a line too, the\n"
+        f"phone has to trust it: open {place.url}/ca.crt there and install it. Its SHA-256 is\n"
+        f"  {fingerprint(folder / 'ca.crt')}\n"
+        "\nCtrl-C stops all of it.\n"
+    )
+
+
+# ---- the front
+
+
+def place_of(address: str, port: int, folder: Path) -> Place:
+    """Where the front listens; a Fault where that address isn't this machine's, or the port is taken."""
+    host, at = (LOCALHOST, "127.0.0.1") if address in (LOCALHOST, "127.0.0.1") else (address, address)
+    try:
+        free_port(at)
+    except OSError as fault:
+        raise Fault(f"{address} is no address of this machine: {because_of(fault)}") from fault
+    if is_listening(at, port):
+        raise Fault(f"port {port} of {address} is taken: name another by --port")
+    return Place(host, at, port, f"unix:{folder}/plain.sock", free_port(), ROOT / "web")
+
+
+def of_a_trial(folder: Path, text: str) -> str:
+    """The front's file with the certificate that a phone has to trust, and without the field by which a browser would
+    remember, for a year, to speak TLS alone here."""
+    forgetful = re.sub(r"\n *add_header Strict-Transport-Security .*", "", text)
+    certificate = f"    location = /ca.crt {{ root {folder}; }}\n\n"
+    return re.sub(r"^ *location / ", rf"{certificate}\g<0>", forgetful, count=1, flags=re.M)
+
+
+@contextlib.contextmanager
+def held(folder: Path) -> Iterator[None]:
+    """A folder that no other trial uses meanwhile: it would take away what this one serves."""
+    folder.mkdir(mode=0o700, parents=True, exist_ok=True)
+    with (folder / "lock").open("w") as lock:
+        try:
+            fcntl.flock(lock, fcntl.LOCK_EX | fcntl.LOCK_NB)
+        except BlockingIOError as fault:
+            raise Fault(f"another trial runs in {folder}: stop it, or name another by --folder") from fault
+        yield
+
+
+@contextlib.contextmanager
+def started(office: Office) -> Iterator[Office]:
+    """An office that runs meanwhile."""
+    try:
+        office.start()
+        yield office
+    finally:
+        office.stop()
+
+
+def looked_at(chosen: argparse.Namespace) -> Cpi:
+    """The program, once all is there that is needed and the words can be right: before minutes of work."""
+    for needed in ("nginx", "openssl"):
+        system_program(needed)
+    cpi = Cpi(chosen.program)
+    try:
+        cpi.replay([], zone=chosen.zone)
+    except CpiFailed as fault:
+        raise Fault(f"--zone {chosen.zone}: {fault}") from fault
+    return cpi
+
+
+def run(chosen: argparse.Namespace) -> int:
+    """Starts all of it, and waits for Ctrl-C."""
+    cpi, folder = looked_at(chosen), Path(chosen.folder).absolute()
+    with held(folder):
+        return serve(chosen, cpi, folder)
+
+
+def serve(chosen: argparse.Namespace, cpi: Cpi, folder: Path) -> int:
+    """Office and front in a folder, until something ends."""
+    place = place_of(chosen.address, chosen.port, folder)
+    (folder / "plain.sock").unlink(missing_ok=True)
+    month = datetime.date.today().strftime("%Y-%m")
+    file = copy_of(Path(chosen.db), folder) if chosen.db else made_up_country(folder, cpi, month)
+    keep_certificate(folder, place.host)
+    office = Office(cpi, file, place.office_port, chosen.zone)
+    print("The office reads its file, which takes some seconds.", flush=True)
+    front = Front(ROOT / "ops/nginx.conf", folder, place)
+    with started(office), standing(front, partial(of_a_trial, folder)):
+        print(told(place, office, not chosen.db, folder), flush=True)
+        while True:
+            time.sleep(LOOK_SECONDS)
+            office.look()
+            if front.process and front.process.poll() is not None:
+                raise Fault(f"nginx ended: {folder}/error.log says why")
+
+
+def a_port(text: str) -> int:
+    """A type of argparse: the number of a port."""
+    if not re.fullmatch(r"[0-9]{1,5}", text) or not 1 <= int(text) <= 65_535:
+        raise argparse.ArgumentTypeError(f"{text} is no port: 1 to 65535")
+    return int(text)
+
+
+def parser() -> ToolWords:
+    words = ToolWords(prog="ops/try", description=__doc__)
+    words.add_argument("--address", default=LOCALHOST, help="an address of this machine in its network (localhost)")
+    words.add_argument("--port", type=a_port, default=8443, help="the port of the front (8443)")
+    words.add_argument("--db", metavar="FILE", help="try a copy of this office instead of the made-up country")
+    words.add_argument("--zone", metavar="RULE", default=ZONE, help=f"the clock of the office ({ZONE})")
+    words.add_argument("--folder", default=str(ROOT / "out/try"), help="where all of it lies (out/try)")
+    add_program(words)
+    return words
+
+
+def main() -> int:
+    chosen = parser().parse_args()
+    try:
+        ctrl_c.raises()
+        with ends_by_signals():
+            return run(chosen)
+    except KeyboardInterrupt:
+        return 0
+    except (Fault, OSError) as fault:
+        print(f"ops/try: {because_of(fault) if isinstance(fault, OSError) else fault}", file=sys.stderr)
+        return 1
+    finally:
+        ctrl_c.ends_silently()
+
+
+if __name__ == "__main__":
+    sys.exit(main())

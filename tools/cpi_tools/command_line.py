@@ -1,0 +1,52 @@
+"""The words of the command line, and the tool that they name."""
+
+from __future__ import annotations
+
+import os
+import sys
+from collections.abc import Sequence
+from typing import Optional
+
+from . import backup, desk, drill, explain, next_year, probe, publish, take_in, take_out
+from .terminal import Fault, ToolWords, ends_by_signals, is_line
+
+TOOLS = (backup, drill, probe, desk, explain, publish, take_in, take_out, next_year)
+
+
+def parser() -> ToolWords:
+    """The parser of all tools; each module adds its own words."""
+    words = ToolWords(
+        prog="cpi-tools",
+        description="Companions of cpi, the program of a consumer price index office.",
+        epilog="example: cpi-tools backup office.db backup/office.db",
+    )
+    tools = words.add_subparsers(required=True, metavar="TOOL", title="tools", parser_class=ToolWords)
+    for tool in TOOLS:
+        tool.add_words(tools)
+    return words
+
+
+def main(given: Optional[Sequence[str]] = None) -> int:
+    """Runs a tool by its words (those of the command line); its exit status.
+
+    What a tool is known to meet is one line on standard error and status 1; words that aren't its own are 2.
+    """
+    words = sys.argv[1:] if given is None else given
+    chosen, others = parser().parse_known_args(words)
+    if odd := [word for word in words if not is_line(word)]:
+        chosen.words.error(f"a word isn't a line of UTF-8: {odd[0]!a}")
+    if others:
+        # (told by the tool whose words they were to be, which has its own status for it)
+        chosen.words.error(f"unrecognized arguments: {' '.join(others)}")
+    try:
+        with ends_by_signals():
+            status: int = chosen.run(chosen)
+            sys.stdout.flush()
+            return status
+    except Fault as fault:
+        print(f"cpi-tools {chosen.tool}: {fault}", file=sys.stderr)
+        return 1
+    except BrokenPipeError:
+        # (who read the output has gone, so the rest of it goes nowhere)
+        os.dup2(os.open(os.devnull, os.O_WRONLY), sys.stdout.fileno())
+        return 1
