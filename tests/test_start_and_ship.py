@@ -2,7 +2,7 @@
 """Tests what starts, builds and ships the program: ./cpi, ./cpi-build, ./test, tools/ and test_shipped_program.py.
 
 They run in copies of a small repository of five crates, with stand-ins for `rt`, for `objdump`, for the program and for
-the parts of ./test (lib/small_repository.py).
+the parts of ./test (lib/small_repository.py). In this one no link stands: a gate takes files and folders alone.
 """
 
 import fcntl
@@ -19,7 +19,7 @@ from collections.abc import Callable, Iterator
 from functools import partial
 from pathlib import Path
 
-from lib.harness import Checks, Job, words_of
+from lib.harness import Checks, Fault, Job, words_of
 from lib.small_repository import BUILT, CRATES, KIT, SHIPPED, TOP, TRIED, Ran, Repository, made_of, put
 
 Seen = tuple[str, bool]
@@ -351,6 +351,16 @@ def try_case(checks: Checks, name: str) -> None:
             checks.count(f"{name}: {check}", None if is_right else f"the last call: {it.last}")
 
 
+def links() -> Fault:
+    """The links in this repository, but for what is built in it."""
+    found: list[str] = []
+    for folder, folders, names in os.walk(TOP):
+        paths = [os.path.join(folder, name) for name in [*folders, *names]]
+        found += [os.path.relpath(path, TOP) for path in paths if os.path.islink(path)]
+        folders[:] = [name for name in folders if name not in (".git", "out")]
+    return f"{', '.join(sorted(found))}: put the file or folder itself there" if found else None
+
+
 def main() -> int:
     words = words_of(__doc__)
     words.add_argument("--only", choices=[*CASES], help="one case alone")
@@ -359,6 +369,7 @@ def main() -> int:
     os.umask(0o022)
     with Checks() as checks:
         names = [chosen.only] if chosen.only else CASES
+        checks.count("no link stands in the repository", links())
         checks.do((Job(name, partial(try_case, checks, name)) for name in names), lanes=4)
     return checks.status
 
