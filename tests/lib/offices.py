@@ -2,7 +2,7 @@
 
 from __future__ import annotations
 
-from collections.abc import Iterable, Iterator, Sequence
+from collections.abc import Iterable, Iterator, Mapping, Sequence
 
 from second_office.records import text_of
 from second_office.requests import Record
@@ -51,6 +51,16 @@ def plan_of(
     rows = [["T", node, f"{title} {node}"] for node in nodes]
     rows += [["W", code, str(weight)] for code, weight in zip(codes, weights)]
     rows += [["I", item, codes[at % len(codes)]] for at, item in enumerate(items)]
+    return text_of(rows + [["R", month] for month in references])
+
+
+def plan_with(
+    titles: Mapping[str, str], weights: Mapping[str, int], items: Mapping[str, str], references: Iterable[str] = ()
+) -> str:
+    """The body of a plan by titles and weights of codes; items whose aggregate has no weight are left out."""
+    rows = [["T", code, title] for code, title in titles.items()]
+    rows += [["W", code, str(weight)] for code, weight in weights.items()]
+    rows += [["I", item, code] for item, code in items.items() if code in weights]
     return text_of(rows + [["R", month] for month in references])
 
 

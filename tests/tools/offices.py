@@ -11,6 +11,7 @@ import random
 from collections.abc import Iterator
 
 from cpi_tools.program import record
+from lib.offices import plan_with
 
 KEY, OTHER_KEY, LOAD_KEY = "a" * 32, "b" * 32, "f" * 32
 MONTHS = [f"{at // 12:04}-{at % 12 + 1:02}" for at in range(2024 * 12 + 11, 2026 * 12 + 2)]
@@ -36,12 +37,7 @@ TABLES = len(MONTHS) + 1
 
 def plan(year: int) -> str:
     """The plan of a year as the body of its record."""
-    quoted = {code: title.replace('"', '""') for code, title in TITLES.items()}
-    rows = [f'T,{code},"{title}"' for code, title in quoted.items()]
-    rows += [f"W,{code},{weight}" for code, weight in WEIGHTS[year].items()]
-    rows += [f"I,{item},{code}" for item, code in ITEMS.items() if code in WEIGHTS[year]]
-    rows += [f"R,{REFERENCE[year]}"] if year in REFERENCE else []
-    return "".join(f"{row}\n" for row in rows)
+    return plan_with(TITLES, WEIGHTS[year], ITEMS, [REFERENCE[year]] if year in REFERENCE else [])
 
 
 def registered() -> Iterator[str]:

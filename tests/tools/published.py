@@ -11,6 +11,7 @@ from pathlib import Path
 from typing import NamedTuple
 
 from cpi_tools.program import Cpi, record
+from lib.offices import plan_with
 
 KEY = "0123456789abcdef0123456789abcdef"
 MONTHS = [f"{at // 12:04}-{at % 12 + 1:02}" for at in range(2024 * 12 + 11, 2027 * 12 + 6)]
@@ -53,11 +54,7 @@ def shown() -> list[tuple[str, int]]:
 
 def plan(year: int) -> str:
     """The plan of a year as the body of its record."""
-    quoted = {code: title.replace('"', '""') for code, title in TITLES.items()}
-    rows = [f'T,{code},"{title}"' for code, title in quoted.items()]
-    rows += [f"W,{code},{weight}" for code, weight in WEIGHTS[year].items()]
-    rows += [f"I,{item},{code}" for item, code in ITEMS.items() if code in WEIGHTS[year]]
-    return "".join(f"{row}\n" for row in rows)
+    return plan_with(TITLES, WEIGHTS[year], ITEMS)
 
 
 def registered() -> Iterator[str]:

@@ -9,7 +9,8 @@ import pytest
 
 from cpi_tools.program import Cpi, Session, record
 from cpi_tools.stored import Release, stored_office
-from spreadsheets import Ran, replayed, rows_of, run
+from ran import Ran, rows_of, run
+from spreadsheets import replayed
 from test_take_in import sums
 
 MONTHS = ["2025-12", *(f"2026-{month:02}" for month in range(1, 13))]
@@ -33,11 +34,14 @@ SERIES = [
     (8, 5, 11, "SALT", "2025-12", "2026-06"),
     (8, 6, 11, "SALT", "2026-12", "2027-12"),
     (8, 7, 11, UNPLACED, "2026-12", "2027-12"),
+    (8, 8, 12, "TEA", "2025-12", "2027-12"),
+    (8, 9, 12, "FLOUR", "2025-12", "2027-12"),
 ]
 """One that stays, two that end in December, one that ended in June, one that is handed over, two new ones; one that is
-handed over and ends in December, one that ended in June and its successor, and one of no aggregate."""
+handed over and ends in December, one that ended in June and its successor, and one of no aggregate; one that is gone
+while it is handed over, and one whose shop is closed as long."""
 
-HANDED = {(8, 1): (9, 1), (8, 4): (9, 2)}
+HANDED = {(8, 1): (9, 1), (8, 4): (9, 2), (8, 8): (9, 3)}
 """Slots that another has from November on."""
 
 
@@ -56,11 +60,12 @@ def begun() -> Iterator[str]:
 
 
 def entry(slot: tuple[int, int], month: str) -> tuple[object, ...]:
-    """The flour of one shop is gone from October on, and that of the other was gone twice; two new ones aren't
-    priced."""
-    if (slot == (7, 3) and month >= "2026-10") or (slot in ((8, 1), (9, 1)) and month in ("2026-10", "2026-11")):
+    """The flour of one shop is gone from October on, and so is the tea of another, which is handed over meanwhile; the
+    flour of a further one was gone twice; one was closed as long, and two new ones aren't priced."""
+    if month >= "2026-10" and (slot in ((7, 3), (8, 8), (9, 3)) or (slot in ((8, 1), (9, 1)) and month < "2026-12")):
         return "missing", "gone"
-    return ("missing", "closed") if slot in ((8, 3), (8, 6)) else ("price", 100)
+    is_closed = slot in ((8, 3), (8, 6)) or (slot == (8, 9) and month >= "2026-10")
+    return ("missing", "closed") if is_closed else ("price", 100)
 
 
 def live(session: Session, month: str, is_frozen: bool) -> None:
@@ -98,8 +103,8 @@ def test_the_lists_and_the_draft(cpi: Cpi, december: Path, tmp_path: Path) -> No
     ran = run(cpi, "next-year", december, 2027, tmp_path / "next")
     assert sums(december) == before
     told = [
-        "leave the sample of 2026: 5 of 7 series",
-        "gone in 2026-10, 2026-11, 2026-12: 1 series",
+        "leave the sample of 2026: 5 of 9 series",
+        "gone in 2026-10, 2026-11, 2026-12: 2 series",
         "fewer than 3 series in 2027 so far: 4 aggregates",
         f"go on in {tmp_path / 'next/draft'}: 2 series",
     ]
@@ -107,21 +112,40 @@ def test_the_lists_and_the_draft(cpi: Cpi, december: Path, tmp_path: Path) -> No
     rice, flour, salt, tea = ITEMS.values()
     leaving = [("7", "2", rice), ("7", "3", flour), ("7", "4", tea), ("9", "2", tea), ("8", "5", salt)]
     assert slots(tmp_path / "next/leaving.csv") == leaving
-    last = [row["last"] for row in rows_of(tmp_path / "next/leaving.csv")]
-    assert last == ["2026-12", "2026-12", "2026-06", "2026-12", "2026-06"]
-    assert slots(tmp_path / "next/gone.csv") == [("7", "3", flour)]
+    december_too, another = "price it in December in the slot of the draft too", "look for another in its place"
+    assert [[row[it] for it in ("last", "because", "do")] for row in rows_of(tmp_path / "next/leaving.csv")] == [
+        ["2026-12", "its last month is 2026-12", december_too],
+        ["2026-12", "its last month is 2026-12", another],
+        ["2026-06", "its last month is 2026-06", another],
+        ["2026-12", "its last month is 2026-12", december_too],
+        ["2026-06", "its last month is 2026-06", another],
+    ]
+    because = "gone in 2026-10, 2026-11, 2026-12"
+    again = "look for another in its place: the draft doesn't have it again"
+    assert [[*row.values()] for row in rows_of(tmp_path / "next/gone.csv")] == [
+        ["7", "3", "10", "Shop 10", "FLOUR", "Text of FLOUR", flour, "2026-12", because, again],
+        ["9", "3", "12", "Shop 12", "TEA", "Text of TEA", tea, "2027-12", because, again],
+    ]
     few = [
-        [row[it] for it in ("code", "series", "outlets", "drafted")]
+        [row[it] for it in ("code", "title", "series", "outlets", "drafted", "do")]
         for row in rows_of(tmp_path / "next/few-series.csv")
     ]
-    # rice: that which stays and the new one that has a price, in one outlet; flour: what was handed over; salt: its new
-    # series has no price that it could begin with
-    assert few == [[rice, "2", "1", "1"], [flour, "1", "1", "0"], [salt, "0", "0", "0"], [tea, "0", "0", "1"]]
+    # rice: that which stays and the new one that has a price, in one outlet; flour: what was handed over, and that of
+    # the closed shop; salt: its new series has no price that it could begin with; tea: that which is gone
+    price, assign = "price the draft's in December", "assign more, and price them in December"
+    assert few == [
+        [rice, f"Title of {rice}", "2", "1", "1", price],
+        [flour, f"Title of {flour}", "2", "2", "0", assign],
+        [salt, f"Title of {salt}", "0", "0", "0", assign],
+        [tea, f"Title of {tea}", "1", "1", "1", assign],
+    ]
     draft = tmp_path / "next/draft"
     assert [[*row.values()] for row in rows_of(draft / "series.csv")] == [
         ["7", "5", "11", "RICE", "2026-12", "2027-12"],
-        ["9", "3", "12", "TEA", "2026-12", "2027-12"],
+        ["9", "4", "12", "TEA", "2026-12", "2027-12"],
     ]
+    for path in [tmp_path / "next", *(tmp_path / "next").rglob("*")]:
+        assert path.stat().st_mode & 0o077 == 0
     weights = {row["code"]: row["weight"] for row in rows_of(draft / "classification.csv") if row["weight"]}
     assert weights == {rice: "500000", flour: "250000", salt: "50000", tea: "200000"}
     assert {row["year"] for row in rows_of(draft / "classification.csv")} == {"2027"}
@@ -149,7 +173,7 @@ def test_the_draft_is_taken_in_and_the_sample_is_what_was_told(cpi: Cpi, decembe
     assert [reply for reply in cpi.replay(sent, db=office) if "refused" in reply] == []
     with stored_office(office) as stored:
         sample = {series for series in stored.carried(Release(202701, 1, ()))}
-    assert sample == {(7, 1), (8, 1), (8, 2), (7, 5)}
+    assert sample == {(7, 1), (8, 1), (8, 2), (8, 9), (7, 5)}
 
 
 def test_a_collector_whose_slots_are_used_up_has_a_new_number(cpi: Cpi, december: Path, tmp_path: Path) -> None:
@@ -164,10 +188,43 @@ def test_a_collector_whose_slots_are_used_up_has_a_new_number(cpi: Cpi, december
     draft = tmp_path / "next/draft"
     assert [[*row.values()] for row in rows_of(draft / "series.csv")] == [
         ["10", "1", "11", "RICE", "2026-12", "2027-12"],
-        ["9", "3", "12", "TEA", "2026-12", "2027-12"],
+        ["9", "4", "12", "TEA", "2026-12", "2027-12"],
     ]
     assert run(cpi, "take-in", draft, "--onto", office, "--write", tmp_path / "records").status == 0
     assert [row["collector"] for row in rows_of(tmp_path / "records/keys.csv")] == ["10"]
+
+
+def test_a_plan_that_stands_for_the_year(cpi: Cpi, december: Path, tmp_path: Path) -> None:
+    """It is drafted on: without tea, which isn't priced on, and with a new series of salt where flour was. Of the year
+    that runs the plan of that year tells."""
+    office = tmp_path / "office.db"
+    office.write_bytes(december.read_bytes())
+    rice, flour, salt, tea = ITEMS.values()
+    rows = [line for line in plan().splitlines() if "TEA" not in line and tea[:4] not in line]
+    moved = "\n".join(rows).replace(f"I,SALT,{salt}", f"I,SALT,{flour}").replace(f"W,{rice},500000", f"W,{rice},750000")
+    kept = "\n".join(line for line in moved.splitlines() if salt[:8] not in line)
+    sent = [
+        record(12_500, "desk", "plan", 2027, kept),
+        record(0, "desk", "calendar", "2027-01", 13_000, 13_500, 13_900),
+        record(13_001, KEYS[7], "quote", 1, "2027-01", "price", 100),
+        record(13_001, KEYS[8], "quote", 9, "2027-01", "price", 100),
+    ]
+    assert [reply for reply in cpi.replay(sent, db=office) if "refused" in reply] == []
+    assert run(cpi, "next-year", office, 2027, tmp_path / "next").status == 0
+    draft = tmp_path / "next/draft"
+    # (salt, which was its own aggregate in the year that runs, stands among those that leave by its code of then)
+    assert ("8", "5", salt) in slots(tmp_path / "next/leaving.csv")
+    assert [row["item"] for row in rows_of(draft / "series.csv")] == ["RICE"]
+    tea_row = next(row for row in rows_of(tmp_path / "next/leaving.csv") if row["slot"] == "2" and row["code"] == tea)
+    assert tea_row["do"] == "look for another in its place"
+    assert {row["code"] for row in rows_of(tmp_path / "next/few-series.csv")} <= {rice, flour}
+    weights = {row["code"]: row["weight"] for row in rows_of(draft / "classification.csv") if row["weight"]}
+    assert weights == {rice: "750000", flour: "250000"}
+    # (what was quoted for January already is none of the last months)
+    assert slots(tmp_path / "next/gone.csv") == [("7", "3", flour), ("9", "3", "")]
+    # (two years on the sample is still that of the year that runs)
+    assert run(cpi, "next-year", office, 2028, tmp_path / "later").status == 0
+    assert ("8", "5", salt) in slots(tmp_path / "later/leaving.csv")
 
 
 @pytest.mark.parametrize(
