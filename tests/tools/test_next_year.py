@@ -36,10 +36,12 @@ SERIES = [
     (8, 7, 11, UNPLACED, "2026-12", "2027-12"),
     (8, 8, 12, "TEA", "2025-12", "2027-12"),
     (8, 9, 12, "FLOUR", "2025-12", "2027-12"),
+    (7, 5, 12, "RICE", "2025-12", "2026-12"),
+    (7, 6, 11, "FLOUR", "2025-12", "2027-12"),
 ]
 """One that stays, two that end in December, one that ended in June, one that is handed over, two new ones; one that is
 handed over and ends in December, one that ended in June and its successor, and one of no aggregate; one that is gone
-while it is handed over, and one whose shop is closed as long."""
+while it is handed over, and one whose shop is closed as long; a further one that ends, and one that stays."""
 
 HANDED = {(8, 1): (9, 1), (8, 4): (9, 2), (8, 8): (9, 3)}
 """Slots that another has from November on."""
@@ -103,20 +105,21 @@ def test_the_lists_and_the_draft(cpi: Cpi, december: Path, tmp_path: Path) -> No
     ran = run(cpi, "next-year", december, 2027, tmp_path / "next")
     assert sums(december) == before
     told = [
-        "leave the sample of 2026: 5 of 9 series",
+        "leave the sample of 2026: 6 of 11 series",
         "gone in 2026-10, 2026-11, 2026-12: 2 series",
-        "fewer than 3 series in 2027 so far: 4 aggregates",
-        f"go on in {tmp_path / 'next/draft'}: 2 series",
+        "fewer than 3 series in 2027 so far: 3 aggregates",
+        f"go on in {tmp_path / 'next/draft'}: 3 series",
     ]
     assert ran == Ran(0, "".join(f"{line}\n" for line in told), "")
     rice, flour, salt, tea = ITEMS.values()
-    leaving = [("7", "2", rice), ("7", "3", flour), ("7", "4", tea), ("9", "2", tea), ("8", "5", salt)]
+    leaving = [("7", "2", rice), ("7", "3", flour), ("7", "4", tea), ("7", "5", rice), ("9", "2", tea), ("8", "5", salt)]
     assert slots(tmp_path / "next/leaving.csv") == leaving
     december_too, another = "price it in December in the slot of the draft too", "look for another in its place"
     assert [[row[it] for it in ("last", "because", "do")] for row in rows_of(tmp_path / "next/leaving.csv")] == [
         ["2026-12", "its last month is 2026-12", december_too],
         ["2026-12", "its last month is 2026-12", another],
         ["2026-06", "its last month is 2026-06", another],
+        ["2026-12", "its last month is 2026-12", december_too],
         ["2026-12", "its last month is 2026-12", december_too],
         ["2026-06", "its last month is 2026-06", another],
     ]
@@ -130,18 +133,18 @@ def test_the_lists_and_the_draft(cpi: Cpi, december: Path, tmp_path: Path) -> No
         [row[it] for it in ("code", "title", "series", "outlets", "drafted", "do")]
         for row in rows_of(tmp_path / "next/few-series.csv")
     ]
-    # rice: that which stays and the new one that has a price, in one outlet; flour: what was handed over, and that of
-    # the closed shop; salt: its new series has no price that it could begin with; tea: that which is gone
+    # rice: that which stays and the new one that has a price, in one outlet; flour has three; salt: its new series has no
+    # price that it could begin with; tea: that which is gone
     price, assign = "price the draft's in December", "assign more, and price them in December"
     assert few == [
-        [rice, f"Title of {rice}", "2", "1", "1", price],
-        [flour, f"Title of {flour}", "2", "2", "0", assign],
+        [rice, f"Title of {rice}", "2", "1", "2", price],
         [salt, f"Title of {salt}", "0", "0", "0", assign],
         [tea, f"Title of {tea}", "1", "1", "1", assign],
     ]
     draft = tmp_path / "next/draft"
     assert [[*row.values()] for row in rows_of(draft / "series.csv")] == [
-        ["7", "5", "11", "RICE", "2026-12", "2027-12"],
+        ["7", "7", "11", "RICE", "2026-12", "2027-12"],
+        ["7", "8", "12", "RICE", "2026-12", "2027-12"],
         ["9", "4", "12", "TEA", "2026-12", "2027-12"],
     ]
     for path in [tmp_path / "next", *(tmp_path / "next").rglob("*")]:
@@ -165,33 +168,36 @@ def test_the_draft_is_taken_in_and_the_sample_is_what_was_told(cpi: Cpi, decembe
     assert run(cpi, "take-in", draft, "--onto", office, "--write", tmp_path / "records").status == 0
     replayed(cpi, tmp_path / "records", office)
     sent = [
-        record(13_001, KEYS[7], "quote", 5, "2026-12", "price", 100),
-        record(20_000, "desk", "freeze", "2026-12", ITEMS["FLOUR"], ITEMS["SALT"]),
+        record(13_001, KEYS[7], "quote", 7, "2026-12", "price", 100),
+        record(20_000, "desk", "freeze", "2026-12", ITEMS["SALT"], ITEMS["TEA"]),
         record(0, "desk", "calendar", "2027-01", 20_000, 20_001, 20_002),
         record(30_000, "desk", "freeze", "2027-01", ITEMS["RICE"], ITEMS["FLOUR"]),
     ]
     assert [reply for reply in cpi.replay(sent, db=office) if "refused" in reply] == []
     with stored_office(office) as stored:
         sample = {series for series in stored.carried(Release(202701, 1, ()))}
-    assert sample == {(7, 1), (8, 1), (8, 2), (8, 9), (7, 5)}
+    assert sample == {(7, 1), (7, 6), (7, 7), (8, 1), (8, 2), (8, 9)}
 
 
 def test_a_collector_whose_slots_are_used_up_has_a_new_number(cpi: Cpi, december: Path, tmp_path: Path) -> None:
     office = tmp_path / "office.db"
     office.write_bytes(december.read_bytes())
     sent = [record(0, "desk", "assign", 7, slot, 12, "TEA", "2026-12", "2026-12") for slot in (399, 400)]
+    # (who has a number has it also without any slot)
+    sent.append(record(0, "desk", "collector", 12, "c" * 32))
     assert not [reply for reply in cpi.replay(sent, db=office) if "refused" in reply]
     ran = run(cpi, "next-year", office, 2027, tmp_path / "next")
     assert ran.out.splitlines()[4:] == [
-        "collector 7 has no slot left, and is 10 in the draft, with a key that take-in draws"
+        "collector 7 has no slot left, and is 13 in the draft, with a key that take-in draws"
     ]
     draft = tmp_path / "next/draft"
     assert [[*row.values()] for row in rows_of(draft / "series.csv")] == [
-        ["10", "1", "11", "RICE", "2026-12", "2027-12"],
+        ["13", "1", "11", "RICE", "2026-12", "2027-12"],
+        ["13", "2", "12", "RICE", "2026-12", "2027-12"],
         ["9", "4", "12", "TEA", "2026-12", "2027-12"],
     ]
     assert run(cpi, "take-in", draft, "--onto", office, "--write", tmp_path / "records").status == 0
-    assert [row["collector"] for row in rows_of(tmp_path / "records/keys.csv")] == ["10"]
+    assert [row["collector"] for row in rows_of(tmp_path / "records/keys.csv")] == ["13"]
 
 
 def test_a_plan_that_stands_for_the_year(cpi: Cpi, december: Path, tmp_path: Path) -> None:
@@ -214,7 +220,7 @@ def test_a_plan_that_stands_for_the_year(cpi: Cpi, december: Path, tmp_path: Pat
     draft = tmp_path / "next/draft"
     # (salt, which was its own aggregate in the year that runs, stands among those that leave by its code of then)
     assert ("8", "5", salt) in slots(tmp_path / "next/leaving.csv")
-    assert [row["item"] for row in rows_of(draft / "series.csv")] == ["RICE"]
+    assert [row["item"] for row in rows_of(draft / "series.csv")] == ["RICE", "RICE"]
     tea_row = next(row for row in rows_of(tmp_path / "next/leaving.csv") if row["slot"] == "2" and row["code"] == tea)
     assert tea_row["do"] == "look for another in its place"
     assert {row["code"] for row in rows_of(tmp_path / "next/few-series.csv")} <= {rice, flour}
