@@ -1,0 +1,78 @@
+"""The website of `cpi-tools publish` behind the front: it looks as it does from a folder, and its files have their types."""
+
+from __future__ import annotations
+
+from collections.abc import Iterator
+from pathlib import Path
+
+import pytest
+
+from browser import Browser
+from conftest import ROOT
+from cpi_tools.command_line import main
+from stage import Stage
+
+PAGES = ("index.html", "nodes.html", "node/01.1.1.1.html", "contract.html", "data.html", "revisions.html")
+
+PLACED = "return [...document.querySelectorAll('.track b')].every((it) => getComputedStyle(it).left !== 'auto')"
+
+
+@pytest.fixture(scope="module")
+def pack(made: Path, tmp_path_factory: pytest.TempPathFactory) -> Path:
+    """A folder with a pack in it, as `published`."""
+    folder = tmp_path_factory.mktemp("pages")
+    config = folder / "office.ini"
+    config.write_text("[office]\nagency = NSO\narea = XX\noffice = Office of prices\n", encoding="utf-8")
+    words = ["publish", "--db", str(made), "--at", "1000000", "--config", str(config)]
+    assert main([*words, "--out", str(folder / "published")]) == 0
+    return folder
+
+
+@pytest.fixture
+def front(stage: Stage, pack: Path) -> Iterator[Stage]:
+    """A front whose folder of pages has the pack."""
+    stage.front.stop()
+    stage.front.start(lambda text: text.replace(f"root {ROOT}/web;", f"root {pack};"))
+    yield stage
+    stage.front.stop()
+    stage.front.start()
+
+
+def test_the_pages_show_all_that_they_have(front: Stage, browser: Browser) -> None:
+    browser.size(1280, 900)
+    for page in PAGES:
+        browser.open(f"/published/{page}")
+        assert browser.run("return document.querySelectorAll('h1').length") == 1, page
+        assert browser.faults() == [], page
+        assert browser.run(PLACED), page
+    browser.open("/published/index.html")
+    assert browser.run("return document.querySelectorAll('.track b').length") > 0
+    policy = front.ask("GET", "/published/index.html").fields["Content-Security-Policy"]
+    assert f'Content-Security-Policy "{policy}"' in (ROOT / "ops/Caddyfile").read_text(encoding="utf-8")
+
+
+def test_the_calculator_computes(front: Stage, browser: Browser) -> None:
+    browser.open("/published/contract.html")
+    assert browser.run("return document.querySelectorAll('select option').length") > 3
+    assert browser.faults() == []
+
+
+@pytest.mark.parametrize(
+    ("name", "kind"),
+    [
+        ("index.html", "text/html; charset=utf-8"),
+        ("assets/style.css", "text/css; charset=utf-8"),
+        ("assets/contract.js", "application/javascript; charset=utf-8"),
+        ("data/cpi.csv", "text/csv; charset=utf-8"),
+        ("data/cpi.sdmx.xml", "application/xml; charset=utf-8"),
+        ("data/cpi.xlsx", "application/vnd.openxmlformats-officedocument.spreadsheetml.sheet"),
+        ("manifest.json", "application/json; charset=utf-8"),
+        ("SHA256SUMS", "text/plain; charset=utf-8"),
+    ],
+)
+def test_a_file_has_its_type_and_its_bytes(front: Stage, pack: Path, name: str, kind: str) -> None:
+    answer = front.ask("GET", f"/published/{name}")
+    assert (answer.status, answer.fields["Content-Type"]) == (200, kind)
+    assert answer.body == (pack / "published" / name).read_bytes()
+    is_packed = "gzip" in front.ask("GET", f"/published/{name}", Accept_Encoding="gzip").fields.get("Content-Encoding", "")
+    assert is_packed == (not name.endswith(".xlsx") and len(answer.body) > 100)
