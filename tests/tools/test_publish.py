@@ -432,6 +432,7 @@ def test_the_sums_are_those_of_the_files(pack: Path) -> None:
         ("[office]\nagency = A\narea = X X\noffice = O\n", "area: X X is no code"),
         ("[office]\nagency = A\narea = X\noffice = O\nreference = 25\n", "reference: 25 is neither"),
         ("[office]\nagency = A\narea = X\noffice = O\nminor_digits = 5\n", "minor_digits: 5 isn't 0 to 4"),
+        ("[office]\nagency = A\narea = X\noffice = O\nwithout = csv\n", "without: csv is none of sdmx-csv, sdmx-ml"),
         ("[office]\nagency = A\narea = X\noffice = O\ncolour = red\n", "colour is no word of"),
         ("[office]\nagency = A\narea = X\noffice = O\n[sdmx]\nX = Y\n", "X is no id that"),
         ("[office]\nagency = A\narea = X\noffice = O\n[sdmx]\nCPI = a.b\n", "CPI = a.b: no id of SDMX"),
@@ -466,6 +467,32 @@ def test_ids_of_an_office_take_the_place_of_ours(published: list[Published], tmp
         text = (tmp_path / "public/data" / name).read_text(encoding="utf-8")
         assert all(own in text for own in ("PRODUCT", "IDX", "PRICES"))
         assert not [name for name in ("COICOP18", '"CPI"', ",CPI,", "DF_CPI") if name in text]
+
+
+@pytest.mark.parametrize(
+    ("without", "left_out"),
+    [
+        ("sdmx-ml", ["data/cpi.sdmx.xml"]),
+        ("sdmx-csv", ["data/cpi.sdmx.csv"]),
+        ("sdmx-csv, sdmx-ml", ["data/cpi.sdmx.csv", "data/cpi.sdmx.xml", "data/structure.sdmx.xml"]),
+    ],
+)
+def test_a_pack_may_be_without_a_form(
+    without: str, left_out: list[str], pack: Path, published: list[Published], tmp_path: Path
+) -> None:
+    """All else is as it is in a whole pack, and no page speaks of it."""
+    (tmp_path / "office.ini").write_text(f"{INI}without = {without}\n")
+    config = read_config(tmp_path / "office.ini", KNOWN_IDS)
+    out = tmp_path / "public"
+    publish(published, config, out, None, quiet)
+    assert again(published, out, config=config) == []
+    whole = {it.relative_to(pack).as_posix() for it in pack.rglob("*") if it.is_file()}
+    found = {it.relative_to(out).as_posix() for it in out.rglob("*") if it.is_file()}
+    assert sorted(whole - found) == left_out and found <= whole
+    differing = {name for name in found if (out / name).read_bytes() != (pack / name).read_bytes()}
+    assert differing == {"index.html", "data.html", "SHA256SUMS"}
+    for name in left_out:
+        assert not [page.name for page in out.rglob("*.html") if name in page.read_text(encoding="utf-8")]
 
 
 def test_texts_that_xml_cannot_have_do_no_harm(tmp_path: Path) -> None:

@@ -14,7 +14,7 @@ from pathlib import Path
 from typing import NamedTuple, Optional
 
 from .folders import refuse_shared, written_folder
-from .pack.config import Config, read_config
+from .pack.config import FORMS, Config, read_config
 from .pack.manifest import (
     MANIFEST,
     Manifest,
@@ -71,9 +71,10 @@ def write_pack(pack: Pack, folder: Path, now: Now) -> None:
         (data / "tables" / source.name).write_bytes(source.table)
     now("CSV files")
     write_all(series, contributions, config.reference, data)
-    now("SDMX files")
-    write_data(series, contributions, config, data)
-    write_structure(series, config, data / "structure.sdmx.xml")
+    if any(map(config.has, FORMS)):
+        now("SDMX files")
+        write_data(series, contributions, config, data)
+        write_structure(series, config, data / "structure.sdmx.xml")
     now("the workbook")
     write_workbook(series, contributions, config, data / "cpi.xlsx")
     site = Site(series, contributions, config, folder)

@@ -17,8 +17,13 @@ NAME = re.compile(r"[A-Za-z][A-Za-z0-9_-]{0,59}")
 AGENCY = re.compile(r"[A-Za-z][A-Za-z0-9_-]*(\.[A-Za-z][A-Za-z0-9_-]*)*")
 REFERENCE = re.compile(r"2[01][0-9]{2}(-(0[1-9]|1[0-2]))?")
 
-NAMES = ("agency", "area", "office", "title", "country", "contact", "licence", "reference", "currency", "minor_digits")
+NAMES = ("agency", "area", "office", "title", "country", "contact", "licence", "reference", "currency", "minor_digits",
+         "without")  # fmt: skip
 NEEDED = ("agency", "area", "office")
+
+
+FORMS = ("sdmx-csv", "sdmx-ml")
+"""The forms of the observations that a pack may be without; in a national one each is a quarter of all bytes."""
 
 
 class BadConfig(Fault):
@@ -43,8 +48,8 @@ class Config(NamedTuple):
     """Who publishes.
 
     `agency` and `area` are ids of SDMX, `reference` is a year or a month whose level is 100 in the re-referenced series
-    (empty: there are none), `currency` and `minor_digits` (0 to 4) are those of the calculator's amounts, and `ids` are
-    the office's own ids of SDMX by those that are used else.
+    (empty: there are none), `currency` and `minor_digits` (0 to 4) are those of the calculator's amounts, `without` has
+    the forms that aren't written, and `ids` are the office's own ids of SDMX by those that are used else.
     """
 
     agency: str
@@ -57,7 +62,12 @@ class Config(NamedTuple):
     reference: str = ""
     currency: str = ""
     minor_digits: int = 2
+    without: frozenset[str] = frozenset()
     ids: Mapping[str, str] = {}
+
+    def has(self, form: str) -> bool:
+        """Whether the observations are written in a form."""
+        return form not in self.without
 
     def id(self, name: str) -> str:
         """An id of SDMX as this office has it."""
@@ -108,8 +118,11 @@ def _config(found: dict[str, str], ids: dict[str, str], known: KnownIds) -> Conf
     digits = found.pop("minor_digits", "2")
     if digits not in ("0", "1", "2", "3", "4"):
         raise BadConfig(f"minor_digits: {digits} isn't 0 to 4")
+    without = frozenset(found.pop("without", "").replace(",", " ").split())
+    for form in sorted(without - {*FORMS}):
+        raise BadConfig(f"without: {form} is none of {', '.join(FORMS)}")
     _test_ids(ids, known)
-    return Config(**found, minor_digits=int(digits), ids=ids)
+    return Config(**found, minor_digits=int(digits), without=without, ids=ids)
 
 
 def _test_ids(ids: dict[str, str], known: KnownIds) -> None:

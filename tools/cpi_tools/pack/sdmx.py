@@ -17,10 +17,11 @@ observation. That a price at or below the node was imputed is an attribute of it
 
 from __future__ import annotations
 
+import contextlib
 import csv
 from collections.abc import Iterator, Mapping
 from pathlib import Path
-from typing import NamedTuple
+from typing import NamedTuple, TextIO, Union
 
 from ..exact import ALL_ITEMS
 from . import figures
@@ -154,24 +155,64 @@ def _observations(
 
 
 def write_data(series: Series, contributions: Contributions, config: Config, folder: Path) -> None:
-    """Writes the observations in both forms, as `cpi.sdmx.csv` and `cpi.sdmx.xml`."""
-    names = [config.id(name) for name in (*DIMENSIONS, TIME, VALUE, *SERIES_ATTRIBUTES, *OBS_ATTRIBUTES)]
-    start = ["dataflow", f"{config.agency}:{config.id(FLOW)}({VERSION})", "I"]
-    with (folder / "cpi.sdmx.csv").open("w", encoding="utf-8", newline="") as rows, (folder / "cpi.sdmx.xml").open(
-        "w", encoding="utf-8", newline=""
-    ) as xml:
-        writer = csv.writer(rows, lineterminator="\n")
-        writer.writerow(["STRUCTURE", "STRUCTURE_ID", "ACTION", *names])
-        xml.write(_data_head(series, config))
+    """Writes the observations in each form that the pack has, as `cpi.sdmx.csv` and `cpi.sdmx.xml`."""
+    with contextlib.ExitStack() as files:
+        forms: list[Union[CsvForm, XmlForm]] = []
+        if config.has("sdmx-csv"):
+            forms.append(CsvForm(files.enter_context(opened(folder / "cpi.sdmx.csv")), config))
+        if config.has("sdmx-ml"):
+            forms.append(XmlForm(files.enter_context(opened(folder / "cpi.sdmx.xml")), series, config))
         for found in observed(series, contributions, config):
-            writer.writerows(
-                [*start, *found.key, it.month, it.value, *found.attributes, *it.attributes] for it in found.observations
-            )
-            xml.write(_series_xml(found, config))
-        xml.write("</message:DataSet>\n</message:StructureSpecificData>\n")
+            for each in forms:
+                each.add(found)
+        for each in forms:
+            each.end()
+
+
+def opened(path: Path) -> TextIO:
+    """A new file of text."""
+    return path.open("w", encoding="utf-8", newline="")
+
+
+# ---- CSV
+
+
+class CsvForm:
+    """SDMX-CSV 2.0: a row an observation."""
+
+    def __init__(self, file: TextIO, config: Config):
+        names = [config.id(name) for name in (*DIMENSIONS, TIME, VALUE, *SERIES_ATTRIBUTES, *OBS_ATTRIBUTES)]
+        self._start = ["dataflow", f"{config.agency}:{config.id(FLOW)}({VERSION})", "I"]
+        self._rows = csv.writer(file, lineterminator="\n")
+        self._rows.writerow(["STRUCTURE", "STRUCTURE_ID", "ACTION", *names])
+
+    def add(self, found: Observed) -> None:
+        """Writes a series."""
+        start, attributes = [*self._start, *found.key], found.attributes
+        self._rows.writerows([*start, it.month, it.value, *attributes, *it.attributes] for it in found.observations)
+
+    def end(self) -> None:
+        """Nothing stands behind the last row."""
 
 
 # ---- XML
+
+
+class XmlForm:
+    """SDMX-ML 2.1, StructureSpecificData."""
+
+    def __init__(self, file: TextIO, series: Series, config: Config):
+        self._file, self._config = file, config
+        file.write(_data_head(series, config))
+
+    def add(self, found: Observed) -> None:
+        """Writes a series."""
+        self._file.write(_series_xml(found, self._config))
+
+    def end(self) -> None:
+        """Writes the end of the data set."""
+        self._file.write("</message:DataSet>\n</message:StructureSpecificData>\n")
+
 
 SCHEMAS = "http://www.sdmx.org/resources/sdmxml/schemas/v2_1/"
 SPACES = f'xmlns:message="{SCHEMAS}message" xmlns:common="{SCHEMAS}common"'
