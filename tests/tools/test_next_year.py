@@ -152,6 +152,10 @@ def test_the_lists_and_the_draft(cpi: Cpi, december: Path, tmp_path: Path) -> No
     weights = {row["code"]: row["weight"] for row in rows_of(draft / "classification.csv") if row["weight"]}
     assert weights == {rice: "500000", flour: "250000", salt: "50000", tea: "200000"}
     assert {row["year"] for row in rows_of(draft / "classification.csv")} == {"2027"}
+    assert [[*row.values()] for row in rows_of(draft / "plans.csv")] == [["2027", ""]]
+    assert [[*row.values()] for row in rows_of(draft / "places.csv")] == [
+        ["2027", *place] for place in sorted(ITEMS.items())
+    ]
 
 
 def test_the_draft_is_taken_in_and_the_sample_is_what_was_told(cpi: Cpi, december: Path, tmp_path: Path) -> None:
