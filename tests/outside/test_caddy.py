@@ -181,3 +181,18 @@ def test_no_key_stands_in_its_log(front: Front) -> None:
         time.sleep(0.1)
     text = front.log.read_text()
     assert text.count("handled request") >= 3 and KEY not in text.lower()
+
+
+def test_the_policy_of_the_published_website_is_its_own(front: Front, tmp_path: Path) -> None:
+    """Its bars say in the pages how long they are; all else may have no style of its own."""
+    (tmp_path / "web/published").mkdir()
+    (tmp_path / "web/published/index.html").write_text("<h1>Prices</h1>")
+    policies = {}
+    for path in ("/", "/tables/", "/published/", "/published/index.html"):
+        with contextlib.closing(front.line()) as line:
+            line.request("GET", path)
+            policies[path] = line.getresponse().headers.get_all("Content-Security-Policy") or []
+    assert [len(it) for it in policies.values()] == [1] * 4
+    for path, (policy,) in policies.items():
+        assert ("style-src 'self' 'unsafe-inline';" in policy) == path.startswith("/published/")
+        assert "default-src 'none'; script-src 'self';" in policy
