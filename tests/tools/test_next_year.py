@@ -2,6 +2,8 @@
 
 from __future__ import annotations
 
+import re
+import sqlite3
 from collections.abc import Iterator
 from pathlib import Path
 
@@ -181,6 +183,8 @@ def test_the_draft_is_taken_in_and_the_sample_is_what_was_told(cpi: Cpi, decembe
     with stored_office(office) as stored:
         sample = {series for series in stored.carried(Release(202701, 1, ()))}
     assert sample == {(7, 1), (7, 6), (7, 7), (8, 1), (8, 2), (8, 9)}
+    ran = run(cpi, "next-year", office, 2027, tmp_path / "late")
+    assert ran == Ran(1, "", "cpi-tools next-year: 2027-01 is frozen, so 2027 has begun: name a later year\n")
 
 
 def test_a_collector_whose_slots_are_used_up_has_a_new_number(cpi: Cpi, december: Path, tmp_path: Path) -> None:
@@ -255,3 +259,21 @@ def test_an_office_without_a_frozen_month(cpi: Cpi, tmp_path: Path) -> None:
     cpi.replay(begun(), db=file)
     ran = run(cpi, "next-year", file, 2027, tmp_path / "next")
     assert ran == Ran(1, "", "cpi-tools next-year: no month is frozen yet\n")
+
+
+def test_a_folder_that_is_there_stays(cpi: Cpi, december: Path, tmp_path: Path) -> None:
+    (tmp_path / "next").mkdir()
+    ran = run(cpi, "next-year", december, 2027, tmp_path / "next")
+    told = f"cpi-tools next-year: {tmp_path / 'next'} is there already: name a folder that isn't\n"
+    assert ran == Ran(1, "", told)
+    assert [*tmp_path.rglob("*")] == [tmp_path / "next"]
+
+
+def test_a_file_that_is_no_office(cpi: Cpi, tmp_path: Path) -> None:
+    """It is told by the program, which opens a copy first."""
+    file = tmp_path / "other.db"
+    with sqlite3.connect(file) as other:
+        other.execute("CREATE TABLE plan (year INTEGER)")
+    ran = run(cpi, "next-year", file, 2027, tmp_path / "next")
+    assert (ran.status, ran.out) == (1, "")
+    assert re.fullmatch(f"cpi-tools next-year: {file}: cpi: database failed.*\n", ran.err), ran.err
