@@ -277,3 +277,13 @@ def test_a_file_that_is_no_office(cpi: Cpi, tmp_path: Path) -> None:
     ran = run(cpi, "next-year", file, 2027, tmp_path / "next")
     assert (ran.status, ran.out) == (1, "")
     assert re.fullmatch(f"cpi-tools next-year: {file}: cpi: database failed.*\n", ran.err), ran.err
+
+
+def test_a_year_between_that_can_not_begin(cpi: Cpi, december: Path, tmp_path: Path) -> None:
+    """The plan of 2027 has salt, whose one series has no price that it could begin with."""
+    office = tmp_path / "office.db"
+    office.write_bytes(december.read_bytes())
+    assert cpi.replay([record(0, "desk", "plan", 2027, plan())], db=office) == [{"done": True}]
+    ran = run(cpi, "next-year", office, 2028, tmp_path / "next")
+    told = f"2027-01 can't be frozen on a copy: {ITEMS['SALT']} has no series in that year's sample"
+    assert ran == Ran(1, "", f"cpi-tools next-year: {told}\n")

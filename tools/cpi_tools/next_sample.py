@@ -48,8 +48,9 @@ def next_sample(cpi: Cpi, copy: Path, plan: Plan, last_frozen: int) -> dict[Seri
         for month in months_after(last_frozen, january):
             if month not in windows:
                 session.ask(record(0, DESK, "calendar", month_text(month), 0, 1, LAST_MOMENT))
-            if month < january:
-                freeze(session, month)
+            code = freeze(session, month) if month < january else None
+            if code is not None:
+                raise Fault(f"{month_text(month)} can't be frozen on a copy: {code} has no series in that year's sample")
         is_frozen = freeze_january(session, plan, priced_items(session, keys, january))
     with stored_office(copy) as stored:
         return sample_of(stored, Release(january, FIRST, ()), plan) if is_frozen else {}
