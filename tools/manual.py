@@ -93,7 +93,7 @@ def page(name: str, said: str, parser: argparse.ArgumentParser, head: str) -> st
     """The page of a tool; `head` is what its .TH says behind the name."""
     usage = " ".join(parser.format_usage().partition(": ")[2].split())
     tools, actions = list(tools_of(parser)), actions_of(parser)
-    parts = [f'.TH {roff(name).upper()} 1 {head}\n.SH NAME\n{roff(name)} \\- {roff(said)}\n']
+    parts = [f".TH {roff(name).upper()} 1 {head}\n.SH NAME\n{roff(name)} \\- {roff(said)}\n"]
     parts += [f".SH SYNOPSIS\n{roff(usage)}\n.SH DESCRIPTION\n", ".PP\n".join(paragraphs(parser.description or said))]
     if tools:
         parts += [".SH TOOLS\n", *(entry(f"{name} {below}", told) for below, told, _ in tools)]

@@ -60,9 +60,7 @@ def test_a_backup_is_one_file_with_its_log_in_it_and_a_note(cpi: Cpi, office: Pa
     assert faults_of(to, 1) == []
 
 
-def test_a_destination_that_is_there_stays_unless_it_is_to_be_replaced(
-    cpi: Cpi, office: Path, tmp_path: Path
-) -> None:
+def test_a_destination_that_is_there_stays_unless_it_is_to_be_replaced(cpi: Cpi, office: Path, tmp_path: Path) -> None:
     to = tmp_path / "office-1.db"
     for path in (to, note_beside(to)):
         path.write_text("old")
@@ -335,7 +333,7 @@ def heed_signals() -> None:
 def test_a_signal_leaves_nothing(number: signal.Signals, office: Path, tmp_path: Path) -> None:
     """It comes while a program that never answers has the copy open."""
     slow, to = tmp_path / "slow", tmp_path / "backup/office-1.db"
-    slow.write_text("#!/bin/sh\ntouch \"$0.begun\"\nexec sleep 60\n")
+    slow.write_text('#!/bin/sh\ntouch "$0.begun"\nexec sleep 60\n')
     slow.chmod(0o755)
     command = [str(TOOL), "backup", str(office), str(to), "--program", str(slow)]
     with subprocess.Popen(command, stderr=subprocess.PIPE, preexec_fn=heed_signals) as process:

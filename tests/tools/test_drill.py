@@ -266,7 +266,10 @@ def test_a_note_that_is_none_is_told(cpi: Cpi, office: Path) -> None:
 def test_figures_are_read_from_what_is_printed() -> None:
     text = '00,1000000,99.750000,101.000001,-0.3,,1,"All, ""items"""\n01,5,0.000001,100.000000,0.0,12.3,0,Food\n'
     levels, titles = figures_of(text)
-    assert levels == {"00": Level(1_000_000, 99_750_000, 101_000_001, -3, None, 1), "01": Level(5, 1, 10**8, 0, 123, 0)}
+    assert levels == {
+        "00": Level(1_000_000, 99_750_000, 101_000_001, -3, None, 1),
+        "01": Level(5, 1, 10**8, 0, 123, 0),
+    }
     assert titles == {"00": 'All, "items"', "01": "Food"}
     assert figures_of("") == ({}, {})
     for other in ("00,1,99.75,1.000000,0.0,,0,x\n", "{'refused': 30}", "00,1\n"):

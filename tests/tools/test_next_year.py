@@ -114,8 +114,8 @@ def test_the_lists_and_the_draft(cpi: Cpi, december: Path, tmp_path: Path) -> No
     ]
     assert ran == Ran(0, "".join(f"{line}\n" for line in told), "")
     rice, flour, salt, tea = ITEMS.values()
-    leaving = [("7", "2", rice), ("7", "3", flour), ("7", "4", tea), ("7", "5", rice), ("9", "2", tea), ("8", "5", salt)]
-    assert slots(tmp_path / "next/leaving.csv") == leaving
+    of_seven = [("7", "2", rice), ("7", "3", flour), ("7", "4", tea), ("7", "5", rice)]
+    assert slots(tmp_path / "next/leaving.csv") == [*of_seven, ("9", "2", tea), ("8", "5", salt)]
     december_too, another = "price it in December in the slot of the draft too", "look for another in its place"
     assert [[row[it] for it in ("last", "because", "do")] for row in rows_of(tmp_path / "next/leaving.csv")] == [
         ["2026-12", "its last month is 2026-12", december_too],
@@ -285,5 +285,5 @@ def test_a_year_between_that_can_not_begin(cpi: Cpi, december: Path, tmp_path: P
     office.write_bytes(december.read_bytes())
     assert cpi.replay([record(0, "desk", "plan", 2027, plan())], db=office) == [{"done": True}]
     ran = run(cpi, "next-year", office, 2028, tmp_path / "next")
-    told = f"2027-01 can't be frozen on a copy: {ITEMS['SALT']} has no series in that year's sample"
+    told = f"2027-01 can't be frozen on a copy: {ITEMS['SALT']} has no series in its sample"
     assert ran == Ran(1, "", f"cpi-tools next-year: {told}\n")

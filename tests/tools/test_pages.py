@@ -126,7 +126,7 @@ def test_a_page_stands_alone_and_its_texts_are_escaped(tmp_path: Path) -> None:
     own.mkdir()
     (own / "page.html").write_text(
         '{% extends "base.html" %}{% from "macros.html" import figure, bar_of %}'
-        '{% block title %}{{ name }}{% endblock %}{% block main %}'
+        "{% block title %}{{ name }}{% endblock %}{% block main %}"
         '{{ figure(name, "percent", picture, figures=[("May", "1.0")]) }}{{ bar_of(bar, "1.00") }}{% endblock %}'
     )
     picture = charts.columns(Picture("c", "<script>", "<b>"), MONTHS[:1], [1.0])
@@ -134,7 +134,7 @@ def test_a_page_stands_alone_and_its_texts_are_escaped(tmp_path: Path) -> None:
     pages.write_page(pages.environment(own), "page.html", tmp_path / "x.html", name="<i>&", picture=picture, bar=bar)
     text = (tmp_path / "x.html").read_text(encoding="utf-8")
     assert text.count("&lt;i&gt;&amp;") == 2 and "<i>&" not in text and "<script>" not in text
-    assert "--accent" in text and "<link rel=\"stylesheet\"" not in text
+    assert "--accent" in text and '<link rel="stylesheet"' not in text
     assert 'viewBox="0 0 400 224"' in text
 
 

@@ -303,5 +303,3 @@ def test_a_calendar_that_can_not_be_read_is_told(tmp_path: Path) -> None:
     with pytest.raises(Fault, match=f"the calendar of {path} can't be read: "):
         probe.calendar_of(Backup(path, NOW, 4), None)
     assert probe.calendar_of(None, None) is None
-
-

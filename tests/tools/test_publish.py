@@ -199,7 +199,16 @@ def test_the_structure_has_each_id_that_the_data_use(pack: Path) -> None:
     attributes = {it.get("id", "") for it in root.iter(STRUCTURE + "Attribute")}
     head, *rows = csv.reader((pack / "data/cpi.sdmx.csv").open(encoding="utf-8", newline=""))
     assert {*head[3:]} == listed | attributes | {"TIME_PERIOD", "OBS_VALUE"}
-    coded = {"FREQ", "REF_AREA", "MEASURE", "UNIT_MEASURE", "COICOP18", "TRANSFORMATION", "OBS_STATUS", "IMPUTED_PRICES"}
+    coded = {
+        "FREQ",
+        "REF_AREA",
+        "MEASURE",
+        "UNIT_MEASURE",
+        "COICOP18",
+        "TRANSFORMATION",
+        "OBS_STATUS",
+        "IMPUTED_PRICES",
+    }
     assert codes.keys() == {f"CL_{name}" for name in coded}
     named = [(it.get("class"), it.get("id", "")) for it in root.iter("Ref")]
     assert sorted(name for kind, name in named if kind == "Codelist") == sorted(codes)

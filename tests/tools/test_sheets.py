@@ -192,9 +192,7 @@ def test_a_workbook_that_is_cut_anywhere_is_one_line(tmp_path: Path) -> None:
 def test_what_openpyxl_warns_of_is_silent(tmp_path: Path, recwarn: pytest.WarningsRecorder) -> None:
     """Such as parts of a workbook that it doesn't know, which a spreadsheet program of today writes."""
     odd = b'<extLst><ext uri="{CCE6A557-97BC-4b89-ADB6-D9C93CAAB3DF}"/></extLst></worksheet>'
-    path = changed(
-        as_book(tmp_path / "prices.xlsx", x=WHOLE), SHEET, lambda data: data.replace(b"</worksheet>", odd)
-    )
+    path = changed(as_book(tmp_path / "prices.xlsx", x=WHOLE), SHEET, lambda data: data.replace(b"</worksheet>", odd))
     assert len(read(path.parent, "prices").rows) == 2
     assert [str(each.message) for each in recwarn] == []
 

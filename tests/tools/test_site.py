@@ -88,7 +88,12 @@ def test_what_left_and_came_again_has_two_bases(again: Path) -> None:
     # of the items of 2026 the calculator offers December 2025, and tea has nothing in 2027
     data = json.loads((again / "assets/levels.js").read_text(encoding="utf-8")[len("window.LEVELS = ") : -2])
     tea = dict(zip(data["months"], data["items"]["02"]["levels"]))
-    assert (tea["2025-12"], tea["2026-12"], tea["2027-06"], tea["2028-01"]) == (10**8, 108 * 10**6, None, 11 * 10**7)
+    assert (tea["2025-12"], tea["2026-12"], tea["2027-06"], tea["2028-01"]) == (
+        10**8,
+        108 * 10**6,
+        None,
+        11 * 10**7,
+    )
 
 
 def test_annual_contributions_over_a_december_under_embargo_are_not_told(tmp_path: Path) -> None:
@@ -152,7 +157,7 @@ def test_the_imputed_share_is_by_the_weight_of_elementary_aggregates() -> None:
 
 def test_a_node_has_its_page_and_its_file(site: Path) -> None:
     told = words_of(site / "node/01.html")
-    assert told.count("All items") >= 2 and "What it is made of" in told and "Food, \"proper\"" in told
+    assert told.count("All items") >= 2 and "What it is made of" in told and 'Food, "proper"' in told
     head, *rows = (site / "node/01.csv").read_text(encoding="utf-8").splitlines()
     assert head.startswith("month,revision,published,code,level,title,weight,index,chained,")
     whole = (site / "data/cpi.csv").read_text(encoding="utf-8").splitlines()

@@ -27,7 +27,6 @@ MOST_TITLE = 400
 AGGREGATES = "01.1.1.1-01", "01.1.1.2-01"
 
 
-
 def together(*changes: Change) -> Change:
     """Several changes."""
 

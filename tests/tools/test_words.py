@@ -98,7 +98,5 @@ def test_each_line_of_the_program_has_words() -> None:
         ({"refused": 99}, DESK, None, "refusal 99"),
     ],
 )  # fmt: skip
-def test_a_refusal_has_the_words_of_who_was_refused(
-    reply: dict[str, object], to: str, word: str, because: str
-) -> None:
+def test_a_refusal_has_the_words_of_who_was_refused(reply: dict[str, object], to: str, word: str, because: str) -> None:
     assert refusal_words(reply, to, word).because == because

@@ -71,9 +71,7 @@ def drill(cpi: Cpi, path: Path, progress: Optional[Progress] = None) -> Drilled:
                     faults += each
         except sqlite3.Error as fault:
             faults.append(f"the C library can't read it: {fault}")
-    return Drilled(
-        counts.tables, counts.rows, counts.carried, counts.quotes, counts.other_quotes, note, tuple(faults)
-    )
+    return Drilled(counts.tables, counts.rows, counts.carried, counts.quotes, counts.other_quotes, note, tuple(faults))
 
 
 def note_of(path: Path, faults: list[str]) -> Optional[Note]:

@@ -50,7 +50,7 @@ def next_sample(cpi: Cpi, copy: Path, plan: Plan, last_frozen: int) -> dict[Seri
                 session.ask(record(0, DESK, "calendar", month_text(month), 0, 1, LAST_MOMENT))
             code = freeze(session, month) if month < january else None
             if code is not None:
-                raise Fault(f"{month_text(month)} can't be frozen on a copy: {code} has no series in that year's sample")
+                raise Fault(f"{month_text(month)} can't be frozen on a copy: {code} has no series in its sample")
         is_frozen = freeze_january(session, plan, priced_items(session, keys, january))
     with stored_office(copy) as stored:
         return sample_of(stored, Release(january, FIRST, ()), plan) if is_frozen else {}

@@ -98,9 +98,7 @@ def report_of(cpi: Cpi, office_copy: Path, asked: Asked, now: Now) -> Report:
             return gathered(facts, asked, state, sections, fault, frozen.table if frozen else b"")
 
 
-def sections_of(
-    facts: Facts, asked: Asked, frozen: Optional[Frozen], left: Sequence[influence.Left]
-) -> list[Section]:
+def sections_of(facts: Facts, asked: Asked, frozen: Optional[Frozen], left: Sequence[influence.Left]) -> list[Section]:
     """All sections, in their order on the page."""
     survey = [
         unusual.outliers(facts, asked.width),
@@ -129,9 +127,7 @@ def sections_of(
     ]
 
 
-def gathered(
-    facts: Facts, asked: Asked, state: State, sections: list[Section], fault: str, table: bytes
-) -> Report:
+def gathered(facts: Facts, asked: Asked, state: State, sections: list[Section], fault: str, table: bytes) -> Report:
     """The report of its parts."""
     return Report(
         month_text(asked.month),

@@ -115,9 +115,7 @@ def _definition(config: Config) -> str:
         element("str:Dimension", _identity(config, name), id=config.id(name), position=str(place))
         for place, name in enumerate(DIMENSIONS, 1)
     ]
-    dimensions.append(
-        element("str:TimeDimension", _identity(config, TIME), id=TIME, position=str(len(DIMENSIONS) + 1))
-    )
+    dimensions.append(element("str:TimeDimension", _identity(config, TIME), id=TIME, position=str(len(DIMENSIONS) + 1)))
     attributes = (_attribute(config, name) for name in (*SERIES_ATTRIBUTES, *OBS_ATTRIBUTES))
     measure = element("str:PrimaryMeasure", _identity(config, VALUE), id=VALUE)
     body = element(
