@@ -3,13 +3,16 @@
 from __future__ import annotations
 
 import base64
+import contextlib
 import os
 import subprocess
+import time
 from collections.abc import Callable
 from pathlib import Path
 from typing import Any, Optional
 
 from selenium import webdriver
+from selenium.common.exceptions import InvalidSessionIdException, WebDriverException
 from selenium.webdriver.chrome.options import Options
 from selenium.webdriver.chrome.service import Service
 from selenium.webdriver.common.by import By
@@ -31,19 +34,31 @@ class Browser:
     """A Chromium of its own, with a home of its own."""
 
     def __init__(self, url: str, authority: Path, home: Path):
-        self.url = url
+        self.url, self.home = url, home
         trust(authority, home)
+        self.driver: Any = self._started("profile")
+
+    def _started(self, profile: str) -> Any:
         options: Any = Options()  # (selenium has no types)
-        for word in (*WORDS, f"--user-data-dir={home}/profile"):
+        for word in (*WORDS, f"--user-data-dir={self.home}/{profile}"):
             options.add_argument(word)
         options.set_capability("goog:loggingPrefs", {"browser": "ALL"})
-        kept = {**os.environ, "HOME": str(home), "XDG_DATA_HOME": f"{home}/.local/share"}
-        self.driver: Any = webdriver.Chrome(service=Service(system_program("chromedriver"), env=kept), options=options)
-        self.driver.set_script_timeout(20)
-        self.size(360, 740)
+        kept = {**os.environ, "HOME": str(self.home), "XDG_DATA_HOME": f"{self.home}/.local/share"}
+        driver = webdriver.Chrome(service=Service(system_program("chromedriver"), env=kept), options=options)
+        driver.set_script_timeout(20)
+        return driver
 
     def fresh(self) -> None:
-        """One empty tab that is online, and nothing that a page has kept."""
+        """One empty tab that is online, and nothing that a page has kept; in another Chromium, where this one is lost: it
+        was seen to end on a busy machine, as its storage was emptied between two tests."""
+        try:
+            self._empty()
+        except InvalidSessionIdException:
+            self.close()
+            self.driver = self._started(f"profile-{time.monotonic_ns()}")
+            self._empty()
+
+    def _empty(self) -> None:
         first, *others = self.driver.window_handles
         for other in others:
             self.driver.switch_to.window(other)
@@ -154,7 +169,8 @@ class Browser:
         name.write_bytes(base64.b64decode(self.cdp("Page.captureScreenshot", **words)["data"]))
 
     def close(self) -> None:
-        self.driver.quit()
+        with contextlib.suppress(WebDriverException):
+            self.driver.quit()
 
 
 def trust(authority: Path, home: Path) -> None:
