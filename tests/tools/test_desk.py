@@ -25,7 +25,7 @@ from cpi_tools.program import Cpi, record
 from conftest import ROOT
 from lib.served import free_port
 from loads import served
-from ran import rows_of, run
+from ran import Ran, rows_of, run
 from surveys import bytes_of, closes, key_of, number_of, opens, publishes
 
 
@@ -354,7 +354,7 @@ def test_what_is_decided_is_noted(cpi: Cpi, small: Path, monkeypatch: pytest.Mon
     assert "2026-02, revision 1: 8 rows, 1 of 3 slots priced, 1 aggregate carried\n" in ran.err
     assert "7/2   01.1.1.2-01  Flour, <b>wheat</b>, 1 kg  Corner shop  price 84      closed\n" in ran.err
 
-    def answers(text: str) -> surveys.Ran:
+    def answers(text: str) -> Ran:
         monkeypatch.setattr("sys.stdin", io.StringIO(text))
         return run(cpi, *words, "--carry", "ask")
 
