@@ -11,6 +11,7 @@ from typing import Optional
 
 import pytest
 
+from cpi_tools.program import Cpi
 from conftest import ROOT
 from ran import Ran
 
@@ -34,9 +35,10 @@ def ran(words: Sequence[str], after: Optional[float] = None) -> Ran:
 
 
 @pytest.mark.parametrize("words", [("cpi-tools", "drill", "/nowhere"), ("ops/try", "--db", "/nowhere")])
-def test_the_first_moments(words: Sequence[str], tmp_path: Path) -> None:
+def test_the_first_moments(cpi: Cpi, words: Sequence[str], tmp_path: Path) -> None:
     """A command that would end with one line in its first second, and is told to end before, ever later."""
-    given = [str(ROOT / words[0]), *words[1:], *(["--folder", str(tmp_path)] if words[0] == "ops/try" else [])]
+    given = [str(ROOT / words[0]), *words[1:], "--program", str(cpi.path)]
+    given += ["--folder", str(tmp_path)] if words[0] == "ops/try" else []
     for hundredths in range(0, 40, 4):
         found = ran(given, hundredths / 100)
         assert found.err.count("\n") <= 1 and "Traceback" not in found.err, found.err

@@ -10,6 +10,7 @@ import pytest
 from browser import Browser
 from conftest import ROOT
 from cpi_tools.command_line import main
+from cpi_tools.program import Cpi
 from stage import Stage
 
 PAGES = ("index.html", "nodes.html", "node/01.1.1.1.html", "contract.html", "data.html", "revisions.html")
@@ -18,12 +19,12 @@ PLACED = "return [...document.querySelectorAll('.track b')].every((it) => getCom
 
 
 @pytest.fixture(scope="module")
-def pack(made: Path, tmp_path_factory: pytest.TempPathFactory) -> Path:
+def pack(cpi: Cpi, made: Path, tmp_path_factory: pytest.TempPathFactory) -> Path:
     """A folder with a pack in it, as `published`."""
     folder = tmp_path_factory.mktemp("pages")
     config = folder / "office.ini"
     config.write_text("[office]\nagency = NSO\narea = XX\noffice = Office of prices\n", encoding="utf-8")
-    words = ["publish", "--db", str(made), "--at", "1000000", "--config", str(config)]
+    words = ["publish", "--db", str(made), "--at", "1000000", "--config", str(config), "--program", str(cpi.path)]
     assert main([*words, "--out", str(folder / "published")]) == 0
     return folder
 

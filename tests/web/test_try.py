@@ -145,15 +145,24 @@ def test_the_commands_of_the_guide_are_its_words() -> None:
         (["--other"], 2, "ops/try: unrecognized arguments: --other"),
     ],
 )
-def test_what_is_wrong_is_one_line(words: list[str], status: int, told: str, tmp_path: Path) -> None:
-    given = [str(TRY), "--folder", str(tmp_path / "try"), "--port", str(free_port()), *words]
+def test_what_is_wrong_is_one_line(cpi: Cpi, words: list[str], status: int, told: str, tmp_path: Path) -> None:
+    given = [
+        str(TRY),
+        "--folder",
+        str(tmp_path / "try"),
+        "--port",
+        str(free_port()),
+        "--program",
+        str(cpi.path),
+        *words,
+    ]
     ran = subprocess.run(given, capture_output=True, text=True, timeout=SECONDS, check=False)
     assert (ran.returncode, ran.stderr.count("\n")) == (status, 1), ran.stderr
     assert ran.stderr.startswith(told)
 
 
 def test_a_port_that_is_taken_is_told(stage: Stage, tmp_path: Path) -> None:
-    given = [str(TRY), "--folder", str(tmp_path), "--port", str(stage.port)]
+    given = [str(TRY), "--folder", str(tmp_path), "--port", str(stage.port), "--program", str(stage.cpi.path)]
     ran = subprocess.run(given, capture_output=True, text=True, timeout=SECONDS, check=False)
     told = f"ops/try: port {stage.port} of localhost is taken: name another by --port\n"
     assert (ran.returncode, ran.stderr) == (1, told)
