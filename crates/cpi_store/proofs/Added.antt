@@ -30,7 +30,7 @@ own_assignments h = h.own.assignments
 
 -- ---- who bears a key, after one was added
 
-bearer_new : (key : ℕ) (b : Bearer) (xs ys : List Bearer) → eqb b.key key ≡ true → bearer_of key (xs ++ ys) ≡ None → bearer_of key (xs ++ b ∷ ys) ≡ Some b
+pub bearer_new : (key : ℕ) (b : Bearer) (xs ys : List Bearer) → eqb b.key key ≡ true → bearer_of key (xs ++ ys) ≡ None → bearer_of key (xs ++ b ∷ ys) ≡ Some b
 bearer_new key b [] ys e none = rw e refl
 bearer_new key b (x ∷ xs) ys e none = by (eqb x.key key) refl (bearer_new key b xs ys e)
   where
@@ -38,7 +38,7 @@ bearer_new key b (x ∷ xs) ys e none = by (eqb x.key key) refl (bearer_new key 
     by true f rest = let no : Some x ≡ None = rw f at none in cc
     by false f rest = rw f (rest (rw f at none))
 
-bearer_passed : (key : ℕ) (b : Bearer) (xs ys : List Bearer) → eqb b.key key ≡ false → bearer_of key (xs ++ b ∷ ys) ≡ bearer_of key (xs ++ ys)
+pub bearer_passed : (key : ℕ) (b : Bearer) (xs ys : List Bearer) → eqb b.key key ≡ false → bearer_of key (xs ++ b ∷ ys) ≡ bearer_of key (xs ++ ys)
 bearer_passed key b [] ys e = rw e refl
 bearer_passed key b (x ∷ xs) ys e = by (eqb x.key key) refl (bearer_passed key b xs ys e)
   where

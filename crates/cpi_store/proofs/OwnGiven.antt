@@ -1,6 +1,7 @@
 -- What a collector's slots were given, among the assignments of all and with their series.
 use Rattle.std.proofs.Common.{◌≡◌, ◌≢◌, ℕ, true, false, eqb, List, [], ◌∷◌, map, Some, None, Option, refl, sym, ap, ◌∙◌, inl, inr}
 use Rattle.std.specs.Prelude.{◌⊎◌, IsSome, option_map}
+use Rattle.std.proofs.lemmas.Bool.{false≢true}
 use Rattle.std.proofs.lemmas.Bool.Decides.{eqb_tells}
 use Rattle.cpi_rows.specs.Keyed.{at}
 use Rattle.cpi_rows.specs.Held.{held_by}
@@ -85,12 +86,17 @@ module _ (taken : List TakenOver) (c : ℕ) where
       by None e h = e
       by (Some a) e h = let no : Some (beside a) ≡ None = rw e at h in cc
 
-  pub something_given : {X : Type 0} (f : Given → X) (x : X) (slot : ℕ) (rows : List (ℕ × Assignment)) → option_map f (at (λ g. g.assignment.slot) slot (held_by c (map (given_in taken) rows))) ≡ Some x → IsSome (at (λ a. a.slot) slot (held_by c rows))
-  something_given f x slot rows some = by (at own_slot slot (held_by c rows)) refl (ap (option_map f) (sym (at_given slot rows)) ∙ some)
+  pub slot_given : (slot : ℕ) (rows : List (ℕ × Assignment)) → IsSome (at (λ g. g.assignment.slot) slot (held_by c (map (given_in taken) rows))) → IsSome (at (λ a. a.slot) slot (held_by c rows))
+  slot_given slot rows some = by (at own_slot slot (held_by c rows)) refl (rw (← at_given slot rows) some)
     where
       beside : Assignment → Given
       beside a = record { assignment = a; series = series_in taken c slot }
 
-      by : (w : Option Assignment) → at own_slot slot (held_by c rows) ≡ w → option_map f (option_map beside (at own_slot slot (held_by c rows))) ≡ Some x → IsSome (at own_slot slot (held_by c rows))
-      by None e h = let no : None ≡ Some x = rw e at h in cc
+      by : (w : Option Assignment) → at own_slot slot (held_by c rows) ≡ w → IsSome (option_map beside (at own_slot slot (held_by c rows))) → IsSome (at own_slot slot (held_by c rows))
+      by None e h = absurd (false≢true (rw e at h))
       by (Some a) e h = rw e refl
+
+-- where something is made of what was found, something was found
+pub some_mapped : {X Y : Type 0} (f : X → Y) (y : Y) (found : Option X) → option_map f found ≡ Some y → IsSome found
+some_mapped f y None e = let no : None ≡ Some y = e in cc
+some_mapped f y (Some x) e = refl

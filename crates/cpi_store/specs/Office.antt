@@ -46,6 +46,10 @@ empty_office = record {
   releases = [];
 }
 
+-- the office with these releases in the place of its own
+abbrev pub with_releases : List Release → Office → Office
+with_releases releases o = record o { releases = releases }
+
 -- what everybody may see
 abbrev pub public_part : Office → PublicPart
 public_part o = record { items = o.items; plans = o.plans; calendar = o.calendar }

@@ -1,13 +1,10 @@
 use crate::bearer::Bearer;
 use crate::book::{Book, Parts, StoreFault};
-use crate::frozen::month_rows;
 use crate::given::Given;
 use crate::handover::Handover;
-use crate::holder::Holder;
-use crate::holders::{hand_over_in, put_assignment_of, put_holder, put_quote_of};
 use crate::outlet::Outlet;
 use crate::releases::{frozen_months, published_months, revision_until, table_until};
-use crate::taken_over::{TakenOver, series_in};
+use crate::survey::Survey;
 use cpi_codes::{Code, CollectorId, Key, Moment, Month, OutletId, Slot, Year};
 use cpi_index::{ChainedLevel, FrozenQuote, GroupRow};
 use cpi_plan::{CalendarRow, Item, YearPlan};
@@ -15,31 +12,18 @@ use cpi_release::{
     Cached, Failures, FrozenMonth, GroupFault, Groups, Level, Release, Revision, group_rows,
     level_in, month_groups,
 };
-use cpi_rows::{Rows, RowsByKey, find_row, put_row};
+use cpi_rows::{Rows, find_row, put_row};
 use cpi_survey::{Assigned, Own, Public, Quote};
 use std::alloc::{AllocError, Global};
-use std::collections::BTreeMap;
 use std::marker::Model;
 
-/// An office in memory. A call fails only where memory was refused; a read, and a write over a row that stands, takes
-/// none. Collectors, their rows, items, plans, months and outlets are found in a number of steps that grows with the
-/// logarithm of how many there are, and items and outlets are put in as many. Any other write shifts the rows of one
-/// list: of assignments those of one collector, and of quotes those of one slot, or the collector's slots where one
-/// has its first quote.
+/// An office in memory: a survey and its releases. A call fails only where memory was refused; a read, and a write over
+/// a row that stands, takes none. What a call costs is what `Survey` says; a release shifts those behind it.
 #[derive(Drop)]
 pub struct VecBook {
-    public: Public,
-    // by number
-    holders: Vec<Holder>,
-    // by collector and slot
-    taken: Vec<TakenOver>,
-    outlets: RowsByKey<Outlet>,
+    survey: Survey,
     // by month and revision
     releases: Vec<Release>,
-    // the holders, by the key that each bears
-    bearers: BTreeMap<Key, Bearer>,
-    // what a number that nobody has, has
-    nobody: Own,
     failed: Failures,
     // the samples of the month that is being frozen; none once anything is written
     cached: Option<Cached>,
@@ -47,104 +31,37 @@ pub struct VecBook {
 }
 
 impl Model for VecBook {
-    ghost use Rattle.std.specs.Prelude.{◌≡◌, ℕ, [], map};
-    ghost use Rattle.std.specs.Ordering.{nat_cmp};
-    ghost use Rattle.std.specs.BTreeMap.{get};
     ghost use Rattle.cpi_rows.specs.Keyed.{IsInOrder};
-    ghost use Rattle.cpi_store.specs.Bearer.{bearer_of};
     ghost use Rattle.cpi_release.specs.FrozenMonths.{release_cmp, release_key};
-    ghost use Rattle.std.specs.List.{AllByRecursion};
-    ghost use Rattle.cpi_rows.specs.Held.{held_cmp};
-    ghost use Rattle.cpi_store.specs.Holders.{Kept, ArePlaced, IsGiven, all_assignments, collectors_of, named_by, office_of};
-    ghost use Rattle.cpi_store.specs.Sources.{office_sources};
     ghost use Rattle.cpi_release.specs.Cached.{AreKept};
+    ghost use Rattle.cpi_store.specs.Office.{with_releases};
+    ghost use Rattle.cpi_store.specs.Holders.{Kept};
+    ghost use Rattle.cpi_store.specs.Sources.{office_sources};
 
     ghost Value = { Kept };
 
-    ghost view = { λ b. record {
-      office = office_of b.public b.outlets b.releases.items b.taken.items b.holders.items;
-      failures = b.failed.count;
-    } };
+    ghost view = { λ b. record { office = with_releases b.releases.items b.survey; failures = b.failed.count } };
 
     ghost invariant = { λ b. record {
-      holders : IsInOrder nat_cmp (λ h. h.number) b.holders.items;
-      bearers : (key : ℕ) → get nat_cmp b.bearers key ≡ bearer_of key (collectors_of b.holders.items);
-      outlets : IsInOrder nat_cmp (λ u. u.number) b.outlets;
       releases : IsInOrder release_cmp release_key b.releases.items;
-      taken : IsInOrder (held_cmp nat_cmp) (λ t. (t.collector, t.slot)) b.taken.items;
-      given : AllByRecursion (IsGiven (all_assignments b.holders.items)) b.taken.items;
-      placed : ArePlaced b.outlets (map (λ h. h.own.assignments) b.holders.items);
-      nobody : b.nobody ≡ record { assignments = []; quotes = [] };
-      names : named_by b.outlets (map (λ h. h.own.assignments) b.holders.items)
-          ≡ map (λ h. h.own.assignments) b.holders.items;
-      kept : AreKept (office_sources (office_of b.public b.outlets b.releases.items b.taken.items b.holders.items)) b.cached;
+      kept : AreKept (office_sources (with_releases b.releases.items b.survey)) b.cached;
     } };
 }
 
 impl VecBook {
     ghost use Rattle.std.specs.Prelude.{◌≡◌};
-    ghost use Rattle.cpi_rows.specs.Keyed.{at};
-    ghost use Rattle.cpi_rows.specs.Held.{held_by};
-    ghost use Rattle.cpi_store.specs.Office.{empty_office, public_part, own_part};
+    ghost use Rattle.cpi_store.specs.Office.{empty_office};
 
     /// An empty office, which takes no memory yet. Its calls take their memory from this allocator.
     pub fn new(alloc: Global) -> VecBook
         ensures { result ≡ record { office = empty_office; failures = 0 } }
     {
         VecBook {
-            public: Public::new(alloc),
-            holders: Vec::new(alloc),
-            taken: Vec::new(alloc),
-            outlets: RowsByKey::new(alloc),
+            survey: Survey::new(alloc),
             releases: Vec::new(alloc),
-            bearers: BTreeMap::new(alloc),
-            nobody: Own::new(alloc),
             failed: Failures::none(),
             cached: None,
             alloc,
-        }
-    }
-
-    fn holder_at(&self, number: CollectorId) -> Option<Bearer>
-        ensures { result ≡ at (λ b. b.number) number self.now.office.collectors }
-    {
-        match find_row(&self.holders, &number) {
-            Some(holder) => Some(Bearer {
-                number: holder.number,
-                key: holder.key,
-            }),
-            None => None,
-        }
-    }
-
-    fn own_of(&self, collector: CollectorId) -> &Own
-        ensures { result.now ≡ own_part collector self.now.office }
-    {
-        match find_row(&self.holders, &collector) {
-            Some(holder) => &holder.own,
-            None => &self.nobody,
-        }
-    }
-
-    fn given_of(&self, collector: CollectorId, slot: Slot) -> Option<Given>
-        ensures { result ≡ at (λ g. g.assignment.slot) slot (held_by collector self.now.office.assignments) }
-    {
-        match self.own_of(collector).assigned(slot) {
-            Some(assigned) => Some(Given {
-                assignment: assigned.assignment,
-                series: series_in(&self.taken, collector, slot),
-            }),
-            None => None,
-        }
-    }
-
-    fn parts_of(&self, collector: CollectorId) -> Parts<'_>
-        ensures public { result.public.now ≡ public_part self.now.office }
-        ensures own { result.own.now ≡ own_part collector self.now.office }
-    {
-        Parts {
-            public: &self.public,
-            own: self.own_of(collector),
         }
     }
 }
@@ -162,7 +79,7 @@ impl VecBook {
     fn plan_of(&self, month: Month) -> Option<&YearPlan>
         ensures { option_copied result ≡ at (λ p. p.year) (year_of month) self.now.office.plans }
     {
-        find_row(self.public.plans(), &month.year())
+        find_row(self.survey.public().plans(), &month.year())
     }
 
     // The rows of one aggregate, where the month's samples are kept.
@@ -190,7 +107,7 @@ impl VecBook {
         if let Some(rows) = self.kept_rows(month, code)? {
             return Ok(rows);
         }
-        let frozen = month_rows(self.alloc, month, &self.taken, &self.holders)?;
+        let frozen = self.survey.month_rows(month)?;
         let plan = self.plan_of(month);
         let groups = month_groups(self.alloc, plan, &self.releases, month, &frozen)?;
         let rows = group_rows(self.alloc, plan, &groups, month, code)?;
@@ -255,7 +172,7 @@ impl Book for VecBook {
             found ≡ bearer_of key self.old.office.collectors) }
         ensures always { IsOk result }
     {
-        Ok(self.bearers.get(&key).copied())
+        Ok(self.survey.bearer_of(key))
     }
 
     fn bearer_at(&mut self, number: CollectorId) -> Result<Option<Bearer>, StoreFault>
@@ -263,7 +180,7 @@ impl Book for VecBook {
             found ≡ at (λ b. b.number) number self.old.office.collectors) }
         ensures always { IsOk result }
     {
-        Ok(self.holder_at(number))
+        Ok(self.survey.bearer_at(number))
     }
 
     fn collector_of(&mut self, key: Key) -> Result<Option<CollectorId>, StoreFault>
@@ -271,7 +188,7 @@ impl Book for VecBook {
             found ≡ collector_of key self.old.office.collectors) }
         ensures always { IsOk result }
     {
-        Ok(self.bearers.get(&key).map(|bearer| bearer.number))
+        Ok(self.survey.bearer_of(key).map(|bearer| bearer.number))
     }
 
     fn collector_key(&mut self, number: CollectorId) -> Result<Option<Key>, StoreFault>
@@ -279,27 +196,27 @@ impl Book for VecBook {
             found ≡ collector_key number self.old.office.collectors) }
         ensures always { IsOk result }
     {
-        Ok(self.holder_at(number).map(|bearer| bearer.key))
+        Ok(self.survey.bearer_at(number).map(|bearer| bearer.key))
     }
 
     fn outlet(&mut self, number: OutletId) -> Result<Option<&Outlet>, StoreFault> {
-        Ok(self.outlets.find(&number))
+        Ok(self.survey.outlet(number))
     }
 
     fn public_part(&mut self) -> Result<&Public, StoreFault> {
-        Ok(&self.public)
+        Ok(self.survey.public())
     }
 
     fn own(&mut self, collector: CollectorId) -> Result<&Own, StoreFault> {
-        Ok(self.own_of(collector))
+        Ok(self.survey.own(collector))
     }
 
     fn parts(&mut self, collector: CollectorId) -> Result<Parts<'_>, StoreFault> {
-        Ok(self.parts_of(collector))
+        Ok(self.survey.parts(collector))
     }
 
     fn given(&mut self, collector: CollectorId, slot: Slot) -> Result<Option<Given>, StoreFault> {
-        Ok(self.given_of(collector, slot))
+        Ok(self.survey.given(collector, slot))
     }
 
     fn frozen_months(&mut self) -> Result<Vec<FrozenMonth>, StoreFault> {
@@ -310,7 +227,7 @@ impl Book for VecBook {
     }
 
     fn month_rows(&mut self, month: Month) -> Result<Vec<FrozenQuote>, StoreFault> {
-        match month_rows(self.alloc, month, &self.taken, &self.holders) {
+        match self.survey.month_rows(month) {
             Ok(found) => Ok(found),
             Err(_) => Err(self.failed.counted(StoreFault)),
         }
@@ -342,7 +259,7 @@ impl Book for VecBook {
 
     fn put_item(&mut self, item: Item) -> Result<(), StoreFault> {
         self.cached = None;
-        match self.public.put_item(item) {
+        match self.survey.put_item(item) {
             Ok(()) => Ok(()),
             Err(_) => Err(self.failed.counted(StoreFault)),
         }
@@ -354,7 +271,7 @@ impl Book for VecBook {
         ensures replaced { IsSome (at (λ y. y.year) plan.year self.old.office.plans) → IsOk result }
     {
         self.cached = None;
-        match self.public.put_plan(plan) {
+        match self.survey.put_plan(plan) {
             Ok(()) => Ok(()),
             Err(_) => Err(self.failed.counted(StoreFault)),
         }
@@ -366,7 +283,7 @@ impl Book for VecBook {
         ensures replaced { IsSome (at (λ r. r.month) row.month self.old.office.calendar) → IsOk result }
     {
         self.cached = None;
-        match self.public.put_calendar(row) {
+        match self.survey.put_calendar(row) {
             Ok(()) => Ok(()),
             Err(_) => Err(self.failed.counted(StoreFault)),
         }
@@ -374,8 +291,7 @@ impl Book for VecBook {
 
     fn put_collector(&mut self, bearer: Bearer) -> Result<(), StoreFault> {
         self.cached = None;
-        let holder = Holder::new(self.alloc, bearer);
-        match put_holder(&mut self.holders, &mut self.bearers, holder) {
+        match self.survey.put_collector(bearer) {
             Ok(()) => Ok(()),
             Err(_) => Err(self.failed.counted(StoreFault)),
         }
@@ -383,7 +299,7 @@ impl Book for VecBook {
 
     fn put_outlet(&mut self, outlet: Outlet) -> Result<(), StoreFault> {
         self.cached = None;
-        match self.outlets.put(outlet) {
+        match self.survey.put_outlet(outlet) {
             Ok(()) => Ok(()),
             Err(_) => Err(self.failed.counted(StoreFault)),
         }
@@ -391,7 +307,7 @@ impl Book for VecBook {
 
     fn put_assignment(&mut self, bearer: Bearer, assigned: Assigned) -> Result<(), StoreFault> {
         self.cached = None;
-        match put_assignment_of(&mut self.holders, bearer.number, assigned) {
+        match self.survey.put_assignment(bearer, assigned) {
             Ok(()) => Ok(()),
             Err(_) => Err(self.failed.counted(StoreFault)),
         }
@@ -399,7 +315,7 @@ impl Book for VecBook {
 
     fn put_handover(&mut self, handover: Handover) -> Result<(), StoreFault> {
         self.cached = None;
-        match hand_over_in(&mut self.holders, &mut self.taken, handover) {
+        match self.survey.put_handover(handover) {
             Ok(()) => Ok(()),
             Err(_) => Err(self.failed.counted(StoreFault)),
         }
@@ -414,7 +330,7 @@ impl Book for VecBook {
             IsOk result }
     {
         self.cached = None;
-        match put_quote_of(&mut self.holders, bearer.number, quote) {
+        match self.survey.put_quote(bearer, quote) {
             Ok(()) => Ok(()),
             Err(_) => Err(self.failed.counted(StoreFault)),
         }

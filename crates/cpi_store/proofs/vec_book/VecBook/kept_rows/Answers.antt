@@ -5,15 +5,15 @@ use Rattle.cpi_plan.specs.Plan.{Plan}
 use Rattle.cpi_rows.specs.Keyed.{at}
 use Rattle.cpi_release.specs.Cached.{IsFit, AreGroupsOf}
 use Rattle.cpi_release.specs.GroupCalls.{group_of}
-use Rattle.cpi_store.specs.Office.{Office}
-use Rattle.cpi_store.specs.Holders.{Kept, office_of}
+use Rattle.cpi_store.specs.Office.{Office, with_releases}
+use Rattle.cpi_store.specs.Holders.{Kept}
 use Rattle.cpi_store.specs.Sources.{office_sources}
 use Rattle.cpi_store.proofs.vec_book.VecBook.kept_rows.Goals as goal
 
 pub returns : goal.returns
 returns c = λ fit late.
     let i = c.self.inside in
-    let o : Office = office_of i.public i.outlets i.releases.items i.taken.items i.holders.items in
+    let o : Office = with_releases i.releases.items i.survey in
     let same : o ≡ c.args.self.now.office = ap (λ (k : Kept). k.office) c.self.view_is in
     let month : c.in-Some.cached.month ≡ c.args.month = search rules in
     let held : AreGroupsOf (office_sources o) c.in-Some.cached.month c.in-Some.cached.groups.items = rw c.in-Some.is at c.self.invariant.kept in

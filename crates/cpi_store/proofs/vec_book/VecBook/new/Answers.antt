@@ -1,20 +1,6 @@
-use Rattle.std.proofs.Common.{refl}
-use Rattle.std.specs.Ordering.{nat_cmp}
-use Rattle.cpi_rows.specs.Held.{held_cmp}
 use Rattle.cpi_rows.proofs.Places.{none_in_order}
 use Rattle.cpi_release.specs.FrozenMonths.{release_cmp, release_key}
 use Rattle.cpi_store.proofs.vec_book.VecBook.new.Goals as goal
 
 pub invariant_of-result : goal.invariant_of-result
-invariant_of-result c = record {
-  holders = rw c.new-2.ensures.items (none_in_order nat_cmp (λ h. h.number));
-  bearers = λ key. rw (c.new-2.ensures.items, c.new-6.ensures.empty) refl;
-  outlets = rw c.new-4.ensures (none_in_order nat_cmp (λ u. u.number));
-  releases = rw c.new-5.ensures.items (none_in_order release_cmp release_key);
-  taken = rw c.new-3.ensures.items (none_in_order (held_cmp nat_cmp) (λ t. (t.collector, t.slot)));
-  given = rw c.new-3.ensures.items tt;
-  placed = rw c.new-2.ensures.items tt;
-  nobody = c.new-7.ensures;
-  names = rw c.new-2.ensures.items refl;
-  kept = tt;
-}
+invariant_of-result c = record { releases = rw c.new-2.ensures.items (none_in_order release_cmp release_key); kept = tt }

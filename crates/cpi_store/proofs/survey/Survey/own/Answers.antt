@@ -4,7 +4,7 @@ use Rattle.std.specs.Ordering.{nat_cmp}
 use Rattle.cpi_rows.specs.Keyed.{row_at}
 use Rattle.cpi_store.specs.declared.holder.Holder.{Holder}
 use Rattle.cpi_store.proofs.Found.{own_found, own_missing}
-use Rattle.cpi_store.proofs.vec_book.VecBook.own_of.Goals as goal
+use Rattle.cpi_store.proofs.survey.Survey.own.Goals as goal
 
 pub returns-in-Some : goal.returns-in-Some
 returns-in-Some c =

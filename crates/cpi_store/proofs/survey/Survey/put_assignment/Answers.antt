@@ -1,4 +1,4 @@
-use Rattle.std.proofs.Common.{◌≡◌, ℕ, None, List, map, ap, ◌∙◌, subst, sym, refl, arith}
+use Rattle.std.proofs.Common.{◌≡◌, ℕ, None, List, [], map, ap, ◌∙◌, sym}
 use Rattle.std.specs.Prelude.{IsSome}
 use Rattle.std.specs.Ordering.{nat_cmp}
 use Rattle.cpi_rows.specs.Held.{held_by, held_cmp}
@@ -9,7 +9,7 @@ use Rattle.cpi_store.specs.declared.bearer.Bearer.{Bearer}
 use Rattle.cpi_store.specs.declared.given.Given.{Given}
 use Rattle.cpi_store.specs.declared.outlet.Outlet.{Outlet}
 use Rattle.cpi_store.specs.Bearer.{bearer_of}
-use Rattle.cpi_store.specs.Holders.{Kept, all_assignments, all_given, all_quotes, collectors_of}
+use Rattle.cpi_store.specs.Holders.{all_assignments, all_given, all_quotes, collectors_of}
 use Rattle.cpi_store.specs.Office.{Office, put_given}
 use Rattle.cpi_store.specs.Outlet.{with_name}
 use Rattle.cpi_store.specs.Series.{first_of_series, given_in}
@@ -17,36 +17,33 @@ use Rattle.cpi_store.proofs.Found.{known_holder}
 use Rattle.cpi_store.proofs.GivenSlots.{given_after, none_taken, slot_stays, taken_key}
 use Rattle.cpi_store.proofs.HandedOver.{given_put}
 use Rattle.cpi_store.proofs.OwnGiven.{nothing_given}
-use Rattle.cpi_store.proofs.vec_book.VecBookBook.put_assignment.Goals as goal
+use Rattle.cpi_store.proofs.survey.Survey.put_assignment.Goals as goal
 
 pub put_assignment_of-requires-clause-known : goal.put_assignment_of-requires-clause-known
 put_assignment_of-requires-clause-known c =
-    known_holder c.args.bearer.number c.self.inside.holders.items
-    (subst IsSome (sym (ap (λ (k : Kept). at (λ (b : Bearer). b.number) c.args.bearer.number k.office.collectors) c.self.view_is ∙ c.requires.known tt)) refl)
+    known_holder c.args.bearer.number c.self.inside.holders.items (rw (ap (λ (o : Office). o.collectors) c.self.view_is) c.requires.known)
 
-pub invariant_of-self : goal.invariant_of-self
-invariant_of-self c =
+pub invariant_of-self-2 : goal.invariant_of-self-2
+invariant_of-self-2 c =
     let i = c.self.inside in
     let rows = all_assignments i.holders.items in
     let b = c.args.bearer.number in
     let a = c.args.assigned.assignment in
-    let there : IsSome (at (λ (u : Outlet). u.number) a.outlet i.outlets) = rw (ap (λ (k : Kept). k.office.outlets) c.self.view_is) (c.requires.outlet tt) in
-    let named : c.args.assigned ≡ with_name i.outlets a = rw (ap (λ (k : Kept). k.office.outlets) c.self.view_is) (c.requires.name tt) in
+    let there : IsSome (at (λ (u : Outlet). u.number) a.outlet i.outlets) = rw (ap (λ (o : Office). o.outlets) c.self.view_is) c.requires.outlet in
+    let named : c.args.assigned ≡ with_name i.outlets a = rw (ap (λ (o : Office). o.outlets) c.self.view_is) c.requires.name in
     record {
       holders = c.put_assignment_of.ensures.order;
       bearers = λ key. c.self.invariant.bearers key ∙ ap (bearer_of key) (sym c.put_assignment_of.ensures.collectors);
       outlets = c.self.invariant.outlets;
-      releases = c.self.invariant.releases;
       taken = c.self.invariant.taken;
-      given = given_after rows (all_assignments c.put_assignment_of.new.holders.items) (λ n slot is. rw c.in-Ok.ensures.ok (slot_stays n slot b a rows is)) i.taken.items c.self.invariant.given;
+      given = given_after rows (all_assignments c.put_assignment_of.new.holders.items) (λ n slot is. rw c.in_ok-put_assignment_of.ensures.ok (slot_stays n slot b a rows is)) i.taken.items c.self.invariant.given;
       placed = c.put_assignment_of.ensures.placed i.outlets there c.self.invariant.placed;
       nobody = c.self.invariant.nobody;
       names = c.put_assignment_of.ensures.names i.outlets named c.self.invariant.names;
-      kept = tt;
     }
 
-pub returns-in-Ok : goal.returns-in-Ok
-returns-in-Ok c =
+pub returns-clause-ok : goal.returns-clause-ok
+returns-clause-ok c =
     let i = c.self.inside in
     let hs = i.holders.items in
     let new = c.put_assignment_of.new.holders.items in
@@ -62,25 +59,13 @@ returns-in-Ok c =
       outlets = i.outlets;
       assignments = gs;
       quotes = qs;
-      releases = i.releases.items;
+      releases = [];
     } in
-    let empty : at (λ (g : Given). g.assignment.slot) a.slot (held_by b (all_given taken hs)) ≡ None = ap (λ (k : Kept). at (λ (g : Given). g.assignment.slot) a.slot (held_by b k.office.assignments)) c.self.view_is ∙ c.requires.new tt in
+    let empty : at (λ (g : Given). g.assignment.slot) a.slot (held_by b (all_given taken hs)) ≡ None = ap (λ (o : Office). at (λ (g : Given). g.assignment.slot) a.slot (held_by b o.assignments)) c.self.view_is ∙ c.requires.new in
     let free : at (λ (a : Assignment). a.slot) a.slot (held_by b rows) ≡ None = nothing_given taken b a.slot rows empty in
     let none : row_at (held_cmp nat_cmp) taken_key (b, a.slot) taken ≡ None = none_taken b a.slot rows free taken c.self.invariant.given in
-    let assigned : all_given taken new ≡ put_given b (first_of_series b a) (all_given taken hs) = ap (map (given_in taken)) c.in-Ok.ensures.ok ∙ given_put taken b a rows none in
+    let assigned : all_given taken new ≡ put_given b (first_of_series b a) (all_given taken hs) = ap (map (given_in taken)) c.in_ok-put_assignment_of.ensures.ok ∙ given_put taken b a rows none in
     rw (← c.self.view_is)
-    (record {
-      writes = record {
-        was_kept = λ k. tt;
-        was_clean = λ k. tt;
-        stays = λ _ _. tt;
-        done = λ k. ap (λ cs. office cs (all_given taken new) (all_quotes new)) c.put_assignment_of.ensures.collectors
-            ∙ ap (λ gs. office (collectors_of hs) gs (all_quotes new)) assigned
-            ∙ ap (office (collectors_of hs) (put_given b (first_of_series b a) (all_given taken hs))) c.put_assignment_of.ensures.quotes;
-        kept = λ k. tt;
-        count = omega arith;
-        fault = tt;
-        crash = λ _ _ _ left. absurd left;
-        answered = λ _ _ left. absurd left;
-      };
-    })
+    (ap (λ cs. office cs (all_given taken new) (all_quotes new)) c.put_assignment_of.ensures.collectors
+    ∙ ap (λ gs. office (collectors_of hs) gs (all_quotes new)) assigned
+    ∙ ap (office (collectors_of hs) (put_given b (first_of_series b a) (all_given taken hs))) c.put_assignment_of.ensures.quotes)

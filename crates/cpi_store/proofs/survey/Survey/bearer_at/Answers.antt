@@ -7,7 +7,7 @@ use Rattle.cpi_rows.proofs.Found.{at-map}
 use Rattle.cpi_store.specs.declared.bearer.Bearer.{Bearer}
 use Rattle.cpi_store.specs.declared.holder.Holder.{Holder}
 use Rattle.cpi_store.specs.Holders.{collector_of_holder}
-use Rattle.cpi_store.proofs.vec_book.VecBook.holder_at.Goals as goal
+use Rattle.cpi_store.proofs.survey.Survey.bearer_at.Goals as goal
 
 pub returns-in-Some : goal.returns-in-Some
 returns-in-Some c =

@@ -6,11 +6,11 @@ use Rattle.cpi_codes.specs.declared.series.SeriesId.{SeriesId}
 use Rattle.cpi_survey.specs.Own.{OwnPart}
 use Rattle.cpi_survey.specs.declared.assignment.Assigned.{Assigned}
 use Rattle.cpi_store.specs.declared.given.Given.{Given}
-use Rattle.cpi_store.specs.Holders.{Kept, all_assignments}
-use Rattle.cpi_store.specs.Office.{own_part}
+use Rattle.cpi_store.specs.Holders.{all_assignments}
+use Rattle.cpi_store.specs.Office.{Office, own_part}
 use Rattle.cpi_store.specs.Series.{series_in}
 use Rattle.cpi_store.proofs.OwnGiven.{given_found, nothing_found}
-use Rattle.cpi_store.proofs.vec_book.VecBook.given_of.Goals as goal
+use Rattle.cpi_store.proofs.survey.Survey.given.Goals as goal
 
 -- the assignment of the slot with its outlet's name, in a collector's part
 abbrev assigned_in : ℕ → OwnPart → Option Assigned
@@ -18,9 +18,9 @@ assigned_in slot own = at (λ (a : Assigned). a.assignment.slot) slot own.assign
 
 pub returns-in-None : goal.returns-in-None
 returns-in-None c =
-    let o = c.args.self.now.office in
+    let o = c.args.self.now in
     let own = own_part c.args.collector o in
-    let found : None ≡ assigned_in c.args.slot own = sym (ap option_copied c.in-None.is) ∙ c.assigned.ensures ∙ ap (assigned_in c.args.slot) c.own_of.ensures in
+    let found : None ≡ assigned_in c.args.slot own = sym (ap option_copied c.in-None.is) ∙ c.assigned.ensures ∙ ap (assigned_in c.args.slot) c.own.ensures in
     nothing_found o.outlets c.args.slot (held_by c.args.collector o.assignments) found
 
 pub returns-in-Some : goal.returns-in-Some
@@ -31,8 +31,8 @@ returns-in-Some c =
     let n = c.args.collector in
     let slot = c.args.slot in
     let a : Assigned = c.in-Some.assigned.now in
-    let found = sym (ap option_copied c.in-Some.is) ∙ c.assigned.ensures ∙ ap (assigned_in slot) c.own_of.ensures ∙ ap (λ (k : Kept). assigned_in slot (own_part n k.office)) (sym c.self.view_is) in
+    let found = sym (ap option_copied c.in-Some.is) ∙ c.assigned.ensures ∙ ap (assigned_in slot) c.own.ensures ∙ ap (λ (o : Office). assigned_in slot (own_part n o)) (sym c.self.view_is) in
     let series : c.series_in.result ≡ series_in taken n slot = c.series_in.ensures ∙ ap (λ ts. series_in ts n slot) c.deref.ensures.value in
     let given : SeriesId → Given = λ s. record { assignment = a.assignment; series = s } in
     ap (λ s. Some (given s)) series ∙ given_found taken n i.outlets slot rows (Some a) found
-    ∙ ap (λ (k : Kept). at (λ (g : Given). g.assignment.slot) slot (held_by n k.office.assignments)) c.self.view_is
+    ∙ ap (λ (o : Office). at (λ (g : Given). g.assignment.slot) slot (held_by n o.assignments)) c.self.view_is

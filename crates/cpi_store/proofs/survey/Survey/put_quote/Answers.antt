@@ -1,16 +1,15 @@
 use Rattle.std.proofs.Common.{sym, ap, ◌∙◌}
 use Rattle.cpi_store.proofs.Found.{known_holder}
 use Rattle.cpi_store.specs.Bearer.{bearer_of}
-use Rattle.cpi_store.specs.Holders.{Kept}
-use Rattle.cpi_store.proofs.vec_book.VecBookBook.put_quote.Goals as goal
+use Rattle.cpi_store.specs.Office.{Office}
+use Rattle.cpi_store.proofs.survey.Survey.put_quote.Goals as goal
 
 pub put_quote_of-requires-clause-known : goal.put_quote_of-requires-clause-known
-put_quote_of-requires-clause-known c = known_holder c.args.bearer.number c.self.inside.holders.items (rw (ap (λ (k : Kept). k.office.collectors) c.self.view_is) c.requires.known)
+put_quote_of-requires-clause-known c = known_holder c.args.bearer.number c.self.inside.holders.items (rw (ap (λ (o : Office). o.collectors) c.self.view_is) c.requires.known)
 
 pub invariant_of-self : goal.invariant_of-self
 invariant_of-self c = record {
   outlets = c.self.invariant.outlets;
-  releases = c.self.invariant.releases;
   taken = c.self.invariant.taken;
   given = rw c.put_quote_of.ensures.assignments c.self.invariant.given;
   placed = rw c.put_quote_of.ensures.own_assignments c.self.invariant.placed;
@@ -18,5 +17,4 @@ invariant_of-self c = record {
   holders = c.put_quote_of.ensures.order;
   bearers = λ key. c.self.invariant.bearers key ∙ ap (bearer_of key) (sym c.put_quote_of.ensures.collectors);
   names = rw c.put_quote_of.ensures.own_assignments c.self.invariant.names;
-  kept = tt;
 }

@@ -1,0 +1,18 @@
+use Rattle.std.proofs.Common.{take, ap, ◌∙◌}
+use Rattle.std.specs.Ordering.{nat_cmp}
+use Rattle.std.proofs.lemmas.List.{take_rest}
+use Rattle.cpi_store.specs.declared.given.Given.{Given}
+use Rattle.cpi_store.proofs.Loaded.{own_in_order}
+use Rattle.cpi_store.proofs.runs.given_from.Goals as goal
+
+pub returns-then-ne-clause-order : goal.returns-then-ne-clause-order
+returns-then-ne-clause-order c =
+    let rows = c.args.rows.now in
+    own_in_order nat_cmp (λ (g : Given). g.assignment.slot) c.args.collector rows c.args.from c.rows.row-index
+    c.rows.own.items c.requires.order (c.rows.invariant ∙ ap (take c.rows.row-index) (take_rest rows c.args.from))
+
+pub returns-clause-order : goal.returns-clause-order
+returns-clause-order c =
+    let rows = c.args.rows.now in
+    own_in_order nat_cmp (λ (g : Given). g.assignment.slot) c.args.collector rows c.args.from c.rows.row-index
+    c.rows.own.items c.requires.order (c.rows.invariant ∙ ap (take c.rows.row-index) (take_rest rows c.args.from))

@@ -1,0 +1,140 @@
+//! A survey made of rows that were read in their order.
+ghost use Rattle.std.specs.Prelude.{◌≡◌, ℕ, [], IfOk, IfSome};
+ghost use Rattle.std.specs.BTreeMap.{get};
+ghost use Rattle.std.specs.Ordering.{nat_cmp};
+ghost use Rattle.cpi_rows.specs.Keyed.{IsInOrder};
+ghost use Rattle.cpi_rows.specs.Held.{held_cmp, held_key};
+ghost use Rattle.cpi_survey.specs.Quote.{quote_cmp, quote_key};
+ghost use Rattle.cpi_store.specs.Bearer.{bearer_of};
+ghost use Rattle.cpi_store.specs.Loading.{HaveRows, taken_row, taken_rows};
+
+use crate::bearer::Bearer;
+use crate::held::{HeldGiven, HeldQuote};
+use crate::holder::Holder;
+use crate::outlet::Outlet;
+use crate::own_rows::own_of;
+use crate::runs::{given_from, quotes_from};
+use crate::survey::Survey;
+use crate::taken_over::TakenOver;
+use cpi_codes::Key;
+use cpi_rows::RowsByKey;
+use cpi_survey::{Own, Public};
+use std::alloc::{AllocError, Global};
+use std::collections::BTreeMap;
+
+impl Survey {
+    /// The survey that the rows make up. The caller owes them in the order of what they are listed by: collectors by
+    /// number, what slots were given by collector and slot, quotes by collector, slot and month.
+    ///
+    /// It is none where two collectors bear one key, where a row is of a number that nobody has, or where an outlet
+    /// isn't there; or where memory was refused. Each row is read once, and put in O(log n) steps for n rows at most.
+    pub fn from_rows(
+        alloc: Global,
+        public: Public,
+        bearers: Vec<Bearer>,
+        outlets: RowsByKey<Outlet>,
+        given: &[HeldGiven],
+        quotes: &[HeldQuote],
+    ) -> Option<Survey>
+        requires bearers { IsInOrder nat_cmp (λ b. b.number) bearers.items }
+        requires given { IsInOrder (held_cmp nat_cmp) (held_key (λ g. g.assignment.slot)) given.now }
+        requires quotes { IsInOrder (held_cmp quote_cmp) (held_key quote_key) quotes.now }
+        ensures { IfSome result (λ s. s ≡ record {
+          items = public.items;
+          plans = public.plans;
+          calendar = public.calendar;
+          collectors = bearers.items;
+          outlets = outlets;
+          assignments = given.now;
+          quotes = quotes.now;
+          releases = [];
+        }) }
+    {
+        let by_key = by_key(alloc, &bearers)?;
+        let taken = taken_of(alloc, given).ok()?;
+        let holders = holders_of(alloc, &outlets, &bearers, given, quotes)?;
+        Some(Survey {
+            public,
+            holders,
+            taken,
+            outlets,
+            bearers: by_key,
+            nobody: Own::new(alloc),
+            alloc,
+        })
+    }
+}
+
+/// The collectors by the key that each bears; none where two bear one key, or where memory was refused.
+fn by_key(alloc: Global, bearers: &[Bearer]) -> Option<BTreeMap<Key, Bearer>>
+    ensures { IfSome result (λ found. (key : ℕ) → get nat_cmp found key ≡ bearer_of key bearers.now) }
+{
+    let mut found = BTreeMap::new(alloc);
+    'bearers: for bearer in bearers {
+        if found.contains_key(&bearer.key) {
+            return None;
+        }
+        found.insert(bearer.key, *bearer).ok()?;
+    }
+    Some(found)
+}
+
+/// The slots that took a series over, each with that series.
+fn taken_of(alloc: Global, given: &[HeldGiven]) -> Result<Vec<TakenOver>, AllocError>
+    ensures { IfOk result (λ taken. taken.items ≡ taken_rows given.now) }
+{
+    given.iter().filter_map(|row| taken_one(row)).collect(alloc)
+}
+
+/// The slot with its series, unless it names the series itself.
+fn taken_one(row: &HeldGiven) -> Option<TakenOver>
+    ensures { result ≡ taken_row row.now }
+{
+    let over = TakenOver {
+        collector: row.collector,
+        slot: row.given.assignment.slot,
+        series: row.given.series,
+    };
+    if over.series.collector == over.collector && over.series.slot == over.slot {
+        None
+    } else {
+        Some(over)
+    }
+}
+
+/// The collectors, each with its own rows; none where a row is of none of them, where an outlet isn't there, or where
+/// memory was refused.
+fn holders_of(
+    alloc: Global,
+    outlets: &RowsByKey<Outlet>,
+    bearers: &[Bearer],
+    given: &[HeldGiven],
+    quotes: &[HeldQuote],
+) -> Option<Vec<Holder>>
+    requires given { IsInOrder (held_cmp nat_cmp) (held_key (λ g. g.assignment.slot)) given.now }
+    requires quotes { IsInOrder (held_cmp quote_cmp) (held_key quote_key) quotes.now }
+    ensures { IfSome result (λ holders. HaveRows outlets.now bearers.now given.now quotes.now holders.items) }
+{
+    let mut holders = Vec::new(alloc);
+    let mut given_at = 0;
+    let mut quotes_at = 0;
+    'bearers: for bearer in bearers {
+        let own_given = given_from(alloc, given, given_at, bearer.number)?;
+        let own_quotes = quotes_from(alloc, quotes, quotes_at, bearer.number)?;
+        given_at += own_given.len();
+        quotes_at += own_quotes.len();
+        let own = own_of(alloc, outlets, &own_given, own_quotes)?;
+        holders
+            .push(Holder {
+                number: bearer.number,
+                key: bearer.key,
+                own,
+            })
+            .ok()?;
+    }
+    if given_at == given.len() && quotes_at == quotes.len() {
+        Some(holders)
+    } else {
+        None
+    }
+}

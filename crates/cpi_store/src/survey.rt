@@ -1,0 +1,283 @@
+use crate::bearer::Bearer;
+use crate::book::Parts;
+use crate::frozen::month_rows;
+use crate::given::Given;
+use crate::handover::Handover;
+use crate::holder::Holder;
+use crate::holders::{hand_over_in, put_assignment_of, put_holder, put_quote_of};
+use crate::outlet::Outlet;
+use crate::taken_over::{TakenOver, series_in};
+use cpi_codes::{CollectorId, Key, Month, OutletId, Slot};
+use cpi_index::FrozenQuote;
+use cpi_plan::{CalendarRow, Item, YearPlan};
+use cpi_rows::{RowsByKey, find_row};
+use cpi_survey::{Assigned, Own, Public, Quote};
+use std::alloc::{AllocError, Global};
+use std::collections::BTreeMap;
+use std::marker::Model;
+
+/// What an office has of its survey, which is all but its releases: items, plans, calendar rows, collectors, outlets,
+/// assignments and quotes. Contracts see the office that has them and no release.
+///
+/// A write fails only where memory was refused, and changes nothing then; one over a row that stands takes none.
+/// Collectors, their rows, items, plans, months and outlets are found in a number of steps that grows with the
+/// logarithm of how many there are, and items and outlets are put in as many. Any other write shifts the rows of one
+/// list: of assignments those of one collector, and of quotes those of one slot, or the collector's slots where one
+/// has its first quote.
+#[derive(Drop)]
+pub struct Survey {
+    pub(crate) public: Public,
+    // by number
+    pub(crate) holders: Vec<Holder>,
+    // by collector and slot
+    pub(crate) taken: Vec<TakenOver>,
+    pub(crate) outlets: RowsByKey<Outlet>,
+    // the holders, by the key that each bears
+    pub(crate) bearers: BTreeMap<Key, Bearer>,
+    // what a number that nobody has, has
+    pub(crate) nobody: Own,
+    pub(crate) alloc: Global,
+}
+
+impl Model for Survey {
+    ghost use Rattle.std.specs.Prelude.{◌≡◌, ℕ, [], map};
+    ghost use Rattle.std.specs.Ordering.{nat_cmp};
+    ghost use Rattle.std.specs.BTreeMap.{get};
+    ghost use Rattle.std.specs.List.{AllByRecursion};
+    ghost use Rattle.cpi_rows.specs.Keyed.{IsInOrder};
+    ghost use Rattle.cpi_rows.specs.Held.{held_cmp};
+    ghost use Rattle.cpi_store.specs.Bearer.{bearer_of};
+    ghost use Rattle.cpi_store.specs.Office.{Office};
+    ghost use Rattle.cpi_store.specs.Holders.{ArePlaced, IsGiven, all_assignments, collectors_of, named_by, office_of};
+
+    ghost Value = { Office };
+
+    ghost view = { λ s. office_of s.public s.outlets [] s.taken.items s.holders.items };
+
+    ghost invariant = { λ s. record {
+      holders : IsInOrder nat_cmp (λ h. h.number) s.holders.items;
+      bearers : (key : ℕ) → get nat_cmp s.bearers key ≡ bearer_of key (collectors_of s.holders.items);
+      outlets : IsInOrder nat_cmp (λ u. u.number) s.outlets;
+      taken : IsInOrder (held_cmp nat_cmp) (λ t. (t.collector, t.slot)) s.taken.items;
+      given : AllByRecursion (IsGiven (all_assignments s.holders.items)) s.taken.items;
+      placed : ArePlaced s.outlets (map (λ h. h.own.assignments) s.holders.items);
+      nobody : s.nobody ≡ record { assignments = []; quotes = [] };
+      names : named_by s.outlets (map (λ h. h.own.assignments) s.holders.items)
+          ≡ map (λ h. h.own.assignments) s.holders.items;
+    } };
+}
+
+impl Survey {
+    ghost use Rattle.std.specs.Prelude.{◌≡◌, true, IfOk};
+    ghost use Rattle.std.specs.Option.{option_copied};
+    ghost use Rattle.cpi_rows.specs.Keyed.{at};
+    ghost use Rattle.cpi_rows.specs.Held.{held_by};
+    ghost use Rattle.cpi_index.specs.Series.{is_by_series, frozen_serial};
+    ghost use Rattle.cpi_store.specs.Bearer.{bearer_of};
+    ghost use Rattle.cpi_store.specs.Office.{empty_office, public_part, own_part, month_rows};
+
+    /// An office that has nothing, which takes no memory yet. Its calls take their memory from this allocator.
+    pub fn new(alloc: Global) -> Survey
+        ensures { result ≡ empty_office }
+    {
+        Survey {
+            public: Public::new(alloc),
+            holders: Vec::new(alloc),
+            taken: Vec::new(alloc),
+            outlets: RowsByKey::new(alloc),
+            bearers: BTreeMap::new(alloc),
+            nobody: Own::new(alloc),
+            alloc,
+        }
+    }
+
+    /// The collector who bears the key; none where nobody does.
+    pub fn bearer_of(&self, key: Key) -> Option<Bearer>
+        ensures { result ≡ bearer_of key self.now.collectors }
+    {
+        self.bearers.get(&key).copied()
+    }
+
+    /// The collector with the number; none where the number isn't registered.
+    pub fn bearer_at(&self, number: CollectorId) -> Option<Bearer>
+        ensures { result ≡ at (λ b. b.number) number self.now.collectors }
+    {
+        match find_row(&self.holders, &number) {
+            Some(holder) => Some(Bearer {
+                number: holder.number,
+                key: holder.key,
+            }),
+            None => None,
+        }
+    }
+
+    /// The outlet with the number; none where there is no such outlet.
+    pub fn outlet(&self, number: OutletId) -> Option<&Outlet>
+        ensures { option_copied result ≡ at (λ u. u.number) number self.now.outlets }
+    {
+        self.outlets.find(&number)
+    }
+
+    /// The public specification: items by code, plans by year, and calendar rows by month.
+    pub fn public(&self) -> &Public
+        ensures { result.now ≡ public_part self.now }
+    {
+        &self.public
+    }
+
+    /// What a collector has: assignments by slot, and quotes by slot and month. A number that nobody has, has nothing.
+    pub fn own(&self, collector: CollectorId) -> &Own
+        ensures { result.now ≡ own_part collector self.now }
+    {
+        match find_row(&self.holders, &collector) {
+            Some(holder) => &holder.own,
+            None => &self.nobody,
+        }
+    }
+
+    /// The public specification, and what a collector has; a number that nobody has, has nothing.
+    pub fn parts(&self, collector: CollectorId) -> Parts<'_>
+        ensures public { result.public.now ≡ public_part self.now }
+        ensures own { result.own.now ≡ own_part collector self.now }
+    {
+        Parts {
+            public: &self.public,
+            own: self.own(collector),
+        }
+    }
+
+    /// What the collector's slot was given, with its series; none where the collector has no such slot.
+    pub fn given(&self, collector: CollectorId, slot: Slot) -> Option<Given>
+        ensures { result ≡ at (λ g. g.assignment.slot) slot (held_by collector self.now.assignments) }
+    {
+        match self.own(collector).assigned(slot) {
+            Some(assigned) => Some(Given {
+                assignment: assigned.assignment,
+                series: series_in(&self.taken, collector, slot),
+            }),
+            None => None,
+        }
+    }
+
+    /// The stored quotes of the month by series, each with the item and the last month of its series, where no series
+    /// has two in the month.
+    pub fn month_rows(&self, month: Month) -> Result<Vec<FrozenQuote>, AllocError>
+        ensures { IfOk result (λ found. is_by_series frozen_serial (month_rows month self.now) ≡ true →
+            found.items ≡ month_rows month self.now) }
+    {
+        month_rows(self.alloc, month, &self.taken, &self.holders)
+    }
+}
+
+impl Survey {
+    ghost use Rattle.std.specs.Prelude.{◌≡◌, OnErr, OnOk, IsOk, IsSome};
+    ghost use Rattle.cpi_rows.specs.Keyed.{at};
+    ghost use Rattle.cpi_store.specs.Office.{changed, PutsItem, PutsPlan, PutsCalendar};
+
+    /// Puts an item, over the one with its code if there is one.
+    pub fn put_item(&mut self, item: Item) -> Result<(), AllocError>
+        ensures ok { OnOk result (self.new ≡ changed (PutsItem item) self.old) }
+        ensures err { OnErr result (self.new ≡ self.old) }
+    {
+        self.public.put_item(item)
+    }
+
+    /// Puts a year's plan, over the one that stands if there is one, which takes no memory.
+    pub fn put_plan(&mut self, plan: YearPlan) -> Result<(), AllocError>
+        ensures ok { OnOk result (self.new ≡ changed (PutsPlan plan) self.old) }
+        ensures err { OnErr result (self.new ≡ self.old) }
+        ensures replaced { IsSome (at (λ y. y.year) plan.year self.old.plans) → IsOk result }
+    {
+        self.public.put_plan(plan)
+    }
+
+    /// Puts a month's calendar row, over the one that stands if there is one, which takes no memory.
+    pub fn put_calendar(&mut self, row: CalendarRow) -> Result<(), AllocError>
+        ensures ok { OnOk result (self.new ≡ changed (PutsCalendar row) self.old) }
+        ensures err { OnErr result (self.new ≡ self.old) }
+        ensures replaced { IsSome (at (λ r. r.month) row.month self.old.calendar) → IsOk result }
+    {
+        self.public.put_calendar(row)
+    }
+}
+
+impl Survey {
+    ghost use Rattle.std.specs.Prelude.{◌≡◌, ◌<◌, None, OnErr, OnOk, IsOk, IsSome};
+    ghost use Rattle.cpi_rows.specs.Keyed.{at, row_at};
+    ghost use Rattle.cpi_rows.specs.Held.{held_by};
+    ghost use Rattle.cpi_survey.specs.Quote.{greatest_receipt, quote_cmp, quote_key};
+    ghost use Rattle.cpi_store.specs.Bearer.{bearer_of};
+    ghost use Rattle.cpi_store.specs.Outlet.{with_name};
+    ghost use Rattle.cpi_store.specs.Office.{changed, Registers, PutsOutlet, Assigns, HandsOver, Quotes};
+
+    /// Puts a new collector, who has nothing yet. The caller owes that nobody has the number, and that nobody bears
+    /// the key.
+    pub fn put_collector(&mut self, bearer: Bearer) -> Result<(), AllocError>
+        requires number { at (λ b. b.number) bearer.number self.old.collectors ≡ None }
+        requires key { bearer_of bearer.key self.old.collectors ≡ None }
+        ensures ok { OnOk result (self.new ≡ changed (Registers bearer) self.old) }
+        ensures err { OnErr result (self.new ≡ self.old) }
+    {
+        let holder = Holder::new(self.alloc, bearer);
+        put_holder(&mut self.holders, &mut self.bearers, holder)?;
+        Ok(())
+    }
+
+    /// Puts a new outlet. The caller owes that no outlet has its number.
+    pub fn put_outlet(&mut self, outlet: Outlet) -> Result<(), AllocError>
+        requires new { at (λ u. u.number) outlet.number self.old.outlets ≡ None }
+        ensures ok { OnOk result (self.new ≡ changed (PutsOutlet outlet) self.old) }
+        ensures err { OnErr result (self.new ≡ self.old) }
+    {
+        self.outlets.put(outlet)?;
+        Ok(())
+    }
+
+    /// Puts a new assignment of the collector, as a series of its own, with the name of its outlet. The caller owes
+    /// that the collector is registered, that the collector's slot is free, that the outlet is there, and that the name
+    /// is the outlet's.
+    pub fn put_assignment(&mut self, bearer: Bearer, assigned: Assigned) -> Result<(), AllocError>
+        requires known { IsSome (at (λ b. b.number) bearer.number self.old.collectors) }
+        requires new { at (λ g. g.assignment.slot) assigned.assignment.slot (held_by bearer.number self.old.assignments)
+            ≡ None }
+        requires outlet { IsSome (at (λ u. u.number) assigned.assignment.outlet self.old.outlets) }
+        requires name { assigned ≡ with_name self.old.outlets assigned.assignment }
+        ensures ok { OnOk result (self.new ≡ changed (Assigns bearer assigned) self.old) }
+        ensures err { OnErr result (self.new ≡ self.old) }
+    {
+        put_assignment_of(&mut self.holders, bearer.number, assigned)?;
+        Ok(())
+    }
+
+    /// Ends an assignment of one collector, and gives its series to a new slot of another, who may be the same: both
+    /// or neither. The caller owes that the taker is registered, that the former assignment is there, that the new slot
+    /// is free, that the outlet is there, and that the name is its own.
+    pub fn put_handover(&mut self, handover: Handover) -> Result<(), AllocError>
+        requires taker { IsSome (at (λ b. b.number) handover.taker.number self.old.collectors) }
+        requires stands { IsSome (at (λ g. g.assignment.slot) handover.ended.assignment.slot
+            (held_by handover.former.number self.old.assignments)) }
+        requires new { at (λ g. g.assignment.slot) handover.assigned.assignment.slot
+            (held_by handover.taker.number self.old.assignments) ≡ None }
+        requires outlet { IsSome (at (λ u. u.number) handover.assigned.assignment.outlet self.old.outlets) }
+        requires name { handover.assigned ≡ with_name self.old.outlets handover.assigned.assignment }
+        ensures ok { OnOk result (self.new ≡ changed (HandsOver handover) self.old) }
+        ensures err { OnErr result (self.new ≡ self.old) }
+    {
+        hand_over_in(&mut self.holders, &mut self.taken, handover)?;
+        Ok(())
+    }
+
+    /// Puts a quote of the collector, over the one of its slot and month if there is one, which takes no memory. The
+    /// caller owes that the collector is registered, and that the receipt is above all others of the collector.
+    pub fn put_quote(&mut self, bearer: Bearer, quote: Quote) -> Result<(), AllocError>
+        requires known { IsSome (at (λ b. b.number) bearer.number self.old.collectors) }
+        requires receipt { greatest_receipt (held_by bearer.number self.old.quotes) < quote.receipt }
+        ensures ok { OnOk result (self.new ≡ changed (Quotes bearer quote) self.old) }
+        ensures err { OnErr result (self.new ≡ self.old) }
+        ensures replaced { IsSome (row_at quote_cmp quote_key (quote.slot, quote.month)
+            (held_by bearer.number self.old.quotes)) → IsOk result }
+    {
+        put_quote_of(&mut self.holders, bearer.number, quote)?;
+        Ok(())
+    }
+}
