@@ -25,6 +25,7 @@ use Rattle.sqlite_value.proofs.OrderLemmas.{value_cmp_total}
 use Rattle.cpi_sql_rows.specs.Tables.{office_schema, version, assignment, quote, release, frozen, carried, level}
 use Rattle.cpi_sql_rows.specs.Texts.{put_version_text, put_version_command}
 use Rattle.cpi_sql_rows.specs.Finding.{AreCleared, HaveFirstRowids}
+use Rattle.cpi_sql_rows.specs.Making.{HasAllTables}
 use Rattle.cpi_sql_rows.specs.Numbered.{IsVersion}
 use Rattle.cpi_sql_rows.specs.Shelf.{HasRowids}
 use Rattle.cpi_sql_rows.proofs.Reading.{left_has}
@@ -34,7 +35,7 @@ use Rattle.cpi_sql_open.specs.Copies.{IsLeft, IsNumbered, KeepsBut}
 use Rattle.cpi_sql_rows.proofs.Texts.{put_version_is}
 use Rattle.cpi_sql_open.proofs.CopyTexts.{clear_levels_is, clear_carried_is, clear_frozen_is, clear_releases_is}
 use Rattle.cpi_sql_open.proofs.CopyTexts.{clear_quotes_is, clear_assignments_is, clear_version_is}
-use Rattle.cpi_sql_open.proofs.CopiedTables.{did, cleared, put_left, left_then}
+use Rattle.cpi_sql_open.proofs.CopiedTables.{all_there, did, cleared, put_left, left_then}
 use Rattle.cpi_sql_open.proofs.CopySteps.{Ran}
 use Rattle.cpi_sql_rows.proofs.Writing.{cast_int, cast_null}
 
@@ -222,7 +223,8 @@ abbrev version_row : Row
 version_row = Int (pos 2) ∷ Null ∷ []
 
 version_put : (old new : State) → IsTrue old.in_transaction → old.now.schema ≡ office_schema
-    → old.now.trees 0 ≡ [] → Ran put_version_text old new → IsLeft (0 ∷ []) old new × IsVersion 2 (new.now.trees 0)
+    → old.now.trees 0 ≡ [] → Ran put_version_text old new
+    → IsLeft (0 ∷ []) old new × IsVersion 2 (new.now.trees 0) × HasAllTables new.now.trees
 version_put old new inside has empty ran =
     let r = ran inside in
     let d = did put_version_text put_version_command put_version_is old new r.0 (λ s w. w) has r.1 in
@@ -237,6 +239,7 @@ version_put old new inside has empty ran =
     ∙ is ∙ ap (put_row version_row) empty in (
       left_by 0 old new inside d.mode it.schema it.others,
       (version_row, rows, refl),
+      all_there new.now d.sound it.schema,
     )
 
 pub numbered : {A E : Type 0} (r : Result A E) (a b c : State) → IsTrue a.in_transaction
@@ -247,4 +250,8 @@ numbered (Err x) a b c inside has one r₁ r₂ = tt
 numbered (Ok x) a b c inside has one r₁ r₂ =
     let first = version_cleared a b inside has one r₁ in
     let second = version_put b c first.0.inside first.0.schema first.1 r₂ in
-    record { left = left_then (0 ∷ []) (0 ∷ []) a b c first.0 second.0; version = second.1 }
+    record {
+      left = left_then (0 ∷ []) (0 ∷ []) a b c first.0 second.0;
+      tables = second.2;
+      version = second.1;
+    }

@@ -31,12 +31,14 @@ use Rattle.sqlite_schema.specs.declared.schema.Column.{Column}
 use Rattle.sqlite_schema.specs.declared.schema.Keys.TheVariants.{Enforced}
 use Rattle.sqlite_schema.specs.declared.schema.Reference.{Reference}
 use Rattle.sqlite_schema.specs.Rules.{Fits}
+use Rattle.sqlite_catalog.specs.Listing.{IsSound}
 use Rattle.sqlite_rules.specs.Action.{works}
 use Rattle.sqlite_rules.specs.Calls.{ids_of}
 use Rattle.sqlite_rules.proofs.ActionLemmas.{no_works}
 use Rattle.sqlite_rules.proofs.ListLemmas.{all_has, some_has}
 use Rattle.cpi_sql_rows.specs.Tables.{office_schema}
 use Rattle.cpi_sql_open.specs.CopyTexts.{copy_command, copy_query, clear_command}
+use Rattle.cpi_sql_rows.specs.Making.{HasAllTables}
 use Rattle.cpi_sql_rows.specs.Texts.{whole_query}
 use Rattle.cpi_sql_open.specs.Copies.{KeepsBut, IsLeft}
 use Rattle.cpi_sql_rows.proofs.Texts.{Makes}
@@ -219,6 +221,11 @@ module _ (name : List ℕ) (tree : ℕ) (columns : List Column) (key : Option �
       }
 
 -- ---- a statement that ran
+
+-- what a database lists of itself is its schema
+pub all_there : (db : Database) → IsDatabase db → db.schema ≡ office_schema → HasAllTables db.trees
+unfolding HasAllTables
+all_there db sound has = subst (λ s. IsSound s db.trees) has sound
 
 pub record Did (text : List ℕ) (command : Command) (old new : State) : Type 0 where
   pub tally : Tally

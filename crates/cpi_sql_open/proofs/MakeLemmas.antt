@@ -487,7 +487,11 @@ made_survives a b c one made two =
     survives_then a b c _ _ _ (λ _ db no. absurd no)
     (λ clean db is none. let disk : HasCleanDisk b = omega (arith, two.clean) in
     let blank = made disk none in
-    subst IsNew (sym is) (blank_office b blank, blank.version)) one two
+    subst IsNew (sym is) (record {
+      tables = blank.tables;
+      office = blank_office b blank;
+      version = blank.version;
+    })) one two
 
 pub unmade_survives : (a b c : State) → Survives a b (λ _. ⊥) → Survives b c (λ _. ⊥)
     → Survives a c (λ db. a.now.schema ≡ no_schema → IsNew db)

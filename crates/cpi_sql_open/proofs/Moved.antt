@@ -111,7 +111,13 @@ module _ (a b : State) (was : IsVersion 1 (a.now.trees 0))
     moved : IsMoved a e
     moved = record {
       schema = n.left.schema;
-      migrated = record { was = was; office = office; version = n.version; cleared = still_gone };
+      migrated = record {
+        was = was;
+        tables = n.tables;
+        office = office;
+        version = n.version;
+        cleared = still_gone;
+      };
       lists = record {
         collectors = rest 1 refl ∙ copied.left.others 1 refl ∙ m.others.1.0;
         outlets = rest 3 refl ∙ copied.left.others 3 refl ∙ m.others.1.1.0;
@@ -133,22 +139,29 @@ module _ (a b : State) (was : IsVersion 1 (a.now.trees 0))
       };
     }
 
-pub all_moved : {A E : Type 0} (r : Result A E) (a b c d e : State) → IsTrue a.in_transaction
-    → a.now.schema ≡ first_schema → IsVersion 1 (a.now.trees 0) → HaveFirstRowids a.now.trees
-    → MakesTables first_schema office_schema second_tables a b → (IsReady b → HasCopied b c)
-    → (IsTrue c.in_transaction → c.now.schema ≡ office_schema → HaveFirstRowids c.now.trees
+-- each step by what its call ensures
+pub all_moved : {A E : Type 0} (r : Result A E) (a b c d e : State) → Survives d e (λ _. ⊥)
+    → Survives c d (λ _. ⊥) → Survives b c (λ _. ⊥)
+    → (HasCleanDisk b → MakesTables first_schema office_schema second_tables a b)
+    → (HasCleanDisk c → IsReady b → HasCopied b c)
+    → (HasCleanDisk d → IsTrue c.in_transaction → c.now.schema ≡ office_schema → HaveFirstRowids c.now.trees
     → IsLeft cleared_trees c d × AreCleared d.now.trees)
-    → (IsTrue d.in_transaction → d.now.schema ≡ office_schema → IsVersion 1 (d.now.trees 0) → OnOk r (IsNumbered d e))
-    → OnOk r (IsMoved a e)
-all_moved (Err x) a b c d e inside first one ids makes copies clears numbers = tt
-all_moved (Ok x) a b c d e inside first one ids makes copies clears numbers =
-    let m = makes inside first in
-    let copied = copies (record { inside = m.inside; schema = m.schema; empty = m.empty }) in
-    let cleared = clears copied.left.inside copied.left.schema (first_rowids a b one m c copied ids) in
+    → (HasCleanDisk e → IsTrue d.in_transaction → d.now.schema ≡ office_schema → IsVersion 1 (d.now.trees 0)
+    → OnOk r (IsNumbered d e))
+    → HasCleanDisk e → IsTrue a.in_transaction → a.now.schema ≡ first_schema → IsVersion 1 (a.now.trees 0)
+    → HaveFirstRowids a.now.trees → OnOk r (IsMoved a e)
+all_moved (Err x) a b c d e last third second makes copies clears numbers clean inside first one ids = tt
+all_moved (Ok x) a b c d e last third second makes copies clears numbers clean inside first one ids =
+    let clean_d : HasCleanDisk d = omega (arith, last.clean) in
+    let clean_c : HasCleanDisk c = omega (arith, third.clean) in
+    let clean_b : HasCleanDisk b = omega (arith, second.clean) in
+    let m = makes clean_b inside first in
+    let copied = copies clean_c (record { inside = m.inside; schema = m.schema; empty = m.empty }) in
+    let cleared = clears clean_d copied.left.inside copied.left.schema (first_rowids a b one m c copied ids) in
     let left = cleared.0 in
     let number : d.now.trees 0 ≡ a.now.trees 0 = left.others 0 refl ∙ copied.left.others 0 refl ∙ m.others.0 in
     moved a b one m c d e copied left cleared.1
-    (numbers left.inside left.schema (subst (IsVersion 1) (sym number) one))
+    (numbers clean left.inside left.schema (subst (IsVersion 1) (sym number) one))
 
 -- ---- after the look at the number
 

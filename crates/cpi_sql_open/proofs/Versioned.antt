@@ -22,6 +22,7 @@ use Rattle.cpi_sql_rows.proofs.Adds.{SameBut}
 use Rattle.cpi_sql_rows.proofs.Change.{change_done}
 use Rattle.cpi_sql_rows.proofs.Writing as writing
 use Rattle.cpi_sql_rows.proofs.Writing.{went, same_value, cast_int, cast_null}
+use Rattle.cpi_sql_open.proofs.CopiedTables.{all_there, did}
 
 abbrev pub version_row : Row
 version_row = Int (pos 2) ∷ Null ∷ []
@@ -59,9 +60,11 @@ version_ran old new count start ran =
     AddsVersion (λ limit s₀ db tally after d.
     version_added limit s₀ db (statement_of put_version_text (understood office_schema put_version_text)) tally
     after d) old new count start.tables ran in
+    let d = did put_version_text put_version_command put_version_is old new count (λ t w. w) start.tables ran in
     let others = it.0.others in
     record {
       schema = it.0.schema;
+      tables = all_there new.now d.sound it.0.schema;
       version = (version_row, it.0.rows ∙ ap (put_row version_row) start.empty.0, refl);
       collectors = others.collectors (λ e. absurd (omega (arith, e))) ∙ start.empty.1.0;
       outlets = others.outlets (λ e. absurd (omega (arith, e))) ∙ start.empty.1.1.0;

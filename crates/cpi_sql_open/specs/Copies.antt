@@ -9,7 +9,7 @@ use Rattle.cpi_sql_rows.specs.Tables.{office_schema}
 use Rattle.cpi_sql_rows.specs.Lists.{office_in}
 use Rattle.cpi_sql_rows.specs.FirstSchema.{first_office_in}
 use Rattle.cpi_sql_rows.specs.Finding.{HaveSurveyRowids, HaveReleaseRowids}
-use Rattle.cpi_sql_rows.specs.Making.{AreEmpty, second_tables}
+use Rattle.cpi_sql_rows.specs.Making.{AreEmpty, HasAllTables, second_tables}
 use Rattle.cpi_sql_rows.specs.Numbered.{IsVersion}
 
 -- the tree of a table of schema 2, and none of these
@@ -47,7 +47,8 @@ pub record HasCopied (old new : State) : Type 0 where
   pub survey : HaveSurveyRowids new.now.trees
   pub releases : HaveReleaseRowids new.now.trees
 
--- the number of schema 2 is in place of what was there
+-- the number of schema 2 is in place of what was there, and all its tables are there
 pub record IsNumbered (old new : State) : Type 0 where
   pub left : IsLeft (0 ∷ 0 ∷ []) old new
+  pub tables : HasAllTables new.now.trees
   pub version : IsVersion 2 (new.now.trees 0)

@@ -2,7 +2,7 @@
 ghost use Rattle.std.specs.Prelude.{◌≡◌, false, Err, OnOk, OnErr, IsTrue};
 ghost use Rattle.sqlite.specs.Held.{state};
 ghost use Rattle.sqlite.specs.State.{HasCleanDisk, Survives};
-ghost use Rattle.cpi_sql_rows.specs.Shelf.{IsCleanBook, IsKept, HasTables};
+ghost use Rattle.cpi_sql_rows.specs.Shelf.{IsCleanBook, IsKept, HasTables, StaysOpen};
 ghost use Rattle.cpi_sql_rows.specs.Tables.{first_schema, office_schema};
 ghost use Rattle.cpi_sql_rows.specs.Finding.{AreWhole, HaveFirstRowids, HavePlanRowids, IsMigrated, IsOpened, MayBeMade};
 ghost use Rattle.cpi_sql_rows.specs.Numbered.{IsVersion, ShowsOther};
@@ -25,6 +25,7 @@ fn test_second<S: Alter>(conn: &mut Connection<S>, alloc: Global) -> Result<(), 
     ensures schema { OnOk result ((state S.Store conn.old).now.schema ≡ office_schema) }
     ensures ready { IsCleanBook (state S.Store conn.new) → OnOk result (HasTables (state S.Store conn.new)) }
     ensures whole { IsCleanBook (state S.Store conn.new) → OnOk result (AreWhole (state S.Store conn.new).now.trees) }
+    ensures open { HasCleanDisk (state S.Store conn.new) → OnOk result (IsTrue (state S.Store conn.new).is_open) }
     ensures crash { Survives (state S.Store conn.old) (state S.Store conn.new) (λ _. ⊥) }
 {
     let Some(same) = has_tables(conn, alloc) else {
@@ -70,6 +71,7 @@ fn migrate_first<S: Alter>(conn: &mut Connection<S>, alloc: Global) -> Result<()
     ensures migrated { IsCleanBook (state S.Store conn.new) → OnOk result (
         ((state S.Store conn.old).now.schema ≡ first_schema)
         × IsMigrated (state S.Store conn.old).now.trees (state S.Store conn.new).now.trees) }
+    ensures open { HasCleanDisk (state S.Store conn.new) → OnOk result (IsTrue (state S.Store conn.new).is_open) }
     ensures crash { Survives (state S.Store conn.old) (state S.Store conn.new) (λ db.
         IsCleanBook (state S.Store conn.old) × (((state S.Store conn.old).now.schema ≡ first_schema)
         × IsMigrated (state S.Store conn.old).now.trees db)) }
@@ -93,6 +95,7 @@ fn open_tables<S: Alter>(conn: &mut Connection<S>, alloc: Global) -> Result<(), 
     ensures whole { IsCleanBook (state S.Store conn.new) → OnOk result (AreWhole (state S.Store conn.new).now.trees) }
     ensures opened { IsCleanBook (state S.Store conn.new) →
         OnOk result (IsOpened (state S.Store conn.old) (state S.Store conn.new)) }
+    ensures stays { OnOk result (StaysOpen (state S.Store conn.old) (state S.Store conn.new)) }
     ensures unknown { IsCleanBook (state S.Store conn.new) →
         result ≡ Err UnknownSchema → ShowsOther S.Store conn.old }
     ensures crash { Survives (state S.Store conn.old) (state S.Store conn.new)
@@ -122,6 +125,7 @@ pub fn open_office<S: Alter>(conn: &mut Connection<S>, alloc: Global) -> Result<
     ensures whole { IsCleanBook (state S.Store conn.new) → OnOk result (AreWhole (state S.Store conn.new).now.trees) }
     ensures opened { IsCleanBook (state S.Store conn.new) →
         OnOk result (IsOpened (state S.Store conn.old) (state S.Store conn.new)) }
+    ensures stays { OnOk result (StaysOpen (state S.Store conn.old) (state S.Store conn.new)) }
     ensures unknown { IsCleanBook (state S.Store conn.new) →
         result ≡ Err UnknownSchema → ShowsOther S.Store conn.old }
     ensures crash { Survives (state S.Store conn.old) (state S.Store conn.new)

@@ -1,5 +1,6 @@
 pub mod Listed
 pub mod Asking
+pub mod Streaming
 pub mod Texts
 pub mod Reading
 pub mod Distinct
@@ -23,6 +24,6 @@ pub mod FoundWhole
 pub mod FoundTables
 pub mod Members
 pub mod ReleaseRows
-pub mod GivenReads
+pub mod HeldReads
 pub mod Written
 pub mod FoundReleases

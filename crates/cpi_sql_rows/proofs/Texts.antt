@@ -9,10 +9,10 @@ use Rattle.cpi_sql_rows.specs.Texts.{put_version_text, put_version_command, bear
 use Rattle.cpi_sql_rows.specs.Texts.{put_collector_text, put_collector_command, outlets_text, outlets_command}
 use Rattle.cpi_sql_rows.specs.Texts.{put_outlet_text, put_outlet_command, items_text, items_command, put_item_text}
 use Rattle.cpi_sql_rows.specs.Texts.{put_item_command, calendar_text, calendar_command, put_calendar_text}
-use Rattle.cpi_sql_rows.specs.Texts.{put_calendar_command, assignments_text, assignments_command}
-use Rattle.cpi_sql_rows.specs.Texts.{all_assignments_text, all_assignments_command, slot_text, slot_command}
+use Rattle.cpi_sql_rows.specs.Texts.{put_calendar_command}
+use Rattle.cpi_sql_rows.specs.Texts.{all_assignments_text, all_assignments_command}
 use Rattle.cpi_sql_rows.specs.Texts.{put_assignment_text, put_assignment_command, replace_given_text}
-use Rattle.cpi_sql_rows.specs.Texts.{replace_given_command, quotes_text, quotes_command}
+use Rattle.cpi_sql_rows.specs.Texts.{replace_given_command, all_quotes_text, all_quotes_command}
 use Rattle.cpi_sql_rows.specs.Texts.{put_quote_text, put_quote_command, nodes_text, nodes_command, places_text}
 use Rattle.cpi_sql_rows.specs.Texts.{places_command, add_node_text, add_node_command, add_place_text}
 use Rattle.cpi_sql_rows.specs.Texts.{add_place_command, drop_nodes_text, drop_nodes_command, drop_places_text}
@@ -50,21 +50,13 @@ pub calendar_is : Asks calendar_text calendar_command
 unfolding understood everything
 calendar_is = (refl, refl, (refl, refl))
 
-pub assignments_is : Asks assignments_text assignments_command
-unfolding understood everything
-assignments_is = (refl, refl, (refl, refl))
-
 pub all_assignments_is : Asks all_assignments_text all_assignments_command
 unfolding understood everything
 all_assignments_is = (refl, refl, (refl, refl))
 
-pub slot_is : Asks slot_text slot_command
+pub all_quotes_is : Asks all_quotes_text all_quotes_command
 unfolding understood everything
-slot_is = (refl, refl, (refl, refl))
-
-pub quotes_is : Asks quotes_text quotes_command
-unfolding understood everything
-quotes_is = (refl, refl, (refl, refl))
+all_quotes_is = (refl, refl, (refl, refl))
 
 pub put_collector_is : Makes put_collector_text put_collector_command
 unfolding understood everything

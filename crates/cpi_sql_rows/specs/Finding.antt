@@ -11,7 +11,7 @@ use Rattle.cpi_sql_rows.specs.Tables.{first_schema, office_schema}
 use Rattle.cpi_sql_rows.specs.Texts.{select}
 use Rattle.std.specs.Ordering.{nat_cmp}
 use Rattle.sqlite.specs.State.{State}
-use Rattle.cpi_sql_rows.specs.Making.{no_schema, HoldsNothing, IsNew}
+use Rattle.cpi_sql_rows.specs.Making.{no_schema, HasAllTables, HoldsNothing, IsNew}
 use Rattle.cpi_sql_rows.specs.Numbered.{IsVersion}
 use Rattle.cpi_sql_rows.specs.Lists.{collector_in, outlet_in, item_in, calendar_in, office_in}
 use Rattle.cpi_sql_rows.specs.FirstSchema.{first_office_in}
@@ -88,21 +88,23 @@ pub record AreCleared (trees : Trees) : Type 0 where
   pub carried : trees 18 ≡ []
   pub levels : trees 20 ≡ []
 
--- the rows of schema 1, whose number was 1, stand in the tables of schema 2, and no longer in their own
+-- the rows of schema 1, whose number was 1, stand in the tables of schema 2, which are all there, and no longer in
+-- their own
 pub record IsMigrated (old new : Trees) : Type 0 where
   pub was : IsVersion 1 (old 0)
+  pub tables : HasAllTables new
   pub office : office_in new ≡ first_office_in old
   pub version : IsVersion 2 (new 0)
   pub cleared : AreCleared new
 
 -- what an open leaves: new tables where there was nothing, the tables of schema 2 as they were, or those of schema 1
--- migrated; their number is 2
+-- migrated; they are all the tables of schema 2, and their number is 2
 abbrev pub IsOpened : State → State → Type 0
 IsOpened old new =
     (((old.now.schema ≡ no_schema) × HoldsNothing new.now.trees)
     ⊎ (((old.now.schema ≡ office_schema) × (new.now ≡ old.now))
     ⊎ ((old.now.schema ≡ first_schema) × IsMigrated old.now.trees new.now.trees)))
-    × IsVersion 2 (new.now.trees 0)
+    × (new.now.schema ≡ office_schema) × IsVersion 2 (new.now.trees 0)
 
 -- whatever stands there endures: a crash leaves it
 abbrev pub IsSettled : State → Type 0
@@ -122,7 +124,7 @@ IsQuietOver Fits s = s.in_transaction ≡ false → Fits s.now.schema → ⊥
 abbrev pub IsQuiet : State → Type 0
 IsQuiet s = IsQuietOver IsOfOffice s
 
--- what an open may commit: the tables of an office that holds nothing, with their number, where nothing was, or
+-- what an open may commit: all the tables of an office that holds nothing, with their number, where nothing was, or
 -- schema 1 migrated
 abbrev pub MayBeMade : State → Trees → Type 0
 MayBeMade old db =

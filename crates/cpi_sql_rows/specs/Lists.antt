@@ -197,18 +197,14 @@ quote_from slot month mark value receipt =
     and_then (ranged 1 400 slot) (λ s. and_then (month_from month) (λ m. and_then (mark_in mark value) (λ k.
     and_then (number_in receipt) (λ n. Some (record { slot = s; month = m; mark = k; receipt = n })))))
 
--- as an answer shows it, after its collector
-abbrev pub shown_quote : Row → Option QuoteRow
+-- as an answer shows them, each after its collector
+abbrev pub shown_quote : Row → Option (ℕ × QuoteRow)
 shown_quote x = and_then (ranged 1 9999 (column x 0))
-    (λ _. quote_from (column x 1) (column x 2) (column x 3) (column x 4) (column x 5))
+    (λ c. and_then (quote_from (column x 1) (column x 2) (column x 3) (column x 4) (column x 5)) (λ q. Some (c, q)))
 
 abbrev pub shown_given : Row → Option (ℕ × Given)
 shown_given x = given_from (column x 0) (column x 1) (column x 2) (column x 3) (column x 4) (column x 5)
     (column x 6) (column x 7) (column x 8)
-
--- without the collector's number
-abbrev pub shown_own : Row → Option Given
-shown_own x = and_then (shown_given x) (λ y. Some y.1)
 
 abbrev pub quote_in : Row → Option (ℕ × QuoteRow)
 quote_in r = and_then (ranged 1 9999 (column r 1))

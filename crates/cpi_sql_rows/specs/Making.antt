@@ -8,6 +8,7 @@ use Rattle.sqlite.specs.Compile.{table_defined_by}
 use Rattle.sqlite_resolve.specs.declared.compiled.Compiled.{Compiled}
 use Rattle.sqlite.specs.Listing.{understood}
 use Rattle.sqlite.specs.Does.{lacks_sequence}
+use Rattle.sqlite.specs.Effect.{IsDatabase}
 use Rattle.sqlite.specs.State.{State, text_of}
 use Rattle.std.specs.List.{AllByRecursion}
 use Rattle.sqlite.specs.Tree.{Trees}
@@ -57,9 +58,15 @@ pub record HasEmpty (schema : Schema) (s : State) : Type 0 where
   pub tables : s.now.schema ≡ schema
   pub empty : AreEmpty schema.tables s.now.trees
 
+-- All twenty tables of the office are there: what a database lists of itself, in a tree of its own, is the office's
+-- schema, and its rows obey that.
+unfoldable pub HasAllTables : Trees → Type 0
+HasAllTables trees = IsDatabase (record { schema = office_schema; trees = trees })
+
 -- the tables of an office are there, and hold nothing but the number of their schema
 pub record IsBlank (s : State) : Type 0 where
   pub schema : s.now.schema ≡ office_schema
+  pub tables : HasAllTables s.now.trees
   pub version : IsVersion 2 (s.now.trees 0)
   pub collectors : s.now.trees 1 ≡ []
   pub outlets : s.now.trees 3 ≡ []
@@ -79,9 +86,11 @@ pub record IsBlank (s : State) : Type 0 where
 unfoldable pub HoldsNothing : Trees → Type 0
 HoldsNothing trees = office_in trees ≡ empty_office
 
--- the rows of an office that holds nothing, with the number of its schema
-abbrev pub IsNew : Trees → Type 0
-IsNew trees = HoldsNothing trees × IsVersion 2 (trees 0)
+-- the tables of an office that holds nothing, all of them, with the number of their schema
+pub record IsNew (trees : Trees) : Type 0 where
+  pub tables : HasAllTables trees
+  pub office : HoldsNothing trees
+  pub version : IsVersion 2 (trees 0)
 
 -- the schemas on the way, each with one table more
 abbrev pub stage_1 : Schema

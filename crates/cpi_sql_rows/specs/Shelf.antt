@@ -1,12 +1,11 @@
 -- What contracts see of a book over a database, and what it keeps true.
-use Rattle.std.specs.Prelude.{◌≡◌, ℕ, pos, Bool, true, false, List, Option, Some, IsSome, IsTrue, refl}
-use Rattle.std.specs.Coded.{Coded, code_by, coded×, coded_ℕ}
+use Rattle.std.specs.Prelude.{◌≡◌, ℕ, Bool, false, List, [], Option, Some, IsSome, IsTrue, refl}
+use Rattle.std.specs.Coded.{Coded, code_by, coded×, coded_ℕ, coded_bool}
 use Rattle.std.specs.Ordering.{nat_cmp, is_eq}
 use Rattle.std.specs.declared.cmp.Ordering.{Ordering}
 use Rattle.std.specs.declared.cmp.Ordering.TheVariants.{Equal}
 use Rattle.sqlite.specs.declared.types.Value.{Value}
-use Rattle.sqlite.specs.declared.types.Value.TheVariants.{Int}
-use Rattle.sqlite.specs.Order.{Row, column, value_cmp}
+use Rattle.sqlite.specs.Order.{Row, value_cmp}
 use Rattle.sqlite.specs.Tree.{Trees, rowid}
 use Rattle.sqlite_trees.specs.declared.store.Store.{Ghosts}
 use Rattle.sqlite_trees.specs.View.{is_int}
@@ -17,32 +16,29 @@ use Rattle.cpi_release.specs.State.{State as BookState}
 use Rattle.cpi_release.specs.Cached.{AreKept}
 use Rattle.cpi_release.specs.declared.cached.Cached.{Cached}
 use Rattle.cpi_release.specs.FrozenMonths.{release_cmp}
-use Rattle.cpi_rows.specs.Keyed.{IsInOrder}
 use Rattle.cpi_rows.specs.Held.{held_cmp, held_key}
-use Rattle.cpi_store.specs.declared.bearer.Bearer.{Bearer}
-use Rattle.cpi_store.specs.declared.given.Given.{Given}
-use Rattle.cpi_store.specs.declared.outlet.Outlet.{Outlet}
-use Rattle.cpi_survey.specs.Public.{PublicPart}
-use Rattle.cpi_survey.specs.Own.{OwnPart}
 use Rattle.cpi_survey.specs.Quote.{quote_cmp, quote_key}
-use Rattle.cpi_store.specs.Office.{Office, Change, changed, public_part, own_part}
+use Rattle.cpi_store.specs.Office.{Office, Change, changed, with_releases}
 use Rattle.cpi_store.specs.Sources.{office_sources}
 use Rattle.cpi_codes.specs.CodeOrder.{code_cmp}
 use Rattle.cpi_index.specs.Series.{frozen_serial, carried_serial}
 use Rattle.cpi_sql_rows.specs.Tables.{office_schema}
 use Rattle.cpi_sql_rows.specs.Lists.{office_in, collector_in, outlet_in, item_in, calendar_in, assignment_in}
 use Rattle.cpi_sql_rows.specs.Lists.{quote_in, node_in, place_in, reference_row, header_in, header_key, frozen_in, carried_in, level_in}
-use Rattle.cpi_sql_rows.specs.Lists.{collectors_in, outlets_in, headers_in, assignments_in, month_at}
+use Rattle.cpi_sql_rows.specs.Lists.{headers_in}
 use Rattle.cpi_sql_rows.specs.LevelTables.{ReleaseLevels, AreTablesOf}
 use Rattle.cpi_sql_rows.specs.declared.release_rows.Header.{Header}
 
 pub record Shelf (S : Type 0) : Type 0 where
   pub held : Held S
+  -- whether the survey was read, which is kept from then on
+  pub is_read : Bool
   pub failures : ℕ
 
 abbrev pub shelf_code : {S : Type 0} → Coded S → Coded (Shelf S)
-shelf_code {S} store = code_by (Held S × ℕ) (coded× (held_code store) coded_ℕ) (λ b. (b.held, b.failures))
-    (λ p. record { held = p.0; failures = p.1 }) (λ _. refl)
+shelf_code {S} store = code_by (Held S × (Bool × ℕ)) (coded× (held_code store) (coded× coded_bool coded_ℕ))
+    (λ b. (b.held, (b.is_read, b.failures)))
+    (λ p. record { held = p.0; is_read = p.1.0; failures = p.1.1 }) (λ _. refl)
 
 -- as SQL compares
 abbrev pub equals : Value → Value → Bool
@@ -62,16 +58,10 @@ IsKeyed {X} cmp key entry rows = (r s : Row) (x y : X) → Has rows r → Has ro
 unfoldable pub AllStand : {X : Type 0} → (Row → Option X) → List Row → Type 0
 AllStand entry rows = (r : Row) → Has rows r → IsSome (entry r)
 
--- each row of that slot of the collector stands for an assignment
-unfoldable pub SlotStands : ℕ → ℕ → Trees → Type 0
-SlotStands collector slot trees = (r : Row) → Has (trees 22) r → equals (column r 1) (Int (pos collector)) ≡ true
-    → equals (column r 2) (Int (pos slot)) ≡ true → IsSome (assignment_in r)
-
--- each row of that month, in the slot of an assignment, stands for a quote
-unfoldable pub MonthStands : ℕ → Trees → Type 0
-MonthStands month trees = (c n : ℕ) (g : Given) → Has (assignments_in (trees 22)) (c, g) → month_at n ≡ Some month
-    → (q : Row) → Has (trees 24) q → column q 1 ≡ Int (pos c) → column q 2 ≡ Int (pos g.assignment.slot)
-    → column q 3 ≡ Int (pos n) → IsSome (quote_in q)
+-- the types take each assignment and each quote
+pub record AreTaken (trees : Trees) : Type 0 where
+  pub assignments : AllStand assignment_in (trees 22)
+  pub quotes : AllStand quote_in (trees 24)
 
 -- each row stands for something, and no two have one key
 pub record IsWhole {X K : Type 0} (cmp : K → K → Ordering) (key : X → K) (entry : Row → Option X) (rows : List Row)
@@ -143,9 +133,13 @@ pub record IsDone (change : Change) (old new : State) : Type 0 where
 abbrev pub HeadersStand : Trees → Bool → List Header → Type 0
 HeadersStand trees has_headers headers = IsTrue has_headers → headers ≡ headers_in (trees 26)
 
--- what is kept of what everybody may see, where it was read
-abbrev pub PublicStands : Trees → Bool → PublicPart → Type 0
-PublicStands trees has_public public = IsTrue has_public → public ≡ public_part (office_in trees)
+-- an office but for its releases
+abbrev pub survey_of : Office → Office
+survey_of office = with_releases [] office
+
+-- what is kept of the survey, where it was read
+abbrev pub SurveyStands : Trees → Bool → Office → Type 0
+SurveyStands trees is_read survey = IsTrue is_read → survey ≡ survey_of (office_in trees)
 
 -- what a book keeps in memory of the releases, and the samples of the month that is being frozen
 pub record KeptReleases : Type 0 where
@@ -162,29 +156,19 @@ pub record ReleasesStand (trees : Trees) (k : KeptReleases) : Type 0 where
 
 -- what a book keeps in memory of what it has read
 pub record Caches : Type 0 where
-  pub has_bearers : Bool
-  pub bearers : List Bearer
-  pub has_outlets : Bool
-  pub outlets : List Outlet
-  pub has_public : Bool
-  pub public : PublicPart
-  pub whose : Option ℕ
-  pub own : OwnPart
+  pub is_read : Bool
+  pub survey : Office
   pub releases : KeptReleases
 
 -- what is kept is what the tables hold
 pub record Stands (s : State) (c : Caches) : Type 0 where
   pub tables : HasTables s
-  pub bearers : IsTrue c.has_bearers → c.bearers ≡ collectors_in (s.now.trees 1)
-  pub outlets : IsTrue c.has_outlets → c.outlets ≡ outlets_in (s.now.trees 3)
-  pub public : PublicStands s.now.trees c.has_public c.public
-  pub own : (n : ℕ) → c.whose ≡ Some n → c.own ≡ own_part n (office_in s.now.trees)
+  pub survey : SurveyStands s.now.trees c.is_read c.survey
   pub releases : ReleasesStand s.now.trees c.releases
 
-pub record IsSound (s : State) (c : Caches) : Type 0 where
-  -- the collectors are in order, whether they are the table's or not
-  pub order : IsInOrder nat_cmp (λ b. b.number) c.bearers
-  pub stands : IsCleanBook s → Stands s c
+-- where the store is clean, what is kept is what the tables hold
+abbrev pub IsSound : State → Caches → Type 0
+IsSound s c = IsCleanBook s → Stands s c
 
 -- the office that the tables of a database hold, as a book over it shows that
 abbrev pub office_state : State → ℕ → BookState Office

@@ -130,34 +130,12 @@ put_calendar_command = InsertOr 6 Abort (Values given_calendar 5) (record {
 
 -- ---- assignments
 
-abbrev pub assignments_text : List ℕ
-assignments_text = codes
-    "SELECT collector, slot, outlet, item, first_month, last_month, series_collector, series_slot, copied FROM assignment_2 WHERE collector = ?1 ORDER BY collector, slot"
-
-abbrev pub assignments_command : Command
-assignments_command = select 22 (is_first 1) (1 ∷ 2 ∷ 3 ∷ 4 ∷ 5 ∷ 6 ∷ 7 ∷ 8 ∷ 9 ∷ []) (1 ∷ 2 ∷ [])
-    (codes "collector" ∷ codes "slot" ∷ codes "outlet" ∷ codes "item" ∷ codes "first_month" ∷ codes "last_month"
-    ∷ codes "series_collector" ∷ codes "series_slot" ∷ codes "copied" ∷ [])
-
 abbrev pub all_assignments_text : List ℕ
 all_assignments_text = codes
     "SELECT collector, slot, outlet, item, first_month, last_month, series_collector, series_slot, copied FROM assignment_2 ORDER BY collector, slot"
 
 abbrev pub all_assignments_command : Command
 all_assignments_command = select 22 [] (1 ∷ 2 ∷ 3 ∷ 4 ∷ 5 ∷ 6 ∷ 7 ∷ 8 ∷ 9 ∷ []) (1 ∷ 2 ∷ [])
-    (codes "collector" ∷ codes "slot" ∷ codes "outlet" ∷ codes "item" ∷ codes "first_month" ∷ codes "last_month"
-    ∷ codes "series_collector" ∷ codes "series_slot" ∷ codes "copied" ∷ [])
-
--- the collector and the slot are the first two parameters
-abbrev pub is_slot : List Term
-is_slot = op2 (Compare Eq Binary) (col 1 1) (col 0 0) ∷ op2 (Compare Eq Binary) (col 1 2) (col 0 1) ∷ []
-
-abbrev pub slot_text : List ℕ
-slot_text = codes
-    "SELECT collector, slot, outlet, item, first_month, last_month, series_collector, series_slot, copied FROM assignment_2 WHERE collector = ?1 AND slot = ?2 ORDER BY collector, slot"
-
-abbrev pub slot_command : Command
-slot_command = select 22 is_slot (1 ∷ 2 ∷ 3 ∷ 4 ∷ 5 ∷ 6 ∷ 7 ∷ 8 ∷ 9 ∷ []) (1 ∷ 2 ∷ [])
     (codes "collector" ∷ codes "slot" ∷ codes "outlet" ∷ codes "item" ∷ codes "first_month" ∷ codes "last_month"
     ∷ codes "series_collector" ∷ codes "series_slot" ∷ codes "copied" ∷ [])
 
@@ -189,11 +167,11 @@ replace_given_command = InsertOr 13 Abort (Values given_assignment 10) (record {
 
 -- ---- quotes
 
-abbrev pub quotes_text : List ℕ
-quotes_text = codes "SELECT collector, slot, month, mark, value, receipt FROM quote_2 WHERE collector = ?1 ORDER BY collector, slot, month"
+abbrev pub all_quotes_text : List ℕ
+all_quotes_text = codes "SELECT collector, slot, month, mark, value, receipt FROM quote_2"
 
-abbrev pub quotes_command : Command
-quotes_command = select 24 (is_first 1) (1 ∷ 2 ∷ 3 ∷ 4 ∷ 5 ∷ 6 ∷ []) (1 ∷ 2 ∷ 3 ∷ [])
+abbrev pub all_quotes_command : Command
+all_quotes_command = select 24 [] (1 ∷ 2 ∷ 3 ∷ 4 ∷ 5 ∷ 6 ∷ []) []
     (codes "collector" ∷ codes "slot" ∷ codes "month" ∷ codes "mark" ∷ codes "value" ∷ codes "receipt" ∷ [])
 
 abbrev pub put_quote_text : List ℕ

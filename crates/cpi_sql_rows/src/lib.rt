@@ -3,7 +3,7 @@
 
 mod ask;
 mod columns;
-mod given_rows;
+mod held_rows;
 mod lookup;
 mod reference_months;
 mod release_rows;
@@ -17,11 +17,10 @@ pub use columns::{
     code_text, collector_number, high_number, item_text, key_text, low_number, mark_text,
     mark_value, moment_value, month_number, name_text, outlet_number, slot_number,
 };
-pub use given_rows::{GivenRow, given_to, series_ends};
+pub use held_rows::{all_given, all_quotes};
 pub use lookup::by_key;
 pub use reference_months::ReferenceMonth;
 pub use release_rows::Header;
 pub use rowids::scan;
-pub use rows::{read_collector, read_mark, read_month, read_slot};
 pub use stored::{Stored, Unread, list};
 pub use tables::{bearers, calendar, items, outlets};

@@ -198,26 +198,6 @@ pub fn read_mark(row: &Row, mark: usize, value: usize) -> Option<Mark>
     mark_of(text.as_str(), value)
 }
 
-impl Stored for Quote {
-    ghost use Rattle.cpi_sql_rows.specs.Lists.{shown_quote};
-
-    ghost stands_for = { shown_quote };
-
-    fn read(alloc: Global, row: &Row) -> Option<Quote> {
-        let _collector = read_collector(row, 0)?;
-        let slot = read_slot(row, 1)?;
-        let month = read_month(row, 2)?;
-        let mark = read_mark(row, 3, 4)?;
-        let receipt: u32 = row.get(5).ok()?;
-        Some(Quote {
-            slot,
-            month,
-            mark,
-            receipt,
-        })
-    }
-}
-
 pub fn code_of(text: &[u8]) -> Option<Code>
     ensures { result ≡ spelled text.now }
 {

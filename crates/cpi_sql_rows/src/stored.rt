@@ -10,7 +10,6 @@ ghost use Rattle.cpi_rows.specs.Keyed.{IsInOrder};
 ghost use Rattle.cpi_sql_rows.specs.Shelf.{IsCleanBook, IsKept};
 ghost use Rattle.cpi_sql_rows.specs.Read.{AreRead};
 
-use crate::ask::ask;
 use cpi_rows::{Keyed, are_in_order};
 use sqlite::{Alter, Connection, Error, Row};
 use sqlite_value::value::ValueRef;
@@ -35,24 +34,51 @@ pub trait Stored: Keyed + Drop {
         ensures { IfSome result (λ x. stands_for row.now ≡ Some x) };
 }
 
-/// What the rows stand for, where their keys rise.
-pub fn read_all<T: Stored>(alloc: Global, rows: &[Row]) -> Option<Vec<T>>
-    ensures read { IfSome result (λ xs. AreRead T.stands_for rows.now xs.items) }
-    ensures order { IfSome result (λ xs. IsInOrder T.Key.cmp T.key xs.items) }
+/// The rows that were read, where their keys rise.
+pub fn in_order<T: Stored>(read: Vec<T>) -> Result<Vec<T>, Unread>
+    ensures same { IfOk result (λ xs. xs.items ≡ read.items) }
+    ensures order { IfOk result (λ xs. IsInOrder T.Key.cmp T.key xs.items) }
 {
-    let mut read = Vec::new(alloc);
-    'rows: for row in rows {
-        let x = T::read(alloc, row)?;
-        read.push(x).ok()?;
-    }
     if are_in_order(&read) {
-        Some(read)
+        Ok(read)
     } else {
-        None
+        Err(Unread)
     }
 }
 
-/// The answer of a query, read row by row.
+/// What the rows of an answer stand for, as they come. They are read one by one, so that none of them is kept.
+pub fn gather<S: Alter, T: Stored>(
+    conn: &mut Connection<S>,
+    alloc: Global,
+    text: &str,
+    params: &[ValueRef<'_>],
+) -> Result<Vec<T>, Unread>
+    ensures clean { IsCleanBook (state S.Store conn.new) → IsCleanBook (state S.Store conn.old) }
+    ensures read { HasCleanDisk (state S.Store conn.new)
+        → IfOk result (λ xs. (rows : _)
+        × Shown text.now (bound params.now) (state S.Store conn.old) (state S.Store conn.new) rows
+        × AreRead T.stands_for rows xs.items) }
+    ensures kept { IsCleanBook (state S.Store conn.new) → (state S.Store conn.old).in_transaction ≡ false
+        → IsPlain (understood (state S.Store conn.old).now.schema text.now)
+        → IsKept (state S.Store conn.old) (state S.Store conn.new) }
+    ensures open { HasCleanDisk (state S.Store conn.new) → OnOk result (IsTrue (state S.Store conn.new).is_open) }
+    ensures crash { Survives (state S.Store conn.old) (state S.Store conn.new)
+        (CommitsShowing text.now (bound params.now) (state S.Store conn.old)) }
+{
+    let _settled = conn.is_autocommit();
+    let mut read = Vec::new(alloc);
+    let mut rows = conn.query(text, params)?;
+    'rows: for _ in 0..u64::MAX {
+        let Some(row) = rows.next()? else {
+            return Ok(read);
+        };
+        let x = T::read(alloc, row).ok_or(Unread)?;
+        read.push(x).map_err(|_| Unread)?;
+    }
+    Err(Unread)
+}
+
+/// The same, where the keys rise.
 pub fn list<S: Alter, T: Stored>(
     conn: &mut Connection<S>,
     alloc: Global,
@@ -72,6 +98,6 @@ pub fn list<S: Alter, T: Stored>(
     ensures crash { Survives (state S.Store conn.old) (state S.Store conn.new)
         (CommitsShowing text.now (bound params.now) (state S.Store conn.old)) }
 {
-    let rows = ask(conn, text, params)?;
-    read_all(alloc, &rows).ok_or(Unread)
+    let read = gather(conn, alloc, text, params)?;
+    in_order(read)
 }

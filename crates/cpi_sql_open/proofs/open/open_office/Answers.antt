@@ -25,7 +25,7 @@ pub returns-in-Ok-clause-opened : goal.returns-in-Ok-clause-opened
 returns-in-Ok-clause-opened g c = λ clean.
     let none = c.is_blank.ensures c.if-is_blank.true in
     let blank = c.in-Ok.ensures.made clean.disk none in
-    (inl (none, blank_office (state g.S.Store c.make_tables.new.conn) blank), blank.version)
+    (inl (none, blank_office (state g.S.Store c.make_tables.new.conn) blank), blank.schema, blank.version)
 
 pub returns-in-Ok-clause-whole : goal.returns-in-Ok-clause-whole
 returns-in-Ok-clause-whole g c = λ clean. blank_whole (state g.S.Store c.make_tables.new.conn)

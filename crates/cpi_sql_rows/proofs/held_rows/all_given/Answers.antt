@@ -2,8 +2,8 @@ use Rattle.sqlite.specs.Held.{state}
 use Rattle.cpi_sql_rows.specs.Texts.{all_assignments_text}
 use Rattle.cpi_sql_rows.proofs.Whole.{both_ok, asked_crash}
 use Rattle.cpi_sql_rows.proofs.FoundWhole.{on_both}
-use Rattle.cpi_sql_rows.proofs.GivenReads.{all_given_read, all_given_stand, all_given_plain}
-use Rattle.cpi_sql_rows.proofs.given_rows.all_given.Goals as goal
+use Rattle.cpi_sql_rows.proofs.HeldReads.{all_given_read, all_given_stand, all_given_plain}
+use Rattle.cpi_sql_rows.proofs.held_rows.all_given.Goals as goal
 
 pub returns-clause-kept : goal.returns-clause-kept
 returns-clause-kept g c = λ clean has.
