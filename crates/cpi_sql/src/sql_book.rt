@@ -2,62 +2,34 @@ use cpi_codes::{Code, CollectorId, Key, Moment, Month, OutletId, Slot};
 use cpi_index::{ChainedLevel, FrozenQuote, GroupRow};
 use cpi_plan::{CalendarRow, Item, YearPlan};
 use cpi_release::{Cached, Failures, FrozenMonth, GroupFault, Groups, Level, Release, Revision};
-use cpi_rows::{Rows, RowsByKey, find_row};
+use cpi_rows::Rows;
 use cpi_sql_open::open_office;
 use cpi_sql_reads::{
-    LevelTable, all_months, find_key, find_revision, find_table, follow_calendar, follow_collector,
-    follow_item, follow_outlet, follow_plan, follow_quote, lent_table, level_of, month_rows,
-    months_published, ready_bearers, ready_outlets, ready_own, ready_parts, ready_public,
-    sample_rows,
+    LevelTable, all_months, find_revision, find_table, follow_assignment, follow_calendar,
+    follow_collector, follow_handover, follow_item, follow_outlet, follow_plan, follow_quote,
+    lent_table, level_of, months_published, quotes_of_month, ready_survey, sample_rows,
 };
-use cpi_sql_rows::{Header, given_to, settle};
+use cpi_sql_rows::{Header, settle};
 use cpi_sql_writes::{
     put_assignment, put_calendar, put_collector, put_handover, put_item, put_outlet, put_plan,
     put_quote, put_release,
 };
-use cpi_store::{Bearer, Book, Given, Handover, OpenFault, Outlet, Parts, StoreFault};
+use cpi_store::{Bearer, Book, Given, Handover, OpenFault, Outlet, Parts, StoreFault, Survey};
 use cpi_survey::{Assigned, Own, Public, Quote};
 use sqlite::{Alter, Connection};
 use std::alloc::Global;
 use std::marker::Model;
 
-// What is lent of a book.
-#[derive(Drop)]
-struct Lent {
-    public: Public,
-    own: Own,
-}
-
-impl Lent {
-    ghost use Rattle.std.specs.Prelude.{◌≡◌};
-
-    fn parts(&self) -> Parts<'_>
-        ensures public { result.public.now ≡ self.now.public }
-        ensures own { result.own.now ≡ self.now.own }
-    {
-        Parts {
-            public: &self.public,
-            own: &self.own,
-        }
-    }
-}
-
-/// An office in a database, over the tables of schema 2, which hold each revision of each month. What everybody may
-/// see, the collectors and the outlets are read once and kept in memory, and so are what the collector has who was last
-/// asked for, what the releases say beside their lists, the tables of earlier releases that are asked for, and the
-/// samples of the month that is being frozen. Each write changes what is kept, or drops it.
+/// An office in a database, over the tables of schema 2, which hold each revision of each month. The survey is read
+/// once, by the first request that needs it, and kept in memory from then on; so are what the releases say beside their
+/// lists, the tables of earlier releases that are asked for, and the samples of the month that is being frozen. Each
+/// write changes what is kept, or drops it.
 #[derive(Drop)]
 pub struct SqlBook<S: Alter> {
     conn: Connection<S>,
-    // by number
-    bearers: Vec<Bearer>,
-    has_bearers: bool,
-    outlets: RowsByKey<Outlet>,
-    has_outlets: bool,
-    has_public: bool,
-    // what everybody may see, and what the collector has who was last asked for
-    lent: Lent,
-    whose: Option<CollectorId>,
+    // the office but for its releases
+    survey: Survey,
+    is_read: bool,
     // of all releases, by month and revision
     headers: Vec<Header>,
     has_headers: bool,
@@ -77,17 +49,11 @@ impl<S: Alter> Model for SqlBook<S> {
 
     ghost coded = { shelf_code S.code };
 
-    ghost view = { λ b. record { held = b.conn; failures = b.failed.count } };
+    ghost view = { λ b. record { held = b.conn; is_read = b.is_read; failures = b.failed.count } };
 
     ghost invariant = { λ b. IsSound (state S.Store b.conn) (record {
-      has_bearers = b.has_bearers;
-      bearers = b.bearers.items;
-      has_outlets = b.has_outlets;
-      outlets = b.outlets;
-      has_public = b.has_public;
-      public = b.lent.public;
-      whose = b.whose;
-      own = b.lent.own;
+      is_read = b.is_read;
+      survey = b.survey;
       releases = record {
         has_headers = b.has_headers;
         headers = b.headers.items;
@@ -109,7 +75,7 @@ pub struct Unopened<S: Alter> {
 impl<S: Alter + Drop> SqlBook<S> {
     ghost use Rattle.std.specs.Prelude.{◌≡◌, false, IfErr, IfOk};
     ghost use Rattle.sqlite.specs.Held.{state};
-    ghost use Rattle.cpi_sql_rows.specs.Shelf.{IsCleanBook, IsKept};
+    ghost use Rattle.cpi_sql_rows.specs.Shelf.{IsCleanBook, IsKept, StaysOpen};
     ghost use Rattle.sqlite.specs.State.{Survives};
     ghost use Rattle.cpi_sql_rows.specs.Finding.{AreWhole, IsOpened, IsSettled, MayBeMade};
     ghost use Rattle.cpi_sql_rows.specs.Numbered.{ShowsOther};
@@ -123,11 +89,13 @@ impl<S: Alter + Drop> SqlBook<S> {
         requires { (state S.Store conn).in_transaction ≡ false }
         ensures opened { IfOk result (λ b.
             IsCleanBook (state S.Store b.held) → IsOpened (state S.Store conn) (state S.Store b.held)) }
+        ensures stays { IfOk result (λ b. StaysOpen (state S.Store conn) (state S.Store b.held)) }
         ensures settled { IfOk result (λ b. IsCleanBook (state S.Store b.held) → IsSettled (state S.Store b.held)) }
         ensures crash { IfOk result (λ b.
             Survives (state S.Store conn) (state S.Store b.held) (MayBeMade (state S.Store conn))) }
         ensures whole { IfOk result (λ b. IsCleanBook (state S.Store b.held) → AreWhole (state S.Store b.held).now.trees) }
         ensures count { IfOk result (λ b. b.failures ≡ 0) }
+        ensures unread { IfOk result (λ b. b.is_read ≡ false) }
         ensures kept { IfErr result (λ e.
             IsCleanBook (state S.Store e.conn) → IsKept (state S.Store conn) (state S.Store e.conn)) }
         ensures settled_fault { IfErr result (λ e.
@@ -143,16 +111,8 @@ impl<S: Alter + Drop> SqlBook<S> {
         match found {
             Ok(()) => Ok(SqlBook {
                 conn,
-                bearers: Vec::new(alloc),
-                has_bearers: false,
-                outlets: RowsByKey::new(alloc),
-                has_outlets: false,
-                has_public: false,
-                lent: Lent {
-                    public: Public::new(alloc),
-                    own: Own::new(alloc),
-                },
-                whose: None,
+                survey: Survey::new(alloc),
+                is_read: false,
                 headers: Vec::new(alloc),
                 has_headers: false,
                 tables: Vec::new(alloc),
@@ -174,6 +134,7 @@ impl<S: Alter + Drop> SqlBook<S> {
             Survives (state S.Store conn) (state S.Store b.held) (MayBeMade (state S.Store conn))) }
         ensures whole { IfOk result (λ b. IsCleanBook (state S.Store b.held) → AreWhole (state S.Store b.held).now.trees) }
         ensures count { IfOk result (λ b. b.failures ≡ 0) }
+        ensures unread { IfOk result (λ b. b.is_read ≡ false) }
     {
         match SqlBook::over(alloc, conn) {
             Ok(book) => Ok(book),
@@ -211,8 +172,8 @@ impl<S: Alter> Groups for SqlBook<S> {
             self.alloc,
             &mut self.headers,
             &mut self.has_headers,
-            &mut self.lent.public,
-            &mut self.has_public,
+            &mut self.survey,
+            &mut self.is_read,
             &mut self.cached,
             month,
             code,
@@ -239,15 +200,15 @@ impl<S: Alter> Groups for SqlBook<S> {
 }
 
 impl<S: Alter> Book for SqlBook<S> {
-    ghost use Rattle.std.specs.Prelude.{◌≡◌, OnOk, true, refl};
+    ghost use Rattle.std.specs.Prelude.{◌≡◌, OnOk, false, true, refl};
     ghost use Rattle.sqlite.specs.Held.{state};
     ghost use Rattle.cpi_index.specs.Series.{frozen_serial, is_by_series};
     ghost use Rattle.cpi_release.specs.State.{Reads};
     ghost use Rattle.cpi_rows.specs.Held.{held_by};
     ghost use Rattle.cpi_rows.specs.Keyed.{at};
     ghost use Rattle.cpi_store.specs.Office.{month_rows as rows_of_month};
-    ghost use Rattle.cpi_sql_rows.specs.Lists.{assignment_in};
-    ghost use Rattle.cpi_sql_rows.specs.Shelf.{AllStand, IsCleanBook, MonthStands, SlotStands, book_state};
+    ghost use Rattle.cpi_store.specs.Bearer.{bearer_of, collector_of, collector_key};
+    ghost use Rattle.cpi_sql_rows.specs.Shelf.{AreTaken, IsCleanBook, book_state};
 
     ghost state = { book_state S.Store };
 
@@ -261,119 +222,135 @@ impl<S: Alter> Book for SqlBook<S> {
 
     ghost sound_is = { λ b s. s };
 
-    fn bearer_of(&mut self, key: Key) -> Result<Option<Bearer>, StoreFault> {
-        match ready_bearers(
+    fn bearer_of(&mut self, key: Key) -> Result<Option<Bearer>, StoreFault>
+        ensures reads { Reads (book_state S.Store self.old) (book_state S.Store self.new) result (λ found.
+            found ≡ bearer_of key (book_state S.Store self.old).held.collectors) }
+        ensures taken { IsCleanBook (state S.Store self.new.held) → self.old.is_read ≡ false →
+            OnOk result (AreTaken (state S.Store self.old.held).now.trees) }
+    {
+        match ready_survey(
             &mut self.conn,
             self.alloc,
-            &mut self.bearers,
-            &mut self.has_bearers,
+            &mut self.survey,
+            &mut self.is_read,
         ) {
-            Ok(()) => Ok(find_key(&self.bearers, key)),
+            Ok(()) => Ok(self.survey.bearer_of(key)),
             Err(_) => Err(self.failed.counted(StoreFault)),
         }
     }
 
-    fn bearer_at(&mut self, number: CollectorId) -> Result<Option<Bearer>, StoreFault> {
-        match ready_bearers(
+    fn bearer_at(&mut self, number: CollectorId) -> Result<Option<Bearer>, StoreFault>
+        ensures reads { Reads (book_state S.Store self.old) (book_state S.Store self.new) result (λ found.
+            found ≡ at (λ b. b.number) number (book_state S.Store self.old).held.collectors) }
+        ensures taken { IsCleanBook (state S.Store self.new.held) → self.old.is_read ≡ false →
+            OnOk result (AreTaken (state S.Store self.old.held).now.trees) }
+    {
+        match ready_survey(
             &mut self.conn,
             self.alloc,
-            &mut self.bearers,
-            &mut self.has_bearers,
+            &mut self.survey,
+            &mut self.is_read,
         ) {
-            Ok(()) => Ok(find_row(&self.bearers, &number).copied()),
+            Ok(()) => Ok(self.survey.bearer_at(number)),
             Err(_) => Err(self.failed.counted(StoreFault)),
         }
     }
 
-    fn collector_of(&mut self, key: Key) -> Result<Option<CollectorId>, StoreFault> {
-        match ready_bearers(
+    fn collector_of(&mut self, key: Key) -> Result<Option<CollectorId>, StoreFault>
+        ensures reads { Reads (book_state S.Store self.old) (book_state S.Store self.new) result (λ found.
+            found ≡ collector_of key (book_state S.Store self.old).held.collectors) }
+        ensures taken { IsCleanBook (state S.Store self.new.held) → self.old.is_read ≡ false →
+            OnOk result (AreTaken (state S.Store self.old.held).now.trees) }
+    {
+        match ready_survey(
             &mut self.conn,
             self.alloc,
-            &mut self.bearers,
-            &mut self.has_bearers,
+            &mut self.survey,
+            &mut self.is_read,
         ) {
-            Ok(()) => Ok(find_key(&self.bearers, key).map(|bearer| bearer.number)),
+            Ok(()) => Ok(self.survey.bearer_of(key).map(|bearer| bearer.number)),
             Err(_) => Err(self.failed.counted(StoreFault)),
         }
     }
 
-    fn collector_key(&mut self, number: CollectorId) -> Result<Option<Key>, StoreFault> {
-        match ready_bearers(
+    fn collector_key(&mut self, number: CollectorId) -> Result<Option<Key>, StoreFault>
+        ensures reads { Reads (book_state S.Store self.old) (book_state S.Store self.new) result (λ found.
+            found ≡ collector_key number (book_state S.Store self.old).held.collectors) }
+        ensures taken { IsCleanBook (state S.Store self.new.held) → self.old.is_read ≡ false →
+            OnOk result (AreTaken (state S.Store self.old.held).now.trees) }
+    {
+        match ready_survey(
             &mut self.conn,
             self.alloc,
-            &mut self.bearers,
-            &mut self.has_bearers,
+            &mut self.survey,
+            &mut self.is_read,
         ) {
-            Ok(()) => Ok(find_row(&self.bearers, &number).map(|bearer| bearer.key)),
+            Ok(()) => Ok(self.survey.bearer_at(number).map(|bearer| bearer.key)),
             Err(_) => Err(self.failed.counted(StoreFault)),
         }
     }
 
     fn outlet(&mut self, number: OutletId) -> Result<Option<&Outlet>, StoreFault> {
-        match ready_outlets(
+        match ready_survey(
             &mut self.conn,
             self.alloc,
-            &mut self.outlets,
-            &mut self.has_outlets,
+            &mut self.survey,
+            &mut self.is_read,
         ) {
-            Ok(()) => Ok(self.outlets.find(&number)),
+            Ok(()) => Ok(self.survey.outlet(number)),
             Err(_) => Err(self.failed.counted(StoreFault)),
         }
     }
 
     fn public_part(&mut self) -> Result<&Public, StoreFault> {
-        match ready_public(
+        match ready_survey(
             &mut self.conn,
             self.alloc,
-            &mut self.lent.public,
-            &mut self.has_public,
+            &mut self.survey,
+            &mut self.is_read,
         ) {
-            Ok(()) => Ok(&self.lent.public),
+            Ok(()) => Ok(self.survey.public()),
             Err(_) => Err(self.failed.counted(StoreFault)),
         }
     }
 
     fn own(&mut self, collector: CollectorId) -> Result<&Own, StoreFault> {
-        match ready_own(
+        match ready_survey(
             &mut self.conn,
             self.alloc,
-            &mut self.outlets,
-            &mut self.has_outlets,
-            &mut self.lent.own,
-            &mut self.whose,
-            collector,
+            &mut self.survey,
+            &mut self.is_read,
         ) {
-            Ok(()) => Ok(&self.lent.own),
+            Ok(()) => Ok(self.survey.own(collector)),
             Err(_) => Err(self.failed.counted(StoreFault)),
         }
     }
 
     fn parts(&mut self, collector: CollectorId) -> Result<Parts<'_>, StoreFault> {
-        match ready_parts(
+        match ready_survey(
             &mut self.conn,
             self.alloc,
-            &mut self.lent.public,
-            &mut self.has_public,
-            &mut self.outlets,
-            &mut self.has_outlets,
-            &mut self.lent.own,
-            &mut self.whose,
-            collector,
+            &mut self.survey,
+            &mut self.is_read,
         ) {
-            Ok(()) => Ok(self.lent.parts()),
+            Ok(()) => Ok(self.survey.parts(collector)),
             Err(_) => Err(self.failed.counted(StoreFault)),
         }
     }
 
     fn given(&mut self, collector: CollectorId, slot: Slot) -> Result<Option<Given>, StoreFault>
         ensures reads { Reads (book_state S.Store self.old) (book_state S.Store self.new) result (λ found.
-            found ≡ at (λ g. g.assignment.slot) slot
-            (held_by collector (book_state S.Store self.old).held.assignments)) }
-        ensures stand { IsCleanBook (state S.Store self.new.held) →
-            OnOk result (SlotStands collector slot (state S.Store self.old.held).now.trees) }
+            found ≡ at (λ g. g.assignment.slot) slot (held_by collector (book_state S.Store self.old).held.assignments)) }
+        ensures taken { IsCleanBook (state S.Store self.new.held) → self.old.is_read ≡ false →
+            OnOk result (AreTaken (state S.Store self.old.held).now.trees) }
     {
-        match given_to(&mut self.conn, self.alloc, collector, slot) {
-            Ok(found) => Ok(found),
+        match ready_survey(
+            &mut self.conn,
+            self.alloc,
+            &mut self.survey,
+            &mut self.is_read,
+        ) {
+            Ok(()) => Ok(self.survey.given(collector, slot)),
             Err(_) => Err(self.failed.counted(StoreFault)),
         }
     }
@@ -394,12 +371,16 @@ impl<S: Alter> Book for SqlBook<S> {
         ensures reads { Reads (book_state S.Store self.old) (book_state S.Store self.new) result (λ found.
             is_by_series frozen_serial (rows_of_month month (book_state S.Store self.old).held) ≡ true →
             found.items ≡ rows_of_month month (book_state S.Store self.old).held) }
-        ensures assigned { IsCleanBook (state S.Store self.new.held) →
-            OnOk result (AllStand assignment_in ((state S.Store self.old.held).now.trees 22)) }
-        ensures stand { IsCleanBook (state S.Store self.new.held) →
-            OnOk result (MonthStands month (state S.Store self.old.held).now.trees) }
+        ensures taken { IsCleanBook (state S.Store self.new.held) → self.old.is_read ≡ false →
+            OnOk result (AreTaken (state S.Store self.old.held).now.trees) }
     {
-        match month_rows(&mut self.conn, self.alloc, month) {
+        match quotes_of_month(
+            &mut self.conn,
+            self.alloc,
+            &mut self.survey,
+            &mut self.is_read,
+            month,
+        ) {
             Ok(found) => Ok(found),
             Err(_) => Err(self.failed.counted(StoreFault)),
         }
@@ -462,7 +443,7 @@ impl<S: Alter> Book for SqlBook<S> {
             Ok(()) => {
                 settle(&self.conn);
                 self.cached = None;
-                follow_item(&mut self.lent.public, &mut self.has_public, item);
+                follow_item(&mut self.survey, &mut self.is_read, item);
                 Ok(())
             }
             Err(_) => Err(self.failed.counted(StoreFault)),
@@ -474,7 +455,7 @@ impl<S: Alter> Book for SqlBook<S> {
             Ok(()) => {
                 settle(&self.conn);
                 self.cached = None;
-                follow_plan(&mut self.lent.public, &mut self.has_public, plan);
+                follow_plan(&mut self.survey, &mut self.is_read, plan);
                 Ok(())
             }
             Err(_) => Err(self.failed.counted(StoreFault)),
@@ -486,7 +467,7 @@ impl<S: Alter> Book for SqlBook<S> {
             Ok(()) => {
                 settle(&self.conn);
                 self.cached = None;
-                follow_calendar(&mut self.lent.public, &mut self.has_public, row);
+                follow_calendar(&mut self.survey, &mut self.is_read, row);
                 Ok(())
             }
             Err(_) => Err(self.failed.counted(StoreFault)),
@@ -502,7 +483,7 @@ impl<S: Alter> Book for SqlBook<S> {
             Ok(()) => {
                 settle(&self.conn);
                 self.cached = None;
-                follow_collector(&mut self.bearers, &mut self.has_bearers, row);
+                follow_collector(&mut self.survey, &mut self.is_read, row);
                 Ok(())
             }
             Err(_) => Err(self.failed.counted(StoreFault)),
@@ -514,9 +495,7 @@ impl<S: Alter> Book for SqlBook<S> {
             Ok(()) => {
                 settle(&self.conn);
                 self.cached = None;
-                // the names beside the assignments come from the outlets
-                self.whose = None;
-                follow_outlet(&mut self.outlets, &mut self.has_outlets, outlet);
+                follow_outlet(&mut self.survey, &mut self.is_read, outlet);
                 Ok(())
             }
             Err(_) => Err(self.failed.counted(StoreFault)),
@@ -524,11 +503,15 @@ impl<S: Alter> Book for SqlBook<S> {
     }
 
     fn put_assignment(&mut self, bearer: Bearer, assigned: Assigned) -> Result<(), StoreFault> {
+        let holder = Bearer {
+            number: bearer.number,
+            key: bearer.key,
+        };
         match put_assignment(&mut self.conn, self.alloc, bearer, &assigned) {
             Ok(()) => {
                 settle(&self.conn);
                 self.cached = None;
-                self.whose = None;
+                follow_assignment(&mut self.survey, &mut self.is_read, holder, assigned);
                 Ok(())
             }
             Err(_) => Err(self.failed.counted(StoreFault)),
@@ -540,8 +523,7 @@ impl<S: Alter> Book for SqlBook<S> {
             Ok(()) => {
                 settle(&self.conn);
                 self.cached = None;
-                // the collector who was last asked for may be the former one, or the taker
-                self.whose = None;
+                follow_handover(&mut self.survey, &mut self.is_read, handover);
                 Ok(())
             }
             Err(_) => Err(self.failed.counted(StoreFault)),
@@ -549,12 +531,15 @@ impl<S: Alter> Book for SqlBook<S> {
     }
 
     fn put_quote(&mut self, bearer: Bearer, quote: Quote) -> Result<(), StoreFault> {
-        let collector = bearer.number;
+        let holder = Bearer {
+            number: bearer.number,
+            key: bearer.key,
+        };
         match put_quote(&mut self.conn, bearer, quote) {
             Ok(()) => {
                 settle(&self.conn);
                 self.cached = None;
-                follow_quote(&mut self.lent.own, &mut self.whose, collector, quote);
+                follow_quote(&mut self.survey, &mut self.is_read, holder, quote);
                 Ok(())
             }
             Err(_) => Err(self.failed.counted(StoreFault)),

@@ -1,9 +1,5 @@
-pub mod Owning
 pub mod Looking
-pub mod Joined
-pub mod MonthRowLemmas
 pub mod ReleaseLists
-pub mod SeriesRows
 pub mod ReadReleases
 pub mod HeaderLists
 pub mod KeptTables

@@ -1,2 +1,1 @@
-pub mod MonthRows
 pub mod Headers

@@ -6,20 +6,18 @@ ghost use Rattle.cpi_rows.specs.Keyed.{at};
 ghost use Rattle.cpi_release.specs.Releases.{carried_of as carried_in, frozen_of as frozen_in, link_month};
 ghost use Rattle.cpi_release.specs.GroupCalls.{Sources, group_of};
 ghost use Rattle.cpi_release.specs.Cached.{AreGroupsOf, AreKept, IsFit};
-ghost use Rattle.cpi_store.specs.Office.{month_rows as rows_of_month, public_part};
 ghost use Rattle.cpi_store.specs.Sources.{office_sources};
-ghost use Rattle.cpi_sql_rows.specs.Shelf.{IsCleanBook, IsLook, HasTables, StaysOpen};
+ghost use Rattle.cpi_sql_rows.specs.Shelf.{IsCleanBook, IsLook, HasTables, StaysOpen, survey_of};
 ghost use Rattle.cpi_sql_rows.specs.Lists.{headers_in, office_in, releases_in};
 
 use crate::earlier::{earlier_carried, earlier_frozen};
-use crate::month_quotes::month_rows;
 use cpi_codes::{Code, Month};
 use cpi_index::{CarriedPrice, FrozenQuote, GroupRow};
 use cpi_plan::YearPlan;
 use cpi_release::{Cached, group_rows, groups_after};
 use cpi_rows::find_row;
 use cpi_sql_rows::{Header, Unread};
-use cpi_survey::Public;
+use cpi_store::Survey;
 use sqlite::{Alter, Connection};
 use std::alloc::Global;
 
@@ -67,28 +65,7 @@ fn link_lists<S: Alter>(
     Ok(SeriesLists { carried, quotes })
 }
 
-// The carried prices of the month before, and the quotes of the month.
-fn month_lists<S: Alter>(
-    conn: &mut Connection<S>,
-    alloc: Global,
-    headers: &[Header],
-    last: Month,
-    month: Month,
-) -> Result<SeriesLists, Unread>
-    ensures look { IsLook (state S.Store conn.old) (state S.Store conn.new) }
-    ensures open { OnOk result (StaysOpen (state S.Store conn.old) (state S.Store conn.new)) }
-    ensures read { IsCleanBook (state S.Store conn.new) → HasTables (state S.Store conn.old) →
-        headers.now ≡ headers_in ((state S.Store conn.old).now.trees 26) → IfOk result (λ x.
-        let office = office_in (state S.Store conn.old).now.trees in
-        (x.carried.items ≡ carried_in office.releases last)
-        × (IsFit (office_sources office) → x.quotes.items ≡ rows_of_month month office)) }
-{
-    let carried = earlier_carried(conn, alloc, headers, last)?;
-    let quotes = month_rows(conn, alloc, month)?;
-    Ok(SeriesLists { carried, quotes })
-}
-
-// The samples of a month by the plan of its year.
+// The samples of a month by the plan of its year. `quotes` are those of the month.
 fn samples<S: Alter>(
     conn: &mut Connection<S>,
     alloc: Global,
@@ -96,26 +73,28 @@ fn samples<S: Alter>(
     plan: &YearPlan,
     earlier: EarlierMonths,
     month: Month,
+    quotes: &[FrozenQuote],
 ) -> Result<Vec<Vec<GroupRow>>, Unread>
     ensures look { IsLook (state S.Store conn.old) (state S.Store conn.new) }
     ensures open { OnOk result (StaysOpen (state S.Store conn.old) (state S.Store conn.new)) }
     ensures read { IsCleanBook (state S.Store conn.new) → HasTables (state S.Store conn.old) →
         headers.now ≡ headers_in ((state S.Store conn.old).now.trees 26) →
-        let office = office_in (state S.Store conn.old).now.trees in
-        at (λ p. p.year) (year_of month) office.plans ≡ Some plan.now →
+        let sources = office_sources (office_in (state S.Store conn.old).now.trees) in
+        at (λ p. p.year) (year_of month) sources.plans ≡ Some plan.now →
         earlier.link ≡ link_month month → earlier.last ≡ month - 1 →
-        IfOk result (λ v. AreGroupsOf (office_sources office) month v.items) }
+        (IsFit sources → quotes.now ≡ sources.quotes month) →
+        IfOk result (λ v. AreGroupsOf sources month v.items) }
 {
     let link = link_lists(conn, alloc, headers, earlier.link)?;
-    let own = month_lists(conn, alloc, headers, earlier.last, month)?;
+    let last = earlier_carried(conn, alloc, headers, earlier.last)?;
     let groups = groups_after(
         alloc,
         plan,
         &link.carried,
         &link.quotes,
-        &own.carried,
+        &last,
         month,
-        &own.quotes,
+        quotes,
     );
     match groups {
         Ok(groups) => Ok(groups),
@@ -128,7 +107,7 @@ fn month_samples<S: Alter>(
     conn: &mut Connection<S>,
     alloc: Global,
     headers: &[Header],
-    public: &Public,
+    survey: &Survey,
     month: Month,
 ) -> Result<Vec<Vec<GroupRow>>, Unread>
     ensures look { IsLook (state S.Store conn.old) (state S.Store conn.new) }
@@ -136,27 +115,28 @@ fn month_samples<S: Alter>(
     ensures read { IsCleanBook (state S.Store conn.new) → HasTables (state S.Store conn.old) →
         headers.now ≡ headers_in ((state S.Store conn.old).now.trees 26) →
         let office = office_in (state S.Store conn.old).now.trees in
-        public.now ≡ public_part office →
+        survey.now ≡ survey_of office →
         IfOk result (λ v. AreGroupsOf (office_sources office) month v.items) }
 {
-    let Some(plan) = find_row(public.plans(), &month.year()) else {
+    let Some(plan) = find_row(survey.public().plans(), &month.year()) else {
         return Ok(Vec::new(alloc));
     };
     let Some(earlier) = earlier_months(month) else {
         return Ok(Vec::new(alloc));
     };
-    samples(conn, alloc, headers, plan, earlier, month)
+    let quotes = survey.month_rows(month).map_err(|_| Unread)?;
+    samples(conn, alloc, headers, plan, earlier, month, &quotes)
 }
 
 // The rows of one aggregate, where the month's samples are kept.
 fn kept_rows(
     alloc: Global,
-    public: &Public,
+    survey: &Survey,
     cached: &Option<Cached>,
     month: Month,
     code: Code,
 ) -> Result<Option<Vec<GroupRow>>, Unread>
-    ensures { IfOk result (λ o. IfSome o (λ v. (s : Sources) → s.plans ≡ public.now.plans →
+    ensures { IfOk result (λ o. IfSome o (λ v. (s : Sources) → s.plans ≡ survey.now.plans →
         AreKept s cached.now → IsFit s → 12 ≤ month → v.items ≡ group_of s month code)) }
 {
     let Some(cached) = cached else {
@@ -165,7 +145,7 @@ fn kept_rows(
     if cached.month != month {
         return Ok(None);
     }
-    let plan = find_row(public.plans(), &month.year());
+    let plan = find_row(survey.public().plans(), &month.year());
     match group_rows(alloc, plan, &cached.groups, month, code) {
         Ok(rows) => Ok(Some(rows)),
         Err(_) => Err(Unread),
@@ -173,12 +153,12 @@ fn kept_rows(
 }
 
 /// The rows of one aggregate of a month; the month's samples are kept from then on. `headers` are those of all
-/// releases, `public` what everybody may see.
+/// releases, `survey` what the office has beside them.
 pub fn sample_of<S: Alter>(
     conn: &mut Connection<S>,
     alloc: Global,
     headers: &[Header],
-    public: &Public,
+    survey: &Survey,
     cached: &mut Option<Cached>,
     month: Month,
     code: Code,
@@ -188,20 +168,20 @@ pub fn sample_of<S: Alter>(
     ensures kept { IsCleanBook (state S.Store conn.new) → HasTables (state S.Store conn.old) →
         headers.now ≡ headers_in ((state S.Store conn.old).now.trees 26) →
         let office = office_in (state S.Store conn.old).now.trees in
-        public.now ≡ public_part office → AreKept (office_sources office) cached.old →
+        survey.now ≡ survey_of office → AreKept (office_sources office) cached.old →
         AreKept (office_sources office) cached.new }
     ensures read { IsCleanBook (state S.Store conn.new) → HasTables (state S.Store conn.old) →
         headers.now ≡ headers_in ((state S.Store conn.old).now.trees 26) →
         let office = office_in (state S.Store conn.old).now.trees in
-        public.now ≡ public_part office → AreKept (office_sources office) cached.old →
+        survey.now ≡ survey_of office → AreKept (office_sources office) cached.old →
         IsFit (office_sources office) → 12 ≤ month →
         IfOk result (λ v. v.items ≡ group_of (office_sources office) month code) }
 {
-    if let Some(rows) = kept_rows(alloc, public, cached, month, code)? {
+    if let Some(rows) = kept_rows(alloc, survey, cached, month, code)? {
         return Ok(rows);
     }
-    let groups = month_samples(conn, alloc, headers, public, month)?;
-    let plan = find_row(public.plans(), &month.year());
+    let groups = month_samples(conn, alloc, headers, survey, month)?;
+    let plan = find_row(survey.public().plans(), &month.year());
     match group_rows(alloc, plan, &groups, month, code) {
         Ok(rows) => {
             *cached = Some(Cached { month, groups });

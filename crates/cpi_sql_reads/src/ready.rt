@@ -1,67 +1,36 @@
-//! What is kept of the small tables, read where it isn't yet.
-ghost use Rattle.std.specs.Prelude.{◌≡◌, IsTrue, OnOk, IfOk};
-ghost use Rattle.std.specs.Ordering.{nat_cmp};
+//! What is kept of the tables, read where it isn't yet.
+ghost use Rattle.std.specs.Prelude.{◌≡◌, false, IsTrue, OnOk};
 ghost use Rattle.sqlite.specs.Held.{state};
-ghost use Rattle.sqlite.specs.State.{HasCleanDisk};
-ghost use Rattle.cpi_rows.specs.Keyed.{IsInOrder};
-ghost use Rattle.cpi_store.specs.Bearer.{bearer_of};
-ghost use Rattle.cpi_sql_rows.specs.Shelf.{IsCleanBook, IsLook, HasTables, HeadersStand, StaysOpen};
-ghost use Rattle.cpi_sql_rows.specs.Lists.{collectors_in, outlets_in, office_in};
-ghost use Rattle.cpi_store.specs.Office.{public_part};
+ghost use Rattle.cpi_sql_rows.specs.Shelf.{AreTaken, IsCleanBook, IsLook, HasTables, HeadersStand, StaysOpen};
+ghost use Rattle.cpi_sql_rows.specs.Shelf.{SurveyStands};
 
 use crate::releases::headers;
-use crate::years::plans;
-use cpi_codes::Key;
-use cpi_rows::RowsByKey;
-use cpi_sql_rows::{Header, Unread, bearers, by_key, calendar, items, outlets};
-use cpi_store::{Bearer, Outlet};
-use cpi_survey::Public;
+use crate::survey::read_survey;
+use cpi_sql_rows::{Header, Unread};
+use cpi_store::Survey;
 use sqlite::{Alter, Connection};
 use std::alloc::Global;
 
-/// Reads the collectors, unless they are read.
-pub fn ready_bearers<S: Alter>(
+/// Reads the survey, unless it is read.
+pub fn ready_survey<S: Alter>(
     conn: &mut Connection<S>,
     alloc: Global,
-    rows: &mut Vec<Bearer>,
-    is_read: &mut bool,
-) -> Result<(), Unread>
-    requires order { IsInOrder nat_cmp (λ b. b.number) rows.old.items }
-    ensures look { IsLook (state S.Store conn.old) (state S.Store conn.new) }
-    ensures open { OnOk result (StaysOpen (state S.Store conn.old) (state S.Store conn.new)) }
-    ensures order { IsInOrder nat_cmp (λ b. b.number) rows.new.items }
-    ensures stands { IsCleanBook (state S.Store conn.new) → HasTables (state S.Store conn.old)
-        → (IsTrue is_read.old → rows.old.items ≡ collectors_in ((state S.Store conn.old).now.trees 1))
-        → IsTrue is_read.new → rows.new.items ≡ collectors_in ((state S.Store conn.old).now.trees 1) }
-    ensures ready { OnOk result (IsTrue is_read.new) }
-{
-    if *is_read {
-        return Ok(());
-    }
-    *rows = bearers(conn, alloc)?;
-    *is_read = true;
-    Ok(())
-}
-
-/// Reads the outlets, unless they are read.
-pub fn ready_outlets<S: Alter>(
-    conn: &mut Connection<S>,
-    alloc: Global,
-    rows: &mut RowsByKey<Outlet>,
+    survey: &mut Survey,
     is_read: &mut bool,
 ) -> Result<(), Unread>
     ensures look { IsLook (state S.Store conn.old) (state S.Store conn.new) }
     ensures open { OnOk result (StaysOpen (state S.Store conn.old) (state S.Store conn.new)) }
     ensures stands { IsCleanBook (state S.Store conn.new) → HasTables (state S.Store conn.old)
-        → (IsTrue is_read.old → rows.old ≡ outlets_in ((state S.Store conn.old).now.trees 3))
-        → IsTrue is_read.new → rows.new ≡ outlets_in ((state S.Store conn.old).now.trees 3) }
+        → SurveyStands (state S.Store conn.old).now.trees is_read.old survey.old
+        → SurveyStands (state S.Store conn.old).now.trees is_read.new survey.new }
+    ensures taken { IsCleanBook (state S.Store conn.new) → HasTables (state S.Store conn.old)
+        → is_read.old ≡ false → OnOk result (AreTaken (state S.Store conn.old).now.trees) }
     ensures ready { OnOk result (IsTrue is_read.new) }
 {
     if *is_read {
         return Ok(());
     }
-    let read = outlets(conn, alloc)?;
-    *rows = by_key(alloc, read)?;
+    *survey = read_survey(conn, alloc)?;
     *is_read = true;
     Ok(())
 }
@@ -86,52 +55,4 @@ pub fn ready_headers<S: Alter>(
     *rows = headers(conn, alloc)?;
     *is_read = true;
     Ok(())
-}
-
-// What everybody may see.
-fn read_public<S: Alter>(conn: &mut Connection<S>, alloc: Global) -> Result<Public, Unread>
-    ensures look { IsLook (state S.Store conn.old) (state S.Store conn.new) }
-    ensures open { HasCleanDisk (state S.Store conn.new) → OnOk result (IsTrue (state S.Store conn.new).is_open) }
-    ensures read { IsCleanBook (state S.Store conn.new) → HasTables (state S.Store conn.old)
-        → IfOk result (λ p. p ≡ public_part (office_in (state S.Store conn.old).now.trees)) }
-{
-    let read = items(conn, alloc)?;
-    let items = by_key(alloc, read)?;
-    let plans = plans(conn, alloc, &items)?;
-    let rows = calendar(conn, alloc)?;
-    Ok(Public::from_parts(items, plans, rows))
-}
-
-/// Reads what everybody may see, unless it is read.
-pub fn ready_public<S: Alter>(
-    conn: &mut Connection<S>,
-    alloc: Global,
-    public: &mut Public,
-    is_read: &mut bool,
-) -> Result<(), Unread>
-    ensures look { IsLook (state S.Store conn.old) (state S.Store conn.new) }
-    ensures open { OnOk result (StaysOpen (state S.Store conn.old) (state S.Store conn.new)) }
-    ensures stands { IsCleanBook (state S.Store conn.new) → HasTables (state S.Store conn.old)
-        → (IsTrue is_read.old → public.old ≡ public_part (office_in (state S.Store conn.old).now.trees))
-        → IsTrue is_read.new → public.new ≡ public_part (office_in (state S.Store conn.old).now.trees) }
-    ensures ready { OnOk result (IsTrue is_read.new) }
-{
-    if *is_read {
-        return Ok(());
-    }
-    *public = read_public(conn, alloc)?;
-    *is_read = true;
-    Ok(())
-}
-
-/// The collector who bears the key.
-pub fn find_key(bearers: &[Bearer], key: Key) -> Option<Bearer>
-    ensures { result ≡ bearer_of key bearers.now }
-{
-    'bearers: for bearer in bearers {
-        if bearer.key == key {
-            return Some(*bearer);
-        }
-    }
-    None
 }

@@ -12,5 +12,5 @@ returns-in-Ok c = λ s plans kept fit late.
     let held : AreGroupsOf s c.in-Some.cached.month c.in-Some.cached.groups.items = rw c.in-Some.is at kept in
     let lent : AreGroupsOf s c.args.month c.deref.result.now = rw (month, sym c.deref.ensures.value) at held in
     let plan : option_copied c.find_row-plan.result ≡ at (λ (p : Plan). p.year) (year_of c.args.month) s.plans =
-    rw (c.plans.ensures.plans, c.year.ensures.value, sym plans) at c.find_row-plan.ensures in
+    rw (c.plans.ensures.plans, c.public.ensures, c.year.ensures.value, sym plans) at c.find_row-plan.ensures in
     c.in-Ok.ensures s plan lent fit late

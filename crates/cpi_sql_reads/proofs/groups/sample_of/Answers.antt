@@ -7,29 +7,30 @@ use Rattle.cpi_rows.specs.Keyed.{at}
 use Rattle.cpi_release.specs.Cached.{AreGroupsOf}
 use Rattle.cpi_release.specs.GroupCalls.{Sources}
 use Rattle.cpi_store.specs.Sources.{office_sources}
-use Rattle.cpi_survey.specs.Public.{PublicPart}
+use Rattle.cpi_store.specs.Office.{Office}
 use Rattle.cpi_sql_rows.specs.Lists.{office_in}
 use Rattle.cpi_sql_reads.proofs.groups.sample_of.Goals as goal
 
 pub returns-in-Some-clause-read : goal.returns-in-Some-clause-read
-returns-in-Some-clause-read g c = λ clean has is public kept fit late.
+returns-in-Some-clause-read g c = λ clean has is stood kept fit late.
     let s : Sources = office_sources (office_in (state g.S.Store c.args.conn.now).now.trees) in
     let found = rw c.in-Some.is at c.in_ok-rows.ensures in
-    found s (sym (ap (λ (p : PublicPart). p.plans) public)) kept fit late
+    found s (sym (ap (λ (o : Office). o.plans) stood)) kept fit late
 
 pub returns-in-Ok-clause-kept : goal.returns-in-Ok-clause-kept
-returns-in-Ok-clause-kept g c = λ clean has is public kept. c.in_ok-groups.ensures.read clean has is public
+returns-in-Ok-clause-kept g c = λ clean has is stood kept. c.in_ok-groups.ensures.read clean has is stood
 
 pub returns-in-Ok-clause-read : goal.returns-in-Ok-clause-read
-returns-in-Ok-clause-read g c = λ clean has is public kept fit late.
+returns-in-Ok-clause-read g c = λ clean has is stood kept fit late.
     let s : Sources = office_sources (office_in (state g.S.Store c.args.conn.now).now.trees) in
     let made : AreGroupsOf s c.args.month c.in_ok-groups.groups.items =
-    c.in_ok-groups.ensures.read clean has is public in
+    c.in_ok-groups.ensures.read clean has is stood in
     let lent : AreGroupsOf s c.args.month c.deref.result.now = rw (sym c.deref.ensures.value) at made in
     let plan : option_copied c.find_row-plan.result ≡ at (λ (p : Plan). p.year) (year_of c.args.month) s.plans =
     rw (
       c.plans.ensures.plans,
       c.year.ensures.value,
-      ap (λ (p : PublicPart). p.plans) public,
+      c.public.ensures,
+      ap (λ (o : Office). o.plans) stood,
     ) at c.find_row-plan.ensures in
     c.in-Ok.ensures s plan lent fit late

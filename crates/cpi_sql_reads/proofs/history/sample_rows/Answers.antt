@@ -3,9 +3,9 @@ use Rattle.sqlite.specs.Effect.{Database}
 use Rattle.sqlite.specs.Held.{state}
 use Rattle.cpi_release.specs.Cached.{AreKept, IsFit}
 use Rattle.cpi_release.specs.GroupCalls.{group_of}
-use Rattle.cpi_store.specs.Office.{public_part}
 use Rattle.cpi_store.specs.Sources.{office_sources}
 use Rattle.cpi_sql_rows.specs.Lists.{headers_in, office_in}
+use Rattle.cpi_sql_rows.specs.Shelf.{survey_of}
 use Rattle.cpi_sql_rows.proofs.Kept.{kept_tables}
 use Rattle.cpi_sql_reads.proofs.Looking.{back, forth, looks_then}
 use Rattle.cpi_sql_reads.proofs.history.sample_rows.Goals as goal
@@ -20,9 +20,9 @@ pub returns-clause-headers : goal.returns-clause-headers
 returns-clause-headers g c = λ clean has stood is.
     c.ready_samples.ensures.headers (c.sample_of.ensures.look.clean clean) has stood is
 
-pub returns-clause-public : goal.returns-clause-public
-returns-clause-public g c = λ clean has stood is.
-    c.ready_samples.ensures.public (c.sample_of.ensures.look.clean clean) has stood is
+pub returns-clause-survey : goal.returns-clause-survey
+returns-clause-survey g c = λ clean has stood is.
+    c.ready_samples.ensures.survey (c.sample_of.ensures.look.clean clean) has stood is
 
 pub returns-clause-samples : goal.returns-clause-samples
 returns-clause-samples g c = λ clean has stood seen held.
@@ -31,12 +31,12 @@ returns-clause-samples g c = λ clean has stood seen held.
     let before = c.sample_of.ensures.look.clean clean in
     let kept = c.ready_samples.ensures.look.kept before has in
     let rows = c.ready_samples.ensures.headers before has stood c.in_ok-ready_samples.ensures.ready_headers in
-    let public = c.ready_samples.ensures.public before has seen c.in_ok-ready_samples.ensures.ready_public in
+    let survey = c.ready_samples.ensures.survey before has seen c.in_ok-ready_samples.ensures.ready_survey in
     let lent : c.deref.result.now ≡ headers_in (b.now.trees 26) = c.deref.ensures.value ∙ rows
     ∙ ap (λ (d : Database). headers_in (d.trees 26)) (sym kept.now) in
     back (λ t. AreKept (office_sources (office_in t)) c.sample_of.new.cached) kept
-    (c.sample_of.ensures.kept clean (kept_tables a b kept has) lent (public
-    ∙ ap (λ (d : Database). public_part (office_in d.trees)) (sym kept.now))
+    (c.sample_of.ensures.kept clean (kept_tables a b kept has) lent (survey
+    ∙ ap (λ (d : Database). survey_of (office_in d.trees)) (sym kept.now))
     (forth (λ t. AreKept (office_sources (office_in t)) c.args.cached.now) kept held))
 
 pub returns-clause-read : goal.returns-clause-read
@@ -46,12 +46,12 @@ returns-clause-read g c = λ clean has stood seen held fit late.
     let before = c.sample_of.ensures.look.clean clean in
     let kept = c.ready_samples.ensures.look.kept before has in
     let rows = c.ready_samples.ensures.headers before has stood c.in_ok-ready_samples.ensures.ready_headers in
-    let public = c.ready_samples.ensures.public before has seen c.in_ok-ready_samples.ensures.ready_public in
+    let survey = c.ready_samples.ensures.survey before has seen c.in_ok-ready_samples.ensures.ready_survey in
     let lent : c.deref.result.now ≡ headers_in (b.now.trees 26) = c.deref.ensures.value ∙ rows
     ∙ ap (λ (d : Database). headers_in (d.trees 26)) (sym kept.now) in
     back (λ t. IfOk c.sample_of.result
     (λ rows. rows.items ≡ group_of (office_sources (office_in t)) c.args.month c.args.code)) kept
-    (c.sample_of.ensures.read clean (kept_tables a b kept has) lent (public
-    ∙ ap (λ (d : Database). public_part (office_in d.trees)) (sym kept.now))
+    (c.sample_of.ensures.read clean (kept_tables a b kept has) lent (survey
+    ∙ ap (λ (d : Database). survey_of (office_in d.trees)) (sym kept.now))
     (forth (λ t. AreKept (office_sources (office_in t)) c.args.cached.now) kept held) (forth
     (λ t. IsFit (office_sources (office_in t))) kept fit) late)

@@ -1,62 +1,56 @@
-use Rattle.std.proofs.Common.{◌≡◌, arith, rules}
+use Rattle.std.proofs.Common.{◌≡◌, ◌∙◌, ap, arith, rules}
 use Rattle.sqlite.specs.Held.{state}
-use Rattle.cpi_sql_rows.specs.Lists.{collectors_in}
+use Rattle.cpi_rows.specs.Keyed.{at}
+use Rattle.cpi_store.specs.Office.{Office}
+use Rattle.cpi_store.specs.declared.bearer.Bearer.{Bearer}
+use Rattle.cpi_sql_rows.specs.Lists.{office_in}
 use Rattle.cpi_sql.proofs.Calls.{reads, read_fails}
 use Rattle.cpi_sql.proofs.Followed.{look_sound, tables_of}
 use Rattle.cpi_sql.proofs.sql_book.SqlBookBook.collector_key.Goals as goal
 
 pub invariant_of-self : goal.invariant_of-self
 invariant_of-self g c =
-    look_sound (state g.S.Store c.self.inside.conn)
-    (state g.S.Store c.ready_bearers.new.conn) _ _ c.ready_bearers.ensures.look c.self.invariant
-    c.ready_bearers.ensures.order
+    look_sound (state g.S.Store c.self.inside.conn) (state g.S.Store c.ready_survey.new.conn) _ _ c.ready_survey.ensures.look
+    c.self.invariant
     (λ clean st. record {
       tables = st.tables;
-      bearers = c.ready_bearers.ensures.stands clean st.tables st.bearers;
-      outlets = st.outlets;
-      public = st.public;
-      own = st.own;
+      survey = c.ready_survey.ensures.stands clean st.tables st.survey;
       releases = st.releases;
     })
 
 pub invariant_of-self-in-Err : goal.invariant_of-self-in-Err
 invariant_of-self-in-Err g c =
-    look_sound (state g.S.Store c.self.inside.conn)
-    (state g.S.Store c.ready_bearers.new.conn) _ _ c.ready_bearers.ensures.look c.self.invariant
-    c.ready_bearers.ensures.order
+    look_sound (state g.S.Store c.self.inside.conn) (state g.S.Store c.ready_survey.new.conn) _ _ c.ready_survey.ensures.look
+    c.self.invariant
     (λ clean st. record {
       tables = st.tables;
-      bearers = c.ready_bearers.ensures.stands clean st.tables st.bearers;
-      outlets = st.outlets;
-      public = st.public;
-      own = st.own;
+      survey = c.ready_survey.ensures.stands clean st.tables st.survey;
       releases = st.releases;
     })
 
 pub returns-in-Ok : goal.returns-in-Ok
 returns-in-Ok g c =
     let old = state g.S.Store c.self.inside.conn in
-    let new = state g.S.Store c.ready_bearers.new.conn in
+    let new = state g.S.Store c.ready_survey.new.conn in
     rw (← c.self.view_is) (record {
-      reads = reads old new c.self.inside.failed.count
-          (tables_of old _ c.self.invariant) _ _ c.ready_bearers.ensures.look c.in-Ok.ensures.open (λ clean.
-          let st = c.self.invariant.stands (c.ready_bearers.ensures.look.clean clean) in
-          let rows : c.ready_bearers.new.rows.items ≡ collectors_in (old.now.trees 1) =
-          c.ready_bearers.ensures.stands clean st.tables st.bearers c.in-Ok.ensures.ready in
-          rw (← rows) (search rules));
-      always = λ no. absurd no;
+      reads = reads old new c.self.inside.failed.count (tables_of old _ c.self.invariant) _ _ c.ready_survey.ensures.look
+          c.in-Ok.ensures.open (λ clean.
+          let st = c.self.invariant (c.ready_survey.ensures.look.clean clean) in
+          let is = c.ready_survey.ensures.stands clean st.tables st.survey c.in-Ok.ensures.ready in
+          let found : c.bearer_at.result ≡ at (λ b. b.number) c.args.number (office_in old.now.trees).collectors =
+          c.bearer_at.ensures
+          ∙ ap (λ (o : Office). at (λ (b : Bearer). b.number) c.args.number o.collectors) is in
+          rw (← found) (search rules));
+      taken = λ clean unread. c.in-Ok.ensures.taken clean (c.self.invariant (c.ready_survey.ensures.look.clean clean)).tables
+          unread;
     })
 
 pub returns-in-Err : goal.returns-in-Err
 returns-in-Err g c =
     let old = state g.S.Store c.self.inside.conn in
-    let new = state g.S.Store c.ready_bearers.new.conn in
-    rw (← c.self.view_is)
-    (record {
-      reads = read_fails old new c.self.inside.failed.count
-          (tables_of old _ c.self.invariant) _ _ _ c.ready_bearers.ensures.look (omega (
-            arith,
-            c.counted.ensures.count,
-          ));
-      always = λ no. absurd no;
+    let new = state g.S.Store c.ready_survey.new.conn in
+    rw (← c.self.view_is) (record {
+      reads = read_fails old new c.self.inside.failed.count (tables_of old _ c.self.invariant) _ _ _
+          c.ready_survey.ensures.look (omega (arith, c.counted.ensures.count));
+      taken = λ _ _. tt;
     })

@@ -7,13 +7,10 @@ use Rattle.cpi_sql.proofs.sql_book.SqlBookBook.frozen_months.Goals as goal
 pub invariant_of-self : goal.invariant_of-self
 invariant_of-self g c =
     look_sound (state g.S.Store c.self.inside.conn)
-    (state g.S.Store c.all_months.new.conn) _ _ c.all_months.ensures.look c.self.invariant c.self.invariant.order
+    (state g.S.Store c.all_months.new.conn) _ _ c.all_months.ensures.look c.self.invariant
     (λ clean st. record {
       tables = st.tables;
-      bearers = st.bearers;
-      outlets = st.outlets;
-      public = st.public;
-      own = st.own;
+      survey = st.survey;
       releases = record {
         headers = c.all_months.ensures.headers clean st.tables st.releases.headers;
         tables = st.releases.tables;
@@ -24,13 +21,10 @@ invariant_of-self g c =
 pub invariant_of-self-in-Err : goal.invariant_of-self-in-Err
 invariant_of-self-in-Err g c =
     look_sound (state g.S.Store c.self.inside.conn)
-    (state g.S.Store c.all_months.new.conn) _ _ c.all_months.ensures.look c.self.invariant c.self.invariant.order
+    (state g.S.Store c.all_months.new.conn) _ _ c.all_months.ensures.look c.self.invariant
     (λ clean st. record {
       tables = st.tables;
-      bearers = st.bearers;
-      outlets = st.outlets;
-      public = st.public;
-      own = st.own;
+      survey = st.survey;
       releases = record {
         headers = c.all_months.ensures.headers clean st.tables st.releases.headers;
         tables = st.releases.tables;
@@ -45,7 +39,7 @@ returns-in-Ok g c =
     rw (← c.self.view_is) (record {
       reads = reads old new c.self.inside.failed.count
           (tables_of old _ c.self.invariant) _ _ c.all_months.ensures.look c.in-Ok.ensures.open (λ clean.
-          let st = c.self.invariant.stands (c.all_months.ensures.look.clean clean) in
+          let st = c.self.invariant (c.all_months.ensures.look.clean clean) in
           c.in-Ok.ensures.read clean st.tables st.releases.headers);
     })
 

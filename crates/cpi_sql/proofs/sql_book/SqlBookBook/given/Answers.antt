@@ -1,60 +1,54 @@
-use Rattle.std.proofs.Common.{arith}
+use Rattle.std.proofs.Common.{◌∙◌, ap, arith}
 use Rattle.sqlite.specs.Held.{state}
+use Rattle.cpi_rows.specs.Keyed.{at}
+use Rattle.cpi_rows.specs.Held.{held_by}
+use Rattle.cpi_store.specs.Office.{Office}
+use Rattle.cpi_store.specs.declared.given.Given.{Given}
 use Rattle.cpi_sql.proofs.Calls.{reads, read_fails}
-use Rattle.cpi_sql_reads.proofs.Looking.{looks}
 use Rattle.cpi_sql.proofs.Followed.{look_sound, tables_of}
 use Rattle.cpi_sql.proofs.sql_book.SqlBookBook.given.Goals as goal
 
 pub invariant_of-self : goal.invariant_of-self
 invariant_of-self g c =
-    look_sound (state g.S.Store c.self.inside.conn) (state g.S.Store c.given_to.new.conn) _ _
-    (looks (state g.S.Store c.self.inside.conn) (state g.S.Store c.given_to.new.conn) c.given_to.ensures.clean
-    c.given_to.ensures.kept c.given_to.ensures.crash) c.self.invariant c.self.invariant.order
+    look_sound (state g.S.Store c.self.inside.conn) (state g.S.Store c.ready_survey.new.conn) _ _ c.ready_survey.ensures.look
+    c.self.invariant
     (λ clean st. record {
       tables = st.tables;
-      bearers = st.bearers;
-      outlets = st.outlets;
-      public = st.public;
-      own = st.own;
+      survey = c.ready_survey.ensures.stands clean st.tables st.survey;
       releases = st.releases;
     })
 
 pub invariant_of-self-in-Err : goal.invariant_of-self-in-Err
 invariant_of-self-in-Err g c =
-    look_sound (state g.S.Store c.self.inside.conn) (state g.S.Store c.given_to.new.conn) _ _
-    (looks (state g.S.Store c.self.inside.conn) (state g.S.Store c.given_to.new.conn) c.given_to.ensures.clean
-    c.given_to.ensures.kept c.given_to.ensures.crash) c.self.invariant c.self.invariant.order
+    look_sound (state g.S.Store c.self.inside.conn) (state g.S.Store c.ready_survey.new.conn) _ _ c.ready_survey.ensures.look
+    c.self.invariant
     (λ clean st. record {
       tables = st.tables;
-      bearers = st.bearers;
-      outlets = st.outlets;
-      public = st.public;
-      own = st.own;
+      survey = c.ready_survey.ensures.stands clean st.tables st.survey;
       releases = st.releases;
     })
 
 pub returns-in-Ok : goal.returns-in-Ok
 returns-in-Ok g c =
     let old = state g.S.Store c.self.inside.conn in
-    let new = state g.S.Store c.given_to.new.conn in
+    let new = state g.S.Store c.ready_survey.new.conn in
     rw (← c.self.view_is) (record {
-      reads = reads old new c.self.inside.failed.count (tables_of old _ c.self.invariant) _ _
-          (looks old new c.given_to.ensures.clean c.given_to.ensures.kept c.given_to.ensures.crash)
-          (λ disk _. c.in-Ok.ensures.open disk) (λ clean.
-          let st = c.self.invariant.stands (c.given_to.ensures.clean clean) in
-          c.in-Ok.ensures.read clean st.tables);
-      stand = λ clean. c.in-Ok.ensures.stand clean
-          (c.self.invariant.stands (c.given_to.ensures.clean clean)).tables;
+      reads = reads old new c.self.inside.failed.count (tables_of old _ c.self.invariant) _ _ c.ready_survey.ensures.look
+          c.in-Ok.ensures.open (λ clean.
+          let st = c.self.invariant (c.ready_survey.ensures.look.clean clean) in
+          let is = c.ready_survey.ensures.stands clean st.tables st.survey c.in-Ok.ensures.ready in
+          c.given.ensures ∙ ap (λ (o : Office).
+          at (λ (g : Given). g.assignment.slot) c.args.slot (held_by c.args.collector o.assignments)) is);
+      taken = λ clean unread. c.in-Ok.ensures.taken clean (c.self.invariant (c.ready_survey.ensures.look.clean clean)).tables
+          unread;
     })
 
 pub returns-in-Err : goal.returns-in-Err
 returns-in-Err g c =
     let old = state g.S.Store c.self.inside.conn in
-    let new = state g.S.Store c.given_to.new.conn in
-    rw (← c.self.view_is)
-    (record {
+    let new = state g.S.Store c.ready_survey.new.conn in
+    rw (← c.self.view_is) (record {
       reads = read_fails old new c.self.inside.failed.count (tables_of old _ c.self.invariant) _ _ _
-          (looks old new c.given_to.ensures.clean c.given_to.ensures.kept c.given_to.ensures.crash)
-          (omega (arith, c.counted.ensures.count));
-      stand = λ _. tt;
+          c.ready_survey.ensures.look (omega (arith, c.counted.ensures.count));
+      taken = λ _ _. tt;
     })

@@ -1,11 +1,12 @@
-use Rattle.std.proofs.Common.{arith}
+use Rattle.std.proofs.Common.{arith, refl}
 use Rattle.sqlite.specs.Held.{state}
+use Rattle.cpi_store.specs.Office.{Assigns}
 use Rattle.cpi_sql.proofs.Calls.{writes, write_fails}
-use Rattle.cpi_sql.proofs.Followed.{kept_sound, assignment_stands, tables_of}
+use Rattle.cpi_sql.proofs.Followed.{kept_sound, survey_stands, tables_of}
 use Rattle.cpi_sql.proofs.sql_book.SqlBookBook.put_assignment.Goals as goal
 
-pub returns : goal.returns
-returns g c =
+pub returns-in-Err : goal.returns-in-Err
+returns-in-Err g c =
     let old = state g.S.Store c.self.inside.conn in
     let new = state g.S.Store c.put_assignment.new.conn in
     let owed = rw (← c.self.view_is) at c.requires.new in
@@ -36,17 +37,14 @@ invariant_of-self g c =
     let old = state g.S.Store c.self.inside.conn in
     let new = state g.S.Store c.put_assignment.new.conn in
     let owed = rw (← c.self.view_is) at c.requires.new in
-    record {
-      order = c.self.invariant.order;
-      stands = λ clean.
-          let was = c.put_assignment.ensures.clean clean in
-          let before = c.self.invariant.stands was in
-          assignment_stands c.args.bearer c.args.assigned old new _
-          (c.in-Ok.ensures.done clean before.tables (owed was)) before;
-    }
+    λ clean.
+    let was = c.put_assignment.ensures.clean clean in
+    let before = c.self.invariant was in
+    survey_stands (Assigns c.args.bearer c.args.assigned) old new _ _ _ (λ o. refl) (λ o. refl)
+    (c.in-Ok.ensures.done clean before.tables (owed was)) before c.follow_assignment.ensures
 
-pub invariant_of-self-in-Err : goal.invariant_of-self-in-Err
-invariant_of-self-in-Err g c =
+pub invariant_of-self-in-Err-1 : goal.invariant_of-self-in-Err-1
+invariant_of-self-in-Err-1 g c =
     kept_sound (state g.S.Store c.self.inside.conn)
     (state g.S.Store c.put_assignment.new.conn) _ c.put_assignment.ensures.clean c.in-Err.ensures.kept
     c.self.invariant

@@ -1,7 +1,8 @@
-use Rattle.std.proofs.Common.{arith}
+use Rattle.std.proofs.Common.{arith, refl}
 use Rattle.sqlite.specs.Held.{state}
+use Rattle.cpi_store.specs.Office.{PutsCalendar}
 use Rattle.cpi_sql.proofs.Calls.{writes, write_fails}
-use Rattle.cpi_sql.proofs.Followed.{kept_sound, calendar_stands, tables_of}
+use Rattle.cpi_sql.proofs.Followed.{kept_sound, survey_stands, tables_of}
 use Rattle.cpi_sql.proofs.sql_book.SqlBookBook.put_calendar.Goals as goal
 
 pub returns-in-Err : goal.returns-in-Err
@@ -34,14 +35,11 @@ pub invariant_of-self : goal.invariant_of-self
 invariant_of-self g c =
     let old = state g.S.Store c.self.inside.conn in
     let new = state g.S.Store c.put_calendar.new.conn in
-    record {
-      order = c.self.invariant.order;
-      stands = λ clean.
-          let was = c.put_calendar.ensures.clean clean in
-          let before = c.self.invariant.stands was in
-          calendar_stands c.args.row old new _ _ _ (c.in-Ok.ensures.done clean before.tables) before
-          c.follow_calendar.ensures;
-    }
+    λ clean.
+    let was = c.put_calendar.ensures.clean clean in
+    let before = c.self.invariant was in
+    survey_stands (PutsCalendar c.args.row) old new _ _ _ (λ o. refl) (λ o. refl)
+    (c.in-Ok.ensures.done clean before.tables) before c.follow_calendar.ensures
 
 pub invariant_of-self-in-Err : goal.invariant_of-self-in-Err
 invariant_of-self-in-Err g c =

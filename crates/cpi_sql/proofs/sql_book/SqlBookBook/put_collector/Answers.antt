@@ -1,7 +1,8 @@
-use Rattle.std.proofs.Common.{arith}
+use Rattle.std.proofs.Common.{arith, refl}
 use Rattle.sqlite.specs.Held.{state}
+use Rattle.cpi_store.specs.Office.{Registers}
 use Rattle.cpi_sql.proofs.Calls.{writes, write_fails}
-use Rattle.cpi_sql.proofs.Followed.{kept_sound, collector_stands, tables_of}
+use Rattle.cpi_sql.proofs.Followed.{kept_sound, survey_stands, tables_of}
 use Rattle.cpi_sql.proofs.sql_book.SqlBookBook.put_collector.Goals as goal
 
 pub returns-in-Err : goal.returns-in-Err
@@ -37,14 +38,11 @@ invariant_of-self g c =
     let old = state g.S.Store c.self.inside.conn in
     let new = state g.S.Store c.put_collector.new.conn in
     let owed = rw (← c.self.view_is) at c.requires.number in
-    record {
-      order = c.follow_collector.ensures.order;
-      stands = λ clean.
-          let was = c.put_collector.ensures.clean clean in
-          let before = c.self.invariant.stands was in
-          collector_stands c.args.bearer old new _ _ _ (c.in-Ok.ensures.done clean before.tables (owed was)) before
-          c.follow_collector.ensures.follows;
-    }
+    λ clean.
+    let was = c.put_collector.ensures.clean clean in
+    let before = c.self.invariant was in
+    survey_stands (Registers c.args.bearer) old new _ _ _ (λ o. refl) (λ o. refl)
+    (c.in-Ok.ensures.done clean before.tables (owed was)) before c.follow_collector.ensures
 
 pub invariant_of-self-in-Err : goal.invariant_of-self-in-Err
 invariant_of-self-in-Err g c =

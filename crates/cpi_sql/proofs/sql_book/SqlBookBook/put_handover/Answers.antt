@@ -1,11 +1,12 @@
-use Rattle.std.proofs.Common.{arith}
+use Rattle.std.proofs.Common.{arith, refl}
 use Rattle.sqlite.specs.Held.{state}
+use Rattle.cpi_store.specs.Office.{HandsOver}
 use Rattle.cpi_sql.proofs.Calls.{writes, write_fails}
-use Rattle.cpi_sql.proofs.Followed.{kept_sound, handover_stands, tables_of}
+use Rattle.cpi_sql.proofs.Followed.{kept_sound, survey_stands, tables_of}
 use Rattle.cpi_sql.proofs.sql_book.SqlBookBook.put_handover.Goals as goal
 
-pub returns : goal.returns
-returns g c =
+pub returns-in-Err : goal.returns-in-Err
+returns-in-Err g c =
     let old = state g.S.Store c.self.inside.conn in
     let new = state g.S.Store c.put_handover.new.conn in
     let stands = rw (← c.self.view_is) at c.requires.stands in
@@ -41,17 +42,14 @@ invariant_of-self g c =
     let new = state g.S.Store c.put_handover.new.conn in
     let stands = rw (← c.self.view_is) at c.requires.stands in
     let free = rw (← c.self.view_is) at c.requires.new in
-    record {
-      order = c.self.invariant.order;
-      stands = λ clean.
-          let was = c.put_handover.ensures.clean clean in
-          let before = c.self.invariant.stands was in
-          handover_stands c.args.handover old new _
-          (c.in-Ok.ensures.done clean before.tables (record { stands = stands was; free = free was })) before;
-    }
+    λ clean.
+    let was = c.put_handover.ensures.clean clean in
+    let before = c.self.invariant was in
+    survey_stands (HandsOver c.args.handover) old new _ _ _ (λ o. refl) (λ o. refl)
+    (c.in-Ok.ensures.done clean before.tables (record { stands = stands was; free = free was })) before c.follow_handover.ensures
 
-pub invariant_of-self-in-Err : goal.invariant_of-self-in-Err
-invariant_of-self-in-Err g c =
+pub invariant_of-self-in-Err-1 : goal.invariant_of-self-in-Err-1
+invariant_of-self-in-Err-1 g c =
     kept_sound (state g.S.Store c.self.inside.conn)
     (state g.S.Store c.put_handover.new.conn) _ c.put_handover.ensures.clean c.in-Err.ensures.kept
     c.self.invariant

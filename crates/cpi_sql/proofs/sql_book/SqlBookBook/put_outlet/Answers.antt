@@ -1,7 +1,8 @@
-use Rattle.std.proofs.Common.{arith}
+use Rattle.std.proofs.Common.{arith, refl}
 use Rattle.sqlite.specs.Held.{state}
+use Rattle.cpi_store.specs.Office.{PutsOutlet}
 use Rattle.cpi_sql.proofs.Calls.{writes, write_fails}
-use Rattle.cpi_sql.proofs.Followed.{kept_sound, outlet_stands, tables_of}
+use Rattle.cpi_sql.proofs.Followed.{kept_sound, survey_stands, tables_of}
 use Rattle.cpi_sql.proofs.sql_book.SqlBookBook.put_outlet.Goals as goal
 
 pub returns-in-Err : goal.returns-in-Err
@@ -37,14 +38,11 @@ invariant_of-self g c =
     let old = state g.S.Store c.self.inside.conn in
     let new = state g.S.Store c.put_outlet.new.conn in
     let owed = rw (← c.self.view_is) at c.requires.new in
-    record {
-      order = c.self.invariant.order;
-      stands = λ clean.
-          let was = c.put_outlet.ensures.clean clean in
-          let before = c.self.invariant.stands was in
-          outlet_stands c.args.outlet old new _ _ _ (c.in-Ok.ensures.done clean before.tables (owed was)) before
-          c.follow_outlet.ensures;
-    }
+    λ clean.
+    let was = c.put_outlet.ensures.clean clean in
+    let before = c.self.invariant was in
+    survey_stands (PutsOutlet c.args.outlet) old new _ _ _ (λ o. refl) (λ o. refl)
+    (c.in-Ok.ensures.done clean before.tables (owed was)) before c.follow_outlet.ensures
 
 pub invariant_of-self-in-Err-1 : goal.invariant_of-self-in-Err-1
 invariant_of-self-in-Err-1 g c =

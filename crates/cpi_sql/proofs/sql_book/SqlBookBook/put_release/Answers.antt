@@ -39,14 +39,11 @@ invariant_of-self g c =
     let old = state g.S.Store c.self.inside.conn in
     let new = state g.S.Store c.put_release.new.conn in
     let owed = rw (← c.self.view_is) at c.requires.new in
-    record {
-      order = c.self.invariant.order;
-      stands = λ clean.
-          let was = c.put_release.ensures.clean clean in
-          let before = c.self.invariant.stands was in
-          release_stands c.args.release old new _ _ _ c.clear.ensures.items
-          (c.in-Ok.ensures.done clean before.tables (owed was (releases_ordered old.now.trees))) before;
-    }
+    λ clean.
+    let was = c.put_release.ensures.clean clean in
+    let before = c.self.invariant was in
+    release_stands c.args.release old new _ _ _ c.clear.ensures.items
+    (c.in-Ok.ensures.done clean before.tables (owed was (releases_ordered old.now.trees))) before
 
 pub invariant_of-self-in-Err : goal.invariant_of-self-in-Err
 invariant_of-self-in-Err g c =

@@ -8,13 +8,10 @@ use Rattle.cpi_sql.proofs.sql_book.SqlBookBook.table.Goals as goal
 pub invariant_of-self : goal.invariant_of-self
 invariant_of-self g c =
     look_sound (state g.S.Store c.self.inside.conn)
-    (state g.S.Store c.find_table.new.conn) _ _ c.find_table.ensures.look c.self.invariant c.self.invariant.order
+    (state g.S.Store c.find_table.new.conn) _ _ c.find_table.ensures.look c.self.invariant
     (λ clean st. record {
       tables = st.tables;
-      bearers = st.bearers;
-      outlets = st.outlets;
-      public = st.public;
-      own = st.own;
+      survey = st.survey;
       releases = record {
         headers = c.find_table.ensures.headers clean st.tables st.releases.headers;
         tables = c.find_table.ensures.tables clean st.tables st.releases.headers st.releases.tables;
@@ -25,13 +22,10 @@ invariant_of-self g c =
 pub invariant_of-self-in-Err : goal.invariant_of-self-in-Err
 invariant_of-self-in-Err g c =
     look_sound (state g.S.Store c.self.inside.conn)
-    (state g.S.Store c.find_table.new.conn) _ _ c.find_table.ensures.look c.self.invariant c.self.invariant.order
+    (state g.S.Store c.find_table.new.conn) _ _ c.find_table.ensures.look c.self.invariant
     (λ clean st. record {
       tables = st.tables;
-      bearers = st.bearers;
-      outlets = st.outlets;
-      public = st.public;
-      own = st.own;
+      survey = st.survey;
       releases = record {
         headers = c.find_table.ensures.headers clean st.tables st.releases.headers;
         tables = c.find_table.ensures.tables clean st.tables st.releases.headers st.releases.tables;
@@ -49,7 +43,7 @@ returns-in-Ok g c =
         (λ _. tt),
         reads old new c.self.inside.failed.count (tables_of old _ c.self.invariant) _ _ c.find_table.ensures.look
             c.in-Ok.ensures.open (λ clean.
-            let st = c.self.invariant.stands (c.find_table.ensures.look.clean clean) in
+            let st = c.self.invariant (c.find_table.ensures.look.clean clean) in
             let stand = c.find_table.ensures.tables clean st.tables st.releases.headers st.releases.tables in
             let is = c.in-Ok.ensures.read clean st.tables st.releases.headers in
             let lent = rw c.deref.ensures.value at c.lent_table.ensures in

@@ -7,13 +7,10 @@ use Rattle.cpi_sql.proofs.sql_book.SqlBookBook.tables_until.Goals as goal
 pub invariant_of-self : goal.invariant_of-self
 invariant_of-self g c =
     look_sound (state g.S.Store c.self.inside.conn) (state g.S.Store c.months_published.new.conn) _ _
-    c.months_published.ensures.look c.self.invariant c.self.invariant.order
+    c.months_published.ensures.look c.self.invariant
     (λ clean st. record {
       tables = st.tables;
-      bearers = st.bearers;
-      outlets = st.outlets;
-      public = st.public;
-      own = st.own;
+      survey = st.survey;
       releases =
           record {
             headers = c.months_published.ensures.headers clean st.tables st.releases.headers;
@@ -25,13 +22,10 @@ invariant_of-self g c =
 pub invariant_of-self-in-Err : goal.invariant_of-self-in-Err
 invariant_of-self-in-Err g c =
     look_sound (state g.S.Store c.self.inside.conn) (state g.S.Store c.months_published.new.conn) _ _
-    c.months_published.ensures.look c.self.invariant c.self.invariant.order
+    c.months_published.ensures.look c.self.invariant
     (λ clean st. record {
       tables = st.tables;
-      bearers = st.bearers;
-      outlets = st.outlets;
-      public = st.public;
-      own = st.own;
+      survey = st.survey;
       releases =
           record {
             headers = c.months_published.ensures.headers clean st.tables st.releases.headers;
@@ -47,7 +41,7 @@ returns-in-Ok g c =
     rw (← c.self.view_is) (record {
       reads = reads old new c.self.inside.failed.count
           (tables_of old _ c.self.invariant) _ _ c.months_published.ensures.look c.in-Ok.ensures.open (λ clean.
-          let st = c.self.invariant.stands (c.months_published.ensures.look.clean clean) in
+          let st = c.self.invariant (c.months_published.ensures.look.clean clean) in
           c.in-Ok.ensures.read clean st.tables st.releases.headers);
     })
 

@@ -5,7 +5,7 @@ use Rattle.cpi_sql_rows.specs.Lists.{items_in, plans_in, calendar_rows_in}
 use Rattle.cpi_sql_rows.specs.Shelf.{IsCleanBook, IsKept, IsLook, HasTables}
 use Rattle.cpi_sql_rows.proofs.Kept.{kept_tables}
 use Rattle.cpi_sql_reads.proofs.Looking.{looks, looks_then}
-use Rattle.cpi_sql_reads.proofs.ready.read_public.Goals as goal
+use Rattle.cpi_sql_reads.proofs.survey.read_public.Goals as goal
 
 pub from_parts-requires-clause-plans : goal.from_parts-requires-clause-plans
 from_parts-requires-clause-plans g c = c.in_ok-plans.ensures.order

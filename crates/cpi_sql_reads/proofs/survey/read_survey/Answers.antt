@@ -1,0 +1,85 @@
+use Rattle.std.proofs.Common.{◌≡◌, [], ap, ◌∙◌}
+use Rattle.sqlite.specs.Effect.{Database}
+use Rattle.sqlite.specs.Held.{state}
+use Rattle.cpi_sql_rows.specs.Lists.{assignments_in, collectors_in, outlets_in, quotes_in}
+use Rattle.cpi_sql_rows.specs.Shelf.{AreTaken}
+use Rattle.cpi_sql_rows.proofs.Kept.{kept_tables}
+use Rattle.cpi_sql_rows.proofs.FoundTables.{on_any}
+use Rattle.cpi_sql_rows.proofs.Whole.{if_ok}
+use Rattle.cpi_sql_reads.proofs.Looking.{back, looks_then}
+use Rattle.cpi_sql_reads.proofs.survey.read_survey.Goals as goal
+
+pub returns-in_err-registers-clause-look : goal.returns-in_err-registers-clause-look
+returns-in_err-registers-clause-look g c =
+    looks_then (state g.S.Store c.args.conn.now) (state g.S.Store c.read_public.new.conn)
+    (state g.S.Store c.read_registers.new.conn)
+    c.in_ok-public.ensures.look (λ disk _. c.in_ok-public.ensures.open disk) c.in_err-registers.ensures.look
+
+pub returns-in_err-collected-clause-look : goal.returns-in_err-collected-clause-look
+returns-in_err-collected-clause-look g c =
+    let a = state g.S.Store c.args.conn.now in
+    let b = state g.S.Store c.read_public.new.conn in
+    let d = state g.S.Store c.read_registers.new.conn in
+    let e = state g.S.Store c.read_collected.new.conn in
+    looks_then a b e c.in_ok-public.ensures.look (λ disk _. c.in_ok-public.ensures.open disk)
+    (looks_then b d e c.in_ok-registers.ensures.look (λ disk _. c.in_ok-registers.ensures.open disk)
+    c.in_err-collected.ensures.look)
+
+pub returns-clause-look : goal.returns-clause-look
+returns-clause-look g c =
+    let a = state g.S.Store c.args.conn.now in
+    let b = state g.S.Store c.read_public.new.conn in
+    let d = state g.S.Store c.read_registers.new.conn in
+    let e = state g.S.Store c.read_collected.new.conn in
+    looks_then a b e c.in_ok-public.ensures.look (λ disk _. c.in_ok-public.ensures.open disk)
+    (looks_then b d e c.in_ok-registers.ensures.look (λ disk _. c.in_ok-registers.ensures.open disk)
+    c.in_ok-collected.ensures.look)
+
+pub returns-clause-open : goal.returns-clause-open
+returns-clause-open g c = on_any c.survey_from.result _ (λ disk _. c.in_ok-collected.ensures.open disk)
+
+pub returns-clause-taken : goal.returns-clause-taken
+returns-clause-taken g c = λ clean has.
+    let a = state g.S.Store c.args.conn.now in
+    let b = state g.S.Store c.read_public.new.conn in
+    let d = state g.S.Store c.read_registers.new.conn in
+    let clean_d = c.in_ok-collected.ensures.look.clean clean in
+    let clean_b = c.in_ok-registers.ensures.look.clean clean_d in
+    let kept_b = c.in_ok-public.ensures.look.kept clean_b has in
+    let has_b = kept_tables a b kept_b has in
+    let kept_d = c.in_ok-registers.ensures.look.kept clean_d has_b in
+    on_any c.survey_from.result _ (back AreTaken kept_b (back AreTaken kept_d
+    (c.in_ok-collected.ensures.taken clean (kept_tables b d kept_d has_b))))
+
+pub returns-clause-read : goal.returns-clause-read
+returns-clause-read g c = λ clean has.
+    let a = state g.S.Store c.args.conn.now in
+    let b = state g.S.Store c.read_public.new.conn in
+    let d = state g.S.Store c.read_registers.new.conn in
+    let clean_d = c.in_ok-collected.ensures.look.clean clean in
+    let clean_b = c.in_ok-registers.ensures.look.clean clean_d in
+    let kept_b = c.in_ok-public.ensures.look.kept clean_b has in
+    let has_b = kept_tables a b kept_b has in
+    let kept_d = c.in_ok-registers.ensures.look.kept clean_d has_b in
+    let has_d = kept_tables b d kept_d has_b in
+    let public = c.in_ok-public.ensures.read clean_b has in
+    let collectors : c.in_ok-registers.registers.bearers.items ≡ collectors_in (a.now.trees 1) =
+    c.in_ok-registers.ensures.bearers clean_d has_b ∙ ap (λ (t : Database). collectors_in (t.trees 1)) kept_b.now in
+    let outlets : c.in_ok-registers.registers.outlets ≡ outlets_in (a.now.trees 3) =
+    c.in_ok-registers.ensures.outlets clean_d has_b ∙ ap (λ (t : Database). outlets_in (t.trees 3)) kept_b.now in
+    let given : c.in_ok-collected.collected.given.items ≡ assignments_in (a.now.trees 22) =
+    c.in_ok-collected.ensures.given clean has_d
+    ∙ ap (λ (t : Database). assignments_in (t.trees 22)) (kept_d.now ∙ kept_b.now) in
+    let quotes : c.in_ok-collected.collected.quotes.items ≡ quotes_in (a.now.trees 24) =
+    c.in_ok-collected.ensures.quotes clean has_d
+    ∙ ap (λ (t : Database). quotes_in (t.trees 24)) (kept_d.now ∙ kept_b.now) in
+    if_ok c.survey_from.result _ _ c.survey_from.ensures (λ survey is. is ∙ (λ n. record {
+      items = (public n).items;
+      plans = (public n).plans;
+      calendar = (public n).calendar;
+      collectors = collectors n;
+      outlets = outlets n;
+      assignments = given n;
+      quotes = quotes n;
+      releases = [];
+    }))
