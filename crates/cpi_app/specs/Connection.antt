@@ -1,6 +1,6 @@
 -- What connections do.
-use Rattle.std.specs.Prelude.{◌≡◌, ◌≤◌, ◌+◌, ◌⊎◌, ℕ, Bool, true, false, List, [], ◌∷◌, length}
-use Rattle.std.specs.Prelude.{⊤, Option, None, Result, Ok, Err, IfOk, IfErr, IsTrue, IsFalse}
+use Rattle.std.specs.Prelude.{◌≡◌, ◌+◌, ◌⊎◌, ℕ, Bool, true, false, List, [], ◌∷◌, length}
+use Rattle.std.specs.Prelude.{⊤, Option, Some, None, Result, Ok, Err, IfOk, IfErr, IsTrue, IsFalse}
 use Rattle.std.specs.List.{AllByRecursion}
 use Rattle.cpi_codes.specs.Zone.{ZoneRule}
 use Rattle.cpi_release.specs.State.{State}
@@ -45,30 +45,38 @@ pub record Visit : Type 0 where
   pub moment : ℕ
   pub outcome : Result Served WireFault
 
--- connections one after another, the last one first: all that was done to the book was done by them
-abbrev pub AreServed : {B : Type 0} → (B → State Office) → ZoneRule → ℕ → B → List Visit → B → Type 0
+-- connections one after another, the last one first: when each was served and what came of it, or `None` where it
+-- couldn't be accepted
+abbrev pub Visits : Type 0
+Visits = List (Option Visit)
+
+-- all that was done to the book was done by these connections
+abbrev pub AreServed : {B : Type 0} → (B → State Office) → ZoneRule → ℕ → B → Visits → B → Type 0
 AreServed state zone key first [] now = now ≡ first
-AreServed {B} state zone key first (visit ∷ earlier) now = (before : B)
+AreServed state zone key first (None ∷ earlier) now = AreServed state zone key first earlier now
+AreServed {B} state zone key first (Some visit ∷ earlier) now = (before : B)
     × AreServed state zone key first earlier before
     × IsConnection state (messages (setting visit.moment zone key)) visit.outcome before now
 
 -- the last of them shook the book
-abbrev pub LastShook : List Visit → Type 0
+abbrev pub LastShook : Visits → Type 0
 LastShook [] = ⊥
-LastShook (visit ∷ earlier) = IsTrue (is_shaken visit.outcome)
+LastShook (None ∷ earlier) = ⊥
+LastShook (Some visit ∷ earlier) = IsTrue (is_shaken visit.outcome)
 
 -- this one didn't
-abbrev pub IsCalm : Visit → Type 0
-IsCalm visit = IsFalse (is_shaken visit.outcome)
+abbrev pub IsCalm : Option Visit → Type 0
+IsCalm None = ⊤
+IsCalm (Some visit) = IsFalse (is_shaken visit.outcome)
 
 -- none but the last of them did
-abbrev pub AreCalmBefore : List Visit → Type 0
+abbrev pub AreCalmBefore : Visits → Type 0
 AreCalmBefore [] = ⊤
 AreCalmBefore (visit ∷ earlier) = AllByRecursion IsCalm earlier
 
 -- so many of the connections are left, and any only where the last one shook the book
-abbrev pub AreLeft : ℕ → List Visit → ℕ → Type 0
-AreLeft limit visits left = (left + length visits ≤ limit) × ((left ≡ 0) ⊎ LastShook visits)
+abbrev pub AreLeft : ℕ → Visits → ℕ → Type 0
+AreLeft limit visits left = (left + length visits ≡ limit) × ((left ≡ 0) ⊎ LastShook visits)
 
 -- nobody can be listened to: the port is taken, or it couldn't be told that it is listened at
 abbrev pub IsUnheard : RunFault → Type 0

@@ -4,6 +4,8 @@ use Rattle.jiff.specs.Placed.{IsPosixZone}
 use Rattle.jiff.specs.Words.{read_whole}
 use Rattle.cpi_codes.specs.Key.{key_of}
 use Rattle.cpi_app.specs.declared.desk.Desk.{Desk}
+use Rattle.cpi_app.specs.declared.fault.RunFault.{RunFault}
+use Rattle.cpi_app.specs.declared.fault.RunFault.TheVariants.{BadZone, BadKey}
 
 -- the desk's clock goes by the rule that the zone's text is, and its key is the one that the other text spells
 pub record IsDeskOf (zone key : List ℕ) (desk : Desk) : Type 0 where
@@ -13,3 +15,9 @@ pub record IsDeskOf (zone key : List ℕ) (desk : Desk) : Type 0 where
 -- the zone's text is a rule, and the other text is no key
 abbrev pub HasNoKey : List ℕ → List ℕ → Type 0
 HasNoKey zone key = IsSome (read_whole zone) × IsNone (key_of key)
+
+-- why the words name no desk
+abbrev pub NamesNoDesk : List ℕ → List ℕ → RunFault → Type 0
+NamesNoDesk zone key BadZone = IsNone (read_whole zone)
+NamesNoDesk zone key BadKey = HasNoKey zone key
+NamesNoDesk zone key _ = ⊥

@@ -1,7 +1,7 @@
 //! The desk of an office that is served.
-ghost use Rattle.std.specs.Prelude.{◌↔◌, IsNone, IfOk, IsErrOf};
+ghost use Rattle.std.specs.Prelude.{◌↔◌, IsNone, IfOk, IfErr, IsErrOf};
 ghost use Rattle.jiff.specs.Words.{read_whole};
-ghost use Rattle.cpi_app.specs.Desk.{IsDeskOf, HasNoKey};
+ghost use Rattle.cpi_app.specs.Desk.{IsDeskOf, HasNoKey, NamesNoDesk};
 
 use crate::fault::RunFault;
 use cpi_codes::{Key, Zone, zone_of};
@@ -18,6 +18,7 @@ pub fn desk_of(zone: &str, key: &str) -> Result<Desk, RunFault>
     ensures ok { IfOk result (IsDeskOf zone.now key.now) }
     ensures bad_zone { IsErrOf result RunFault.BadZone ↔ IsNone (read_whole zone.now) }
     ensures bad_key { IsErrOf result RunFault.BadKey ↔ HasNoKey zone.now key.now }
+    ensures fault { IfErr result (NamesNoDesk zone.now key.now) }
 {
     let Ok(zone) = zone_of(zone) else {
         return Err(RunFault::BadZone);

@@ -1,6 +1,6 @@
 //! Serving connections, one after another.
-ghost use Rattle.std.specs.Prelude.{◌≡◌, ◌≤◌, List, length, IfOk, IfErr};
-ghost use Rattle.cpi_app.specs.Connection.{Visit, AreServed, AreCalmBefore, AreLeft, IsUnheard};
+ghost use Rattle.std.specs.Prelude.{◌≡◌, ◌≤◌, length, IfOk, IfErr};
+ghost use Rattle.cpi_app.specs.Connection.{Visits, AreServed, AreCalmBefore, AreLeft, IsUnheard};
 ghost use Rattle.cpi_app.specs.declared.fault.RunFault.TheVariants.{NoClock};
 
 use crate::connection::{is_shaken, serve_connection};
@@ -46,7 +46,7 @@ pub fn serve_book<C: Clock, B: Book>(
     desk: &Desk,
     book: B,
 ) -> (B, Result<u32, RunFault>)
-    ensures served { (visits : List Visit) × (length visits ≤ limit)
+    ensures served { (visits : Visits) × (length visits ≤ limit)
         × AreServed B.state desk.now.zone desk.now.key book visits result.0
         × AreCalmBefore visits × IfOk result.1 (AreLeft limit visits) }
     ensures fault { IfErr result.1 (λ fault. fault ≡ NoClock) }

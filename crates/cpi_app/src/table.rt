@@ -6,7 +6,7 @@ ghost use Rattle.cpi_release.specs.PublishedTables.{PublishedTable};
 ghost use Rattle.cpi_release.specs.State.{Keeps, StaysClean};
 ghost use Rattle.cpi_store.specs.Tables.{table_until};
 ghost use Rattle.cpi_office.specs.Answers.{bytes_of};
-ghost use Rattle.cpi_app.specs.Table.{IsTable, IsWritten, IsNotWritten, IsPrinted};
+ghost use Rattle.cpi_app.specs.Table.{IsTable, IsWritten, IsNotWritten, IsPrinted, IsTooLate, AsksForNone};
 
 use crate::fault::RunFault;
 use cpi_codes::{Moment, Month};
@@ -107,6 +107,7 @@ pub fn print_table<B: Book, W: Write, E: Write>(
     ensures keeps { Keeps (B.state book.old) (B.state book.new) }
     ensures printed { (B.state book.new).is_clean →
         IsPrinted asked (B.state book.old).held (W.contents out.old) (W.contents out.new) result }
+    ensures quiet { result ≡ 0 → err.new ≡ err.old }
 {
     match write_table(alloc, book, asked, out) {
         Ok(()) => 0,
@@ -128,6 +129,8 @@ pub fn asked_table(
     ensures asked { IfOk result (λ asked. (month_of month.now ≡ Ok asked.month) × (at ≡ asked.until)
         × (asked.revision ≡ revision) × (asked.form ≡ Form.Csv ↔ form.now ≡ codes "csv")) }
     ensures bad_month { IsErrOf result RunFault.BadMonth ↔ IsErr (month_of month.now) }
+    ensures no_table { IsErrOf result RunFault.NoTable ↔ IsTooLate month.now at }
+    ensures fault { IfErr result (AsksForNone month.now at) }
 {
     let Ok(month) = Month::parse(month.as_bytes()) else {
         return Err(RunFault::BadMonth);

@@ -1,11 +1,11 @@
 //! The job of serving pages of the office of a file.
-ghost use Rattle.std.specs.Prelude.{IsNone, IfErr, IsErrOf};
+ghost use Rattle.std.specs.Prelude.{◌↔◌, IsNone, IfErr, IsErrOf};
 ghost use Rattle.jiff.specs.Words.{read_whole};
 ghost use Rattle.sqlite.specs.WalFiles.{image_at};
 ghost use Rattle.cpi_app.specs.Connection.{IsUnheard};
 ghost use Rattle.cpi_app.specs.Desk.{HasNoKey};
 ghost use Rattle.cpi_app.specs.declared.fault.RunFault.TheVariants as RunFault;
-ghost use Rattle.cpi_files.specs.Serve.{EndsWithBook};
+ghost use Rattle.cpi_files.specs.Serve.{EndsWithBook, EndsAtDesk, EndsServing};
 
 use crate::file::job_in_file;
 use crate::job::BookJob;
@@ -101,10 +101,43 @@ fn serve_in_file<S: Start>(
     Ok(rest)
 }
 
-/// Serves the pages of the office in the database file at the path, of which `start` says how a crash is read, at a port
-/// of this machine, for so many connections one after another, with the desk of the zone and the key. Where a connection
-/// shook the book, the file is closed and opened again. The faults are those of the zone, of the key, of the database
-/// and of the port, in this order, and then those of the run.
+// Serves over the office of the file with the desk. Where a connection shook the book, and more are to be served, the
+// file is opened again.
+fn serve_at_desk<S: Start>(
+    rt: &HostRuntime,
+    path: &str,
+    start: S,
+    port: u16,
+    desk: &Desk,
+    limit: u32,
+) -> Result<(), RunFault>
+    ensures { EndsAtDesk ⟦<FileFrom<S> as Disk>⟧ ⟦<FileFrom<Unknown> as Disk>⟧ (image_at S.Start)
+        desk.now limit result }
+{
+    let job = Serve {
+        desk,
+        port,
+        listener: None,
+        limit,
+    };
+    let mut rest = serve_in_file(rt, path, start, job)?;
+    while rest.left > 0 {
+        let Rest { listener, left } = rest;
+        let job = Serve {
+            desk,
+            port,
+            listener: Some(listener),
+            limit: left,
+        };
+        rest = serve_in_file(rt, path, Unknown, job)?;
+    }
+    Ok(())
+}
+
+/// Serves the pages of the office in the database file at the path, of which `start` says how a crash is read, at a
+/// port of this machine, for so many connections one after another, with the desk of the zone and the key. Where a
+/// connection shook the book, the file is closed and opened again. The faults are those of the zone, of the key, of the
+/// database and of the port, in this order, and then those of the run.
 pub fn run_serve<S: Start>(
     rt: &HostRuntime,
     path: &str,
@@ -114,30 +147,11 @@ pub fn run_serve<S: Start>(
     limit: u32,
     zone: &str,
 ) -> Result<(), RunFault>
-    ensures bad_zone { IsNone (read_whole zone.now) → IsErrOf result RunFault.BadZone }
-    ensures bad_key { HasNoKey zone.now key.now → IsErrOf result RunFault.BadKey }
+    ensures ends { EndsServing ⟦<FileFrom<S> as Disk>⟧ ⟦<FileFrom<Unknown> as Disk>⟧ (image_at S.Start)
+        zone.now key.now limit result }
+    ensures bad_zone { IsErrOf result RunFault.BadZone ↔ IsNone (read_whole zone.now) }
+    ensures bad_key { IsErrOf result RunFault.BadKey ↔ HasNoKey zone.now key.now }
 {
     let desk = desk_of(zone, key)?;
-    let job = Serve {
-        desk: &desk,
-        port,
-        listener: None,
-        limit,
-    };
-    let mut rest = serve_in_file(rt, path, start, job)?;
-    'books: for _ in 0..limit {
-        if rest.left == 0 {
-            break;
-        }
-        // a connection shook the book
-        let Rest { listener, left } = rest;
-        let job = Serve {
-            desk: &desk,
-            port,
-            listener: Some(listener),
-            limit: left,
-        };
-        rest = serve_in_file(rt, path, Unknown, job)?;
-    }
-    Ok(())
+    serve_at_desk(rt, path, start, port, &desk, limit)
 }

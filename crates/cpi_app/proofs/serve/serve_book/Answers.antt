@@ -1,22 +1,22 @@
-use Rattle.std.proofs.Common.{[], ◌∷◌, arith, rules, refl, inl, inr, List}
+use Rattle.std.proofs.Common.{[], ◌∷◌, Some, None, arith, rules, refl, inl, inr}
 use Rattle.std.specs.List.{AllByRecursion}
 use Rattle.std.specs.Prelude.{IsTrue}
-use Rattle.cpi_app.specs.Connection.{is_shaken, AreCalmBefore, IsCalm, Visit}
+use Rattle.cpi_app.specs.Connection.{is_shaken, AreCalmBefore, IsCalm, Visit, Visits}
 use Rattle.cpi_app.proofs.serve.serve_book.Goals as goal
 
 -- of calm connections none but the last may shake
-calm_before : (visits : List Visit) → AllByRecursion IsCalm visits → AreCalmBefore visits
+calm_before : (visits : Visits) → AllByRecursion IsCalm visits → AreCalmBefore visits
 calm_before [] calm = tt
 calm_before (visit ∷ earlier) calm = calm.1
 
 pub loop-served-init : goal.loop-served-init
-loop-served-init g c = ([], omega arith, c.new-office.ensures, tt)
+loop-served-init g c = ([], refl, c.new-office.ensures, tt)
 
 -- a connection that wasn't accepted
 pub loop-served-preserved-in_default : goal.loop-served-preserved-in_default
 loop-served-preserved-in_default g c =
     let inv = c.loop-served.invariant in
-    (inv.0, omega (arith, inv.1), inv.2, inv.3)
+    (None ∷ inv.0, omega (arith, inv.1), inv.2, (tt, inv.3))
 
 -- no clock
 pub returns-in_default-moment_of-clause-served : goal.returns-in_default-moment_of-clause-served
@@ -30,7 +30,7 @@ returns-then-is_shaken-clause-served g c =
     let inv = c.loop-served.invariant in
     let call = c.serve_connection in
     let shook : IsTrue (is_shaken call.result) = search rules in (
-      record { moment = c.in-Some.now; outcome = call.result } ∷ inv.0,
+      Some (record { moment = c.in-Some.now; outcome = call.result }) ∷ inv.0,
       omega (arith, inv.1, c.loop-served-test.true),
       rw c.into_book-then-is_shaken.ensures
           (c.loop-served.office.book, inv.2, (call.ensures.ok, call.ensures.err)),
@@ -43,8 +43,8 @@ loop-served-preserved g c =
     let inv = c.loop-served.invariant in
     let call = c.serve_connection in
     let visit : Visit = record { moment = c.in-Some.now; outcome = call.result } in
-    let calm : IsCalm visit = search rules in (
-      visit ∷ inv.0,
+    let calm : IsCalm (Some visit) = search rules in (
+      Some visit ∷ inv.0,
       omega (arith, inv.1),
       (c.loop-served.office.book, inv.2, (call.ensures.ok, call.ensures.err)),
       (calm, inv.3),

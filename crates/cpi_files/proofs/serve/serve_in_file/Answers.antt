@@ -1,4 +1,4 @@
-use Rattle.std.proofs.Common.{◌≡◌, rules, sym, subst, Ok, Err}
+use Rattle.std.proofs.Common.{◌≡◌, arith, rules, Ok, Err}
 use Rattle.std.proofs.lemmas.Result.{err_from_is_err_and}
 use Rattle.cpi_files.proofs.Serving.{book-left, book-open, book-early}
 use Rattle.cpi_files.proofs.serve.serve_in_file.Goals as goal
@@ -18,8 +18,9 @@ returns-in_err-closed g c =
     let told = c.from_residual-in_err-closed in
     let p = err_from_is_err_and told.result told.ensures.1 in
     let is : c.in_ok-outcome.outcome ≡ Ok c.in_ok-rest.rest = search rules in
+    let none : c.in_ok-rest.rest.left ≡ 0 = omega arith in
     rw (p.1, p.2) (book-open _ _ c.args.job.desk.now c.args.job.listener c.args.job.limit _ _ _ c.in_ok-rest.rest
-    c.in_err-closed.field-0.0 (rw is at c.in_ok-outcome.ensures.done))
+    c.in_err-closed.field-0.0 (rw is at c.in_ok-outcome.ensures.done) none)
 
 pub returns : goal.returns
 returns g c =
