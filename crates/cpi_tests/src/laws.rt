@@ -1,12 +1,16 @@
 //! Generic laws, at the types that the office has.
 use cpi_codes::CollectorId;
 use cpi_index::CarriedPrice;
-use cpi_office::{replies_are_alike, runs_tell_alike};
+use cpi_office::{
+    empty_is_sound, others_do_not_matter, replies_are_alike, runs_tell_alike, tables_are_computed,
+    views_are_rebuilt,
+};
+use cpi_pages::{messages_are_a_run, one_message, responses_are_alike, tables_are_sent};
 use cpi_plan::{CalendarRow, Item};
 use cpi_release::Release;
 use cpi_rows::{gathered_put, gathered_rows, put_same, puts_other, puts_own};
 use cpi_store::{FailBook, VecBook};
-use cpi_wire::{lines_are_alike, records_are_a_run, replays_tell_alike};
+use cpi_wire::{lines_are_alike, records_are_a_run, replays_tell_alike, tables_are_told};
 
 #[test]
 fn the_laws_hold_of_books_and_rows() {
@@ -20,4 +24,21 @@ fn the_laws_hold_of_books_and_rows() {
     put_same::<Release>();
     gathered_rows::<CarriedPrice, CollectorId>();
     gathered_put::<CarriedPrice, CollectorId>();
+}
+
+#[test]
+fn the_laws_hold_of_tables_and_pages() {
+    tables_are_computed();
+    tables_are_told::<FailBook<VecBook>>();
+    tables_are_sent::<FailBook<VecBook>>();
+    one_message();
+    messages_are_a_run::<FailBook<VecBook>>();
+    responses_are_alike::<VecBook, FailBook<VecBook>>();
+}
+
+#[test]
+fn the_laws_hold_of_offices() {
+    empty_is_sound();
+    views_are_rebuilt();
+    others_do_not_matter();
 }
