@@ -2,9 +2,9 @@
 """Opens files that can't be offices, or that hold rows which no office has.
 
 A folder, a path that leads nowhere, a text, versions that aren't known, other tables, rows outside the limits or
-without their parents: each has its line and its status, and the file stays as it was. Rows of the large tables that can
-stand for nothing, assignments whose series or copied price is outside the limits, and plans with months that no plan
-has: what would read them is refused by 90, and nothing else is.
+without their parents: each has its line and its status, and the file stays as it was. Where a quote, an assignment,
+its series or its copied price, or a plan can stand for nothing, the survey can't be read: what asks for it is refused
+by 90, and what was published is told. A row of a published table that is outside the limits shuts out that table alone.
 """
 
 from __future__ import annotations
@@ -79,24 +79,36 @@ def rows_that_cannot_be(program: Program, room: str) -> Fault:
     return opened_each(program, room, ways, FAILED, office)
 
 
-def read_in_part_after(way: str, record: bytes, program: Program, room: str) -> Fault:
-    """What is wrong, if not that record alone is refused by 90 once the office is changed so."""
-    path = office(program, room)
-    change(path, [way])
-    return read_in_part(program, path, record)
+Records = list[bytes]
 
-
-TABLE, WORK = b"5000,public,table,2026-01,csv\n", f"1500,{KEY},work,2026-01\n".encode()
+TABLES_TOLD, TABLE = b"5000,public,tables\n", b"5000,public,table,2026-01,csv\n"
+ITEMS, WORK = b"5000,public,items\n", f"1500,{KEY},work,2026-01\n".encode()
+PUBLISHED: Records = [TABLES_TOLD, TABLE]
+SURVEY: Records = [ITEMS, WORK, QUOTE, b"5000,desk,outlet,12,Market\n"]
 LEVEL = "WHERE month = 202601 AND code = '00'"
 NO_SERIES = [("series_collector", 0), ("series_collector", 10_000), ("series_slot", 0), ("series_slot", 401)]
 NO_PRICES = [("copied", 0), ("copied", -1), ("copied", 100_000_001)]
-READ_IN_PART = [
-    # rows outside the limits in large tables
-    ("UPDATE quote_2 SET value = 0 WHERE slot = 1 AND month = 202602", QUOTE),
-    *((f"UPDATE level_2 SET weight = {weight} {LEVEL}", TABLE) for weight in (0, 10**15 + 1)),
+READ_IN_PART: list[tuple[str, Records, Records]] = [
+    # a way to change a file, what is told then, and what is refused
+    ("UPDATE quote_2 SET value = 0 WHERE slot = 1 AND month = 202602", PUBLISHED, SURVEY),
+    *(
+        (f"UPDATE level_2 SET weight = {weight} {LEVEL}", [TABLES_TOLD, ITEMS, WORK], [TABLE])
+        for weight in (0, 10**15 + 1)
+    ),
     # a slot whose series can't be, or that has a copied price which is none
-    *((f"UPDATE assignment_2 SET {column} = {value} WHERE slot = 1", WORK) for column, value in NO_SERIES + NO_PRICES),
+    *(
+        (f"UPDATE assignment_2 SET {column} = {value} WHERE slot = 1", PUBLISHED, SURVEY)
+        for column, value in NO_SERIES + NO_PRICES
+    ),
 ]
+
+
+def read_in_part_after(way: str, told: Records, refused: Records, program: Program, room: str) -> Fault:
+    """What is wrong, if not these records alone are refused by 90 once the office is changed so."""
+    path = office(program, room)
+    change(path, [way])
+    return read_in_part(program, path, told, refused)
+
 
 # Months that no plan of 2026 can have as its reference: one after its link month, and numbers that are no month.
 NO_REFERENCES = [202601, 209912, 202513, 202500, 199912, 0, -1]
@@ -132,8 +144,8 @@ def a_reference_month_without_a_plan(program: Program, room: str) -> Fault:
 
 def main() -> int:
     chosen = program_of(words_of(__doc__))
-    for way, record in READ_IN_PART:
-        check.put(way, partial(read_in_part_after, way, record))
+    for way, told, refused in READ_IN_PART:
+        check.put(way, partial(read_in_part_after, way, told, refused))
     with Checks() as checks:
         checks.run(check.of(chosen.program))
     return checks.status

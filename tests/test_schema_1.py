@@ -173,7 +173,7 @@ def rows_of_schema_1_that_stand_for_nothing(program: Program, room: str) -> Faul
     path = first_office(program, room)
     change(path, ["UPDATE quote SET value = 0 WHERE slot = 1 AND month = 202602"])
     wanted = migrated(stored(path))
-    found = read_in_part(program, path, QUOTE)
+    found = read_in_part(program, path, [b"5000,public,tables\n"], [QUOTE])
     return found or (None if stored(path) == wanted else "a price of 0 wasn't migrated")
 
 

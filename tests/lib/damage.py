@@ -63,9 +63,9 @@ def opened_each(program: Program, room: str, ways: Sequence[Way], line: str, *be
     return None
 
 
-def read_in_part(program: Program, path: str, record: bytes) -> Fault:
-    """What is wrong, if not that record alone is refused by 90."""
-    ran = program.replay(b"5000,public,tables\n" + record + b"5000,public,items\n", path)
-    lines = ran.out.split(b"\n")
-    is_right = lines[1:2] == [b'{"refused":90}'] and b"tables" in lines[0] and b"items" in lines[2]
-    return None if is_right and not ran.status else f"{ran}"
+def read_in_part(program: Program, path: str, told: Sequence[bytes], refused: Sequence[bytes]) -> Fault:
+    """What is wrong, if not the latter records alone are refused by 90, between the former and these once more."""
+    ran = program.replay(b"".join([*told, *refused, *told]), path)
+    found = [line == b'{"refused":90}' for line in ran.out.splitlines()]
+    wanted = [False] * len(told) + [True] * len(refused) + [False] * len(told)
+    return None if found == wanted and not ran.status else f"{ran}"

@@ -447,8 +447,8 @@ def test_a_mark_that_is_changed_while_it_is_under_way(phone: Phone, stage: Stage
     phone.enter(1, "3.21")
     phone.browser.wait(lambda: stage.relay.rows("quote,1,") == 1)
     phone.enter(1, "3.30")
-    phone.wait_told(1, "To be sent")
-    assert "3.30" in phone.told(1)
+    phone.wait_told(1, "3.30")
+    assert "To be sent" in phone.told(1)
     stage.relay.held.clear()
     phone.wait_told(1, f"Receipt {NEXT + 1}")
     assert stored(stage, 1) == [("price", 330, NEXT + 1)]
