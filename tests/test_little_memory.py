@@ -1,7 +1,7 @@
 #!/usr/bin/env python3
 """Runs `cpi` where the system gives it too little memory.
 
-A replay in memory, one over a file, a table and pages for a client are each run at N sizes (20) of address space,
+A replay in memory, one over a file, a table and HTTP for a client are each run at N sizes (20) of address space,
 evenly spread from the least at which `cpi --help` works to the least at which the job is done well. (Below the first
 the loader of the system ends with a status of its own.) Each run ends by itself: with status 0 and no line on standard
 error, or with status 1 and one line, which is that of its fault. Of its replies:
@@ -227,7 +227,7 @@ class Table(Job):
         return Found(ended_ill(ran, NO_MEMORY, NO_DATABASE), kind_of(ran))
 
 
-# ---- pages
+# ---- HTTP
 
 
 COLLECTORS = range(1, 7)
@@ -260,13 +260,13 @@ def is_whole(text: bytes) -> bool:
     return text.startswith(WELL) and f"Content-Length: {len(body)}\r\n".encode() in head + b"\r\n"
 
 
-class Pages(Job):
-    """Pages for a client that sends each message over a connection of its own."""
+class Messages(Job):
+    """HTTP for a client that sends each message over a connection of its own."""
 
-    name = "pages"
+    name = "http"
 
     def __init__(self, program: Program, room: str) -> None:
-        self.program, self.start = program, f"{room}/pages.db"
+        self.program, self.start = program, f"{room}/http.db"
         replayed(program, [*office_of(COLLECTORS)], self.start)
         self.messages = [*asked()]
         with tempfile.TemporaryDirectory() as inner:
@@ -364,7 +364,7 @@ def main() -> int:
             partial(Replay, program, False),
             partial(Replay, program, True),
             partial(Table, program, room),
-            partial(Pages, program, room),
+            partial(Messages, program, room),
         ]
         for begun in jobs:
             try_job(checks, begun(), low, chosen.sizes)

@@ -11,7 +11,7 @@ import random
 import time
 from collections.abc import Iterator
 
-from second_office import pages
+from second_office import http_messages
 from second_office.office import Office
 
 from .harness import Fault
@@ -160,7 +160,7 @@ class Compared(Served):
 
     def wanted(self, text: bytes) -> bytes:
         """The response that the second reading gives."""
-        return pages.answered(self.office, text, int(time.time()), DESK)
+        return http_messages.answered(self.office, text, int(time.time()), DESK)
 
     def fault(self, text: bytes) -> Fault:
         """What is answered otherwise to a message whose peer then ends what it sends."""

@@ -57,7 +57,7 @@ fn run_replay_in(rt: &HostRuntime, zone: &str, path: &str) -> Result<u8, RunFaul
     Ok(0)
 }
 
-// Serves the pages of the office of the file.
+// Serves the office of the file by HTTP.
 fn run_serve_of(
     rt: &HostRuntime,
     path: &str,

@@ -37,7 +37,8 @@ module _ (month revision : ℕ) (tables : List PublishedTable) where
   revision_is : (t : PublishedTable) → named ≡ Some t → t.revision ≡ revision
   revision_is t e =
       let keep = λ (u : PublishedTable). u.revision == revision in
-      let found = latest_all (λ (u : PublishedTable). u.month) month (λ u. keep u ≡ true) (filter keep tables) t (passes keep tables) e in
+      let found = latest_all (λ (u : PublishedTable). u.month) month (λ u. keep u ≡ true) (filter keep tables) t
+      (passes keep tables) e in
       eqb-true t.revision revision found.0
 
   -- a table whose rows were found

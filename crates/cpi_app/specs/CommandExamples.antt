@@ -24,14 +24,14 @@ Replays = (job zoned ≡ Some (codes "replay")) × (value zoned (codes "zone") �
     × (job filed ≡ Some (codes "replay")) × (value filed (codes "zone") ≡ None)
     × (value filed (codes "db") ≡ Some (codes "office.db"))
 
-abbrev pub pages : List Text
-pages = codes "serve" ∷ codes "--port" ∷ codes "8080" ∷ codes "--db" ∷ codes "F" ∷ codes "--limit" ∷ codes "1"
+abbrev pub served : List Text
+served = codes "serve" ∷ codes "--port" ∷ codes "8080" ∷ codes "--db" ∷ codes "F" ∷ codes "--limit" ∷ codes "1"
     ∷ codes "--desk-key" ∷ codes "K" ∷ []
 
 abbrev pub Serves : Type 0
-Serves = (job pages ≡ Some (codes "serve")) × (value pages (codes "db") ≡ Some (codes "F"))
-    × (value pages (codes "port") ≡ Some (codes "8080")) × (value pages (codes "desk-key") ≡ Some (codes "K"))
-    × (value pages (codes "limit") ≡ Some (codes "1")) × (value pages (codes "zone") ≡ None)
+Serves = (job served ≡ Some (codes "serve")) × (value served (codes "db") ≡ Some (codes "F"))
+    × (value served (codes "port") ≡ Some (codes "8080")) × (value served (codes "desk-key") ≡ Some (codes "K"))
+    × (value served (codes "limit") ≡ Some (codes "1")) × (value served (codes "zone") ≡ None)
 
 abbrev pub printed : List Text
 printed = codes "table" ∷ codes "--db" ∷ codes "F" ∷ codes "--month" ∷ codes "2026-01" ∷ codes "--revision" ∷ codes "2"

@@ -7,10 +7,10 @@ use Rattle.cpi_release.specs.State.{State}
 use Rattle.cpi_store.specs.Office.{Office}
 use Rattle.cpi_wire.specs.declared.fault.WireFault.{WireFault}
 use Rattle.cpi_wire.specs.declared.fault.WireFault.TheVariants as fault
-use Rattle.cpi_pages.specs.declared.serve.Served.{Served}
-use Rattle.cpi_pages.specs.declared.serve.Served.TheVariants as served
-use Rattle.cpi_pages.specs.Message.{setting}
-use Rattle.cpi_pages.specs.Served.{Framing, Change, IsServed, GaveUp, messages}
+use Rattle.cpi_http.specs.declared.serve.Served.{Served}
+use Rattle.cpi_http.specs.declared.serve.Served.TheVariants as served
+use Rattle.cpi_http.specs.Message.{setting}
+use Rattle.cpi_http.specs.Served.{Framing, Change, IsServed, GaveUp, messages}
 use Rattle.cpi_app.specs.declared.fault.RunFault.{RunFault}
 use Rattle.cpi_app.specs.declared.fault.RunFault.TheVariants.{NoPort, Wire}
 

@@ -35,9 +35,7 @@ fn serve_command<'a>(alloc: Global) -> Result<Command<'a>, AllocError>
     ensures local { IfOk result (λ c. (out-Command c).has_globals ≡ false) }
 {
     Command::new(alloc, "serve")
-        .about(
-            "Serves the pages of the office at a port of this machine, one connection after another",
-        )
+        .about("Serves the office by HTTP at a port of this machine, one connection after another")
         .after_help(help::SERVE)
         .arg(required(alloc, "db", FILE_HELP))?
         .arg(number(

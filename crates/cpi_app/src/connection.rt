@@ -1,15 +1,15 @@
 //! One connection: its message is read and answered, each within its time.
 ghost use Rattle.std.specs.Prelude.{◌≡◌, IfOk, IfErr, None};
-ghost use Rattle.cpi_pages.specs.Message.{setting};
-ghost use Rattle.cpi_pages.specs.Served.{messages};
-ghost use Rattle.cpi_app.specs.Connection.{ServesFront, GivesUpFront, is_shaken};
+ghost use Rattle.cpi_http.specs.Message.{setting};
+ghost use Rattle.cpi_http.specs.Served.{messages, change};
+ghost use Rattle.cpi_app.specs.Connection.{ServesFront, GivesUpFront, unknown_bytes, is_shaken};
 
 use crate::desk::Desk;
 use crate::offered::Offered;
 use crate::timed::Timed;
 use cpi_codes::Moment;
+use cpi_http::{Served, serve_one};
 use cpi_office::Office;
-use cpi_pages::{Served, serve_one};
 use cpi_store::Book;
 use cpi_wire::WireFault;
 use std::alloc::Global;
@@ -45,20 +45,10 @@ pub fn serve_front<R: Read, W: Write, B: Book>(
 ) -> Result<Served, WireFault>
     ensures ok { IfOk result (ServesFront B.state (messages (setting now desk.now.zone desk.now.key))
         (R.remaining reader.old)
-        (record {
-          before = office.old.book;
-          now = office.new.book;
-          written = W.contents writer.old;
-          writing = W.contents writer.new;
-        })) }
+        (change office.old.book office.new.book (W.contents writer.old) (W.contents writer.new))) }
     ensures err { IfErr result (GivesUpFront B.state (messages (setting now desk.now.zone desk.now.key))
         (R.remaining reader.old)
-        (record {
-          before = office.old.book;
-          now = office.new.book;
-          written = W.contents writer.old;
-          writing = W.contents writer.new;
-        })) }
+        (change office.old.book office.new.book (W.contents writer.old) (W.contents writer.new))) }
 {
     let Ok(mut buffered) = BufReader::new(alloc, reader) else {
         return Err(WireFault::NoMemory);
@@ -111,8 +101,8 @@ fn bound_waits(stream: &TcpStream) -> io::Result<()> {
 }
 
 /// Serves the message of a connection at a moment. A peer that sends too slowly is given up with `Read`. What the peer
-/// sent after its message is thrown away, and so is what it doesn't take of the response, or too slowly: the message was
-/// carried out, and that says nothing against the office.
+/// sent after its message is thrown away, and so is what it doesn't take of the response, or too slowly: the message
+/// was carried out, and that says nothing against the office.
 pub fn serve_connection<C: Clock, B: Book>(
     alloc: Global,
     clock: &C,
@@ -122,9 +112,9 @@ pub fn serve_connection<C: Clock, B: Book>(
     office: &mut Office<B>,
 ) -> Result<Served, WireFault>
     ensures ok { IfOk result (ServesFront B.state (messages (setting now desk.now.zone desk.now.key)) None
-        (record { before = office.old.book; now = office.new.book; written = None; writing = None })) }
+        (unknown_bytes office.old.book office.new.book)) }
     ensures err { IfErr result (GivesUpFront B.state (messages (setting now desk.now.zone desk.now.key)) None
-        (record { before = office.old.book; now = office.new.book; written = None; writing = None })) }
+        (unknown_bytes office.old.book office.new.book)) }
 {
     let Ok(()) = bound_waits(stream) else {
         return Err(WireFault::Read);

@@ -1,8 +1,8 @@
 //! What each help ends with: what the command reads and writes, an example, and the exit statuses.
 
 pub const CPI: &str = "\
-Reads:     records, requests for pages, or the file of an office, as the command says
-Writes:    replies, pages or a table; with --db each change to the file before it is answered
+Reads:     records, HTTP requests, or the file of an office, as the command says
+Writes:    replies, responses or a table; with --db each change to the file before it is answered
 Example:   cpi replay --db office.db < records.csv > replies.txt
            (`cpi help replay` tells more of replay, and so for each command)
 Exit status:

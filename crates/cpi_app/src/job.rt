@@ -11,7 +11,7 @@ pub enum Job<'a> {
         zone: &'a str,
         db: Option<&'a str>,
     },
-    /// Pages of the office of the database at a port of this machine, for `limit` connections one after another; the
+    /// The office of the database by HTTP, at a port of this machine, for `limit` connections one after another; the
     /// key is the desk's.
     Serve {
         db: &'a str,

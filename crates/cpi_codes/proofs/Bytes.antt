@@ -1,5 +1,7 @@
 -- The bytes of item codes.
-use Rattle.std.proofs.Common.{◌≡◌, ◌∙◌, sym, refl, ap, ℕ, suc, ◌+◌, ◌*◌, ◌-◌, ◌^◌, ◌<◌, ◌≤◌, List, ◌++◌, [], ◌∷◌, length, take, replicate, get_or, true, nat_le, set, Some, inl, inr, filter, ◌/◌, ◌%◌, arith, lit<, length-append, zero}
+use Rattle.std.proofs.Common.{◌≡◌, ◌∙◌, sym, refl, ap, ℕ, suc, ◌+◌, ◌*◌, ◌-◌, ◌^◌, ◌<◌, ◌≤◌, List, ◌++◌, [], ◌∷◌}
+use Rattle.std.proofs.Common.{length, take, replicate, get_or, true, nat_le, set, Some, inl, inr, filter, ◌/◌, ◌%◌}
+use Rattle.std.proofs.Common.{arith, lit<, length-append, zero}
 use Rattle.std.proofs.lemmas.List.{length-replicate}
 use Rattle.std.proofs.Math.Nat.{pow-le-pow_right}
 use Rattle.std.proofs.lemmas.Grind.{pow_more}
@@ -36,7 +38,9 @@ pub filled-at : (text : List ℕ) (i : ℕ) → get_or (filled text) i 0 ≡ get
 filled-at text i = with-zeros-at text (12 - length text) i
 
 -- what one more byte adds
-pub number-more : (text : List ℕ) (i : ℕ) → length text ≤ 12 → i < 12 → number_from_digits 256 (take (i + 1) (filled text)) ≡ 256 * number_from_digits 256 (take i (filled text)) + get_or text i 0
+pub number-more : (text : List ℕ) (i : ℕ) → length text ≤ 12 → i < 12 →
+    number_from_digits 256 (take (i + 1) (filled text)) ≡ 256 * number_from_digits 256
+    (take i (filled text)) + get_or text i 0
 number-more text i short here =
     let len = length-filled text short in
     let more = number_more 256 (filled text) i (omega arith) in
@@ -55,11 +59,13 @@ power-le k h =
     omega arith
 
 -- a text that writes a code is one of an item, and its number is the code
-pub text-of-code : (text : List ℕ) (code : ℕ) → item_code_of text ≡ Some code → (is_item_text text ≡ true) × (code ≡ item_number text)
+pub text-of-code : (text : List ℕ) (code : ℕ) → item_code_of text ≡ Some code → (is_item_text text ≡ true)
+    × (code ≡ item_number text)
 unfolding item_code_of
 text-of-code text code h = chosen (is_item_text text) (item_number text) code h
 
-pub text-parts : (text : List ℕ) → is_item_text text ≡ true → (1 ≤ length text) × (length text ≤ 12) × (list_all is_item_character text ≡ true)
+pub text-parts : (text : List ℕ) → is_item_text text ≡ true → (1 ≤ length text) × (length text ≤ 12)
+    × (list_all is_item_character text ≡ true)
 text-parts text h =
     let parts = all-three (nat_le 1 (length text)) (nat_le (length text) 12) (list_all is_item_character text) h in
     (grind (arith, nat_tests, parts.0), grind (arith, nat_tests, parts.1), parts.2)
@@ -69,13 +75,16 @@ character-range c h = (grind (arith, nat_tests), grind (arith, nat_tests))
 
 pub filled-lt : (text : List ℕ) → is_item_text text ≡ true → (i : ℕ) → get_or (filled text) i 0 < 128
 filled-lt text h i = rw (filled-at text i) (elim (cases_lt i (length text)) [
-  | inl here ↦ (let range = character-range (get_or text i 0) (passes-at is_item_character text i here (text-parts text h).2) in omega arith)
+  | inl here ↦ (let range = character-range (get_or text i 0)
+      (passes-at is_item_character text i here (text-parts text h).2) in omega arith)
   | inr past ↦ rw (get_or_past text i 0 past) (lit< tt)
 ])
 
 -- the last byte, and the bytes before it
-pub last-byte : (text : List ℕ) (place rest : ℕ) → is_item_text text ≡ true → 0 < place → place ≤ 12 → rest ≡ number_from_digits 256 (take place (filled text)) →
-    (rest / 256 ≡ number_from_digits 256 (take (place - 1) (filled text))) × (rest % 256 ≡ get_or (filled text) (place - 1) 0)
+pub last-byte : (text : List ℕ) (place rest : ℕ) → is_item_text text ≡ true → 0 < place → place ≤ 12 →
+    rest ≡ number_from_digits 256 (take place (filled text)) →
+    (rest / 256 ≡ number_from_digits 256 (take (place - 1) (filled text)))
+    × (rest % 256 ≡ get_or (filled text) (place - 1) 0)
 last-byte text place rest h low high e =
     let i = place - 1 in
     let whole : i + 1 ≡ place = omega arith in
@@ -85,7 +94,9 @@ last-byte text place rest h low high e =
     (omega arith, omega arith)
 
 -- the last byte is written, and those after it stay
-pub set-at : (xs ys : List ℕ) (i k byte : ℕ) → length xs ≡ 12 → i < 12 → byte ≡ get_or ys i 0 → ((j : ℕ) → i < j → j < 12 → get_or xs j 0 ≡ get_or ys j 0) → i ≤ k → k < 12 → get_or (set xs i byte) k 0 ≡ get_or ys k 0
+pub set-at : (xs ys : List ℕ) (i k byte : ℕ) → length xs ≡ 12 → i < 12 → byte ≡ get_or ys i 0 →
+    ((j : ℕ) → i < j → j < 12 → get_or xs j 0 ≡ get_or ys j 0) → i ≤ k → k < 12 →
+    get_or (set xs i byte) k 0 ≡ get_or ys k 0
 set-at xs ys i k byte len here is after low high = elim (cases_lt i k) [
   | inl later ↦ get_or-set_other xs i k byte 0 (omega arith) ∙ after k later high
   | inr last ↦ (let same : k ≡ i = omega arith in rw same (get_or-set_same xs i byte 0 (omega arith) ∙ is))
@@ -95,7 +106,8 @@ ascii-zeros : (k : ℕ) → list_all is_ascii (replicate k 0) ≡ true
 ascii-zeros zero = refl
 ascii-zeros (suc k) = ascii-zeros k
 
-ascii-text : (text : List ℕ) (k : ℕ) → list_all is_item_character text ≡ true → list_all is_ascii (text ++ replicate k 0) ≡ true
+ascii-text : (text : List ℕ) (k : ℕ) → list_all is_item_character text ≡ true →
+    list_all is_ascii (text ++ replicate k 0) ≡ true
 ascii-text [] k h = ascii-zeros k
 ascii-text (c ∷ cs) k h =
     let parts = both (is_item_character c) (list_all is_item_character cs) h in
@@ -110,7 +122,8 @@ no-zeros : (k : ℕ) → filter is_no_zero (replicate k 0) ≡ []
 no-zeros zero = refl
 no-zeros (suc k) = no-zeros k
 
-kept-text : (text : List ℕ) (k : ℕ) → list_all is_item_character text ≡ true → filter is_no_zero (text ++ replicate k 0) ≡ text
+kept-text : (text : List ℕ) (k : ℕ) → list_all is_item_character text ≡ true →
+    filter is_no_zero (text ++ replicate k 0) ≡ text
 kept-text [] k h = no-zeros k
 kept-text (c ∷ cs) k h =
     let parts = both (is_item_character c) (list_all is_item_character cs) h in
@@ -122,7 +135,8 @@ kept-text (c ∷ cs) k h =
 pub kept-filled : (text : List ℕ) → is_item_text text ≡ true → filter is_no_zero (filled text) ≡ text
 kept-filled text h = kept-text text (12 - length text) (text-parts text h).2
 
-pub whole-number : (text : List ℕ) (code : ℕ) → item_code_of text ≡ Some code → code ≡ number_from_digits 256 (take 12 (filled text))
+pub whole-number : (text : List ℕ) (code : ℕ) → item_code_of text ≡ Some code →
+    code ≡ number_from_digits 256 (take 12 (filled text))
 whole-number text code h =
     let is = text-of-code text code h in
     let len = length-filled text (text-parts text is.0).1 in

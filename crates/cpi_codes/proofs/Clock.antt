@@ -1,5 +1,7 @@
 -- The moment of a civil text as it is computed is the one that it gives.
-use Rattle.std.proofs.Common.{◌≡◌, ◌∙◌, sym, ap, refl, subst, ℕ, List, ◌+◌, ◌-◌, ◌*◌, ◌/◌, ◌%◌, ◌<◌, ◌≤◌, ◌⊎◌, inl, inr, Bool, true, false, Option, Some, None, Result, Ok, Err, MatchOption, get_or, bytes_eq, pos, unsigned_abs, nat_le, ◌&&◌, Decides, arith, if◌then◌else◌}
+use Rattle.std.proofs.Common.{◌≡◌, ◌∙◌, sym, ap, refl, subst, ℕ, List, ◌+◌, ◌-◌, ◌*◌, ◌/◌, ◌%◌, ◌<◌, ◌≤◌, ◌⊎◌, inl, inr}
+use Rattle.std.proofs.Common.{Bool, true, false, Option, Some, None, Result, Ok, Err, MatchOption, get_or, bytes_eq}
+use Rattle.std.proofs.Common.{pos, unsigned_abs, nat_le, ◌&&◌, Decides, arith, if◌then◌else◌}
 use mathlib.Core.Bool.{true≢false}
 use Rattle.std.proofs.lemmas.Bool.Decides.{nat_tests}
 use Rattle.std.proofs.lemmas.Slice.Eq.{bytes_eq-Decides}
@@ -19,14 +21,16 @@ use Rattle.cpi_codes.specs.Ranges.{first, range, below, within}
 
 -- the time has these numbers, and is at a full minute
 abbrev Shows : ℕ → ℕ → ℕ → ℕ → ℕ → DateTime → Type 0
-Shows y m d h n t = (y < 10000) × (t.date.year ≡ pos y) × (t.date.month ≡ m) × (t.date.day ≡ d) × (t.time.hour ≡ h) × (t.time.minute ≡ n)
+Shows y m d h n t = (y < 10000) × (t.date.year ≡ pos y) × (t.date.month ≡ m) × (t.date.day ≡ d) × (t.time.hour ≡ h)
+    × (t.time.minute ≡ n)
     × (t.time.second ≡ 0) × (t.time.subsec_nanosecond ≡ 0)
 
 -- what is found is such a value, and where none is there is none
 abbrev Finds : {A : Type 0} → (A → Type 0) → Option A → Type 0
 Finds {A} P found = MatchOption found ((a : A) → P a → ⊥) P
 
-if-below : {B : Type 0} (P : B → Type 0) (end n : ℕ) (f : n < end → Option B) → ((h : n < end) → Finds P (f h)) → ((b : B) → P b → n < end)
+if-below : {B : Type 0} (P : B → Type 0) (end n : ℕ) (f : n < end → Option B) → ((h : n < end) → Finds P (f h)) →
+    ((b : B) → P b → n < end)
     → Finds P (below end n >>= f)
 if-below P end n f there only = by (cases_lt n end)
   where
@@ -34,7 +38,8 @@ if-below P end n f there only = by (cases_lt n end)
     by (inl h) = there h
     by (inr h) = λ b p. let lt = only b p in absurd (omega arith)
 
-if-within : {B : Type 0} (P : B → Type 0) (low high n : ℕ) (f : IsInRange low high n → Option B) → ((h : IsInRange low high n) → Finds P (f h))
+if-within : {B : Type 0} (P : B → Type 0) (low high n : ℕ) (f : IsInRange low high n → Option B) →
+    ((h : IsInRange low high n) → Finds P (f h))
     → ((b : B) → P b → IsInRange low high n) → Finds P (within low high n >>= f)
 if-within P low high n f there only = by (cases_lt n low) (cases_lt high n)
   where
@@ -50,13 +55,15 @@ month-of y m d h n t s = rw (← s.2) t.date.month_in
 day-of : (y m d h n : ℕ) (t : DateTime) → Shows y m d h n t → IsInRange 1 (days_in_month (pos y) m) d
 day-of y m d h n t s =
     subst (λ z. IsInRange 1 (days_in_month z m) d) s.1
-    (subst (λ z. IsInRange 1 (days_in_month t.date.year z) d) s.2 (subst (λ z. IsInRange 1 (days_in_month t.date.year t.date.month) z) s.3 t.date.day_in))
+    (subst (λ z. IsInRange 1 (days_in_month t.date.year z) d) s.2
+    (subst (λ z. IsInRange 1 (days_in_month t.date.year t.date.month) z) s.3 t.date.day_in))
 
 finds-time : (y m d h n : ℕ) → Finds (Shows y m d h n) (time_at y m d h n)
 unfolding time_at
 finds-time y m d h n =
     let P = Shows y m d h n in
-    if-below P 10000 y _ (λ a. if-within P 1 12 m _ (λ b. if-within P 1 (days_in_month (pos y) m) d _ (λ c. if-below P 24 h _ (λ e. if-below P 60 n _
+    if-below P 10000 y _ (λ a. if-within P 1 12 m _
+    (λ b. if-within P 1 (days_in_month (pos y) m) d _ (λ c. if-below P 24 h _ (λ e. if-below P 60 n _
     (λ g. (a, refl, refl, refl, refl, refl, refl, refl))
     (λ t s. rw (← s.5) t.time.minute_in))
     (λ t s. rw (← s.4) t.time.hour_in))
@@ -70,7 +77,8 @@ abbrev year_in : List ℕ → ℕ
 year_in text = two_digits text 0 * 100 + two_digits text 2
 
 abbrev AreNumbers : List ℕ → ℕ → ℕ → ℕ → ℕ → ℕ → Type 0
-AreNumbers text y m d h n = (year_in text ≡ y) × (two_digits text 5 ≡ m) × (two_digits text 8 ≡ d) × (two_digits text 11 ≡ h) × (two_digits text 14 ≡ n)
+AreNumbers text y m d h n = (year_in text ≡ y) × (two_digits text 5 ≡ m) × (two_digits text 8 ≡ d)
+    × (two_digits text 11 ≡ h) × (two_digits text 14 ≡ n)
 
 digits-back : (n : ℕ) → (48 + n / 10 - 48) * 10 + (48 + n % 10 - 48) ≡ n
 digits-back n = omega arith
@@ -93,18 +101,34 @@ abbrev IsOf : List ℕ → DateTime → Type 0
 IsOf text time = (year : ℕ) × IsCivilText text year time
 
 abbrev written : List ℕ → List ℕ
-written text = civil_text (year_in text) (two_digits text 5) (two_digits text 8) (two_digits text 11) (two_digits text 14)
+written text = civil_text (year_in text) (two_digits text 5) (two_digits text 8) (two_digits text 11)
+    (two_digits text 14)
 
 -- such a text is how its numbers are written, and they are the time's
-shows : (text : List ℕ) (t : DateTime) → IsOf text t → (text ≡ written text) × Shows (year_in text) (two_digits text 5) (two_digits text 8) (two_digits text 11) (two_digits text 14) t
+shows : (text : List ℕ) (t : DateTime) → IsOf text t → (text ≡ written text)
+    × Shows (year_in text) (two_digits text 5) (two_digits text 8) (two_digits text 11) (two_digits text 14) t
 shows text t is =
-    let e = numbers text is.0 t.date.month t.date.day t.time.hour t.time.minute is.1.spelled in
-    (rw (e.0, e.1, e.2, e.3, e.4) is.1.spelled, rw (e.0, e.1, e.2, e.3, e.4) (is.1.four, is.1.year_is, refl, refl, refl, refl, is.1.second, is.1.fraction))
+    let e = numbers text is.0 t.date.month t.date.day t.time.hour t.time.minute is.1.spelled in (
+      rw (e.0, e.1, e.2, e.3, e.4) is.1.spelled,
+      rw (e.0, e.1, e.2, e.3, e.4)
+          (is.1.four, is.1.year_is, refl, refl, refl, refl, is.1.second, is.1.fraction),
+    )
 
 is-of : (text : List ℕ) (y m d h n : ℕ) (t : DateTime) → text ≡ civil_text y m d h n → Shows y m d h n t → IsOf text t
-is-of text y m d h n t e s = (y, record { year_is = s.1; four = s.0; spelled = rw (s.2, s.3, s.4, s.5) e; second = s.6; fraction = s.7 })
+is-of text y m d h n t e s = (
+  y,
+  record {
+    year_is = s.1;
+    four = s.0;
+    spelled = rw (s.2, s.3, s.4, s.5) e;
+    second =
+        s.6;
+    fraction = s.7;
+  },
+)
 
-weaker : {A : Type 0} (P Q : A → Type 0) (o : Option A) → ((a : A) → P a → Q a) → ((a : A) → Q a → P a) → Finds P o → Finds Q o
+weaker : {A : Type 0} (P Q : A → Type 0) (o : Option A) → ((a : A) → P a → Q a) → ((a : A) → Q a → P a) → Finds P o →
+    Finds Q o
 weaker P Q None to from found = λ a q. found a (from a q)
 weaker P Q (Some a) to from found = to a found
 
@@ -113,16 +137,19 @@ unfolding civil_of
 finds-text text = by (bytes_eq text (written text)) (bytes_eq-Decides text (written text))
   where
     by : (same : Bool) → Decides same (text ≡ written text)
-        → Finds (IsOf text) (if same then time_at (year_in text) (two_digits text 5) (two_digits text 8) (two_digits text 11) (two_digits text 14) else None)
+        → Finds (IsOf text) (if same then time_at (year_in text) (two_digits text 5) (two_digits text 8)
+        (two_digits text 11) (two_digits text 14) else None)
     by true is =
-        weaker (Shows (year_in text) (two_digits text 5) (two_digits text 8) (two_digits text 11) (two_digits text 14)) (IsOf text) _
+        weaker (Shows (year_in text) (two_digits text 5) (two_digits text 8) (two_digits text 11)
+        (two_digits text 14)) (IsOf text) _
         (λ t s. is-of text _ _ _ _ _ t (is.0 refl) s) (λ t q. (shows text t q).1) (finds-time _ _ _ _ _)
     by false is = λ t q. absurd (true≢false (sym (is.1 (shows text t q).0)))
 
 -- ---- the moment
 
 abbrev moment_of : ZoneRule → Option DateTime → Option ℕ
-moment_of zone found = found >>= λ time. if is_office_year time.date.year then Some (unsigned_abs (second_in zone time)) else None
+moment_of zone found = found >>= λ time. if is_office_year time.date.year then Some
+    (unsigned_abs (second_in zone time)) else None
 
 abbrev Times : List ℕ → Option DateTime → Type 0
 Times text found = Finds (IsOf text) found
@@ -138,7 +165,8 @@ outside y h = by (nat_le 2000 y) (nat_le y 2199) refl refl
     by true false e k = refl
     by false b e k = refl
 
-same-moment : (zone : ZoneRule) (text : List ℕ) (found : Option DateTime) (r : Result ℕ MomentFault) → Times text found → Gives zone text r → result_ok r ≡ moment_of zone found
+same-moment : (zone : ZoneRule) (text : List ℕ) (found : Option DateTime) (r : Result ℕ MomentFault) →
+    Times text found → Gives zone text r → result_ok r ≡ moment_of zone found
 same-moment zone text (Some t) (Ok s) is g =
     let same = one_time text is.0 g.0 t g.1 is.1 g.2 in
     let year : t.date.year ≡ pos g.0 = ap (λ u. u.date.year) same.1 ∙ g.2.year_is in
@@ -158,6 +186,7 @@ same-moment zone text found (Err Zone) is g = absurd g
 same-moment zone text found (Err NoMemory) is g = absurd g
 
 -- what a text gives is what is computed
-pub gives_moment : (zone : ZoneRule) (text : List ℕ) (r : Result ℕ MomentFault) → Gives zone text r → result_ok r ≡ moment_in zone text
+pub gives_moment : (zone : ZoneRule) (text : List ℕ) (r : Result ℕ MomentFault) → Gives zone text r →
+    result_ok r ≡ moment_in zone text
 unfolding moment_in
 gives_moment zone text r g = same-moment zone text (civil_of text) r (finds-text text) g

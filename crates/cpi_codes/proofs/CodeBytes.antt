@@ -1,5 +1,6 @@
 -- The order of the parts of two codes is the byte order of their texts.
-use Rattle.std.proofs.Common.{◌≡◌, ℕ, ◌+◌, ◌/◌, ◌%◌, true, IsTrue, List, [], ◌++◌, Option, Some, None, refl, ap, ◌∙◌, arith}
+use Rattle.std.proofs.Common.{◌≡◌, ℕ, ◌+◌, ◌/◌, ◌%◌, true, IsTrue, List, [], ◌++◌, Option, Some, None, refl, ap, ◌∙◌}
+use Rattle.std.proofs.Common.{arith}
 use Rattle.std.specs.declared.cmp.Ordering.{Ordering}
 use Rattle.std.specs.declared.cmp.Ordering.TheVariants.{Less, Equal, Greater}
 use Rattle.std.specs.Ordering.{nat_cmp, ordering_then}
@@ -14,7 +15,8 @@ pub nat_cmp-shift : (a m n : ℕ) → nat_cmp (a + m) (a + n) ≡ nat_cmp m n
 nat_cmp-shift a m n = grind (arith, nat_tests)
 
 -- two digits compare as the number does
-pub two_digits-cmp : (m n : ℕ) (rest : Ordering) → ordering_then (nat_cmp (48 + m / 10) (48 + n / 10)) (ordering_then (nat_cmp (48 + m % 10) (48 + n % 10)) rest) ≡ ordering_then (nat_cmp m n) rest
+pub two_digits-cmp : (m n : ℕ) (rest : Ordering) → ordering_then (nat_cmp (48 + m / 10) (48 + n / 10))
+    (ordering_then (nat_cmp (48 + m % 10) (48 + n % 10)) rest) ≡ ordering_then (nat_cmp m n) rest
 two_digits-cmp m n rest = grind (arith, nat_tests)
 
 pub dashed-cmp : (a b : Option ℕ) → slice_cmp nat_cmp (dashed a) (dashed b) ≡ option_cmp nat_cmp a b
@@ -28,7 +30,8 @@ dashed-cmp (Some m) (Some n) = two_digits-cmp m n Equal ∙ then_equal (nat_cmp 
   then_equal Greater = refl
 
 -- a dotted part, and what follows it, which is empty where the part is absent
-pub dotted-cmp : (x y : Option ℕ) (r s : List ℕ) → (x ≡ None → r ≡ []) → (y ≡ None → s ≡ []) → slice_cmp nat_cmp (dotted x ++ r) (dotted y ++ s) ≡ ordering_then (option_cmp nat_cmp x y) (slice_cmp nat_cmp r s)
+pub dotted-cmp : (x y : Option ℕ) (r s : List ℕ) → (x ≡ None → r ≡ []) → (y ≡ None → s ≡ []) →
+    slice_cmp nat_cmp (dotted x ++ r) (dotted y ++ s) ≡ ordering_then (option_cmp nat_cmp x y) (slice_cmp nat_cmp r s)
 dotted-cmp None None r s p q = refl
 dotted-cmp None (Some n) r s p q = rw (p refl) refl
 dotted-cmp (Some m) None r s p q = rw (q refl) refl
@@ -40,27 +43,44 @@ empty_under None (Some n) h e = cc
 empty_under (Some m) below h e = cc
 
 -- what stands below an absent part is absent
-pub absent_below : (division : ℕ) (group class subclass aggregate : Option ℕ) → IsTrue (are_parts division group class subclass aggregate) → (group ≡ None → class ≡ None) × (class ≡ None → subclass ≡ None) × (subclass ≡ None → aggregate ≡ None)
-absent_below division group class subclass aggregate h =
-    (λ e. empty_under group class (grind (arith, nat_tests)) e, λ e. empty_under class subclass (grind (arith, nat_tests)) e, λ e. empty_under subclass aggregate (grind (arith, nat_tests)) e)
+pub absent_below : (division : ℕ) (group class subclass aggregate : Option ℕ) →
+    IsTrue (are_parts division group class subclass aggregate) → (group ≡ None → class ≡ None)
+    × (class ≡ None → subclass ≡ None) × (subclass ≡ None → aggregate ≡ None)
+absent_below division group class subclass aggregate h = (
+  λ e. empty_under group class (grind (arith, nat_tests)) e,
+  λ e. empty_under class subclass (grind (arith, nat_tests)) e,
+  λ e. empty_under subclass aggregate (grind (arith, nat_tests)) e,
+)
 
 pub subclass_rest : (x y : Option ℕ) → (x ≡ None → y ≡ None) → x ≡ None → dotted x ++ dashed y ≡ []
 subclass_rest x y h e = rw (e, h e) refl
 
-pub class_rest : (x y z : Option ℕ) → (x ≡ None → y ≡ None) → (y ≡ None → z ≡ None) → x ≡ None → dotted x ++ (dotted y ++ dashed z) ≡ []
+pub class_rest : (x y z : Option ℕ) → (x ≡ None → y ≡ None) → (y ≡ None → z ≡ None) → x ≡ None → dotted x
+    ++ (dotted y ++ dashed z) ≡ []
 class_rest x y z h k e = rw (e, h e, k (h e)) refl
 
 -- texts of parts compare part by part as they compare byte by byte, where nothing stands below an absent part
-pub parts-cmp : (d : ℕ) (g c s a : Option ℕ) (e : ℕ) (h k t b : Option ℕ) → (g ≡ None → c ≡ None) × (c ≡ None → s ≡ None) × (s ≡ None → a ≡ None) → (h ≡ None → k ≡ None) × (k ≡ None → t ≡ None) × (t ≡ None → b ≡ None)
-    → slice_cmp nat_cmp (two_digits d ++ (dotted g ++ (dotted c ++ (dotted s ++ dashed a)))) (two_digits e ++ (dotted h ++ (dotted k ++ (dotted t ++ dashed b)))) ≡ ordering_then (nat_cmp d e) (ordering_then (option_cmp nat_cmp g h) (ordering_then (option_cmp nat_cmp c k) (ordering_then (option_cmp nat_cmp s t) (option_cmp nat_cmp a b))))
+pub parts-cmp : (d : ℕ) (g c s a : Option ℕ) (e : ℕ) (h k t b : Option ℕ) → (g ≡ None → c ≡ None)
+    × (c ≡ None → s ≡ None) × (s ≡ None → a ≡ None) → (h ≡ None → k ≡ None) × (k ≡ None → t ≡ None)
+    × (t ≡ None → b ≡ None)
+    → slice_cmp nat_cmp (two_digits d ++ (dotted g ++ (dotted c ++ (dotted s ++ dashed a))))
+    (two_digits e ++ (dotted h ++ (dotted k ++ (dotted t ++ dashed b)))) ≡ ordering_then (nat_cmp d e)
+    (ordering_then (option_cmp nat_cmp g h) (ordering_then (option_cmp nat_cmp c k)
+    (ordering_then (option_cmp nat_cmp s t) (option_cmp nat_cmp a b))))
 parts-cmp d g c s a e h k t b below_c below_d =
     let dashed_c : s ≡ None → dashed a ≡ [] = λ e. ap dashed (below_c.2 e) in
     let dashed_d : t ≡ None → dashed b ≡ [] = λ e. ap dashed (below_d.2 e) in
     let fourth = dotted-cmp s t _ _ dashed_c dashed_d ∙ ap (ordering_then (option_cmp nat_cmp s t)) (dashed-cmp a b) in
-    let third = dotted-cmp c k _ _ (λ e. subclass_rest _ _ below_c.2 (below_c.1 e)) (λ e. subclass_rest _ _ below_d.2 (below_d.1 e)) ∙ ap (ordering_then (option_cmp nat_cmp c k)) fourth in
-    let second = dotted-cmp g h _ _ (λ e. class_rest _ _ _ below_c.1 below_c.2 (below_c.0 e)) (λ e. class_rest _ _ _ below_d.1 below_d.2 (below_d.0 e)) ∙ ap (ordering_then (option_cmp nat_cmp g h)) third in
+    let third = dotted-cmp c k _ _ (λ e. subclass_rest _ _ below_c.2 (below_c.1 e))
+    (λ e. subclass_rest _ _ below_d.2 (below_d.1 e)) ∙ ap (ordering_then (option_cmp nat_cmp c k)) fourth in
+    let second = dotted-cmp g h _ _ (λ e. class_rest _ _ _ below_c.1 below_c.2 (below_c.0 e))
+    (λ e. class_rest _ _ _ below_d.1 below_d.2 (below_d.0 e)) ∙ ap (ordering_then (option_cmp nat_cmp g h)) third in
     two_digits-cmp d e _ ∙ ap (ordering_then (nat_cmp d e)) second
 
 -- codes compare part by part as their texts compare byte by byte
-pub text-cmp : (c d : Code) → slice_cmp nat_cmp (text c) (text d) ≡ ordering_then (nat_cmp c.division d.division) (ordering_then (option_cmp nat_cmp c.group d.group) (ordering_then (option_cmp nat_cmp c.class d.class) (ordering_then (option_cmp nat_cmp c.subclass d.subclass) (option_cmp nat_cmp c.aggregate d.aggregate))))
-text-cmp c d = parts-cmp c.division c.group c.class c.subclass c.aggregate d.division d.group d.class d.subclass d.aggregate (absent_below c.division _ _ _ _ c.valid) (absent_below d.division _ _ _ _ d.valid)
+pub text-cmp : (c d : Code) → slice_cmp nat_cmp (text c) (text d) ≡ ordering_then (nat_cmp c.division d.division)
+    (ordering_then (option_cmp nat_cmp c.group d.group)
+    (ordering_then (option_cmp nat_cmp c.class d.class)
+    (ordering_then (option_cmp nat_cmp c.subclass d.subclass) (option_cmp nat_cmp c.aggregate d.aggregate))))
+text-cmp c d = parts-cmp c.division c.group c.class c.subclass c.aggregate d.division d.group d.class d.subclass
+    d.aggregate (absent_below c.division _ _ _ _ c.valid) (absent_below d.division _ _ _ _ d.valid)

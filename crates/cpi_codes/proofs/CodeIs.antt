@@ -10,7 +10,8 @@ code d g c s a v = record { division = d; group = g; class = c; subclass = s; ag
 one_proof : (b : Bool) (v w : IsTrue b) → v ≡ w
 one_proof b v w = Bool-set b true v w
 
-pub code_is : (d : ℕ) (g c s a : Option ℕ) (v : IsTrue (are_parts d g c s a)) (e : ℕ) (h k t b : Option ℕ) → d ≡ e → g ≡ h → c ≡ k → s ≡ t → a ≡ b → (w : IsTrue (are_parts e h k t b)) → code d g c s a v ≡ code e h k t b w
+pub code_is : (d : ℕ) (g c s a : Option ℕ) (v : IsTrue (are_parts d g c s a)) (e : ℕ) (h k t b : Option ℕ) → d ≡ e →
+    g ≡ h → c ≡ k → s ≡ t → a ≡ b → (w : IsTrue (are_parts e h k t b)) → code d g c s a v ≡ code e h k t b w
 code_is d g c s a v e h k t b p q r x y =
     subst (λ z. (w : IsTrue (are_parts e h k t z)) → code d g c s a v ≡ code e h k t z w) y
     (subst (λ z. (w : IsTrue (are_parts e h k z a)) → code d g c s a v ≡ code e h k z a w) x
@@ -19,5 +20,7 @@ code_is d g c s a v e h k t b p q r x y =
     (subst (λ z. (w : IsTrue (are_parts z g c s a)) → code d g c s a v ≡ code z g c s a w) p
     (λ w. ap (code d g c s a) (one_proof (are_parts d g c s a) v w))))))
 
-pub same_code_is : (m n : Code) → m.division ≡ n.division → m.group ≡ n.group → m.class ≡ n.class → m.subclass ≡ n.subclass → m.aggregate ≡ n.aggregate → m ≡ n
-same_code_is m n p q r x y = code_is m.division m.group m.class m.subclass m.aggregate m.valid n.division n.group n.class n.subclass n.aggregate p q r x y n.valid
+pub same_code_is : (m n : Code) → m.division ≡ n.division → m.group ≡ n.group → m.class ≡ n.class →
+    m.subclass ≡ n.subclass → m.aggregate ≡ n.aggregate → m ≡ n
+same_code_is m n p q r x y = code_is m.division m.group m.class m.subclass m.aggregate m.valid n.division n.group
+    n.class n.subclass n.aggregate p q r x y n.valid

@@ -1,6 +1,7 @@
 -- The code of a text as it is computed is the one that it writes.
 use mathlib.Core.Bool.{true≢false}
-use Rattle.std.proofs.Common.{◌≡◌, sym, ap, refl, ℕ, List, ◌+◌, ◌-◌, ◌*◌, ◌/◌, ◌%◌, Bool, true, false, IsTrue, Option, Some, None, Result, Ok, Err, IfSome, IfOk, bytes_eq, Decides, arith, if◌then◌else◌}
+use Rattle.std.proofs.Common.{◌≡◌, sym, ap, refl, ℕ, List, ◌+◌, ◌-◌, ◌*◌, ◌/◌, ◌%◌, Bool, true, false, IsTrue, Option}
+use Rattle.std.proofs.Common.{Some, None, Result, Ok, Err, IfSome, IfOk, bytes_eq, Decides, arith, if◌then◌else◌}
 use Rattle.std.proofs.Math.Bool.{Bool-set}
 use Rattle.std.proofs.lemmas.Bool.Decides.{nat_tests}
 use Rattle.std.proofs.lemmas.Slice.Eq.{bytes_eq-Decides}
@@ -20,7 +21,8 @@ held : (b : Bool) (v : IsTrue b) → holds b ≡ Some v
 held true v = ap (λ w. Some w) (Bool-set true true _ v)
 held false v = absurd (true≢false (sym v))
 
-placed : (bytes : List ℕ) (c : Code) → number_at bytes 0 ≡ Some c.division → digit_at bytes 3 ≡ c.group → digit_at bytes 5 ≡ c.class
+placed : (bytes : List ℕ) (c : Code) → number_at bytes 0 ≡ Some c.division → digit_at bytes 3 ≡ c.group →
+    digit_at bytes 5 ≡ c.class
     → digit_at bytes 7 ≡ c.subclass → number_at bytes 9 ≡ c.aggregate → text c ≡ bytes → code_of bytes ≡ Some c
 unfolding code_of
 placed bytes c division group class subclass aggregate e =
@@ -33,12 +35,16 @@ one n = ap (λ k. Some k) (omega arith)
 two : (n : ℕ) → Some ((48 + n / 10 - 48) * 10 + (48 + n % 10 - 48)) ≡ Some n
 two n = ap (λ k. Some k) (omega arith)
 
-read_back : (d : ℕ) (g c s a : Option ℕ) (v : IsTrue (are_parts d g c s a)) → code_of (text (code d g c s a v)) ≡ Some (code d g c s a v)
+read_back : (d : ℕ) (g c s a : Option ℕ) (v : IsTrue (are_parts d g c s a)) →
+    code_of (text (code d g c s a v)) ≡ Some (code d g c s a v)
 read_back d None None None None v = placed _ (code d None None None None v) (two d) refl refl refl refl refl
 read_back d (Some g) None None None v = placed _ (code d (Some g) None None None v) (two d) (one g) refl refl refl refl
-read_back d (Some g) (Some c) None None v = placed _ (code d (Some g) (Some c) None None v) (two d) (one g) (one c) refl refl refl
-read_back d (Some g) (Some c) (Some s) None v = placed _ (code d (Some g) (Some c) (Some s) None v) (two d) (one g) (one c) (one s) refl refl
-read_back d (Some g) (Some c) (Some s) (Some a) v = placed _ (code d (Some g) (Some c) (Some s) (Some a) v) (two d) (one g) (one c) (one s) (two a) refl
+read_back d (Some g) (Some c) None None v = placed _ (code d (Some g) (Some c) None None v) (two d) (one g)
+    (one c) refl refl refl
+read_back d (Some g) (Some c) (Some s) None v = placed _ (code d (Some g) (Some c) (Some s) None v) (two d) (one g)
+    (one c) (one s) refl refl
+read_back d (Some g) (Some c) (Some s) (Some a) v = placed _ (code d (Some g) (Some c) (Some s) (Some a) v) (two d)
+    (one g) (one c) (one s) (two a) refl
 read_back d None (Some c) s a v = absurd (grind (arith, nat_tests))
 read_back d None None (Some s) a v = absurd (grind (arith, nat_tests))
 read_back d None None None (Some a) v = absurd (grind (arith, nat_tests))
@@ -51,22 +57,26 @@ there bytes c e = rw (← e) (read_back c.division c.group c.class c.subclass c.
 
 -- ---- and what is read is written so
 
-after : (P : Code → Type 0) (o : Option Code) (f : Code → Option Code) → ((c : Code) → IfSome (f c) P) → IfSome (o >>= f) P
+after : (P : Code → Type 0) (o : Option Code) (f : Code → Option Code) → ((c : Code) → IfSome (f c) P) →
+    IfSome (o >>= f) P
 after P None f h = tt
 after P (Some c) f h = h c
 
 written : (bytes : List ℕ) → IfSome (code_of bytes) (λ c. text c ≡ bytes)
 unfolding code_of
 written bytes =
-    after (λ c. text c ≡ bytes) (code_in bytes) (λ c. if bytes_eq (text c) bytes then Some c else None) (λ c. by c (bytes_eq (text c) bytes) (bytes_eq-Decides (text c) bytes))
+    after (λ c. text c ≡ bytes) (code_in bytes) (λ c. if bytes_eq (text c) bytes then Some c else None)
+    (λ c. by c (bytes_eq (text c) bytes) (bytes_eq-Decides (text c) bytes))
   where
-    by : (c : Code) (same : Bool) → Decides same (text c ≡ bytes) → IfSome (if same then Some c else None) (λ x. text x ≡ bytes)
+    by : (c : Code) (same : Bool) → Decides same (text c ≡ bytes) →
+        IfSome (if same then Some c else None) (λ x. text x ≡ bytes)
     by c true is = is.0 refl
     by c false is = tt
 
 -- ---- so an answer that is a code exactly where the text writes one is that one
 
-pub reads_code : (bytes : List ℕ) (r : Result Code CodeFault) → IfOk r (λ c. text c ≡ bytes) → ((c : Code) → text c ≡ bytes → r ≡ Ok c) → result_ok r ≡ code_of bytes
+pub reads_code : (bytes : List ℕ) (r : Result Code CodeFault) → IfOk r (λ c. text c ≡ bytes) →
+    ((c : Code) → text c ≡ bytes → r ≡ Ok c) → result_ok r ≡ code_of bytes
 reads_code bytes (Ok c) is every = sym (there bytes c is)
 reads_code bytes (Err f) is every = by (code_of bytes) (written bytes)
   where

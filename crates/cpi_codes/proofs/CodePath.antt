@@ -1,6 +1,7 @@
 -- An amount added to each of the six nodes at or above an elementary aggregate is added to a node
 -- exactly where the aggregate is at or below that node.
-use Rattle.std.proofs.Common.{◌≡◌, ℕ, ◌+◌, ◌≤◌, Bool, true, false, cond, List, Option, Some, None, refl, ap, ◌∙◌, arith, ◌&&◌, ◌||◌, ◌==◌, is_some}
+use Rattle.std.proofs.Common.{◌≡◌, ℕ, ◌+◌, ◌≤◌, Bool, true, false, cond, List, Option, Some, None, refl, ap, ◌∙◌, arith}
+use Rattle.std.proofs.Common.{◌&&◌, ◌||◌, ◌==◌, is_some}
 use Rattle.std.proofs.lemmas.Bool.Decides.{nat_tests}
 use Rattle.std.proofs.Common.{[], ◌++◌, IsTrue, IsSome, nat_le, is_none}
 use Rattle.std.specs.declared.cmp.Ordering.{Ordering}
@@ -20,15 +21,24 @@ same_part (Some d) None = false
 same_part (Some d) (Some e) = d == e
 
 -- the amount, where two codes have the same parts
-abbrev pub amount_if : ℕ → ℕ → Option ℕ → Option ℕ → Option ℕ → Option ℕ → ℕ → Option ℕ → Option ℕ → Option ℕ → Option ℕ → ℕ
-amount_if v qd qg qc qs qa nd ng nc ns na = cond ((qd == nd) && (same_part qg ng && (same_part qc nc && (same_part qs ns && same_part qa na)))) v 0
+abbrev pub amount_if : ℕ → ℕ → Option ℕ → Option ℕ → Option ℕ → Option ℕ → ℕ → Option ℕ → Option ℕ → Option ℕ →
+    Option ℕ → ℕ
+amount_if v qd qg qc qs qa nd ng nc ns na = cond
+    ((qd == nd) && (same_part qg ng && (same_part qc nc && (same_part qs ns && same_part qa na)))) v 0
 
-pub path_sum : (v d g c s a qd : ℕ) (qg qc qs qa : Option ℕ) → 1 ≤ d → (is_some qg ≡ true → 1 ≤ qd) → (is_under qg qc && (is_under qc qs && is_under qs qa)) ≡ true → amount_if v qd qg qc qs qa 0 None None None None + amount_if v qd qg qc qs qa d None None None None + amount_if v qd qg qc qs qa d (Some g) None None None + amount_if v qd qg qc qs qa d (Some g) (Some c) None None + amount_if v qd qg qc qs qa d (Some g) (Some c) (Some s) None + amount_if v qd qg qc qs qa d (Some g) (Some c) (Some s) (Some a) ≡ cond ((qd == 0) || ((d == qd) && (fits qg (Some g) && (fits qc (Some c) && (fits qs (Some s) && fits qa (Some a)))))) v 0
+pub path_sum : (v d g c s a qd : ℕ) (qg qc qs qa : Option ℕ) → 1 ≤ d → (is_some qg ≡ true → 1 ≤ qd) →
+    (is_under qg qc && (is_under qc qs && is_under qs qa)) ≡ true →
+    amount_if v qd qg qc qs qa 0 None None None None + amount_if v qd qg qc qs qa d None None None None + amount_if v
+    qd qg qc qs qa d (Some g) None None None + amount_if v qd qg qc qs qa d (Some g)
+    (Some c) None None + amount_if v qd qg qc qs qa d (Some g) (Some c) (Some s) None + amount_if v qd qg qc qs qa d
+    (Some g) (Some c) (Some s) (Some a) ≡ cond ((qd == 0) ||
+    ((d == qd) && (fits qg (Some g) && (fits qc (Some c) && (fits qs (Some s) && fits qa (Some a)))))) v 0
 path_sum v d g c s a qd None None None None h k u = grind (arith, nat_tests)
 path_sum v d g c s a qd (Some x) None None None h k u = let low : 1 ≤ qd = k refl in grind (arith, nat_tests)
 path_sum v d g c s a qd (Some x) (Some y) None None h k u = let low : 1 ≤ qd = k refl in grind (arith, nat_tests)
 path_sum v d g c s a qd (Some x) (Some y) (Some z) None h k u = let low : 1 ≤ qd = k refl in grind (arith, nat_tests)
-path_sum v d g c s a qd (Some x) (Some y) (Some z) (Some w) h k u = let low : 1 ≤ qd = k refl in grind (arith, nat_tests)
+path_sum v d g c s a qd (Some x) (Some y) (Some z) (Some w) h k u = let low : 1 ≤ qd = k refl in
+    grind (arith, nat_tests)
 path_sum v d g c s a qd None None None (Some w) h k u = cc
 path_sum v d g c s a qd None None (Some z) qa h k u = cc
 path_sum v d g c s a qd None (Some y) qs qa h k u = cc
@@ -39,7 +49,8 @@ path_sum v d g c s a qd (Some x) (Some y) None (Some w) h k u = cc
 is_eq-then : (a b : ℕ) (o : Ordering) → is_eq (ordering_then (nat_cmp a b) o) ≡ ((b == a) && is_eq o)
 is_eq-then a b o = grind (arith, nat_tests)
 
-is_eq-part : (x y : Option ℕ) (o : Ordering) → is_eq (ordering_then (option_cmp nat_cmp x y) o) ≡ (same_part y x && is_eq o)
+is_eq-part : (x y : Option ℕ) (o : Ordering) → is_eq (ordering_then (option_cmp nat_cmp x y) o) ≡
+    (same_part y x && is_eq o)
 is_eq-part None None o = refl
 is_eq-part None (Some e) o = refl
 is_eq-part (Some d) None o = refl
@@ -52,19 +63,23 @@ is_eq-last (Some d) None = refl
 is_eq-last (Some d) (Some e) = grind (arith, nat_tests)
 
 -- codes compare equal where they have the same parts
-pub is_eq-parts : (n q : Code) → is_eq (code_cmp n q) ≡ ((q.division == n.division) && (same_part q.group n.group && (same_part q.class n.class && (same_part q.subclass n.subclass && same_part q.aggregate n.aggregate))))
+pub is_eq-parts : (n q : Code) → is_eq (code_cmp n q) ≡
+    ((q.division == n.division) && (same_part q.group n.group
+    && (same_part q.class n.class && (same_part q.subclass n.subclass && same_part q.aggregate n.aggregate))))
 is_eq-parts n q =
     is_eq-then n.division q.division _ ∙ ap (λ b. (q.division == n.division) && b)
     (is_eq-part n.group q.group _ ∙ ap (λ b. same_part q.group n.group && b)
     (is_eq-part n.class q.class _ ∙ ap (λ b. same_part q.class n.class && b)
-    (is_eq-part n.subclass q.subclass _ ∙ ap (λ b. same_part q.subclass n.subclass && b) (is_eq-last n.aggregate q.aggregate))))
+    (is_eq-part n.subclass q.subclass _ ∙ ap (λ b. same_part q.subclass n.subclass && b)
+    (is_eq-last n.aggregate q.aggregate))))
 
 zero_test : (n : ℕ) (b : Bool) → (n ≡ 0 → b ≡ true) → (((n == 0) && true) && ((0 == n) && b)) ≡ (n == 0)
 zero_test n b h = grind (arith, nat_tests)
 
 zero_digits : (n : ℕ) (r : List ℕ) → (n ≡ 0 → r ≡ []) → are_one_text (two_digits n ++ r) all_items ≡ (n == 0)
 zero_digits n r h =
-    ap (λ b. b && begins_with all_items (two_digits n ++ r)) (begins-two n 0 r [] ∙ ap (λ b. (n == 0) && b) (begins-nil r))
+    ap (λ b. b && begins_with all_items (two_digits n ++ r))
+    (begins-two n 0 r [] ∙ ap (λ b. (n == 0) && b) (begins-nil r))
     ∙ ap (λ b. ((n == 0) && true) && b) (begins-two 0 n [] r)
     ∙ zero_test n (begins_with [] r) (λ e. ap (begins_with []) (h e))
 
@@ -78,24 +93,35 @@ no_group q e = alone q.division q.group (valid_alone q.division q.group q.class 
   valid_alone : (d : ℕ) (g c s a : Option ℕ) → IsTrue (are_parts d g c s a) → (nat_le 1 d || is_none g) ≡ true
   valid_alone d g c s a h = grind (arith, nat_tests)
 
-no_parts : (q : Code) → q.division ≡ 0 → dotted q.group ++ (dotted q.class ++ (dotted q.subclass ++ dashed q.aggregate)) ≡ []
+no_parts : (q : Code) → q.division ≡ 0 → dotted q.group
+    ++ (dotted q.class ++ (dotted q.subclass ++ dashed q.aggregate)) ≡ []
 no_parts q e =
     let below = absent_below q.division q.group q.class q.subclass q.aggregate q.valid in
     let group = no_group q e in
     rw (group, below.0 group, below.1 (below.0 group), below.2 (below.1 (below.0 group))) refl
 
--- a code is at or below a node where the node is `00`, or its division is the node's and each further part of the node fits
-pub at_or_below-parts : (q c : Code) → is_at_or_below q c ≡ ((q.division == 0) || ((c.division == q.division) && (fits q.group c.group && (fits q.class c.class && (fits q.subclass c.subclass && fits q.aggregate c.aggregate)))))
+-- a code is at or below a node where the node is `00`, or its division is the node's and each further part of the
+-- node fits
+pub at_or_below-parts : (q c : Code) → is_at_or_below q c ≡
+    ((q.division == 0) || ((c.division == q.division)
+    && (fits q.group c.group && (fits q.class c.class
+    && (fits q.subclass c.subclass && fits q.aggregate c.aggregate)))))
 at_or_below-parts q c =
     at_or_below-begins q c
-    ∙ ap (λ z. z || begins_with (text c) (text q)) (zero_digits q.division (dotted q.group ++ (dotted q.class ++ (dotted q.subclass ++ dashed q.aggregate))) (no_parts q))
+    ∙ ap (λ z. z || begins_with (text c) (text q))
+    (zero_digits q.division (dotted q.group ++ (dotted q.class ++ (dotted q.subclass ++ dashed q.aggregate)))
+    (no_parts q))
     ∙ ap (λ b. (q.division == 0) || b) (begins-parts c q)
 
 -- the amount, where a code compares equal to these parts
 abbrev pub amount_at : ℕ → Code → ℕ → Option ℕ → Option ℕ → Option ℕ → Option ℕ → ℕ
-amount_at v q d g c s a = cond (is_eq (ordering_then (nat_cmp d q.division) (ordering_then (option_cmp nat_cmp g q.group) (ordering_then (option_cmp nat_cmp c q.class) (ordering_then (option_cmp nat_cmp s q.subclass) (option_cmp nat_cmp a q.aggregate)))))) v 0
+amount_at v q d g c s a = cond (is_eq (ordering_then (nat_cmp d q.division)
+    (ordering_then (option_cmp nat_cmp g q.group)
+    (ordering_then (option_cmp nat_cmp c q.class)
+    (ordering_then (option_cmp nat_cmp s q.subclass) (option_cmp nat_cmp a q.aggregate)))))) v 0
 
-amount_at-parts : (v : ℕ) (q : Code) (d : ℕ) (g c s a : Option ℕ) → amount_at v q d g c s a ≡ amount_if v q.division q.group q.class q.subclass q.aggregate d g c s a
+amount_at-parts : (v : ℕ) (q : Code) (d : ℕ) (g c s a : Option ℕ) →
+    amount_at v q d g c s a ≡ amount_if v q.division q.group q.class q.subclass q.aggregate d g c s a
 amount_at-parts v q d g c s a =
     ap (λ b. cond b v 0)
     (is_eq-then d q.division _ ∙ ap (λ b. (q.division == d) && b)
@@ -110,20 +136,37 @@ positive_below n (Some x) h k = grind (arith, nat_tests)
 numbered_part : (d : ℕ) (g c s a : Option ℕ) → IsTrue (are_parts d g c s a) → (nat_le 1 d || is_none g) ≡ true
 numbered_part d g c s a h = grind (arith, nat_tests)
 
-nested_parts : (d : ℕ) (g c s a : Option ℕ) → IsTrue (are_parts d g c s a) → (is_under g c && (is_under c s && is_under s a)) ≡ true
+nested_parts : (d : ℕ) (g c s a : Option ℕ) → IsTrue (are_parts d g c s a) →
+    (is_under g c && (is_under c s && is_under s a)) ≡ true
 nested_parts d g c s a h = grind (arith, nat_tests)
 
 some_none : (x : ℕ) → Some x ≡ None → ⊥
 some_none x e = cc
 
 -- the amounts added along the path of a code with an aggregate
-pub path_total : (v d : ℕ) (g c s a : Option ℕ) (q : Code) → IsTrue (are_parts d g c s a) → IsSome a → amount_at v q 0 None None None None + amount_at v q d None None None None + amount_at v q d g None None None + amount_at v q d g c None None + amount_at v q d g c s None + amount_at v q d g c s a ≡ cond ((q.division == 0) || ((d == q.division) && (fits q.group g && (fits q.class c && (fits q.subclass s && fits q.aggregate a))))) v 0
+pub path_total : (v d : ℕ) (g c s a : Option ℕ) (q : Code) → IsTrue (are_parts d g c s a) → IsSome a →
+    amount_at v q 0 None None None None + amount_at v q d None None None None + amount_at v q d g None None None +
+    amount_at v q d g c None None + amount_at v q d g c s None + amount_at v q d g c s a ≡ cond
+    ((q.division == 0) || ((d == q.division) && (fits q.group g
+    && (fits q.class c && (fits q.subclass s && fits q.aggregate a))))) v 0
 path_total v d (Some g) (Some c) (Some s) (Some a) q h i =
     let valid = numbered_part q.division q.group q.class q.subclass q.aggregate q.valid in
     let low = positive_below d (Some g) (numbered_part d (Some g) (Some c) (Some s) (Some a) h) refl in
-    rw (amount_at-parts v q 0 None None None None, amount_at-parts v q d None None None None, amount_at-parts v q d (Some g) None None None, amount_at-parts v q d (Some g) (Some c) None None, amount_at-parts v q d (Some g) (Some c) (Some s) None, amount_at-parts v q d (Some g) (Some c) (Some s) (Some a))
-    (path_sum v d g c s a q.division q.group q.class q.subclass q.aggregate low (positive_below q.division q.group valid) (nested_parts q.division q.group q.class q.subclass q.aggregate q.valid))
+    rw (
+      amount_at-parts v q 0 None None None None,
+      amount_at-parts v q d None None None None,
+      amount_at-parts v q d (Some g) None None None,
+      amount_at-parts v q d (Some g) (Some c) None None,
+      amount_at-parts v q d (Some g) (Some c) (Some s) None,
+      amount_at-parts v q d (Some g) (Some c) (Some s)
+          (Some a),
+    )
+    (path_sum v d g c s a q.division q.group q.class q.subclass q.aggregate low
+    (positive_below q.division q.group valid) (nested_parts q.division q.group q.class q.subclass q.aggregate
+    q.valid))
 path_total v d g c s None q h i = cc
 path_total v d g c None (Some a) q h i = absurd (some_none a ((absent_below d g c None (Some a) h).2 refl))
-path_total v d g None (Some s) (Some a) q h i = absurd (some_none s ((absent_below d g None (Some s) (Some a) h).1 refl))
-path_total v d None (Some c) (Some s) (Some a) q h i = absurd (some_none c ((absent_below d None (Some c) (Some s) (Some a) h).0 refl))
+path_total v d g None (Some s) (Some a) q h i =
+    absurd (some_none s ((absent_below d g None (Some s) (Some a) h).1 refl))
+path_total v d None (Some c) (Some s) (Some a) q h i =
+    absurd (some_none c ((absent_below d None (Some c) (Some s) (Some a) h).0 refl))

@@ -41,30 +41,56 @@ same_bytes (x ∷ xs) = first x (slice_cmp nat_cmp xs xs) (same_bytes xs) where
 
 -- the parts of a code
 abbrev pub parts_of : Code → Parts
-parts_of c = record { division = c.division; group = c.group; class = c.class; subclass = c.subclass; aggregate = c.aggregate }
+parts_of c = record {
+  division = c.division;
+  group = c.group;
+  class = c.class;
+  subclass = c.subclass;
+  aggregate =
+      c.aggregate;
+}
 
-nested_below : (p : Parts) → IsTrue (is_nested p) → (p.group ≡ None → p.class ≡ None) × (p.class ≡ None → p.subclass ≡ None) × (p.subclass ≡ None → p.aggregate ≡ None)
-nested_below p h = (λ e. empty_under p.group p.class (grind (arith, nat_tests)) e, λ e. empty_under p.class p.subclass (grind (arith, nat_tests)) e, λ e. empty_under p.subclass p.aggregate (grind (arith, nat_tests)) e)
+nested_below : (p : Parts) → IsTrue (is_nested p) → (p.group ≡ None → p.class ≡ None)
+    × (p.class ≡ None → p.subclass ≡ None) × (p.subclass ≡ None → p.aggregate ≡ None)
+nested_below p h = (
+  λ e. empty_under p.group p.class (grind (arith, nat_tests)) e,
+  λ e. empty_under p.class p.subclass (grind (arith, nat_tests)) e,
+  λ e. empty_under p.subclass p.aggregate (grind (arith, nat_tests)) e,
+)
 
 -- parts that are spelled as a code's text are the code's
-pub same_parts : (p : Parts) (c : Code) → IsTrue (is_nested p) → spelling p ≡ text c → (p.division ≡ c.division) × (p.group ≡ c.group) × (p.class ≡ c.class) × (p.subclass ≡ c.subclass) × (p.aggregate ≡ c.aggregate)
+pub same_parts : (p : Parts) (c : Code) → IsTrue (is_nested p) → spelling p ≡ text c → (p.division ≡ c.division)
+    × (p.group ≡ c.group) × (p.class ≡ c.class) × (p.subclass ≡ c.subclass) × (p.aggregate ≡ c.aggregate)
 same_parts p c h e =
-    let equal = sym (parts-cmp p.division p.group p.class p.subclass p.aggregate c.division c.group c.class c.subclass c.aggregate (nested_below p h) (absent_below c.division _ _ _ _ c.valid)) ∙ ap (λ xs. slice_cmp nat_cmp xs (text c)) e ∙ same_bytes (text c) in
+    let equal = sym (parts-cmp p.division p.group p.class p.subclass p.aggregate c.division c.group c.class c.subclass
+    c.aggregate (nested_below p h) (absent_below c.division _ _ _ _ c.valid))
+    ∙ ap (λ xs. slice_cmp nat_cmp xs (text c)) e ∙ same_bytes (text c) in
     let rest = then_second (nat_cmp p.division c.division) _ equal in
     let third = then_second (option_cmp nat_cmp p.group c.group) _ rest in
-    let fourth = then_second (option_cmp nat_cmp p.class c.class) _ third in
-    (number_same p.division c.division (then_first (nat_cmp p.division c.division) _ equal), part_same p.group c.group (then_first (option_cmp nat_cmp p.group c.group) _ rest), part_same p.class c.class (then_first (option_cmp nat_cmp p.class c.class) _ third), part_same p.subclass c.subclass (then_first (option_cmp nat_cmp p.subclass c.subclass) _ fourth), part_same p.aggregate c.aggregate (then_second (option_cmp nat_cmp p.subclass c.subclass) _ fourth))
+    let fourth = then_second (option_cmp nat_cmp p.class c.class) _ third in (
+      number_same p.division c.division (then_first (nat_cmp p.division c.division) _ equal),
+      part_same p.group c.group (then_first (option_cmp nat_cmp p.group c.group) _ rest),
+      part_same p.class c.class (then_first (option_cmp nat_cmp p.class c.class) _ third),
+      part_same p.subclass c.subclass (then_first (option_cmp nat_cmp p.subclass c.subclass) _ fourth),
+      part_same p.aggregate c.aggregate (then_second (option_cmp nat_cmp p.subclass c.subclass) _ fourth),
+    )
 
-valid_nested : (d : ℕ) (g c s a : Option ℕ) → IsTrue (are_parts d g c s a) → IsTrue (is_nested (record { division = d; group = g; class = c; subclass = s; aggregate = a }))
+valid_nested : (d : ℕ) (g c s a : Option ℕ) → IsTrue (are_parts d g c s a) →
+    IsTrue (is_nested (record { division = d; group = g; class = c; subclass = s; aggregate = a }))
 valid_nested d g c s None h = grind (arith, nat_tests)
 valid_nested d g c s (Some n) h = grind (arith, nat_tests)
 
-valid_numbered : (d : ℕ) (g c s a : Option ℕ) → IsTrue (are_parts d g c s a) → IsTrue (is_numbered (record { division = d; group = g; class = c; subclass = s; aggregate = a }))
+valid_numbered : (d : ℕ) (g c s a : Option ℕ) → IsTrue (are_parts d g c s a) →
+    IsTrue (is_numbered (record { division = d; group = g; class = c; subclass = s; aggregate = a }))
 valid_numbered d g c s a h = grind (arith, nat_tests)
 
 -- the text of a code is spelled by its parts
 pub spells : (c : Code) (bytes : List ℕ) → text c ≡ bytes → IsSpelled (parts_of c) bytes
-spells c bytes e = (valid_numbered c.division c.group c.class c.subclass c.aggregate c.valid, valid_nested c.division c.group c.class c.subclass c.aggregate c.valid, e)
+spells c bytes e = (
+  valid_numbered c.division c.group c.class c.subclass c.aggregate c.valid,
+  valid_nested c.division c.group c.class c.subclass c.aggregate c.valid,
+  e,
+)
 
 -- codes with one text are one
 pub same_text_is : (c d : Code) → text c ≡ text d → c ≡ d

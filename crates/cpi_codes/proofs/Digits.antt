@@ -18,7 +18,8 @@ pub digit-range : (c : ℕ) → is_ascii_digit c ≡ true → (48 ≤ c) × (c �
 digit-range c h = grind (arith, nat_tests)
 
 -- what one more decimal digit adds
-pub decimal-more : (ds : List ℕ) (i : ℕ) → i < length ds → list_all is_ascii_digit ds ≡ true → digits_value 10 (take (i + 1) ds) ≡ 10 * digits_value 10 (take i ds) + (get_or ds i 0 - 48)
+pub decimal-more : (ds : List ℕ) (i : ℕ) → i < length ds → list_all is_ascii_digit ds ≡ true →
+    digits_value 10 (take (i + 1) ds) ≡ 10 * digits_value 10 (take i ds) + (get_or ds i 0 - 48)
 decimal-more ds i here all =
     let more = digits_value_more 10 ds i here in
     let range = digit-range _ (passes-at is_ascii_digit ds i here all) in
@@ -26,7 +27,8 @@ decimal-more ds i here all =
     omega arith
 
 -- what one more digit of a key adds
-pub key-more : (ds : List ℕ) (i : ℕ) → i < length ds → digits_value 16 (take (i + 1) ds) ≡ 16 * digits_value 16 (take i ds) + digit_value (get_or ds i 0)
+pub key-more : (ds : List ℕ) (i : ℕ) → i < length ds → digits_value 16 (take (i + 1) ds) ≡ 16 * digits_value 16
+    (take i ds) + digit_value (get_or ds i 0)
 key-more ds i here = let more = digits_value_more 16 ds i here in omega arith
 
 pub power-more : (k value digit : ℕ) → value < 16 ^ k → digit < 16 → 16 * value + digit < 16 ^ (k + 1)

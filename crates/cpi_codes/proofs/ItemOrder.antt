@@ -1,5 +1,6 @@
 -- The order of item codes.
-use Rattle.std.proofs.Common.{◌≡◌, ◌∙◌, sym, refl, ap, ℕ, zero, suc, ◌+◌, ◌*◌, ◌-◌, ◌^◌, ◌<◌, ◌≤◌, List, ◌++◌, [], ◌∷◌, length, replicate, true, Some, inl, inr, arith, lit<, length-append}
+use Rattle.std.proofs.Common.{◌≡◌, ◌∙◌, sym, refl, ap, ℕ, zero, suc, ◌+◌, ◌*◌, ◌-◌, ◌^◌, ◌<◌, ◌≤◌, List, ◌++◌, [], ◌∷◌}
+use Rattle.std.proofs.Common.{length, replicate, true, Some, inl, inr, arith, lit<, length-append}
 use Rattle.std.proofs.lemmas.List.{length-replicate}
 use Rattle.std.proofs.Math.Nat.{pow-succ', mul-le-mul_right, suc-mul, add-mul, mul_assoc, pow-le-pow_right}
 use Rattle.std.proofs.lemmas.Slice.Eq.{bytes_eq-Decides}
@@ -16,7 +17,8 @@ use Rattle.cpi_codes.proofs.Bytes.{text-of-code, text-parts, character-range}
 use Rattle.cpi_codes.proofs.Choices.{both}
 
 -- the first of the bytes counts most
-after-head : (n : ℕ) (xs : List ℕ) → number_from_digits_after 256 n xs ≡ n * 256 ^ length xs + number_from_digits_after 256 0 xs
+after-head : (n : ℕ) (xs : List ℕ) → number_from_digits_after 256 n xs ≡ n * 256 ^ length xs +
+    number_from_digits_after 256 0 xs
 after-head n [] = grind arith
 after-head n (x ∷ xs) =
     let p = 256 ^ length xs in
@@ -39,7 +41,8 @@ zeros-weigh : (k : ℕ) → number_from_digits 256 (replicate k 0) ≡ 0
 zeros-weigh zero = refl
 zeros-weigh (suc k) = zeros-weigh k
 
-weighs : (k : ℕ) (text : List ℕ) → length text ≤ k → number_from_digits 256 (text ++ replicate (k - length text) 0) ≡ weighed k text
+weighs : (k : ℕ) (text : List ℕ) → length text ≤ k →
+    number_from_digits 256 (text ++ replicate (k - length text) 0) ≡ weighed k text
 unfolding weighed
 weighs zero [] h = refl
 weighs zero (x ∷ xs) h = absurd (omega arith)
@@ -105,7 +108,8 @@ same-first p x u v = elim (cases_order u v) [
   ]
 ]
 
-by-digits : (p x y u v : ℕ) → u < p → v < p → nat_cmp (x * p + u) (y * p + v) ≡ ordering_then (nat_cmp x y) (nat_cmp u v)
+by-digits : (p x y u v : ℕ) → u < p → v < p → nat_cmp (x * p + u) (y * p + v) ≡ ordering_then (nat_cmp x y)
+    (nat_cmp u v)
 by-digits p x y u v small tiny = elim (cases_order x y) [
   | inl same ↦ rw (equal x y same) (rw same (same-first p y u v))
   | inr differ ↦ elim differ [
@@ -115,7 +119,8 @@ by-digits p x y u v small tiny = elim (cases_order x y) [
 ]
 
 -- the numbers stand in the order of the texts
-pub weighed-order : (k : ℕ) (a b : List ℕ) → length a ≤ k → length b ≤ k → list_all is_item_character a ≡ true → list_all is_item_character b ≡ true → nat_cmp (weighed k a) (weighed k b) ≡ slice_cmp nat_cmp a b
+pub weighed-order : (k : ℕ) (a b : List ℕ) → length a ≤ k → length b ≤ k → list_all is_item_character a ≡ true →
+    list_all is_item_character b ≡ true → nat_cmp (weighed k a) (weighed k b) ≡ slice_cmp nat_cmp a b
 unfolding weighed
 weighed-order zero [] [] la lb ca cb = refl
 weighed-order zero (x ∷ xs) b la lb ca cb = absurd (omega arith)
@@ -143,7 +148,8 @@ weighed-order (suc k) (x ∷ xs) (y ∷ ys) la lb ca cb =
     by-digits (256 ^ k) x y (weighed k xs) (weighed k ys) (weighed-lt k xs pa.1) (weighed-lt k ys pb.1)
     ∙ ap (ordering_then (nat_cmp x y)) (weighed-order k xs ys (omega arith) (omega arith) pa.1 pb.1)
 
-pub codes-in-order : (x y : ℕ) (a b : List ℕ) → item_code_of a ≡ Some x → item_code_of b ≡ Some y → nat_cmp x y ≡ slice_cmp nat_cmp a b
+pub codes-in-order : (x y : ℕ) (a b : List ℕ) → item_code_of a ≡ Some x → item_code_of b ≡ Some y →
+    nat_cmp x y ≡ slice_cmp nat_cmp a b
 codes-in-order x y a b p q =
     let ca = text-of-code a x p in
     let cb = text-of-code b y q in

@@ -1,5 +1,6 @@
 -- A key has one text.
-use Rattle.std.proofs.Common.{◌≡◌, ◌∙◌, sym, refl, ℕ, ◌+◌, ◌*◌, ◌<◌, List, [], ◌∷◌, length, true, ◌&&◌, ◌==◌, Some, arith}
+use Rattle.std.proofs.Common.{◌≡◌, ◌∙◌, sym, refl, ℕ, ◌+◌, ◌*◌, ◌<◌, List, [], ◌∷◌, length, true, ◌&&◌, ◌==◌, Some}
+use Rattle.std.proofs.Common.{arith}
 use Rattle.std.proofs.lemmas.Bool.Decides.{nat_tests}
 use Rattle.std.specs.List.{list_all}
 use Rattle.std.specs.Char.{digit_value}
@@ -14,7 +15,8 @@ digit-one : (a b : ℕ) → is_key_digit a ≡ true → is_key_digit b ≡ true 
 digit-one a b p q e = grind (arith, nat_tests)
 
 -- as many digits write one number only where they are the same
-same-digits : (m n : ℕ) (a b : List ℕ) → list_all is_key_digit a ≡ true → list_all is_key_digit b ≡ true → length a ≡ length b → digits_value_after 16 m a ≡ digits_value_after 16 n b → (m ≡ n) × (a ≡ b)
+same-digits : (m n : ℕ) (a b : List ℕ) → list_all is_key_digit a ≡ true → list_all is_key_digit b ≡ true →
+    length a ≡ length b → digits_value_after 16 m a ≡ digits_value_after 16 n b → (m ≡ n) × (a ≡ b)
 same-digits m n [] [] p q l e = (e, refl)
 same-digits m n [] (y ∷ ys) p q l e = absurd (omega arith)
 same-digits m n (x ∷ xs) [] p q l e = absurd (omega arith)

@@ -1,5 +1,6 @@
 -- A month has one text.
-use Rattle.std.proofs.Common.{◌≡◌, ◌∙◌, sym, refl, ℕ, ◌+◌, ◌-◌, ◌*◌, ◌/◌, ◌%◌, ◌≤◌, List, [], ◌∷◌, length, get_or, take, drop, slice_index, Bool, true, false, ◌&&◌, ◌==◌, nat_le, cond, Result, Ok, Err, arith}
+use Rattle.std.proofs.Common.{◌≡◌, ◌∙◌, sym, refl, ℕ, ◌+◌, ◌-◌, ◌*◌, ◌/◌, ◌%◌, ◌≤◌, List, [], ◌∷◌, length, get_or, take}
+use Rattle.std.proofs.Common.{drop, slice_index, Bool, true, false, ◌&&◌, ◌==◌, nat_le, cond, Result, Ok, Err, arith}
 use Rattle.std.proofs.lemmas.Bool.Decides.{nat_tests}
 use Rattle.std.proofs.lemmas.Str.{digit_value_digit}
 use Rattle.std.proofs.lemmas.Fmt.{decimal-digits_value, decimal_digit}
@@ -9,12 +10,14 @@ use Rattle.std.specs.Char.{is_ascii_digit, digit_value}
 use Rattle.std.specs.Str.Parse.{digits_value}
 use Rattle.cpi_codes.specs.declared.months.MonthFault.{MonthFault}
 use Rattle.cpi_codes.specs.declared.months.MonthFault.TheVariants.{Shape, Range}
-use Rattle.cpi_codes.specs.Month.{two_digits, year_of, month_of_year, month_text, month_in, month_of, is_in_calendar, is_month_shape, months_since_2000}
+use Rattle.cpi_codes.specs.Month.{two_digits, year_of, month_of_year, month_text, month_in, month_of, is_in_calendar}
+use Rattle.cpi_codes.specs.Month.{is_month_shape, months_since_2000}
 use Rattle.cpi_codes.proofs.Choices.{both}
 use Rattle.cpi_codes.proofs.Digits.{digit-range}
 use Rattle.cpi_codes.proofs.NumberTexts.{model, all-same}
 
-chosen : (b : Bool) (r : Result ℕ MonthFault) (f : MonthFault) (n : ℕ) → cond b r (Err f) ≡ Ok n → (b ≡ true) × (r ≡ Ok n)
+chosen : (b : Bool) (r : Result ℕ MonthFault) (f : MonthFault) (n : ℕ) → cond b r (Err f) ≡ Ok n → (b ≡ true)
+    × (r ≡ Ok n)
 chosen true r f n h = (refl, h)
 chosen false r f n h = absurd cc
 
@@ -25,7 +28,8 @@ four true true false d h = absurd cc
 four true false c d h = absurd cc
 four false b c d h = absurd cc
 
-four-listed : (a b c d : Bool) → (a && (b && (c && (d && true)))) ≡ true → (a ≡ true) × (b ≡ true) × (c ≡ true) × (d ≡ true)
+four-listed : (a b c d : Bool) → (a && (b && (c && (d && true)))) ≡ true → (a ≡ true) × (b ≡ true) × (c ≡ true)
+    × (d ≡ true)
 four-listed true true true true h = (refl, refl, refl, refl)
 four-listed true true true false h = absurd cc
 four-listed true true false d h = absurd cc
@@ -33,7 +37,8 @@ four-listed true false c d h = absurd cc
 four-listed false b c d h = absurd cc
 
 -- the year and the month of the year of a month that was found
-found : (year number month : ℕ) → month_in year number ≡ Ok month → (2000 ≤ year) × (year ≤ 2199) × (year ≡ year_of month) × (number ≡ month_of_year month)
+found : (year number month : ℕ) → month_in year number ≡ Ok month → (2000 ≤ year) × (year ≤ 2199)
+    × (year ≡ year_of month) × (number ≡ month_of_year month)
 found year number month h =
     let made = chosen (is_in_calendar year number) (Ok (months_since_2000 year number)) Range month h in
     let tests = four (nat_le 2000 year) (nat_le year 2199) (nat_le 1 number) (nat_le number 12) made.0 in
@@ -45,7 +50,8 @@ found year number month h =
     (first, last, omega arith, omega arith)
 
 -- four digits from 2000 on are what is printed of their number
-printed-year : (a b c d : ℕ) → list_all is_ascii_digit (a ∷ b ∷ c ∷ d ∷ []) ≡ true → 2000 ≤ digits_value 10 (a ∷ b ∷ c ∷ d ∷ []) → digits_value 10 (a ∷ b ∷ c ∷ d ∷ []) ≤ 2199 →
+printed-year : (a b c d : ℕ) → list_all is_ascii_digit (a ∷ b ∷ c ∷ d ∷ []) ≡ true →
+    2000 ≤ digits_value 10 (a ∷ b ∷ c ∷ d ∷ []) → digits_value 10 (a ∷ b ∷ c ∷ d ∷ []) ≤ 2199 →
     decimal (digits_value 10 (a ∷ b ∷ c ∷ d ∷ [])) ≡ a ∷ b ∷ c ∷ d ∷ []
 printed-year a b c d digits low high =
     let ds = a ∷ b ∷ c ∷ d ∷ [] in
@@ -60,7 +66,8 @@ printed-year a b c d digits low high =
     let one : get_or ds 0 0 ≡ 48 → length ds ≡ 1 = λ (e : a ≡ 48). absurd (omega arith) in
     decimal-digits_value model ds (sym (all-same ds) ∙ digits) (omega arith) one (omega arith)
 
-two-printed : (e f : ℕ) → is_ascii_digit e ≡ true → is_ascii_digit f ≡ true → two_digits (digits_value 10 (e ∷ f ∷ [])) ≡ e ∷ f ∷ []
+two-printed : (e f : ℕ) → is_ascii_digit e ≡ true → is_ascii_digit f ≡ true →
+    two_digits (digits_value 10 (e ∷ f ∷ [])) ≡ e ∷ f ∷ []
 two-printed e f he hf =
     let re = digit-range e he in
     let rf = digit-range f hf in
@@ -86,7 +93,8 @@ one-spelling month (a ∷ b ∷ c ∷ d ∷ s ∷ e ∷ f ∷ []) h =
     let year = digits_value 10 (a ∷ b ∷ c ∷ d ∷ []) in
     let number = digits_value 10 (e ∷ f ∷ []) in
     let read = chosen (is_month_shape text) (month_in year number) Shape month h in
-    let shape = four (length text == 7) (list_all is_ascii_digit (take 4 text)) (slice_index text 4 == 45) (list_all is_ascii_digit (drop 5 text)) read.0 in
+    let shape = four (length text == 7) (list_all is_ascii_digit (take 4 text)) (slice_index text 4 == 45)
+    (list_all is_ascii_digit (drop 5 text)) read.0 in
     let dash : s ≡ 45 = grind (arith, nat_tests, shape.2) in
     let digits = both (is_ascii_digit e) (is_ascii_digit f && true) shape.3 in
     let last = both (is_ascii_digit f) true digits.1 in
@@ -96,7 +104,9 @@ one-spelling month (a ∷ b ∷ c ∷ d ∷ s ∷ e ∷ f ∷ []) h =
     sym (rw (← is.2, ← is.3, front, back, dash) refl)
 one-spelling month (a ∷ b ∷ c ∷ d ∷ s ∷ e ∷ f ∷ g ∷ rest) h =
     let text = a ∷ b ∷ c ∷ d ∷ s ∷ e ∷ f ∷ g ∷ rest in
-    let read = chosen (is_month_shape text) (month_in (digits_value 10 (take 4 text)) (digits_value 10 (drop 5 text))) Shape month h in
-    let shape = four (length text == 7) (list_all is_ascii_digit (take 4 text)) (slice_index text 4 == 45) (list_all is_ascii_digit (drop 5 text)) read.0 in
+    let read = chosen (is_month_shape text) (month_in (digits_value 10 (take 4 text)) (digits_value 10 (drop 5 text)))
+    Shape month h in
+    let shape = four (length text == 7) (list_all is_ascii_digit (take 4 text)) (slice_index text 4 == 45)
+    (list_all is_ascii_digit (drop 5 text)) read.0 in
     let seven : length text ≡ 7 = grind (arith, nat_tests, shape.0) in
     absurd (omega arith)

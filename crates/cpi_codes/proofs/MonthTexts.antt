@@ -1,5 +1,6 @@
 -- Months as they are printed and read.
-use Rattle.std.proofs.Common.{◌≡◌, ◌∙◌, refl, ap, ℕ, ◌+◌, ◌-◌, ◌*◌, ◌/◌, ◌%◌, ◌^◌, ◌<◌, ◌≤◌, inl, inr, List, [], ◌∷◌, ◌++◌, true, false, nat_le, Ok, append_assoc, arith}
+use Rattle.std.proofs.Common.{◌≡◌, ◌∙◌, refl, ap, ℕ, ◌+◌, ◌-◌, ◌*◌, ◌/◌, ◌%◌, ◌^◌, ◌<◌, ◌≤◌, inl, inr, List, [], ◌∷◌}
+use Rattle.std.proofs.Common.{◌++◌, true, false, nat_le, Ok, append_assoc, arith}
 use Rattle.std.proofs.lemmas.Bool.{cases_lt}
 use Rattle.std.specs.Fmt.{decimal, styled_decimal, format_spec, padded_integral, char_count}
 use Rattle.std.proofs.lemmas.Fmt.{decimal_digit, decimal_step}
@@ -9,23 +10,27 @@ use Rattle.std.specs.Char.{is_ascii_digit, digit_value}
 use Rattle.cpi_codes.specs.Month.{two_digits, year_of, month_of_year, month_text, month_in, month_of, months_since_2000}
 
 -- a number below 100 that is printed with at least two digits, filled up with a zero in front
-padded-below-10 : (n : ℕ) → n < 10 → padded_integral (format_spec 32 0 4 2 (2 ^ 64 - 1)) false [] (decimal n) ≡ two_digits n
+padded-below-10 : (n : ℕ) → n < 10 → padded_integral (format_spec 32 0 4 2 (2 ^ 64 - 1)) false []
+    (decimal n) ≡ two_digits n
 unfolding padded_integral char_count
 padded-below-10 n h =
     let none : n / 10 ≡ 0 = omega arith in
     let all : n % 10 ≡ n = omega arith in
     rw (decimal_digit n h, none, all, decimal_digit n h, decimal_digit 0 (omega arith)) refl
 
-padded-from-10 : (n : ℕ) → 10 ≤ n → n < 100 → padded_integral (format_spec 32 0 4 2 (2 ^ 64 - 1)) false [] (decimal n) ≡ two_digits n
+padded-from-10 : (n : ℕ) → 10 ≤ n → n < 100 → padded_integral (format_spec 32 0 4 2 (2 ^ 64 - 1)) false []
+    (decimal n) ≡ two_digits n
 unfolding padded_integral char_count
 padded-from-10 n h k =
     rw (decimal_step n h (omega arith), decimal_digit (n / 10) (omega arith), decimal_digit (n % 10) (omega arith)) refl
 
-pub padded-two : (n : ℕ) → n < 100 → padded_integral (format_spec 32 0 4 2 (2 ^ 64 - 1)) false [] (decimal n) ≡ two_digits n
+pub padded-two : (n : ℕ) → n < 100 → padded_integral (format_spec 32 0 4 2 (2 ^ 64 - 1)) false []
+    (decimal n) ≡ two_digits n
 padded-two n h = elim (cases_lt n 10) [ inl small ↦ padded-below-10 n small | inr large ↦ padded-from-10 n large h ]
 
 -- a month is printed as its year, a dash and the month of the year in two digits
-pub month-written : (month year number : ℕ) → year ≡ year_of month → number ≡ month_of_year month → decimal year ++ 45 ∷ styled_decimal (format_spec 32 0 4 2 (2 ^ 64 - 1)) number ≡ month_text month
+pub month-written : (month year number : ℕ) → year ≡ year_of month → number ≡ month_of_year month → decimal year
+    ++ 45 ∷ styled_decimal (format_spec 32 0 4 2 (2 ^ 64 - 1)) number ≡ month_text month
 month-written month year number y n =
     let small : month_of_year month < 100 = omega arith in
     rw (y, n, padded-two (month_of_year month) small) (simp append_assoc)
@@ -68,9 +73,15 @@ in-calendar month h =
     let back : months_since_2000 (year_of month) (month_of_year month) ≡ month = omega arith in
     rw (first, last, low, high, back) refl
 
-four-digits : (y : ℕ) → 1000 ≤ y → y < 10000 → decimal y ≡ (48 + y / 10 / 10 / 10) ∷ (48 + y / 10 / 10 % 10) ∷ (48 + y / 10 % 10) ∷ (48 + y % 10) ∷ []
+four-digits : (y : ℕ) → 1000 ≤ y → y < 10000 → decimal y ≡ (48 + y / 10 / 10 / 10) ∷ (48 + y / 10 / 10 % 10) ∷
+    (48 + y / 10 % 10) ∷ (48 + y % 10) ∷ []
 four-digits y low high =
-    rw (decimal_step y (omega arith) (omega arith), decimal_step (y / 10) (omega arith) (omega arith), decimal_step (y / 10 / 10) (omega arith) (omega arith), decimal_digit (y / 10 / 10 / 10) (omega arith)) refl
+    rw (
+      decimal_step y (omega arith) (omega arith),
+      decimal_step (y / 10) (omega arith) (omega arith),
+      decimal_step (y / 10 / 10) (omega arith) (omega arith),
+      decimal_digit (y / 10 / 10 / 10) (omega arith),
+    ) refl
 
 month-spelled : (month : ℕ) → month < 2400 →
     let y = year_of month in let n = month_of_year month in
@@ -79,14 +90,20 @@ unfolding spelled
 month-spelled month h =
     let y = year_of month in
     let n = month_of_year month in
-    rw (four-digits y (omega arith) (omega arith), decimal_digit (n / 10) (omega arith), decimal_digit (n % 10) (omega arith)) refl
+    rw (
+      four-digits y (omega arith) (omega arith),
+      decimal_digit (n / 10) (omega arith),
+      decimal_digit (n % 10) (omega arith),
+    ) refl
 
 pub read-again : (month : ℕ) → month < 2400 → month_of (month_text month) ≡ Ok month
 read-again month h =
     let y = year_of month in
     let n = month_of_year month in
-    let year : (((0 * 10 + y / 10 / 10 / 10) * 10 + y / 10 / 10 % 10) * 10 + y / 10 % 10) * 10 + y % 10 ≡ y = omega arith in
+    let year : (((0 * 10 + y / 10 / 10 / 10) * 10 + y / 10 / 10 % 10) * 10 + y / 10 % 10) * 10 + y % 10 ≡ y =
+    omega arith in
     let number : (0 * 10 + n / 10) * 10 + n % 10 ≡ n = omega arith in
     ap month_of (month-spelled month h)
-    ∙ month-of-digits (y / 10 / 10 / 10) (y / 10 / 10 % 10) (y / 10 % 10) (y % 10) (n / 10) (n % 10) (omega arith) (omega arith) (omega arith) (omega arith) (omega arith) (omega arith)
+    ∙ month-of-digits (y / 10 / 10 / 10) (y / 10 / 10 % 10) (y / 10 % 10) (y % 10) (n / 10) (n % 10) (omega arith)
+    (omega arith) (omega arith) (omega arith) (omega arith) (omega arith)
     ∙ rw (year, number) (in-calendar month h)

@@ -1,5 +1,6 @@
 -- When bytes are text, and when a text is no name.
-use Rattle.std.proofs.Common.{◌≡◌, sym, refl, List, ℕ, Bool, true, false, ◌&&◌, Result, Ok, Err, MatchResult, is_ok, IsUtf8}
+use Rattle.std.proofs.Common.{◌≡◌, sym, refl, List, ℕ, Bool, true, false, ◌&&◌, Result, Ok, Err, MatchResult, is_ok}
+use Rattle.std.proofs.Common.{IsUtf8}
 use Rattle.std.specs.Str.{is_utf8}
 use Rattle.std.proofs.lemmas.Str.{is_utf8-from_IsUtf8, IsUtf8-from_is_utf8}
 use Rattle.cpi_codes.specs.Name.{is_name}
@@ -17,6 +18,7 @@ unfolding is_name
 not-name text h = last-false _ (is_utf8 text) (not-utf8 (is_utf8 text) text refl h)
 
 -- a conversion that succeeds just where the bytes are UTF-8 tells whether they are
-pub ok-is-utf8 : {T E : Type 0} (r : Result T E) (text : List ℕ) (P : T → Type 0) (Q : E → Type 0) → MatchResult r (λ s. P s × IsUtf8 text) (λ e. ¬ (IsUtf8 text) × Q e) → is_ok r ≡ is_utf8 text
+pub ok-is-utf8 : {T E : Type 0} (r : Result T E) (text : List ℕ) (P : T → Type 0) (Q : E → Type 0) →
+    MatchResult r (λ s. P s × IsUtf8 text) (λ e. ¬ (IsUtf8 text) × Q e) → is_ok r ≡ is_utf8 text
 ok-is-utf8 (Ok s) text P Q h = sym (is_utf8-from_IsUtf8 text h.1)
 ok-is-utf8 (Err e) text P Q h = sym (not-utf8 (is_utf8 text) text refl h.0)

@@ -1,5 +1,6 @@
 -- Numbers and their decimal texts.
-use Rattle.std.proofs.Common.{◌≡◌, ◌∙◌, sym, refl, ap, ℕ, ◌^◌, ◌<◌, ◌≤◌, ◌==◌, ◌&&◌, ◌||◌, not, nat_le, List, [], ◌∷◌, length, get_or, slice_index, Bool, true, false, Some, inl, inr, arith, lit<}
+use Rattle.std.proofs.Common.{◌≡◌, ◌∙◌, sym, refl, ap, ℕ, ◌^◌, ◌<◌, ◌≤◌, ◌==◌, ◌&&◌, ◌||◌, not, nat_le, List, [], ◌∷◌}
+use Rattle.std.proofs.Common.{length, get_or, slice_index, Bool, true, false, Some, inl, inr, arith, lit<}
 use Rattle.std.specs.List.{list_all}
 use Rattle.std.specs.Char.{is_ascii_digit}
 use Rattle.std.specs.Str.{all_ascii_digits}
@@ -8,7 +9,8 @@ use Rattle.std.specs.Fmt.{decimal}
 use Rattle.std.proofs.lemmas.Bool.{cases_lt}
 use Rattle.std.proofs.lemmas.Bool.Decides.{nat_tests}
 use Rattle.std.proofs.lemmas.Str.Parse.{IsNumeralModel, numerals_by_value, tells_all_ascii_digits}
-use Rattle.std.proofs.lemmas.Fmt.{digits_decimal, digits_value-decimal, decimal-digits_value, decimal_nonempty, first_decimal, decimal_digit}
+use Rattle.std.proofs.lemmas.Fmt.{digits_decimal, digits_value-decimal, decimal-digits_value, decimal_nonempty}
+use Rattle.std.proofs.lemmas.Fmt.{first_decimal, decimal_digit}
 use Rattle.cpi_codes.proofs.Choices.{all-three, chosen}
 use Rattle.cpi_codes.specs.Number.{is_number, number_of}
 
@@ -48,9 +50,12 @@ read-again low high n l h small =
 pub one-spelling : (low high n : ℕ) (text : List ℕ) → n < 2 ^ 64 → number_of low high text ≡ Some n → text ≡ decimal n
 unfolding number_of
 one-spelling low high n text small h =
-    let read = chosen (is_number text && nat_le low (digits_value 10 text) && nat_le (digits_value 10 text) high) (digits_value 10 text) n h in
-    let tests = all-three (is_number text) (nat_le low (digits_value 10 text)) (nat_le (digits_value 10 text) high) read.0 in
-    let number = all-three (not (length text == 0)) (list_all is_ascii_digit text) ((length text == 1) || not (slice_index text 0 == 48)) tests.0 in
+    let read = chosen (is_number text && nat_le low (digits_value 10 text) && nat_le (digits_value 10 text) high)
+    (digits_value 10 text) n h in
+    let tests = all-three (is_number text) (nat_le low (digits_value 10 text))
+    (nat_le (digits_value 10 text) high) read.0 in
+    let number = all-three (not (length text == 0)) (list_all is_ascii_digit text)
+    ((length text == 1) || not (slice_index text 0 == 48)) tests.0 in
     let some : 0 < length text = grind (arith, nat_tests, number.0) in
     let one : get_or text 0 0 ≡ 48 → length text ≡ 1 = λ e. grind (arith, nat_tests, number.2, e) in
     let value : digits_value 10 text < 2 ^ 64 = rw (← read.1) small in

@@ -12,7 +12,8 @@ same_number m n tens ones = omega arith
 pub one_time : OneTime
 one_time text y z a b p q =
     let same = sym p.spelled ∙ q.spelled in
-    let at : (k : ℕ) → get_or (civil_text y a.date.month a.date.day a.time.hour a.time.minute) k 0 ≡ get_or (civil_text z b.date.month b.date.day b.time.hour b.time.minute) k 0 = λ k. ap (λ l. get_or l k 0) same in
+    let at : (k : ℕ) → get_or (civil_text y a.date.month a.date.day a.time.hour a.time.minute) k 0 ≡ get_or
+    (civil_text z b.date.month b.date.day b.time.hour b.time.minute) k 0 = λ k. ap (λ l. get_or l k 0) same in
     let month = same_number a.date.month b.date.month (at 5) (at 6) in
     let day = same_number a.date.day b.date.day (at 8) (at 9) in
     let hour = same_number a.time.hour b.time.hour (at 11) (at 12) in
@@ -22,6 +23,7 @@ one_time text y z a b p q =
     let year : y ≡ z = omega arith in
     let year_same : a.date.year ≡ b.date.year = p.year_is ∙ ap (λ n. pos n) year ∙ sym q.year_is in
     let date = same_date a.date b.date (epoch_day_same a.date b.date year_same month day) in
-    let nanos : time_nanos a.time ≡ time_nanos b.time = rw (hour, minute, p.second, q.second, p.fraction, q.fraction) refl in
+    let nanos : time_nanos a.time ≡ time_nanos b.time =
+    rw (hour, minute, p.second, q.second, p.fraction, q.fraction) refl in
     let time = same_time a.time b.time nanos in
     (year, λ i. record { date = date i; time = time i })

@@ -6,7 +6,10 @@ use Rattle.std.specs.Option.{option_cmp}
 use Rattle.cpi_codes.specs.declared.codes.Code.{Code}
 
 abbrev pub code_cmp : Code → Code → Ordering
-code_cmp c d = ordering_then (nat_cmp c.division d.division) (ordering_then (option_cmp nat_cmp c.group d.group) (ordering_then (option_cmp nat_cmp c.class d.class) (ordering_then (option_cmp nat_cmp c.subclass d.subclass) (option_cmp nat_cmp c.aggregate d.aggregate))))
+code_cmp c d = ordering_then (nat_cmp c.division d.division)
+    (ordering_then (option_cmp nat_cmp c.group d.group)
+    (ordering_then (option_cmp nat_cmp c.class d.class)
+    (ordering_then (option_cmp nat_cmp c.subclass d.subclass) (option_cmp nat_cmp c.aggregate d.aggregate))))
 
 -- whether two codes are one
 abbrev pub is_same : Code → Code → Bool

@@ -14,5 +14,7 @@ code_with d g c s a = code_if d g c s a (are_parts d g c s a) refl
 -- `00`, the division, the group, the class, the subclass and the code itself
 abbrev pub path : Code → List Code
 path c =
-    code_with 0 None None None None ++ (code_with c.division None None None None ++ (code_with c.division c.group None None None
-    ++ (code_with c.division c.group c.class None None ++ (code_with c.division c.group c.class c.subclass None ++ c ∷ []))))
+    code_with 0 None None None None ++ (code_with c.division None None None None
+    ++ (code_with c.division c.group None None None
+    ++ (code_with c.division c.group c.class None None
+    ++ (code_with c.division c.group c.class c.subclass None ++ c ∷ []))))

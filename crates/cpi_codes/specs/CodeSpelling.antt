@@ -1,5 +1,6 @@
 -- What a text of a code looks like, also where its numbers are refused.
-use Rattle.std.specs.Prelude.{ℕ, Bool, true, ◌&&◌, ◌||◌, nat_le, ◌≤◌, List, ◌++◌, ◌≡◌, Option, Some, None, is_none, IsTrue}
+use Rattle.std.specs.Prelude.{ℕ, Bool, true, ◌&&◌, ◌||◌, nat_le, ◌≤◌, List, ◌++◌, ◌≡◌, Option, Some, None, is_none}
+use Rattle.std.specs.Prelude.{IsTrue}
 use Rattle.cpi_codes.specs.CodeParts.{two_digits, dotted, dashed, is_digit_part, is_under}
 use Rattle.cpi_codes.specs.declared.spelling.Parts.{Parts}
 use Rattle.cpi_codes.specs.declared.code_texts.CodeFault.{CodeFault}

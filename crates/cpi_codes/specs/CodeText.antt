@@ -21,7 +21,8 @@ all_items = 48 ∷ 48 ∷ []
 
 -- a code is below a node where it is another code, and the node is `00` or the code's text begins with the node's
 abbrev pub is_below : Code → Code → Bool
-is_below node code = not (are_one_text (text code) (text node)) && (are_one_text (text node) all_items || begins_with (text code) (text node))
+is_below node code = not (are_one_text (text code) (text node))
+    && (are_one_text (text node) all_items || begins_with (text code) (text node))
 
 abbrev pub same_code : Code → Code → Bool
 same_code a b = are_one_text (text a) (text b)

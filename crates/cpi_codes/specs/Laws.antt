@@ -14,7 +14,8 @@ NumbersAreReadAgain = (low high n : ℕ) → low ≤ n → n ≤ high → n < 2 
 
 -- a text that is read as a number is the number's decimal text
 abbrev pub NumbersHaveOneSpelling : Type 0
-NumbersHaveOneSpelling = (low high n : ℕ) (text : List ℕ) → n < 2 ^ 64 → number_of low high text ≡ Some n → text ≡ decimal n
+NumbersHaveOneSpelling = (low high n : ℕ) (text : List ℕ) → n < 2 ^ 64 → number_of low high text ≡ Some n →
+    text ≡ decimal n
 
 -- the text of a month is read as that month
 abbrev pub MonthsAreReadAgain : Type 0
@@ -34,4 +35,5 @@ ItemCodesHaveOneSpelling = (code : ℕ) (a b : List ℕ) → item_code_of a ≡ 
 
 -- item codes stand in the byte order of their texts
 abbrev pub ItemCodesAreInByteOrder : Type 0
-ItemCodesAreInByteOrder = (x y : ℕ) (a b : List ℕ) → item_code_of a ≡ Some x → item_code_of b ≡ Some y → nat_cmp x y ≡ slice_cmp nat_cmp a b
+ItemCodesAreInByteOrder = (x y : ℕ) (a b : List ℕ) → item_code_of a ≡ Some x → item_code_of b ≡ Some y →
+    nat_cmp x y ≡ slice_cmp nat_cmp a b

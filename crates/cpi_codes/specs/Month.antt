@@ -1,5 +1,6 @@
 -- Months of the years 2000 to 2199, as the number of months since 2000-01.
-use Rattle.std.specs.Prelude.{ℕ, ◌+◌, ◌-◌, ◌*◌, ◌/◌, ◌%◌, Bool, ◌&&◌, ◌==◌, nat_le, if◌then◌else◌, List, ◌++◌, length, take, drop, slice_index, codes, Result, Ok, Err}
+use Rattle.std.specs.Prelude.{ℕ, ◌+◌, ◌-◌, ◌*◌, ◌/◌, ◌%◌, Bool, ◌&&◌, ◌==◌, nat_le, if◌then◌else◌, List, ◌++◌, length}
+use Rattle.std.specs.Prelude.{take, drop, slice_index, codes, Result, Ok, Err}
 use Rattle.std.specs.List.{list_all}
 use Rattle.std.specs.Char.{is_ascii_digit}
 use Rattle.std.specs.Str.Parse.{digits_value}
@@ -28,11 +29,13 @@ month_in year month = if is_in_calendar year month then Ok (months_since_2000 ye
 
 -- four digits, a dash and two digits
 abbrev pub is_month_shape : List ℕ → Bool
-is_month_shape text = length text == 7 && list_all is_ascii_digit (take 4 text) && slice_index text 4 == 45 && list_all is_ascii_digit (drop 5 text)
+is_month_shape text = length text == 7 && list_all is_ascii_digit (take 4 text) && slice_index text 4 == 45
+    && list_all is_ascii_digit (drop 5 text)
 
 -- the month that a text writes: first its shape is looked at, and then the year and the month
 abbrev pub month_of : List ℕ → Result ℕ MonthFault
-month_of text = if is_month_shape text then month_in (digits_value 10 (take 4 text)) (digits_value 10 (drop 5 text)) else Err Shape
+month_of text = if is_month_shape text then month_in (digits_value 10 (take 4 text))
+    (digits_value 10 (drop 5 text)) else Err Shape
 
 -- a number below 100 in two digits
 abbrev pub two_digits : ℕ → List ℕ

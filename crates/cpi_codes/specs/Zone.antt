@@ -31,4 +31,5 @@ Gives zone text (Err _) = ⊥
 
 -- a zone and a text have one answer
 abbrev pub OneAnswer : Type 0
-OneAnswer = (zone : ZoneRule) (text : List ℕ) (r s : Result ℕ MomentFault) → Gives zone text r → Gives zone text s → r ≡ s
+OneAnswer = (zone : ZoneRule) (text : List ℕ) (r s : Result ℕ MomentFault) → Gives zone text r → Gives zone text s →
+    r ≡ s

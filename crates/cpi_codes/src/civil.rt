@@ -29,8 +29,10 @@ struct Fields {
 
 // Reads `YYYY-MM-DDTHH:MM`, whether the calendar has that time or not.
 fn fields_of(text: &[u8]) -> Option<Fields>
-    ensures found { IfSome result (λ f. IsWritable f.year f.month f.day f.hour f.minute × (text.now ≡ civil_text f.year f.month f.day f.hour f.minute)) }
-    ensures none { IfNone result ((year month day hour minute : ℕ) → IsWritable year month day hour minute → text.now ≢ civil_text year month day hour minute) }
+    ensures found { IfSome result (λ f. IsWritable f.year f.month f.day f.hour f.minute
+        × (text.now ≡ civil_text f.year f.month f.day f.hour f.minute)) }
+    ensures none { IfNone result ((year month day hour minute : ℕ) → IsWritable year month day hour minute →
+        text.now ≢ civil_text year month day hour minute) }
 {
     let &[
         y1,

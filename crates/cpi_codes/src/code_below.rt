@@ -1,6 +1,7 @@
 //! What stands below what.
 ghost use Rattle.std.specs.Prelude.{◌≡◌};
-ghost use Rattle.cpi_codes.specs.CodeText.{text, begins_with, is_below as is_code_below, is_at_or_below as is_code_at_or_below};
+ghost use Rattle.cpi_codes.specs.CodeText.{text, begins_with, is_below as is_code_below};
+ghost use Rattle.cpi_codes.specs.CodeText.{is_at_or_below as is_code_at_or_below};
 
 use crate::codes::Code;
 

@@ -3,7 +3,8 @@ ghost use Rattle.std.specs.Prelude.{◌≡◌, ◌≤◌, ◌<◌, ◌^◌, leng
 ghost use Rattle.std.specs.Char.{is_ascii};
 ghost use Rattle.std.specs.List.{list_all};
 ghost use Rattle.std.specs.String.{string_bytes};
-ghost use Rattle.cpi_codes.specs.ItemCode.{is_item_character as is_character_of_item, is_item_text as is_text_of_item, filled, item_code_of, item_number, is_no_zero};
+ghost use Rattle.cpi_codes.specs.ItemCode.{is_item_character as is_character_of_item, is_item_text as is_text_of_item};
+ghost use Rattle.cpi_codes.specs.ItemCode.{filled, item_code_of, item_number, is_no_zero};
 
 use std::alloc::{AllocError, Global};
 use std::marker::Model;

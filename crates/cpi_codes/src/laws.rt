@@ -1,5 +1,7 @@
 //! Laws of the texts that are read.
-ghost use Rattle.cpi_codes.specs.Laws.{ItemCodesAreInByteOrder, ItemCodesHaveOneSpelling, KeysHaveOneSpelling, MonthsAreReadAgain, MonthsHaveOneSpelling, NumbersAreReadAgain, NumbersHaveOneSpelling};
+ghost use Rattle.cpi_codes.specs.Laws.{ItemCodesAreInByteOrder, ItemCodesHaveOneSpelling, KeysHaveOneSpelling};
+ghost use Rattle.cpi_codes.specs.Laws.{MonthsAreReadAgain, MonthsHaveOneSpelling, NumbersAreReadAgain};
+ghost use Rattle.cpi_codes.specs.Laws.{NumbersHaveOneSpelling};
 
 /// A law: the decimal text of a number in range is read as that number.
 pub fn numbers_are_read_again()

@@ -1,7 +1,8 @@
 //! Months.
 ghost use Rattle.std.specs.Prelude.{◌≡◌, ◌≤◌, ◌<◌, ◌+◌, ◌-◌, IfOk, SomeIff};
 ghost use Rattle.std.specs.String.{string_bytes};
-ghost use Rattle.cpi_codes.specs.Month.{month_in, month_of, month_of_year, month_text, months_since_2000, is_month_shape as is_shape_of_month, year_of};
+ghost use Rattle.cpi_codes.specs.Month.{month_in, month_of, month_of_year, month_text, months_since_2000};
+ghost use Rattle.cpi_codes.specs.Month.{is_month_shape as is_shape_of_month, year_of};
 
 use crate::number::{are_digits, value_of};
 use std::alloc::{AllocError, Global};

@@ -37,7 +37,8 @@ pub(crate) fn are_digits(text: &[u8]) -> bool
 // The value of decimal digits, where it is at most `high`.
 pub(crate) fn value_of(digits: &[u8], high: u64) -> Option<u64>
     requires { list_all is_ascii_digit digits.now ≡ true }
-    ensures { MatchOption result (high < digits_value 10 digits.now) (λ n. (n ≡ digits_value 10 digits.now) × (n ≤ high)) }
+    ensures { MatchOption result (high < digits_value 10 digits.now)
+        (λ n. (n ≡ digits_value 10 digits.now) × (n ≤ high)) }
 {
     let mut value: u128 = 0;
     for digit in digits {

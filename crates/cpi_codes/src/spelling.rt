@@ -37,7 +37,8 @@ fn numbered(parts: Parts) -> Option<Parts>
 }
 
 fn two(tens: u8, ones: u8) -> Option<u8>
-    ensures { SomeIff result ((48 ≤ tens) × (tens ≤ 57) × ((48 ≤ ones) × (ones ≤ 57))) (10 * (tens - 48) + (ones - 48)) }
+    ensures { SomeIff result ((48 ≤ tens) × (tens ≤ 57) × ((48 ≤ ones) × (ones ≤ 57)))
+        (10 * (tens - 48) + (ones - 48)) }
 {
     Some(10 * digit(tens)? + digit(ones)?)
 }

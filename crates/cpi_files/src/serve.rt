@@ -1,4 +1,4 @@
-//! The job of serving pages of the office of a file.
+//! The job of serving the office of a file by HTTP.
 ghost use Rattle.std.specs.Prelude.{◌↔◌, IsNone, IfErr, IsErrOf};
 ghost use Rattle.jiff.specs.Words.{read_whole};
 ghost use Rattle.sqlite.specs.WalFiles.{image_at};
@@ -134,7 +134,7 @@ fn serve_at_desk<S: Start>(
     Ok(())
 }
 
-/// Serves the pages of the office in the database file at the path, of which `start` says how a crash is read, at a
+/// Serves the office in the database file at the path by HTTP, of which `start` says how a crash is read, at a
 /// port of this machine, for so many connections one after another, with the desk of the zone and the key. Where a
 /// connection shook the book, the file is closed and opened again. The faults are those of the zone, of the key, of the
 /// database and of the port, in this order, and then those of the run.

@@ -23,11 +23,18 @@ less_is m n h = grind (arith, nat_tests)
 
 -- lists by series are in order
 pub in_order : (xs : List Carried) → is_by_series carried_serial xs ≡ true → IsInOrder nat_cmp carried_serial xs
-in_order xs h = rises_whole nat_cmp_total carried_serial xs (λ k d l. less_is _ _ (next_above carried_serial xs 0 k d d h l))
+in_order xs h = rises_whole nat_cmp_total carried_serial xs
+    (λ k d l. less_is _ _ (next_above carried_serial xs 0 k d d h l))
 
-pub sorted_is : (old new all : List Carried) (b : Bool) → IsPermutation old new → MatchBool b (IsInOrder nat_cmp carried_serial new) (IsDistinct (λ a b. is_eq (nat_cmp (carried_serial a) (carried_serial b))) old → ⊥) → is_by_series carried_serial all ≡ true → IsPermutation all old → (b ≡ true) × (new ≡ all)
+pub sorted_is : (old new all : List Carried) (b : Bool) → IsPermutation old new →
+    MatchBool b (IsInOrder nat_cmp carried_serial new)
+    (IsDistinct (λ a b. is_eq (nat_cmp (carried_serial a) (carried_serial b))) old → ⊥) →
+    is_by_series carried_serial all ≡ true → IsPermutation all old → (b ≡ true) × (new ≡ all)
 sorted_is old new all true moved order h p =
-    let whole = IsPermutation-trans all old new p moved in
-    (refl, same_rows nat_cmp_total carried_serial new all order (in_order all h) (λ k. row_moved nat_cmp_total carried_serial k all new whole order))
+    let whole = IsPermutation-trans all old new p moved in (
+      refl,
+      same_rows nat_cmp_total carried_serial new all order (in_order all h)
+          (λ k. row_moved nat_cmp_total carried_serial k all new whole order),
+    )
 sorted_is old new all false moved order h p =
     absurd (order (once_from_order nat_cmp_total carried_serial old all (IsPermutation-sym all old p) (in_order all h)))

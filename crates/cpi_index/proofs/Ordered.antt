@@ -34,22 +34,26 @@ module _ (plan : Plan) (bases carried : List Carried) where
 
 -- the means stand in the order of the nodes
 module _ (plan : Plan) (indices : List NodeIndex) where
-  means_above : (c : Code) (ns : List Node) → AllByRecursion (λ n. code_cmp c n.code ≡ Less) ns → AllByRecursion (λ x. code_cmp c x.code ≡ Less) (map (upper_row plan indices) ns)
+  means_above : (c : Code) (ns : List Node) → AllByRecursion (λ n. code_cmp c n.code ≡ Less) ns →
+      AllByRecursion (λ x. code_cmp c x.code ≡ Less) (map (upper_row plan indices) ns)
   means_above c [] h = tt
   means_above c (n ∷ ns) h = (h.0, means_above c ns h.1)
 
-  pub means_rise : (ns : List Node) → IsInOrder code_cmp (λ n. n.code) ns → IsInOrder code_cmp (λ x. x.code) (map (upper_row plan indices) ns)
+  pub means_rise : (ns : List Node) → IsInOrder code_cmp (λ n. n.code) ns →
+      IsInOrder code_cmp (λ x. x.code) (map (upper_row plan indices) ns)
   unfolding IsStrictlySortedBy
   means_rise [] h = tt
   means_rise (n ∷ ns) h = (means_above n.code ns h.0, means_rise ns h.1)
 
 -- the levels stand in the order of the indices
 module _ (december : List NodeLevel) where
-  levels_above : (c : Code) (xs : List NodeIndex) → AllByRecursion (λ x. code_cmp c x.code ≡ Less) xs → AllByRecursion (λ l. code_cmp c l.code ≡ Less) (chained december xs)
+  levels_above : (c : Code) (xs : List NodeIndex) → AllByRecursion (λ x. code_cmp c x.code ≡ Less) xs →
+      AllByRecursion (λ l. code_cmp c l.code ≡ Less) (chained december xs)
   levels_above c [] h = tt
   levels_above c (x ∷ xs) h = (h.0, levels_above c xs h.1)
 
-  pub levels_rise : (xs : List NodeIndex) → IsInOrder code_cmp (λ x. x.code) xs → IsInOrder code_cmp (λ l. l.code) (chained december xs)
+  pub levels_rise : (xs : List NodeIndex) → IsInOrder code_cmp (λ x. x.code) xs →
+      IsInOrder code_cmp (λ l. l.code) (chained december xs)
   unfolding IsStrictlySortedBy
   levels_rise [] h = tt
   levels_rise (x ∷ xs) h = (levels_above x.code xs h.0, levels_rise xs h.1)
@@ -59,11 +63,17 @@ unfolding IsStrictlySortedBy
 none_in_order = tt
 
 -- all nodes are done where none is left
-pub means_done : (plan : Plan) → IsInOrder code_cmp (λ n. n.code) plan.nodes → (indices rows : List NodeIndex) (nodes : List Node) (i : ℕ) → nodes ≡ plan.nodes → length nodes ≤ i → rows ≡ map (upper_row plan indices) (take i nodes) → IsInOrder code_cmp (λ x. x.code) rows
+pub means_done : (plan : Plan) → IsInOrder code_cmp (λ n. n.code) plan.nodes →
+    (indices rows : List NodeIndex) (nodes : List Node) (i : ℕ) → nodes ≡ plan.nodes → length nodes ≤ i →
+    rows ≡ map (upper_row plan indices) (take i nodes) → IsInOrder code_cmp (λ x. x.code) rows
 means_done plan order indices rows nodes i is l e =
-    subst (IsInOrder code_cmp (λ x. x.code)) (sym (e ∙ ap (map (upper_row plan indices)) (take_all i nodes l ∙ is))) (means_rise plan indices plan.nodes order)
+    subst (IsInOrder code_cmp (λ x. x.code)) (sym (e ∙ ap (map (upper_row plan indices)) (take_all i nodes l ∙ is)))
+    (means_rise plan indices plan.nodes order)
 
 -- a table that was chained stands in the order of its indices
-pub table_rises : (december : List NodeLevel) (within : List NodeIndex) (r : Result (Vec NodeLevel) IndexFault) (P : Type 0) (Q : IndexFault → Type 0) → MatchResult r (λ v. P × (v.items ≡ chained december within)) Q → IsInOrder code_cmp (λ x. x.code) within → IfOk r (λ v. IsInOrder code_cmp (λ l. l.code) v.items)
-table_rises december within (Ok v) P Q is h = subst (IsInOrder code_cmp (λ l. l.code)) (sym is.1) (levels_rise december within h)
+pub table_rises : (december : List NodeLevel) (within : List NodeIndex) (r : Result (Vec NodeLevel) IndexFault)
+    (P : Type 0) (Q : IndexFault → Type 0) → MatchResult r (λ v. P × (v.items ≡ chained december within)) Q →
+    IsInOrder code_cmp (λ x. x.code) within → IfOk r (λ v. IsInOrder code_cmp (λ l. l.code) v.items)
+table_rises december within (Ok v) P Q is h = subst (IsInOrder code_cmp (λ l. l.code)) (sym is.1)
+    (levels_rise december within h)
 table_rises december within (Err f) P Q is h = tt

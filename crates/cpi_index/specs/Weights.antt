@@ -1,5 +1,6 @@
 -- Weights in use: a plan's own, or moved by prices from the plan's reference month to its link month.
-use Rattle.std.specs.Prelude.{ℕ, ◌*◌, ◌≤◌, Bool, not, ◌&&◌, ◌||◌, List, map, find, Option, None, option_map, unwrap_or, is_none, is_some}
+use Rattle.std.specs.Prelude.{ℕ, ◌*◌, ◌≤◌, Bool, not, ◌&&◌, ◌||◌, List, map, find, Option, None, option_map, unwrap_or}
+use Rattle.std.specs.Prelude.{is_none, is_some}
 use Rattle.std.specs.Prelude.{nat_le, if◌then◌else◌}
 use Rattle.std.specs.Option.{option_or}
 use Rattle.std.specs.Cmp.Lexicographic.{pointwise}

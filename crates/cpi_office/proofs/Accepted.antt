@@ -2,13 +2,14 @@
 use Rattle.std.proofs.Common.{◌≡◌, Some, None, Option, false}
 use Rattle.std.specs.Prelude.{IsSome, ⊤}
 use Rattle.cpi_release.specs.FrozenMonths.{release_cmp, release_key, frozen_months, is_year_frozen}
-use Rattle.cpi_store.specs.PublishedReleases.{IsPublished}
+use Rattle.cpi_store.specs.Released.{IsReleased}
 use Rattle.cpi_store.specs.Sound.{IsWellMade, HasNodesInOrder, HasItsAssignment}
 use Rattle.cpi_rows.specs.Keyed.{row_at, at, IsInOrder}
 use Rattle.cpi_rows.specs.Held.{held_by}
 use Rattle.cpi_store.specs.Bearer.{bearer_of}
 use Rattle.cpi_survey.specs.Quote.{quote_key, quote_cmp}
-use Rattle.cpi_store.specs.Office.{Office, Change, PutsItem, PutsPlan, PutsCalendar, Registers, PutsOutlet, Assigns, HandsOver, Quotes, Freezes, month_rows, given_over}
+use Rattle.cpi_store.specs.Office.{Office, Change, PutsItem, PutsPlan, PutsCalendar, Registers, PutsOutlet, Assigns}
+use Rattle.cpi_store.specs.Office.{HandsOver, Quotes, Freezes, month_rows, given_over}
 use Rattle.cpi_store.specs.Outlet.{with_name}
 use Rattle.cpi_store.specs.Series.{first_of_series}
 use Rattle.cpi_store.proofs.Changes.{IsHandover}
@@ -35,7 +36,9 @@ Fits (HandsOver h) o =
     × (at (λ b. b.number) h.taker.number o.collectors ≡ Some h.taker)
     × (h.assigned ≡ with_name o.outlets h.assigned.assignment)
 Fits (Quotes b q) o = (at (λ b. b.number) b.number o.collectors ≡ Some b) × HasItsAssignment o.assignments (b.number, q)
-Fits (Freezes r) o = (IsInOrder release_cmp release_key o.releases → row_at release_cmp release_key (release_key r) o.releases ≡ None) × IsPublished o.plans o.releases r × (r.frozen ≡ month_rows r.month o)
+Fits (Freezes r) o = (IsInOrder release_cmp release_key o.releases →
+    row_at release_cmp release_key (release_key r) o.releases ≡ None) × IsReleased o.plans o.releases r
+    × (r.frozen ≡ month_rows r.month o)
 
 -- a change whose row stands already
 abbrev pub Stood : Change → Office → Type 0
@@ -45,12 +48,14 @@ Stood (PutsCalendar r) o = at (λ r. r.month) r.month o.calendar ≡ Some r
 Stood (Registers b) o = at (λ b. b.number) b.number o.collectors ≡ Some b
 Stood (PutsOutlet u) o = ⊤
 Stood (Assigns b a) o =
-    (at (λ g. g.assignment.slot) a.assignment.slot (held_by b.number o.assignments) ≡ Some (first_of_series b.number a.assignment))
+    (at (λ g. g.assignment.slot) a.assignment.slot (held_by b.number o.assignments) ≡ Some
+    (first_of_series b.number a.assignment))
     × (at (λ b. b.number) b.number o.collectors ≡ Some b)
     × (a ≡ with_name o.outlets a.assignment)
 Stood (HandsOver h) o =
     (at (λ g. g.assignment.slot) h.ended.assignment.slot (held_by h.former.number o.assignments) ≡ Some h.ended)
-    × (at (λ g. g.assignment.slot) h.assigned.assignment.slot (held_by h.taker.number o.assignments) ≡ Some (given_over h))
+    × (at (λ g. g.assignment.slot) h.assigned.assignment.slot (held_by h.taker.number o.assignments) ≡ Some
+    (given_over h))
     × (at (λ b. b.number) h.former.number o.collectors ≡ Some h.former)
     × (at (λ b. b.number) h.taker.number o.collectors ≡ Some h.taker)
     × (h.assigned ≡ with_name o.outlets h.assigned.assignment)

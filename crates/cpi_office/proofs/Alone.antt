@@ -1,5 +1,6 @@
 -- Other collectors' requests change nothing that a collector is told.
-use Rattle.std.proofs.Common.{◌≡◌, ◌≢◌, ℕ, true, false, eqb, List, [], ◌∷◌, ◌++◌, Some, None, Option, refl, sym, ap, ◌∙◌, inl, inr, Result, Ok, Err}
+use Rattle.std.proofs.Common.{◌≡◌, ◌≢◌, ℕ, true, false, eqb, List, [], ◌∷◌, ◌++◌, Some, None, Option, refl, sym, ap}
+use Rattle.std.proofs.Common.{◌∙◌, inl, inr, Result, Ok, Err}
 use Rattle.std.specs.Prelude.{◌⊎◌, IsFalse}
 use Rattle.std.proofs.lemmas.Bool.Decides.{eqb_tells}
 use Rattle.cpi_survey.specs.Entry.{EntryRow}
@@ -7,7 +8,8 @@ use Rattle.cpi_survey.specs.Decision.{decided}
 use Rattle.cpi_survey.specs.declared.decision.Decision.{Decision}
 use Rattle.cpi_survey.specs.declared.decision.Decision.TheVariants.{Again, Put}
 use Rattle.cpi_survey.specs.declared.refusal.Refusal.{Refusal as EntryRefusal}
-use Rattle.cpi_store.specs.Office.{Office, Change, changed, PutsItem, PutsPlan, PutsCalendar, Registers, PutsOutlet, Assigns, HandsOver, Quotes, Freezes}
+use Rattle.cpi_store.specs.Office.{Office, Change, changed, PutsItem, PutsPlan, PutsCalendar, Registers, PutsOutlet}
+use Rattle.cpi_store.specs.Office.{Assigns, HandsOver, Quotes, Freezes}
 use Rattle.cpi_office.specs.Views.{View, OwnView, view}
 use Rattle.cpi_office.specs.Verdicts.{Verdict, Refuses, Stands, Makes, after_verdict, accepted}
 use Rattle.cpi_office.specs.Desk.{commanded}
@@ -30,7 +32,8 @@ abbrev bare : Office → Office
 bare o = record o { quotes = [] }
 
 -- the desk's commands do not look at quotes, but for a freeze
-commanded_bare : (now : ℕ) (r : Request) (o : Office) → IsFalse (passes_on r) → commanded now r (bare o) ≡ commanded now r o
+commanded_bare : (now : ℕ) (r : Request) (o : Office) → IsFalse (passes_on r) →
+    commanded now r (bare o) ≡ commanded now r o
 commanded_bare now request.Items o h = refl
 commanded_bare now request.Tables o h = refl
 commanded_bare now (request.Table month form edition) o h = refl
@@ -75,7 +78,8 @@ module _ (key : ℕ) where
     pub rest : bare o ≡ bare u
 
   -- the same request on both, with one verdict
-  both_go : (a : Ask) (o u : Office) → Agrees o u → verdict a.now a.caller a.request o ≡ verdict a.now a.caller a.request u → Agrees (next a o) (next a u)
+  both_go : (a : Ask) (o u : Office) → Agrees o u →
+      verdict a.now a.caller a.request o ≡ verdict a.now a.caller a.request u → Agrees (next a o) (next a u)
   both_go a o u agrees same =
       let v = verdict a.now a.caller a.request o in
       let w = verdict a.now a.caller a.request u in
@@ -96,12 +100,14 @@ module _ (key : ℕ) where
     abbrev Unseen : Option Verdict → Type 0
     Unseen v = ((t : ℕ) → seen Mine t (accepted v ++ []) ≡ []) × ((o : Office) → bare (after_verdict v o) ≡ bare o)
 
-    decision_unseen : (n : ℕ) (entry : EntryRow) (d : Result Decision EntryRefusal) → Unseen (Some (decision_verdict (record { number = n; key = other }) entry d))
+    decision_unseen : (n : ℕ) (entry : EntryRow) (d : Result Decision EntryRefusal) →
+        Unseen (Some (decision_verdict (record { number = n; key = other }) entry d))
     decision_unseen n entry (Err f) = (λ t. refl, λ o. refl)
     decision_unseen n entry (Ok (Again receipt)) = (λ t. rw apart refl, λ o. refl)
     decision_unseen n entry (Ok (Put q)) = (λ t. rw apart refl, λ o. refl)
 
-    entered_unseen : (now : ℕ) (entry : EntryRow) (v : View) (own : Option OwnView) → Unseen (entered other now entry v own)
+    entered_unseen : (now : ℕ) (entry : EntryRow) (v : View) (own : Option OwnView) →
+        Unseen (entered other now entry v own)
     entered_unseen now entry v None = (λ t. refl, λ o. refl)
     entered_unseen now entry v (Some own) = decision_unseen own.number entry (decided now entry v.public own.part)
 
@@ -121,7 +127,8 @@ module _ (key : ℕ) where
     other_unseen now (request.PutPlan year body) v = (λ t. refl, λ o. refl)
     other_unseen now (request.PutCalendar row) v = (λ t. refl, λ o. refl)
 
-    one_goes : (now : ℕ) (r : Request) (o u : Office) → Agrees o u → Agrees (next (record { now = now; caller = caller.Collector other; request = r }) o) u
+    one_goes : (now : ℕ) (r : Request) (o u : Office) → Agrees o u →
+        Agrees (next (record { now = now; caller = caller.Collector other; request = r }) o) u
     one_goes now r o u agrees =
         let a : Ask = record { now = now; caller = caller.Collector other; request = r } in
         let quiet = other_unseen now r (view (caller.Collector other) now o) in
@@ -135,12 +142,16 @@ module _ (key : ℕ) where
   -- ---- a list of requests
 
   abbrev Alike : List Ask → Type 0
-  Alike asks = NonePassesOn asks → (o u : Office) → Agrees o u → told_to key asks o ≡ told_to key (without_others key asks) u
+  Alike asks = NonePassesOn asks → (o u : Office) → Agrees o u →
+      told_to key asks o ≡ told_to key (without_others key asks) u
 
-  step : (now : ℕ) (c : Caller) (r : Request) (asks : List Ask) → Alike asks → Alike (record { now = now; caller = c; request = r } ∷ asks)
-  step now caller.Public r asks rest none o u agrees = rest none.1 _ _ (both_go (record { now = now; caller = caller.Public; request = r }) o u agrees refl)
+  step : (now : ℕ) (c : Caller) (r : Request) (asks : List Ask) → Alike asks →
+      Alike (record { now = now; caller = c; request = r } ∷ asks)
+  step now caller.Public r asks rest none o u agrees =
+      rest none.1 _ _ (both_go (record { now = now; caller = caller.Public; request = r }) o u agrees refl)
   step now caller.Desk r asks rest none o u agrees =
-      rest none.1 _ _ (both_go (record { now = now; caller = caller.Desk; request = r }) o u agrees (sym (commanded_bare now r o none.0) ∙ ap (commanded now r) agrees.rest ∙ commanded_bare now r u none.0))
+      rest none.1 _ _ (both_go (record { now = now; caller = caller.Desk; request = r }) o u agrees
+      (sym (commanded_bare now r o none.0) ∙ ap (commanded now r) agrees.rest ∙ commanded_bare now r u none.0))
   step now (caller.Collector k) r asks rest none o u agrees = by (eqb_tells k key)
     where
       a : Ask
@@ -148,18 +159,24 @@ module _ (key : ℕ) where
 
       mine : k ≡ key → Agrees (next a o) (next a u)
       mine same =
-          let views : view (caller.Collector k) now o ≡ view (caller.Collector k) now u = ap (λ x. view (caller.Collector x) now o) same ∙ agrees.sees now ∙ ap (λ x. view (caller.Collector x) now u) (sym same) in
+          let views : view (caller.Collector k) now o ≡ view (caller.Collector k) now u =
+          ap (λ x. view (caller.Collector x) now o) same ∙ agrees.sees now
+          ∙ ap (λ x. view (caller.Collector x) now u) (sym same) in
           both_go a o u agrees (ap (of_collector k now r) views)
 
       said : k ≡ key → reply_to now (caller.Collector k) r o ≡ reply_to now (caller.Collector k) r u
       said same =
-          let views : view (caller.Collector k) now o ≡ view (caller.Collector k) now u = ap (λ x. view (caller.Collector x) now o) same ∙ agrees.sees now ∙ ap (λ x. view (caller.Collector x) now u) (sym same) in
+          let views : view (caller.Collector k) now o ≡ view (caller.Collector k) now u =
+          ap (λ x. view (caller.Collector x) now o) same ∙ agrees.sees now
+          ∙ ap (λ x. view (caller.Collector x) now u) (sym same) in
           ap (answer now (caller.Collector k) r) views
 
-      by : ((eqb k key ≡ true) × (k ≡ key)) ⊎ ((eqb k key ≡ false) × (k ≢ key)) → told_to key (a ∷ asks) o ≡ told_to key (without_others key (a ∷ asks)) u
+      by : ((eqb k key ≡ true) × (k ≡ key)) ⊎ ((eqb k key ≡ false) × (k ≢ key)) →
+          told_to key (a ∷ asks) o ≡ told_to key (without_others key (a ∷ asks)) u
       by (inl same) =
           rw (same.0, same.0)
-          (ap (λ x. x ∷ told_to key asks (next a o)) (said same.1) ∙ ap (λ xs. reply_to now (caller.Collector k) r u ∷ xs) (rest none.1 _ _ (mine same.1)))
+          (ap (λ x. x ∷ told_to key asks (next a o)) (said same.1)
+          ∙ ap (λ xs. reply_to now (caller.Collector k) r u ∷ xs) (rest none.1 _ _ (mine same.1)))
       by (inr apart) = rw apart.0 (rest none.1 _ _ (one_goes k apart.0 now r o u agrees))
 
   alike : (asks : List Ask) → Alike asks
@@ -167,4 +184,5 @@ module _ (key : ℕ) where
   alike (a ∷ asks) none o u agrees = step a.now a.caller a.request asks (alike asks) none o u agrees
 
 pub others_do_not_matter : OthersDoNotMatter
-others_do_not_matter key asks o s none = alike key asks none o o (record { left = s; right = s; sees = λ t. refl; rest = refl })
+others_do_not_matter key asks o s none = alike key asks none o o
+    (record { left = s; right = s; sees = λ t. refl; rest = refl })

@@ -1,5 +1,6 @@
 -- Who bears a key, who has a number, and what a collector holds.
-use Rattle.std.proofs.Common.{◌≡◌, ◌≢◌, ℕ, Bool, true, false, eqb, List, [], ◌∷◌, ◌++◌, map, Some, None, Option, refl, sym, ap, ◌∙◌, subst, inl, inr}
+use Rattle.std.proofs.Common.{◌≡◌, ◌≢◌, ℕ, Bool, true, false, eqb, List, [], ◌∷◌, ◌++◌, map, Some, None, Option, refl}
+use Rattle.std.proofs.Common.{sym, ap, ◌∙◌, subst, inl, inr}
 use Rattle.std.specs.Prelude.{filter, ◌⊎◌, IsSome}
 use Rattle.std.specs.Ordering.{nat_cmp, is_lt, is_gt, is_eq}
 use Rattle.std.specs.List.{AllByRecursion}
@@ -26,21 +27,33 @@ pub record IsListed (key : ℕ) (b : Bearer) (bs : List Bearer) : Type 0 where
   pub found : at (λ b. b.number) b.number bs ≡ Some b
   pub bears : b.key ≡ key
 
-pub bearer_listed : (key : ℕ) (b : Bearer) (bs : List Bearer) → IsInOrder nat_cmp (λ b. b.number) bs → bearer_of key bs ≡ Some b → IsListed key b bs
+pub bearer_listed : (key : ℕ) (b : Bearer) (bs : List Bearer) → IsInOrder nat_cmp (λ b. b.number) bs →
+    bearer_of key bs ≡ Some b → IsListed key b bs
 bearer_listed key b [] sorted borne = let no : None ≡ Some b = borne in cc
-bearer_listed key b (x ∷ bs) sorted borne = by (eqb_tells x.key key) (bearer_listed key b bs (sorted_tail _ x bs sorted))
+bearer_listed key b (x ∷ bs) sorted borne = by (eqb_tells x.key key)
+    (bearer_listed key b bs (sorted_tail _ x bs sorted))
   where
-    by : ((eqb x.key key ≡ true) × (x.key ≡ key)) ⊎ ((eqb x.key key ≡ false) × (x.key ≢ key)) → (bearer_of key bs ≡ Some b → IsListed key b bs) → IsListed key b (x ∷ bs)
+    by : ((eqb x.key key ≡ true) × (x.key ≡ key)) ⊎ ((eqb x.key key ≡ false) × (x.key ≢ key)) →
+        (bearer_of key bs ≡ Some b → IsListed key b bs) → IsListed key b (x ∷ bs)
     by (inl same) rest =
         let here : Some x ≡ Some b = rw same.0 at borne in
         let is : x ≡ b = cc in
-        record { found = rw (← is, ap is_eq (tied_itself nat_cmp_total x.number)) refl; bears = ap (λ b. b.key) (sym is) ∙ same.1 }
+        record {
+          found = rw (← is, ap is_eq (tied_itself nat_cmp_total x.number)) refl;
+          bears =
+              ap (λ b. b.key) (sym is) ∙ same.1;
+        }
     by (inr apart) rest =
         let listed = rest (rw apart.0 at borne) in
-        record { found = rw (first_apart nat_cmp_total number b.number x b bs sorted listed.found) listed.found; bears = listed.bears }
+        record {
+          found = rw (first_apart nat_cmp_total number b.number x b bs sorted listed.found) listed.found;
+          bears
+              = listed.bears;
+        }
 
 -- another collector has another number
-pub numbers_apart : (key : ℕ) (b other : Bearer) (bs : List Bearer) → IsInOrder nat_cmp (λ b. b.number) bs → at (λ b. b.number) b.number bs ≡ Some b → b.key ≢ key → bearer_of key bs ≡ Some other → other.number ≢ b.number
+pub numbers_apart : (key : ℕ) (b other : Bearer) (bs : List Bearer) → IsInOrder nat_cmp (λ b. b.number) bs →
+    at (λ b. b.number) b.number bs ≡ Some b → b.key ≢ key → bearer_of key bs ≡ Some other → other.number ≢ b.number
 numbers_apart key b other bs sorted found apart borne same =
     let listed = bearer_listed key other bs sorted borne in
     let both : Some other ≡ Some b = sym listed.found ∙ ap (λ n. at number n bs) same ∙ found in
@@ -48,81 +61,107 @@ numbers_apart key b other bs sorted found apart borne same =
     apart (ap (λ b. b.key) (sym is) ∙ listed.bears)
 
 -- a new bearer among the others
-bearer_new : (key : ℕ) (b : Bearer) (xs ys : List Bearer) → eqb b.key key ≡ true → bearer_of key (xs ++ ys) ≡ None → bearer_of key (xs ++ b ∷ ys) ≡ Some b
+bearer_new : (key : ℕ) (b : Bearer) (xs ys : List Bearer) → eqb b.key key ≡ true → bearer_of key (xs ++ ys) ≡ None →
+    bearer_of key (xs ++ b ∷ ys) ≡ Some b
 bearer_new key b [] ys e none = rw e refl
 bearer_new key b (x ∷ xs) ys e none = by (eqb x.key key) refl (bearer_new key b xs ys e)
   where
-    by : (s : Bool) → eqb x.key key ≡ s → (bearer_of key (xs ++ ys) ≡ None → bearer_of key (xs ++ b ∷ ys) ≡ Some b) → bearer_of key (x ∷ xs ++ b ∷ ys) ≡ Some b
+    by : (s : Bool) → eqb x.key key ≡ s → (bearer_of key (xs ++ ys) ≡ None → bearer_of key (xs ++ b ∷ ys) ≡ Some b) →
+        bearer_of key (x ∷ xs ++ b ∷ ys) ≡ Some b
     by true f rest = let no : Some x ≡ None = rw f at none in cc
     by false f rest = rw f (rest (rw f at none))
 
-bearer_passed : (key : ℕ) (b : Bearer) (xs ys : List Bearer) → eqb b.key key ≡ false → bearer_of key (xs ++ b ∷ ys) ≡ bearer_of key (xs ++ ys)
+bearer_passed : (key : ℕ) (b : Bearer) (xs ys : List Bearer) → eqb b.key key ≡ false →
+    bearer_of key (xs ++ b ∷ ys) ≡ bearer_of key (xs ++ ys)
 bearer_passed key b [] ys e = rw e refl
 bearer_passed key b (x ∷ xs) ys e = by (eqb x.key key) refl (bearer_passed key b xs ys e)
   where
-    by : (s : Bool) → eqb x.key key ≡ s → bearer_of key (xs ++ b ∷ ys) ≡ bearer_of key (xs ++ ys) → bearer_of key (x ∷ xs ++ b ∷ ys) ≡ bearer_of key (x ∷ xs ++ ys)
+    by : (s : Bool) → eqb x.key key ≡ s → bearer_of key (xs ++ b ∷ ys) ≡ bearer_of key (xs ++ ys) →
+        bearer_of key (x ∷ xs ++ b ∷ ys) ≡ bearer_of key (x ∷ xs ++ ys)
     by true f rest = rw f refl
     by false f rest = rw f rest
 
-module _ (b : Bearer) (bs : List Bearer) (sorted : IsInOrder nat_cmp (λ b. b.number) bs) (none : at (λ b. b.number) b.number bs ≡ None) where
-  abbrev all_others : filter (λ r. is_lt (nat_cmp r.number b.number)) bs ++ filter (λ r. is_gt (nat_cmp r.number b.number)) bs ≡ bs
+module _ (b : Bearer) (bs : List Bearer) (sorted : IsInOrder nat_cmp (λ b. b.number) bs)
+    (none : at (λ b. b.number) b.number bs ≡ None) where
+  abbrev all_others : filter (λ r. is_lt (nat_cmp r.number b.number)) bs
+      ++ filter (λ r. is_gt (nat_cmp r.number b.number)) bs ≡ bs
   all_others = parted nat_cmp_total number b.number bs sorted none
 
-  pub bearer-put_own : (key : ℕ) → eqb b.key key ≡ true → bearer_of key bs ≡ None → bearer_of key (put_by (λ b. b.number) b bs) ≡ Some b
+  pub bearer-put_own : (key : ℕ) → eqb b.key key ≡ true → bearer_of key bs ≡ None →
+      bearer_of key (put_by (λ b. b.number) b bs) ≡ Some b
   bearer-put_own key e free = bearer_new key b _ _ e (ap (bearer_of key) all_others ∙ free)
 
-  pub bearer-put_other : (key : ℕ) → eqb b.key key ≡ false → bearer_of key (put_by (λ b. b.number) b bs) ≡ bearer_of key bs
+  pub bearer-put_other : (key : ℕ) → eqb b.key key ≡ false →
+      bearer_of key (put_by (λ b. b.number) b bs) ≡ bearer_of key bs
   bearer-put_other key e = bearer_passed key b _ _ e ∙ ap (bearer_of key) all_others
 
   -- each still bears a key of its own
   pub keys-put : BearOwnKeys bs → bearer_of b.key bs ≡ None → BearOwnKeys (put_by (λ b. b.number) b bs)
   keys-put keys free n x found = by (eqb_tells b.number n)
     where
-      other : (eqb b.key x.key ≡ true) × (b.key ≡ x.key) ⊎ (eqb b.key x.key ≡ false) × (b.key ≢ x.key) → bearer_of x.key bs ≡ Some x → bearer_of x.key (put_by (λ b. b.number) b bs) ≡ Some x
+      other : (eqb b.key x.key ≡ true) × (b.key ≡ x.key) ⊎ (eqb b.key x.key ≡ false) × (b.key ≢ x.key) →
+          bearer_of x.key bs ≡ Some x → bearer_of x.key (put_by (λ b. b.number) b bs) ≡ Some x
       other (inl same) borne = let no : None ≡ Some x = sym free ∙ ap (λ k. bearer_of k bs) same.1 ∙ borne in cc
       other (inr apart) borne = bearer-put_other x.key apart.0 ∙ borne
 
-      by : ((eqb b.number n ≡ true) × (b.number ≡ n)) ⊎ ((eqb b.number n ≡ false) × (b.number ≢ n)) → bearer_of x.key (put_by (λ b. b.number) b bs) ≡ Some x
+      by : ((eqb b.number n ≡ true) × (b.number ≡ n)) ⊎ ((eqb b.number n ≡ false) × (b.number ≢ n)) →
+          bearer_of x.key (put_by (λ b. b.number) b bs) ≡ Some x
       by (inl same) =
-          let both : Some b ≡ Some x = sym (row_at-put_same nat_cmp_total number b bs) ∙ ap (λ n. at number n (put_by number b bs)) same.1 ∙ found in
+          let both : Some b ≡ Some x = sym (row_at-put_same nat_cmp_total number b bs)
+          ∙ ap (λ n. at number n (put_by number b bs)) same.1 ∙ found in
           let is : b ≡ x = cc in
-          subst (λ x. bearer_of x.key (put_by (λ b. b.number) b bs) ≡ Some x) is (bearer-put_own b.key (eq-eqb b.key b.key refl) free)
-      by (inr apart) = other (eqb_tells b.key x.key) (keys n x (sym (at-put_other number b bs sorted none n apart.1) ∙ found))
+          subst (λ x. bearer_of x.key (put_by (λ b. b.number) b bs) ≡ Some x) is
+          (bearer-put_own b.key (eq-eqb b.key b.key refl) free)
+      by (inr apart) = other (eqb_tells b.key x.key)
+          (keys n x (sym (at-put_other number b bs sorted none n apart.1) ∙ found))
 
 -- ---- what a number holds
 
 -- who has no rows' number holds none
-pub none_held : {X : Type 0} (n : ℕ) (bs : List Bearer) (rows : List (ℕ × X)) → AllByRecursion (λ row. IsSome (at (λ b. b.number) row.0 bs)) rows → at (λ b. b.number) n bs ≡ None → held_by n rows ≡ []
+pub none_held : {X : Type 0} (n : ℕ) (bs : List Bearer) (rows : List (ℕ × X)) →
+    AllByRecursion (λ row. IsSome (at (λ b. b.number) row.0 bs)) rows → at (λ b. b.number) n bs ≡ None →
+    held_by n rows ≡ []
 none_held n bs [] all none = refl
 none_held n bs (r ∷ rows) all none = by (eqb_tells r.0 n) (none_held n bs rows all.1 none)
   where
-    by : ((eqb r.0 n ≡ true) × (r.0 ≡ n)) ⊎ ((eqb r.0 n ≡ false) × (r.0 ≢ n)) → held_by n rows ≡ [] → held_by n (r ∷ rows) ≡ []
+    by : ((eqb r.0 n ≡ true) × (r.0 ≡ n)) ⊎ ((eqb r.0 n ≡ false) × (r.0 ≢ n)) → held_by n rows ≡ [] →
+        held_by n (r ∷ rows) ≡ []
     by (inl same) rest = absurd (false≢true (subst IsSome (ap (λ k. at number k bs) same.1 ∙ none) all.0))
     by (inr apart) rest = rw apart.0 rest
 
 -- who has no assignment has no quote
-pub none_quoted : (n : ℕ) (given : List (ℕ × Given)) (rows : List (ℕ × QuoteRow)) → held_by n given ≡ [] → AllByRecursion (HasItsAssignment given) rows → held_by n rows ≡ []
+pub none_quoted : (n : ℕ) (given : List (ℕ × Given)) (rows : List (ℕ × QuoteRow)) → held_by n given ≡ [] →
+    AllByRecursion (HasItsAssignment given) rows → held_by n rows ≡ []
 none_quoted n given [] none all = refl
 none_quoted n given (r ∷ rows) none all = by (eqb_tells r.0 n) (none_quoted n given rows none all.1)
   where
-    by : ((eqb r.0 n ≡ true) × (r.0 ≡ n)) ⊎ ((eqb r.0 n ≡ false) × (r.0 ≢ n)) → held_by n rows ≡ [] → held_by n (r ∷ rows) ≡ []
+    by : ((eqb r.0 n ≡ true) × (r.0 ≡ n)) ⊎ ((eqb r.0 n ≡ false) × (r.0 ≢ n)) → held_by n rows ≡ [] →
+        held_by n (r ∷ rows) ≡ []
     by (inl same) rest =
         let has = all.0 in
-        let no : None ≡ Some has.0 = sym (ap (λ k. at (λ g. g.assignment.slot) r.1.slot (held_by k given)) same.1 ∙ ap (at (λ g. g.assignment.slot) r.1.slot) none) ∙ has.1 in
+        let no : None ≡ Some has.0 = sym (ap (λ k. at (λ g. g.assignment.slot) r.1.slot (held_by k given)) same.1
+        ∙ ap (at (λ g. g.assignment.slot) r.1.slot) none) ∙ has.1 in
         cc
     by (inr apart) rest = rw apart.0 rest
 
 -- an outlet that is added gives no other name to an assignment whose outlet is known
-pub names_stay : (n : ℕ) (u : Outlet) (us : List Outlet) (rows : List (ℕ × Given)) → IsInOrder nat_cmp (λ u. u.number) us → at (λ u. u.number) u.number us ≡ None → AllByRecursion (λ row. IsSome (at (λ u. u.number) row.1.assignment.outlet us)) rows →
-    map (with_name (put_by (λ u. u.number) u us)) (map (λ g. g.assignment) (held_by n rows)) ≡ map (with_name us) (map (λ g. g.assignment) (held_by n rows))
+pub names_stay : (n : ℕ) (u : Outlet) (us : List Outlet) (rows : List (ℕ × Given)) →
+    IsInOrder nat_cmp (λ u. u.number) us → at (λ u. u.number) u.number us ≡ None →
+    AllByRecursion (λ row. IsSome (at (λ u. u.number) row.1.assignment.outlet us)) rows →
+    map (with_name (put_by (λ u. u.number) u us)) (map (λ g. g.assignment) (held_by n rows)) ≡ map (with_name us)
+    (map (λ g. g.assignment) (held_by n rows))
 names_stay n u us [] sorted none all = refl
 names_stay n u us (r ∷ rows) sorted none all = by (eqb r.0 n) refl (names_stay n u us rows sorted none all.1)
   where
-    named : (s : Option Outlet) → at (λ u. u.number) r.1.assignment.outlet us ≡ s → IsSome s → with_name (put_by (λ u. u.number) u us) r.1.assignment ≡ with_name us r.1.assignment
+    named : (s : Option Outlet) → at (λ u. u.number) r.1.assignment.outlet us ≡ s → IsSome s →
+        with_name (put_by (λ u. u.number) u us) r.1.assignment ≡ with_name us r.1.assignment
     named None e some = absurd (false≢true some)
     named (Some x) e some = rw (at-put_found (λ u. u.number) u us sorted none r.1.assignment.outlet x e, e) refl
 
-    by : (s : Bool) → eqb r.0 n ≡ s → map (with_name (put_by (λ u. u.number) u us)) (map (λ g. g.assignment) (held_by n rows)) ≡ map (with_name us) (map (λ g. g.assignment) (held_by n rows)) →
-        map (with_name (put_by (λ u. u.number) u us)) (map (λ g. g.assignment) (held_by n (r ∷ rows))) ≡ map (with_name us) (map (λ g. g.assignment) (held_by n (r ∷ rows)))
-    by true e rest = rw (e, rest) (ap (λ a. a ∷ map (with_name us) (map (λ g. g.assignment) (held_by n rows))) (named (at (λ u. u.number) r.1.assignment.outlet us) refl all.0))
+    by : (s : Bool) → eqb r.0 n ≡ s → map (with_name (put_by (λ u. u.number) u us))
+        (map (λ g. g.assignment) (held_by n rows)) ≡ map (with_name us) (map (λ g. g.assignment) (held_by n rows)) →
+        map (with_name (put_by (λ u. u.number) u us)) (map (λ g. g.assignment) (held_by n (r ∷ rows))) ≡ map
+        (with_name us) (map (λ g. g.assignment) (held_by n (r ∷ rows)))
+    by true e rest = rw (e, rest) (ap (λ a. a ∷ map (with_name us) (map (λ g. g.assignment) (held_by n rows)))
+        (named (at (λ u. u.number) r.1.assignment.outlet us) refl all.0))
     by false e rest = rw e rest

@@ -1,29 +1,37 @@
 -- A call after a read, and a call under a premise.
 use Rattle.std.proofs.Common.{◌≡◌, Result, ◌∙◌, inl, inr, arith, sym, ap}
-use Rattle.std.specs.Prelude.{◌⊎◌, IsTrue}
+use Rattle.std.specs.Prelude.{◌⊎◌, ◌≤◌, IsTrue, IsFalse}
 use Rattle.cpi_release.specs.State.{State, Keeps, StaysClean, Reads}
 use Rattle.cpi_store.specs.Office.{Office}
 use Rattle.cpi_office.specs.Calls.{Serves, ServesWhere, Endures, Crashes, Lasts, IsServed, is_refused}
+use Rattle.cpi_office.specs.Calls.{is_unavailable}
 use Rattle.cpi_office.specs.Verdicts.{Verdict, Refuses, Stands, Makes, verdict_reply, with_verdict}
 use Rattle.std.proofs.lemmas.Bool.{false≢true}
+use Rattle.cpi_office.specs.declared.refusal.Refusal.{Refusal}
+use Rattle.cpi_office.specs.declared.refusal.Refusal.TheVariants.{Unavailable}
 use Rattle.cpi_office.specs.declared.reply.Reply.{Reply}
+use Rattle.cpi_office.specs.declared.reply.Reply.TheVariants.{Refused}
 
 -- what is answered after a read lasts as it does without the read
 lasts_after : (old mid new : State Office) → Keeps old mid → old.is_clean → mid.is_clean → Lasts mid new → Lasts old new
 lasts_after old mid new keeps was clean lasts o left = by (lasts o left)
   where
-    by : (o ≡ new.held) ⊎ ((new.held ≡ mid.held) × mid.may_leave o) → (o ≡ new.held) ⊎ ((new.held ≡ old.held) × old.may_leave o)
+    by : (o ≡ new.held) ⊎ ((new.held ≡ mid.held) × mid.may_leave o) → (o ≡ new.held)
+        ⊎ ((new.held ≡ old.held) × old.may_leave o)
     by (inl is) = inl is
     by (inr h) = inr (h.0 ∙ keeps.kept clean, keeps.crash was (mid.clean_is_kept clean) o h.1)
 
-endures_after : (old mid new : State Office) (reply : Reply) → Keeps old mid → StaysClean old mid → (new.is_clean → mid.is_clean) → Endures mid new reply → Endures old new reply
+endures_after : (old mid new : State Office) (reply : Reply) → Keeps old mid → StaysClean old mid →
+    (new.is_clean → mid.is_clean) → Endures mid new reply → Endures old new reply
 endures_after old mid new reply keeps stays was_clean endures = record {
   was_kept = λ kept. keeps.was_kept (endures.was_kept kept);
   stays = λ told was kept. endures.stays told (stays was (endures.was_kept kept)) kept;
-  answered = λ told clean. lasts_after old mid new keeps (keeps.was_clean (was_clean clean)) (was_clean clean) (endures.answered told clean);
+  answered = λ told clean. lasts_after old mid new keeps (keeps.was_clean (was_clean clean)) (was_clean clean)
+      (endures.answered told clean);
 }
 
-crashes_after : (old mid new : State Office) (made after : Office) → Keeps old mid → StaysClean old mid → (new.is_kept → mid.is_kept) → (mid.is_clean → Crashes mid new made × (made ≡ after)) → Crashes old new after
+crashes_after : (old mid new : State Office) (made after : Office) → Keeps old mid → StaysClean old mid →
+    (new.is_kept → mid.is_kept) → (mid.is_clean → Crashes mid new made × (made ≡ after)) → Crashes old new after
 crashes_after old mid new made after keeps stays was_kept crash was kept o left =
     let mid_kept = was_kept kept in
     let clean = stays was mid_kept in
@@ -39,17 +47,23 @@ pub read_endures : (old new : State Office) (reply : Reply) → Keeps old new �
 read_endures old new reply keeps stays = record {
   was_kept = keeps.was_kept;
   stays = λ _. stays;
-  answered = λ _ clean o left. inr (keeps.kept clean, keeps.crash (keeps.was_clean clean) (new.clean_is_kept clean) o left);
+  answered = λ _ clean o left. inr (
+    keeps.kept clean,
+    keeps.crash (keeps.was_clean clean) (new.clean_is_kept clean) o left,
+  );
 }
 
-pub serves_after : {T F : Type 0} {result : Result T F} {Shown : T → Type 0} (old mid new : State Office) (reply said wanted : Reply) (made after : Office) →
-    Reads old mid result Shown → StaysClean old mid → Serves mid new reply said made → (mid.is_clean → (said ≡ wanted) × (made ≡ after)) → Serves old new reply wanted after
+pub serves_after : {T F : Type 0} {result : Result T F} {Shown : T → Type 0} (old mid new : State Office)
+    (reply said wanted : Reply) (made after : Office) →
+    Reads old mid result Shown → StaysClean old mid → Serves mid new reply said made →
+    (mid.is_clean → (said ≡ wanted) × (made ≡ after)) → Serves old new reply wanted after
 serves_after old mid new reply said wanted made after reads stays serves same = record {
   was_clean = λ clean. reads.keeps.was_clean (serves.was_clean clean);
   served = λ clean. by clean (serves.served clean);
   count = omega (arith, reads.count, serves.count);
   endures = endures_after old mid new reply reads.keeps stays serves.was_clean serves.endures;
-  crash = crashes_after old mid new made after reads.keeps stays serves.endures.was_kept (λ clean. (serves.crash, (same clean).1));
+  crash = crashes_after old mid new made after reads.keeps stays serves.endures.was_kept
+      (λ clean. (serves.crash, (same clean).1));
 }
   where
     by : new.is_clean → IsServed reply said mid.held new.held made → IsServed reply wanted old.held new.held after
@@ -57,24 +71,54 @@ serves_after old mid new reply said wanted made after reads stays serves same = 
     by clean (inr h) = inr (h.0, h.1 ∙ reads.keeps.kept (serves.was_clean clean))
 
 -- the same under premises, the later of which follows from the earlier
-pub serves_where_after : {T F : Type 0} {result : Result T F} {Shown : T → Type 0} (P Q : Type 0) (old mid new : State Office) (reply said wanted : Reply) (made after : Office) →
-    Reads old mid result Shown → StaysClean old mid → ServesWhere mid new Q reply said made → (mid.is_clean → (P → Q) × (said ≡ wanted) × (made ≡ after)) → ServesWhere old new P reply wanted after
+pub serves_where_after : {T F : Type 0} {result : Result T F} {Shown : T → Type 0} (P Q : Type 0)
+    (old mid new : State Office) (reply said wanted : Reply) (made after : Office) →
+    Reads old mid result Shown → StaysClean old mid → ServesWhere mid new Q reply said made →
+    (mid.is_clean → (P → Q) × (said ≡ wanted) × (made ≡ after)) → ServesWhere old new P reply wanted after
 serves_where_after P Q old mid new reply said wanted made after reads stays serves same = record {
   was_clean = λ clean. reads.keeps.was_clean (serves.was_clean clean);
   served = λ clean p. by clean (serves.served clean ((same (serves.was_clean clean)).0 p));
   refused = λ clean refused. serves.refused clean refused ∙ reads.keeps.kept (serves.was_clean clean);
   count = omega (arith, reads.count, serves.count);
   endures = endures_after old mid new reply reads.keeps stays serves.was_clean serves.endures;
-  crash = λ p. crashes_after old mid new made after reads.keeps stays serves.endures.was_kept (λ clean. let s = same clean in (serves.crash (s.0 p), s.2));
+  crash = λ p. crashes_after old mid new made after reads.keeps stays serves.endures.was_kept
+      (λ clean. let s = same clean in (serves.crash (s.0 p), s.2));
 }
   where
     by : new.is_clean → IsServed reply said mid.held new.held made → IsServed reply wanted old.held new.held after
     by clean (inl h) = let s = same (serves.was_clean clean) in inl (h.0 ∙ s.1, h.1 ∙ s.2)
     by clean (inr h) = inr (h.0, h.1 ∙ reads.keeps.kept (serves.was_clean clean))
 
+-- a refusal after reads: it is the one that is wanted, or that the office is unavailable
+pub refused_where : (premise : Type 0) (old new : State Office) (refusal : Refusal) (v : Verdict) → Keeps old new →
+    (IsFalse (is_unavailable refusal) → StaysClean old new) → old.failures ≤ new.failures →
+    (new.is_clean → premise → (v ≡ Refuses refusal) ⊎ (refusal ≡ Unavailable)) →
+    ServesWhere old new premise (Refused refusal) (verdict_reply v) (with_verdict v old.held)
+refused_where premise old new refusal v keeps stays count wanted = record {
+  was_clean = keeps.was_clean;
+  served = λ clean p. by clean (wanted clean p);
+  refused = λ clean _. keeps.kept clean;
+  count = count;
+  endures = record {
+    was_kept = keeps.was_kept;
+    stays = stays;
+    answered = λ _ clean o left. inr (
+      keeps.kept clean,
+      keeps.crash (keeps.was_clean clean) (new.clean_is_kept clean) o left,
+    );
+  };
+  crash = λ _ was kept o left. inl (keeps.crash was kept o left);
+}
+  where
+    by : new.is_clean → (v ≡ Refuses refusal) ⊎ (refusal ≡ Unavailable) →
+        IsServed (Refused refusal) (verdict_reply v) old.held new.held (with_verdict v old.held)
+    by clean (inl is) = inl (ap verdict_reply (sym is), keeps.kept clean ∙ ap (λ w. with_verdict w old.held) (sym is))
+    by clean (inr is) = inr (ap Refused is, keeps.kept clean)
+
 module _ (premise : Type 0) (old new : State Office) (reply : Reply) where
   -- what is served whether the premise holds or not; a verdict that refuses changes nothing
-  pub serves_where : (v : Verdict) → Serves old new reply (verdict_reply v) (with_verdict v old.held) → ServesWhere old new premise reply (verdict_reply v) (with_verdict v old.held)
+  pub serves_where : (v : Verdict) → Serves old new reply (verdict_reply v) (with_verdict v old.held) →
+      ServesWhere old new premise reply (verdict_reply v) (with_verdict v old.held)
   serves_where v serves = record {
     was_clean = serves.was_clean;
     served = λ clean p. serves.served clean;
@@ -84,14 +128,16 @@ module _ (premise : Type 0) (old new : State Office) (reply : Reply) where
     crash = λ p. serves.crash;
   }
     where
-      by : (v : Verdict) → IsServed reply (verdict_reply v) old.held new.held (with_verdict v old.held) → IsTrue (is_refused reply) → new.held ≡ old.held
+      by : (v : Verdict) → IsServed reply (verdict_reply v) old.held new.held (with_verdict v old.held) →
+          IsTrue (is_refused reply) → new.held ≡ old.held
       by v (inr h) refused = h.1
       by (Refuses f) (inl h) refused = h.1
       by (Stands c) (inl h) refused = h.1
       by (Makes c) (inl h) refused = absurd (false≢true (ap is_refused (sym h.0) ∙ refused))
 
   -- what is served whether the premise holds or not, where the refusals that are wanted change nothing
-  pub serves_weaker : (wanted : Reply) (after : Office) → Serves old new reply wanted after → (IsTrue (is_refused wanted) → after ≡ old.held) → ServesWhere old new premise reply wanted after
+  pub serves_weaker : (wanted : Reply) (after : Office) → Serves old new reply wanted after →
+      (IsTrue (is_refused wanted) → after ≡ old.held) → ServesWhere old new premise reply wanted after
   serves_weaker wanted after serves stays = record {
     was_clean = serves.was_clean;
     served = λ clean p. serves.served clean;

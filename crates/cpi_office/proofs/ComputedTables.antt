@@ -48,7 +48,8 @@ pub tables_are_told : TablesAreTold
 tables_are_told a o s month form revision is known =
     ap (λ r. reply_to a.now a.caller r o) is ∙ table_told a.now month form revision o s a.caller known
 
-pub run_tables : (o u : Office) (asks : List Ask) (rs : List Reply) → IsSound o → IsRun o asks rs u → TellTables o asks rs
+pub run_tables : (o u : Office) (asks : List Ask) (rs : List Reply) → IsSound o → IsRun o asks rs u →
+    TellTables o asks rs
 run_tables o u asks rs s run place a r asked said fine month form revision is known =
     let before = served_before place asks rs in
     reply_in o asks rs run.answers place a r asked said fine

@@ -10,8 +10,10 @@ use Rattle.cpi_release.specs.PublishedTables.{PublishedTable}
 use Rattle.cpi_release.specs.declared.frozen_month.FrozenMonth.{FrozenMonth}
 use Rattle.cpi_release.specs.declared.form.Form.{Form}
 use Rattle.cpi_release.specs.declared.release.Release.{Release}
-use Rattle.cpi_office.specs.Freezing.{has_weightless, row_judged, judged_release, release_verdict, freeze_verdict, frozen}
-use Rattle.cpi_office.specs.HandingOver.{handed_over, is_takeable, over_collectors, over_slots, over_free, over_judged, stands_over, is_handed_within, is_not_after}
+use Rattle.cpi_office.specs.Freezing.{has_weightless, row_judged, judged_release, release_verdict, freeze_verdict}
+use Rattle.cpi_office.specs.Freezing.{frozen}
+use Rattle.cpi_office.specs.HandingOver.{handed_over, is_takeable, over_collectors, over_slots, over_free, over_judged}
+use Rattle.cpi_office.specs.HandingOver.{stands_over, is_handed_within, is_not_after}
 use Rattle.cpi_office.specs.declared.request.HandOver.{HandOver}
 use Rattle.cpi_office.specs.declared.request.NewAssignment.{NewAssignment}
 use Rattle.cpi_office.specs.declared.refusal.Refusal.{Refusal}
@@ -56,7 +58,8 @@ use Rattle.cpi_office.specs.declared.request.Request.{Request}
 use Rattle.cpi_office.specs.declared.request.Request.TheVariants as request
 
 -- what holds of both branches, each where its test says so
-pub if_holds : {A : Type 0} (P : A → Type 0) (c : Bool) (x y : A) → (c ≡ true → P x) → (c ≡ false → P y) → P (if c then x else y)
+pub if_holds : {A : Type 0} (P : A → Type 0) (c : Bool) (x y : A) → (c ≡ true → P x) → (c ≡ false → P y) →
+    P (if c then x else y)
 if_holds P true x y f g = f refl
 if_holds P false x y f g = g refl
 
@@ -95,7 +98,8 @@ pub unless_judges : (frozen : Bool) (f : Refusal) (c : Change) → Judges (Refus
 unless_judges true f c own = own
 unless_judges false f c own = (refl, refl)
 
-pub replaced_judges : (frozen : Bool) (f : Refusal) (c : Change) (s : Standing) → Judges (Refuses f) → Judges (replaced frozen f c s)
+pub replaced_judges : (frozen : Bool) (f : Refusal) (c : Change) (s : Standing) → Judges (Refuses f) →
+    Judges (replaced frozen f c s)
 replaced_judges frozen f c Free own = unless_judges frozen f c own
 replaced_judges frozen f c Same own = (refl, refl)
 replaced_judges frozen f c Other own = unless_judges frozen f c own
@@ -121,19 +125,23 @@ module _ (now month : ℕ) (carry : List Code) (o : Office) where
   row_judges (Some row) =
       if_holds Fine (nat_lt now row.closes) _ _ (λ e. (refl, refl)) (λ e.
       if_holds Fine (lacks_plan o.plans already row.month) _ _ (λ e. (refl, refl)) (λ e.
-      if_holds Fine (has_weightless (plan_for o.plans already row.month) carry) _ _ (λ e. (refl, refl)) (λ e. release_judges (judged_release now carry o row))))
+      if_holds Fine (has_weightless (plan_for o.plans already row.month) carry) _ _ (λ e. (refl, refl))
+      (λ e. release_judges (judged_release now carry o row))))
 
   pub frozen_judges : Judges (frozen now month carry o)
   frozen_judges =
-      if_holds Fine (stays_frozen month (option_map (λ r. r.publishes) (at (λ r. r.month) month o.calendar)) already) _ _ (λ e. (refl, refl)) (λ e.
-      if_holds Fine (not (is_next month already)) _ _ (λ e. (refl, refl)) (λ e. row_judges (at (λ r. r.month) month o.calendar)))
+      if_holds Fine (stays_frozen month (option_map (λ r. r.publishes) (at (λ r. r.month) month o.calendar)) already)
+      _ _ (λ e. (refl, refl)) (λ e.
+      if_holds Fine (not (is_next month already)) _ _ (λ e. (refl, refl))
+      (λ e. row_judges (at (λ r. r.month) month o.calendar)))
 
 pub registered_judges : (b : Bearer) (w v : Option Bearer) → Judges (registered b w v)
 registered_judges b None None = (refl, refl)
 registered_judges b None (Some other) = (refl, refl)
 registered_judges b (Some old) v = if_holds Judges (same_bearer old b) _ _ (λ e. (refl, refl)) (λ e. (refl, refl))
 
-pub assigned_judges : (a : Assigned) (i : Option Item) (u : Option Outlet) (b : Option Bearer) (s : Standing) → Judges (assigned a i u b s)
+pub assigned_judges : (a : Assigned) (i : Option Item) (u : Option Outlet) (b : Option Bearer) (s : Standing) →
+    Judges (assigned a i u b s)
 assigned_judges a i u None Same = (refl, refl)
 assigned_judges a i u (Some b) Same = (refl, refl)
 assigned_judges a i u b Other = (refl, refl)
@@ -154,7 +162,8 @@ module _ (h : HandOver) (o : Office) where
   judged_judges b c former =
       if_holds Fits (not (is_handed_within h former.assignment)) _ _ (λ e. (refl, refl)) (λ e.
       if_holds Fits (is_not_after h.month (last_frozen (frozen_months o.releases))) _ _ (λ e. (refl, refl)) (λ e.
-      if_holds Fits (has_quotes_since h.slot h.month (held_by b.number o.quotes)) _ _ (λ e. (refl, refl)) (λ e. (refl, refl))))
+      if_holds Fits (has_quotes_since h.slot h.month (held_by b.number o.quotes)) _ _ (λ e. (refl, refl))
+      (λ e. (refl, refl))))
     where
       Fits : Result Assignment Refusal → Type 0
       Fits judged = Judges (over_judged h o b c former judged)
@@ -162,17 +171,20 @@ module _ (h : HandOver) (o : Office) where
   slots_judge : (b c : Bearer) (former new : Option Given) → Judges (over_slots h o b c former new)
   slots_judge b c None new = (refl, refl)
   slots_judge b c (Some former) None = judged_judges b c former
-  slots_judge b c (Some former) (Some new) = if_holds Judges (stands_over h former new) _ _ (λ e. (refl, refl)) (λ e. (refl, refl))
+  slots_judge b c (Some former) (Some new) = if_holds Judges (stands_over h former new) _ _ (λ e. (refl, refl))
+      (λ e. (refl, refl))
 
   collectors_judge : (b c : Option Bearer) → Judges (over_collectors h o b c)
   collectors_judge None c = (refl, refl)
   collectors_judge (Some b) None = (refl, refl)
   collectors_judge (Some b) (Some c) =
-      slots_judge b c (at (λ g. g.assignment.slot) h.slot (held_by b.number o.assignments)) (at (λ g. g.assignment.slot) h.new_slot (held_by c.number o.assignments))
+      slots_judge b c (at (λ g. g.assignment.slot) h.slot (held_by b.number o.assignments))
+      (at (λ g. g.assignment.slot) h.new_slot (held_by c.number o.assignments))
 
   pub handed_judges : Judges (handed_over h o)
   handed_judges =
-      if_holds Judges (is_takeable h) _ _ (λ e. collectors_judge (at (λ b. b.number) h.from o.collectors) (at (λ b. b.number) h.to o.collectors)) (λ e. (refl, refl))
+      if_holds Judges (is_takeable h) _ _ (λ e. collectors_judge (at (λ b. b.number) h.from o.collectors)
+      (at (λ b. b.number) h.to o.collectors)) (λ e. (refl, refl))
 
 pub table_own : (form : Form) (month : ℕ) (i : Option PublishedTable) → IsOwn (table_reply form month i)
 table_own form month None = (refl, refl)
@@ -208,7 +220,8 @@ desk_told now (request.Register b) o = (registered_judges b _ _).0
 desk_told now (request.PutOutlet u) o = (once_judges _ _).0
 desk_told now (request.Assign n a) o = (placed_judges n a _ (assigned_judges _ _ _ _ _)).0
 desk_told now (request.HandOver h) o = (handed_judges h o).0
-desk_told now (request.PutPlan year body) o = (plan_judges (frozen_months o.releases) (plan_standing o.plans (planned year (sent o.items body)))).0
+desk_told now (request.PutPlan year body) o =
+    (plan_judges (frozen_months o.releases) (plan_standing o.plans (planned year (sent o.items body)))).0
 desk_told now (request.PutCalendar row) o = (replaced_judges _ MonthFrozen _ _ (refl, refl)).0
 
 public_told : (now : ℕ) (r : Request) (o : Office) → is_failure (reply_to now caller.Public r o) ≡ false

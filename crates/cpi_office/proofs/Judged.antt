@@ -1,5 +1,6 @@
 -- What is known once a freeze is judged.
-use Rattle.std.proofs.Common.{◌≡◌, ◌≢◌, ℕ, ◌+◌, ◌-◌, ◌≤◌, suc, Bool, true, false, eqb, List, [], ◌∷◌, length, Some, None, Option, Result, Ok, Err, refl, sym, ap, ◌∙◌, subst, arith, inl, inr}
+use Rattle.std.proofs.Common.{◌≡◌, ◌≢◌, ℕ, ◌+◌, ◌-◌, ◌≤◌, suc, Bool, true, false, eqb, List, [], ◌∷◌, length, Some}
+use Rattle.std.proofs.Common.{None, Option, Result, Ok, Err, refl, sym, ap, ◌∙◌, subst, arith, inl, inr}
 use Rattle.std.specs.Prelude.{◌⊎◌, ◌==◌, ◌&&◌, ◌||◌, slice_get, nat_lt, not, option_map, if◌then◌else◌}
 use Rattle.std.proofs.lemmas.Bool.Decides.{eqb_tells}
 use Rattle.cpi_codes.specs.declared.codes.Code.{Code}
@@ -7,7 +8,8 @@ use Rattle.cpi_rows.specs.Keyed.{at}
 use Rattle.cpi_rows.proofs.Found.{at_key}
 use Rattle.cpi_plan.specs.Plan.{Plan}
 use Rattle.cpi_plan.specs.Calendar.{CalendarPart}
-use Rattle.cpi_release.specs.FrozenMonths.{frozen_months, last_frozen, is_frozen, is_reopened, stays_frozen, is_next, next_revision, plan_for, lacks_plan}
+use Rattle.cpi_release.specs.FrozenMonths.{frozen_months, last_frozen, is_frozen, is_reopened, stays_frozen, is_next}
+use Rattle.cpi_release.specs.FrozenMonths.{next_revision, plan_for, lacks_plan}
 use Rattle.cpi_release.specs.declared.frozen_month.FrozenMonth.{FrozenMonth}
 use Rattle.cpi_release.specs.declared.release.Release.{Release}
 use Rattle.cpi_office.specs.Freezing.{freeze_judged, row_judged, plan_judged, carry_judged, has_weightless}
@@ -24,7 +26,8 @@ last_is (x ∷ y ∷ frozen) =
     ap (slice_get (x ∷ y ∷ frozen)) one ∙ last_is (y ∷ frozen)
 
 -- the last month is among the frozen ones
-last_among : (month : ℕ) (frozen : List FrozenMonth) (last : FrozenMonth) → last_frozen frozen ≡ Some last → (last.month == month) ≡ true → is_frozen month frozen ≡ true
+last_among : (month : ℕ) (frozen : List FrozenMonth) (last : FrozenMonth) → last_frozen frozen ≡ Some last →
+    (last.month == month) ≡ true → is_frozen month frozen ≡ true
 last_among month [] last e same = let no : None ≡ Some last = e in cc
 last_among month (x ∷ []) last e same =
     let here : Some x ≡ Some last = e in
@@ -37,7 +40,8 @@ last_among month (x ∷ y ∷ frozen) last e same = by (x.month == month) (last_
     by false rest = rest
 
 -- a month that doesn't stay frozen has fewer than nine revisions
-pub few_revisions : (month : ℕ) (publishes : Option ℕ) (frozen : List FrozenMonth) → stays_frozen month publishes frozen ≡ false → next_revision month frozen ≤ 9
+pub few_revisions : (month : ℕ) (publishes : Option ℕ) (frozen : List FrozenMonth) →
+    stays_frozen month publishes frozen ≡ false → next_revision month frozen ≤ 9
 few_revisions month publishes frozen free = by (last_frozen frozen) refl
   where
     reopened : (w : Bool) → (true && not w) ≡ false → w ≡ true
@@ -51,18 +55,23 @@ few_revisions month publishes frozen free = by (last_frozen frozen) refl
 
     few : (last : FrozenMonth) (p : Option ℕ) → is_reopened month p (Some last) ≡ true → last.revision + 1 ≤ 9
     few last None e = absurd (false≢true e)
-    few last (Some p) e = let less = ltb-true last.revision 9 (three (last.month == month) (nat_lt last.revision 9) (nat_lt last.publishes p) e) in omega (arith, less)
+    few last (Some p) e = let less = ltb-true last.revision 9
+        (three (last.month == month) (nat_lt last.revision 9) (nat_lt last.publishes p) e) in omega (arith, less)
 
     by : (w : Option FrozenMonth) → last_frozen frozen ≡ w → next_revision month frozen ≤ 9
     by None e = rw e (omega arith)
     by (Some last) e = again (eqb_tells last.month month)
       where
-        again : ((eqb last.month month ≡ true) × (last.month ≡ month)) ⊎ ((eqb last.month month ≡ false) × (last.month ≢ month)) → next_revision month frozen ≤ 9
-        again (inl same) = rw (e, same.0) (few last publishes (reopened (is_reopened month publishes (Some last)) (rw (last_among month frozen last e same.0, e) at free)))
+        again : ((eqb last.month month ≡ true) × (last.month ≡ month))
+            ⊎ ((eqb last.month month ≡ false) × (last.month ≢ month)) → next_revision month frozen ≤ 9
+        again (inl same) = rw (e, same.0) (few last publishes
+            (reopened (is_reopened month publishes (Some last))
+            (rw (last_among month frozen last e same.0, e) at free)))
         again (inr apart) = rw (e, apart.0) (omega arith)
 
 -- a test that was passed
-pub passed : {A E : Type 0} (t : Bool) (f : E) (r : Result A E) (x : A) → (if t then Err f else r) ≡ Ok x → (t ≡ false) × (r ≡ Ok x)
+pub passed : {A E : Type 0} (t : Bool) (f : E) (r : Result A E) (x : A) → (if t then Err f else r) ≡ Ok x →
+    (t ≡ false) × (r ≡ Ok x)
 passed true f r x e = let no : Err f ≡ Ok x = e in cc
 passed false f r x e = (refl, e)
 
@@ -73,25 +82,35 @@ module _ (now : ℕ) (carry : List Code) (frozen : List FrozenMonth) (plans : Li
   abbrev carry_passed : CalendarPart → Result CalendarPart Refusal
   carry_passed r = Ok r
 
-  judged_row : (w : Option CalendarPart) (row : CalendarPart) → row_judged now plans frozen carry w ≡ Ok row → w ≡ Some row
+  judged_row : (w : Option CalendarPart) (row : CalendarPart) → row_judged now plans frozen carry w ≡ Ok row →
+      w ≡ Some row
   judged_row None row e = cc
   judged_row (Some r) row e =
       let closed = passed (nat_lt now r.closes) _ (plan_judged plans frozen carry r) row e in
-      let planned = passed (lacks_plan plans frozen r.month) _ (carry_judged carry (plan_for plans frozen r.month) r) row closed.1 in
+      let planned = passed (lacks_plan plans frozen r.month) _ (carry_judged carry (plan_for plans frozen r.month) r)
+      row closed.1 in
       let weighed = passed (has_weightless (plan_for plans frozen r.month) carry) _ (Ok r) row planned.1 in
       ap Some (ok_is (carry_passed r) r row refl weighed.1)
 
-module _ (now month : ℕ) (carry : List Code) (rs : List Release) (calendar : List CalendarPart) (plans : List Plan) (row : CalendarPart)
+module _ (now month : ℕ) (carry : List Code) (rs : List Release) (calendar : List CalendarPart) (plans : List Plan)
+    (row : CalendarPart)
     (judged : freeze_judged now month carry (frozen_months rs) (at (λ r. r.month) month calendar) plans ≡ Ok row) where
-  abbrev free : (stays_frozen month (option_map (λ r. r.publishes) (at (λ r. r.month) month calendar)) (frozen_months rs) ≡ false) × ((if not (is_next month (frozen_months rs)) then Err FreezeOrder else row_judged now plans (frozen_months rs) carry (at (λ r. r.month) month calendar)) ≡ Ok row)
-  free = passed (stays_frozen month (option_map (λ r. r.publishes) (at (λ r. r.month) month calendar)) (frozen_months rs)) _ (if not (is_next month (frozen_months rs)) then Err FreezeOrder else row_judged now plans (frozen_months rs) carry (at (λ r. r.month) month calendar)) row judged
+  abbrev free : (stays_frozen month (option_map (λ r. r.publishes) (at (λ r. r.month) month calendar))
+      (frozen_months rs) ≡ false) × ((if not (is_next month (frozen_months rs)) then Err FreezeOrder else row_judged
+      now plans (frozen_months rs) carry (at (λ r. r.month) month calendar)) ≡ Ok row)
+  free = passed (stays_frozen month (option_map (λ r. r.publishes) (at (λ r. r.month) month calendar))
+      (frozen_months rs)) _ (if not (is_next month (frozen_months rs)) then Err FreezeOrder else row_judged now plans
+      (frozen_months rs) carry (at (λ r. r.month) month calendar)) row judged
 
-  abbrev follows : (not (is_next month (frozen_months rs)) ≡ false) × (row_judged now plans (frozen_months rs) carry (at (λ r. r.month) month calendar) ≡ Ok row)
-  follows = passed (not (is_next month (frozen_months rs))) _ (row_judged now plans (frozen_months rs) carry (at (λ r. r.month) month calendar)) row free.1
+  abbrev follows : (not (is_next month (frozen_months rs)) ≡ false)
+      × (row_judged now plans (frozen_months rs) carry (at (λ r. r.month) month calendar) ≡ Ok row)
+  follows = passed (not (is_next month (frozen_months rs))) _
+      (row_judged now plans (frozen_months rs) carry (at (λ r. r.month) month calendar)) row free.1
 
   -- the row is the month's
   pub judged_month : row.month ≡ month
-  judged_month = at_key (λ r. r.month) month row calendar (judged_row now carry (frozen_months rs) plans (at (λ r. r.month) month calendar) row follows.1)
+  judged_month = at_key (λ r. r.month) month row calendar
+      (judged_row now carry (frozen_months rs) plans (at (λ r. r.month) month calendar) row follows.1)
 
   -- the month is the next one
   pub judged_follows : is_next month (frozen_months rs) ≡ true
@@ -103,4 +122,5 @@ module _ (now month : ℕ) (carry : List Code) (rs : List Release) (calendar : L
 
   -- it has fewer than nine revisions
   pub judged_few : next_revision row.month (frozen_months rs) ≤ 9
-  judged_few = subst (λ k. next_revision k (frozen_months rs) ≤ 9) (sym judged_month) (few_revisions month (option_map (λ r. r.publishes) (at (λ r. r.month) month calendar)) (frozen_months rs) free.0)
+  judged_few = subst (λ k. next_revision k (frozen_months rs) ≤ 9) (sym judged_month)
+      (few_revisions month (option_map (λ r. r.publishes) (at (λ r. r.month) month calendar)) (frozen_months rs) free.0)

@@ -7,7 +7,8 @@ use Rattle.std.specs.List.{AllByRecursion}
 use Rattle.std.proofs.lemmas.Cmp.{nat_cmp_total}
 use Rattle.cpi_rows.specs.Keyed.{put}
 use Rattle.cpi_rows.specs.Held.{held_cmp, held_key}
-use Rattle.cpi_store.specs.Office.{Office, Change, changed, PutsItem, PutsPlan, PutsCalendar, Registers, PutsOutlet, Assigns, HandsOver, Quotes, Freezes}
+use Rattle.cpi_store.specs.Office.{Office, Change, changed, PutsItem, PutsPlan, PutsCalendar, Registers, PutsOutlet}
+use Rattle.cpi_store.specs.Office.{Assigns, HandsOver, Quotes, Freezes}
 use Rattle.cpi_survey.specs.Quote.{quote_key, quote_cmp}
 use Rattle.cpi_store.specs.FrozenLists.{HasFrozenList}
 use Rattle.cpi_store.specs.Sound.{IsSound, HasItsRows, HasItsAssignment, HasNodesInOrder}
@@ -16,17 +17,20 @@ use Rattle.cpi_rows.proofs.Puts.{at-put_some}
 use Rattle.cpi_office.proofs.Bearers.{keys-put}
 use Rattle.cpi_office.proofs.Stood.{held_total, quote_total}
 use Rattle.cpi_release.specs.FrozenMonths.{release_cmp, release_key}
-use Rattle.cpi_store.proofs.Published.{release_total, newly_frozen, published_more, replanned}
-use Rattle.cpi_store.proofs.Changes.{IsNewlyGiven, sound_given, given_assigned, quoted_assigned, frozen_assigned, rows_assigned, given_handed, quoted_handed, frozen_handed, rows_handed}
+use Rattle.cpi_store.proofs.Released.{release_total, newly_frozen, released_more, replanned}
+use Rattle.cpi_store.proofs.Changes.{IsNewlyGiven, sound_given, given_assigned, quoted_assigned, frozen_assigned}
+use Rattle.cpi_store.proofs.Changes.{rows_assigned, given_handed, quoted_handed, frozen_handed, rows_handed}
 use Rattle.cpi_office.proofs.Accepted.{Fits}
 
 -- ---- what holds of each row
 
-pub all_weaker : {X : Type 0} (P Q : X → Type 0) → ((x : X) → P x → Q x) → (xs : List X) → AllByRecursion P xs → AllByRecursion Q xs
+pub all_weaker : {X : Type 0} (P Q : X → Type 0) → ((x : X) → P x → Q x) → (xs : List X) → AllByRecursion P xs →
+    AllByRecursion Q xs
 all_weaker P Q f [] all = tt
 all_weaker P Q f (x ∷ xs) all = (f x all.0, all_weaker P Q f xs all.1)
 
-all_filtered : {X : Type 0} (P : X → Type 0) (p : X → Bool) (xs : List X) → AllByRecursion P xs → AllByRecursion P (filter p xs)
+all_filtered : {X : Type 0} (P : X → Type 0) (p : X → Bool) (xs : List X) → AllByRecursion P xs →
+    AllByRecursion P (filter p xs)
 all_filtered P p [] all = tt
 all_filtered P p (x ∷ xs) all = by (p x) refl (all_filtered P p xs all.1)
   where
@@ -34,13 +38,16 @@ all_filtered P p (x ∷ xs) all = by (p x) refl (all_filtered P p xs all.1)
     by true e rest = rw e (all.0, rest)
     by false e rest = rw e rest
 
-all_joined : {X : Type 0} (P : X → Type 0) (xs ys : List X) → AllByRecursion P xs → AllByRecursion P ys → AllByRecursion P (xs ++ ys)
+all_joined : {X : Type 0} (P : X → Type 0) (xs ys : List X) → AllByRecursion P xs → AllByRecursion P ys →
+    AllByRecursion P (xs ++ ys)
 all_joined P [] ys a b = b
 all_joined P (x ∷ xs) ys a b = (a.0, all_joined P xs ys a.1 b)
 
-pub all-put : {X K : Type 0} (P : X → Type 0) (cmp : K → K → Ordering) (key : X → K) (row : X) (rows : List X) → P row → AllByRecursion P rows → AllByRecursion P (put cmp key row rows)
+pub all-put : {X K : Type 0} (P : X → Type 0) (cmp : K → K → Ordering) (key : X → K) (row : X) (rows : List X) →
+    P row → AllByRecursion P rows → AllByRecursion P (put cmp key row rows)
 all-put P cmp key row rows one all =
-    all_joined P _ _ (all_filtered P (λ r. is_lt (cmp (key r) (key row))) rows all) (one, all_filtered P (λ r. is_gt (cmp (key r) (key row))) rows all)
+    all_joined P _ _ (all_filtered P (λ r. is_lt (cmp (key r) (key row))) rows all)
+    (one, all_filtered P (λ r. is_gt (cmp (key r) (key row))) rows all)
 
 -- ---- each change
 
@@ -54,7 +61,9 @@ stays_sound (PutsItem i) o s h = record {
   assignments = s.assignments;
   quotes = s.quotes;
   keys = s.keys;
-  assigned = all_weaker (HasItsRows o) (HasItsRows (changed (PutsItem i) o)) (λ row has. (has.0, has.1, at-put_some (λ i. i.code) i o.items s.items h row.1.assignment.item has.2)) o.assignments s.assigned;
+  assigned = all_weaker (HasItsRows o) (HasItsRows (changed (PutsItem i) o))
+      (λ row has. (has.0, has.1, at-put_some (λ i. i.code) i o.items s.items h row.1.assignment.item has.2))
+      o.assignments s.assigned;
   quoted = s.quoted;
   releases = s.releases;
   made = s.made;
@@ -62,7 +71,7 @@ stays_sound (PutsItem i) o s h = record {
   apart = s.apart;
   frozen = s.frozen;
   nodes = s.nodes;
-  published = s.published;
+  released = s.released;
 }
 stays_sound (PutsPlan p) o s h = record {
   plans = put_in_order nat_cmp_total (λ y. y.year) o.plans p s.plans;
@@ -81,7 +90,7 @@ stays_sound (PutsPlan p) o s h = record {
   apart = s.apart;
   frozen = s.frozen;
   nodes = all-put HasNodesInOrder nat_cmp (λ y. y.year) p o.plans h.1 s.nodes;
-  published = replanned o.plans p s.plans [] o.releases h.0 s.published;
+  released = replanned o.plans p s.plans [] o.releases h.0 s.released;
 }
 stays_sound (PutsCalendar r) o s h = record {
   plans = s.plans;
@@ -100,12 +109,14 @@ stays_sound (PutsCalendar r) o s h = record {
   apart = s.apart;
   frozen = s.frozen;
   nodes = s.nodes;
-  published = s.published;
+  released = s.released;
 }
 stays_sound (Registers b) o s h = record {
   collectors = put_in_order nat_cmp_total (λ b. b.number) o.collectors b s.collectors;
   keys = keys-put b o.collectors s.collectors h.0 s.keys h.1;
-  assigned = all_weaker (HasItsRows o) (HasItsRows (changed (Registers b) o)) (λ row has. (at-put_some (λ b. b.number) b o.collectors s.collectors h.0 row.0 has.0, has.1, has.2)) o.assignments s.assigned;
+  assigned = all_weaker (HasItsRows o) (HasItsRows (changed (Registers b) o))
+      (λ row has. (at-put_some (λ b. b.number) b o.collectors s.collectors h.0 row.0 has.0, has.1, has.2))
+      o.assignments s.assigned;
   items = s.items;
   plans = s.plans;
   calendar = s.calendar;
@@ -119,11 +130,13 @@ stays_sound (Registers b) o s h = record {
   apart = s.apart;
   frozen = s.frozen;
   nodes = s.nodes;
-  published = s.published;
+  released = s.released;
 }
 stays_sound (PutsOutlet u) o s h = record {
   outlets = put_in_order nat_cmp_total (λ u. u.number) o.outlets u s.outlets;
-  assigned = all_weaker (HasItsRows o) (HasItsRows (changed (PutsOutlet u) o)) (λ row has. (has.0, at-put_some (λ u. u.number) u o.outlets s.outlets h row.1.assignment.outlet has.1, has.2)) o.assignments s.assigned;
+  assigned = all_weaker (HasItsRows o) (HasItsRows (changed (PutsOutlet u) o))
+      (λ row has. (has.0, at-put_some (λ u. u.number) u o.outlets s.outlets h row.1.assignment.outlet has.1, has.2))
+      o.assignments s.assigned;
   items = s.items;
   plans = s.plans;
   calendar = s.calendar;
@@ -138,7 +151,7 @@ stays_sound (PutsOutlet u) o s h = record {
   apart = s.apart;
   frozen = s.frozen;
   nodes = s.nodes;
-  published = s.published;
+  released = s.released;
 }
 stays_sound (Assigns b a) o s h =
     let new : IsNewlyGiven o.assignments b.number a.assignment = record { new = h.0; made = h.5 } in
@@ -160,13 +173,14 @@ stays_sound (Assigns b a) o s h =
       keys = s.keys;
       releases = s.releases;
       nodes = s.nodes;
-      published = s.published;
+      released = s.released;
     }
 stays_sound (HandsOver h) o s fits =
     let given = given_handed o.assignments o.quotes h (sound_given o s) fits.0 in
     record {
       assignments = given.in_order;
-      assigned = rows_handed o.assignments o.quotes h (sound_given o s) fits.0 o (subst IsSome (sym fits.2) refl) s.assigned;
+      assigned = rows_handed o.assignments o.quotes h (sound_given o s) fits.0 o
+          (subst IsSome (sym fits.2) refl) s.assigned;
       quoted = quoted_handed o.assignments o.quotes h (sound_given o s) fits.0 s.quoted;
       made = given.made;
       series = given.series;
@@ -181,11 +195,12 @@ stays_sound (HandsOver h) o s fits =
       keys = s.keys;
       releases = s.releases;
       nodes = s.nodes;
-      published = s.published;
+      released = s.released;
     }
 stays_sound (Quotes b q) o s h = record {
   quotes = put_in_order (held_total quote_total) (held_key quote_key) o.quotes (b.number, q) s.quotes;
-  quoted = all-put (HasItsAssignment o.assignments) (held_cmp quote_cmp) (held_key quote_key) (b.number, q) o.quotes h.1 s.quoted;
+  quoted = all-put (HasItsAssignment o.assignments) (held_cmp quote_cmp) (held_key quote_key)
+      (b.number, q) o.quotes h.1 s.quoted;
   items = s.items;
   plans = s.plans;
   calendar = s.calendar;
@@ -200,7 +215,7 @@ stays_sound (Quotes b q) o s h = record {
   apart = s.apart;
   frozen = s.frozen;
   nodes = s.nodes;
-  published = s.published;
+  released = s.released;
 }
 stays_sound (Freezes r) o s h = record {
   releases = put_in_order release_total release_key o.releases r s.releases;
@@ -219,5 +234,5 @@ stays_sound (Freezes r) o s h = record {
   apart = s.apart;
   frozen = all-put (HasFrozenList o.assignments) release_cmp release_key r o.releases (newly_frozen o s r h.2) s.frozen;
   nodes = s.nodes;
-  published = published_more o.plans o.releases s.releases r s.published h.1;
+  released = released_more o.plans o.releases s.releases r s.released h.1;
 }

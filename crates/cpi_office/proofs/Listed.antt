@@ -8,15 +8,18 @@ use Rattle.cpi_rows.specs.Keyed.{at}
 use Rattle.cpi_store.specs.declared.bearer.Bearer.{Bearer}
 use Rattle.cpi_store.specs.Bearer.{bearer_of}
 
-some_more : (n : ℕ) (x : Bearer) (bs : List Bearer) → (t : Bool) → is_eq (nat_cmp x.number n) ≡ t → IsSome (at (λ b. b.number) n bs) → IsSome (at (λ b. b.number) n (x ∷ bs))
+some_more : (n : ℕ) (x : Bearer) (bs : List Bearer) → (t : Bool) → is_eq (nat_cmp x.number n) ≡ t →
+    IsSome (at (λ b. b.number) n bs) → IsSome (at (λ b. b.number) n (x ∷ bs))
 some_more n x bs true e some = rw e refl
 some_more n x bs false e some = rw e some
 
-pub bearer_some : (key : ℕ) (b : Bearer) (bs : List Bearer) → bearer_of key bs ≡ Some b → IsSome (at (λ b. b.number) b.number bs)
+pub bearer_some : (key : ℕ) (b : Bearer) (bs : List Bearer) → bearer_of key bs ≡ Some b →
+    IsSome (at (λ b. b.number) b.number bs)
 bearer_some key b [] borne = let no : None ≡ Some b = borne in cc
 bearer_some key b (x ∷ bs) borne = by (eqb x.key key) refl (bearer_some key b bs)
   where
-    by : (t : Bool) → eqb x.key key ≡ t → (bearer_of key bs ≡ Some b → IsSome (at (λ b. b.number) b.number bs)) → IsSome (at (λ b. b.number) b.number (x ∷ bs))
+    by : (t : Bool) → eqb x.key key ≡ t → (bearer_of key bs ≡ Some b → IsSome (at (λ b. b.number) b.number bs)) →
+        IsSome (at (λ b. b.number) b.number (x ∷ bs))
     by true e rest =
         let here : Some x ≡ Some b = rw e at borne in
         let is : x ≡ b = cc in

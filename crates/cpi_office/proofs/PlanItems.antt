@@ -1,5 +1,6 @@
 -- The items of a plan that was built are known.
-use Rattle.std.proofs.Common.{◌≡◌, ℕ, Bool, true, false, not, List, [], ◌∷◌, Option, Some, None, Result, Ok, Err, refl, ap, ◌∙◌, subst}
+use Rattle.std.proofs.Common.{◌≡◌, ℕ, Bool, true, false, not, List, [], ◌∷◌, Option, Some, None, Result, Ok, Err, refl}
+use Rattle.std.proofs.Common.{ap, ◌∙◌, subst}
 use Rattle.std.specs.Prelude.{if◌then◌else◌, ◌||◌, ◌==◌}
 use Rattle.std.specs.List.{AllByRecursion, list_any}
 use Rattle.std.specs.Ordering.{nat_cmp}
@@ -7,9 +8,13 @@ use Rattle.cpi_codes.specs.declared.codes.Code.{Code}
 use Rattle.cpi_plan.specs.declared.items.Item.{Item}
 use Rattle.cpi_plan.specs.declared.plan_rows.Place.{Place}
 use Rattle.cpi_plan.specs.declared.plan_faults.PlanFault.{PlanFault}
-use Rattle.cpi_plan.specs.declared.plan_faults.PlanFault.TheVariants.{TitleMissing, DuplicateCode, NotElementary, ZeroWeight, WeightSum, UnknownItem, ItemTwice, UnknownAggregate, Reference}
-use Rattle.cpi_plan.specs.Plan.{Body, Plan, is_unknown, has_unknown, has_unplaced, has_zero, are_elementary, total, has_fit_reference}
-use Rattle.cpi_plan.specs.Planned.{planned, are_codes_once, are_items_once, placed, titled, plan_of, in_order, first_untitled}
+use Rattle.cpi_plan.specs.declared.plan_faults.PlanFault.TheVariants.{TitleMissing, DuplicateCode, NotElementary}
+use Rattle.cpi_plan.specs.declared.plan_faults.PlanFault.TheVariants.{ZeroWeight, WeightSum, UnknownItem, ItemTwice}
+use Rattle.cpi_plan.specs.declared.plan_faults.PlanFault.TheVariants.{UnknownAggregate, Reference}
+use Rattle.cpi_plan.specs.Plan.{Body, Plan, is_unknown, has_unknown, has_unplaced, has_zero, are_elementary, total}
+use Rattle.cpi_plan.specs.Plan.{has_fit_reference}
+use Rattle.cpi_plan.specs.Planned.{planned, are_codes_once, are_items_once, placed, titled, plan_of, in_order}
+use Rattle.cpi_plan.specs.Planned.{first_untitled}
 use Rattle.cpi_office.specs.Replacing.{plan_standing}
 use Rattle.cpi_office.specs.declared.standing.Standing.{Standing}
 use Rattle.cpi_office.proofs.Kept.{all-put}
@@ -27,15 +32,18 @@ is_none_of p [] h = refl
 is_none_of p (x ∷ xs) h = rw h.0 (is_none_of p xs h.1)
 
 module _ (known : List Item) where
-  all_known : (places : List Place) → AllByRecursion (λ p. is_unknown known p ≡ false) places → AllByRecursion (λ p. is_unknown known p ≡ false) (in_order nat_cmp (λ p. p.item) places)
+  all_known : (places : List Place) → AllByRecursion (λ p. is_unknown known p ≡ false) places →
+      AllByRecursion (λ p. is_unknown known p ≡ false) (in_order nat_cmp (λ p. p.item) places)
   all_known [] h = tt
   all_known (p ∷ ps) h = all-put (λ p. is_unknown known p ≡ false) nat_cmp (λ p. p.item) p _ h.0 (all_known ps h.1)
 
-  known_in_order : (places : List Place) → has_unknown known places ≡ false → has_unknown known (in_order nat_cmp (λ p. p.item) places) ≡ false
+  known_in_order : (places : List Place) → has_unknown known places ≡ false →
+      has_unknown known (in_order nat_cmp (λ p. p.item) places) ≡ false
   known_in_order places h = is_none_of (is_unknown known) _ (all_known places (none_is (is_unknown known) places h))
 
 -- what is answered after a test that wasn't met
-after_test : {A E : Type 0} (t : Bool) (f : E) (rest : Result A E) (x : A) → (if t then Err f else rest) ≡ Ok x → (t ≡ false) × (rest ≡ Ok x)
+after_test : {A E : Type 0} (t : Bool) (f : E) (rest : Result A E) (x : A) → (if t then Err f else rest) ≡ Ok x →
+    (t ≡ false) × (rest ≡ Ok x)
 after_test true f rest x h = let no : Err f ≡ Ok x = h in cc
 after_test false f rest x h = (refl, h)
 
@@ -52,7 +60,8 @@ placed_known year b p h =
     let is : plan_of year b ≡ p = ap (value_or p) four.1 in
     subst (λ (q : Plan). has_unknown b.known q.places ≡ false) is (known_in_order b.known b.places one.0)
 
-titled_known : (year : ℕ) (b : Body) (p : Plan) (code : Option Code) → titled year b code ≡ Ok p → has_unknown b.known p.places ≡ false
+titled_known : (year : ℕ) (b : Body) (p : Plan) (code : Option Code) → titled year b code ≡ Ok p →
+    has_unknown b.known p.places ≡ false
 titled_known year b p (Some code) h = let no : Err (TitleMissing code) ≡ Ok p = h in cc
 titled_known year b p None h = placed_known year b p h
 
@@ -65,9 +74,12 @@ planned_known year b p h =
     titled_known year b p (first_untitled b.titles b.weights) four.1
 
 -- the same of a plan that was judged
-pub judged_known : (year : ℕ) (b : Body) (plans : List Plan) (p : Plan) (s : Standing) → plan_standing plans (planned year b) ≡ Ok (p, s) → has_unknown b.known p.places ≡ false
+pub judged_known : (year : ℕ) (b : Body) (plans : List Plan) (p : Plan) (s : Standing) →
+    plan_standing plans (planned year b) ≡ Ok (p, s) → has_unknown b.known p.places ≡ false
 judged_known year b plans p s h = by (planned year b) refl h
   where
-    by : (r : Result Plan PlanFault) → planned year b ≡ r → plan_standing plans r ≡ Ok (p, s) → has_unknown b.known p.places ≡ false
+    by : (r : Result Plan PlanFault) → planned year b ≡ r → plan_standing plans r ≡ Ok (p, s) →
+        has_unknown b.known p.places ≡ false
     by (Err f) e h = let no : plan_standing plans (Err f) ≡ Ok (p, s) = h in cc
-    by (Ok q) e h = let is : q ≡ p = ap (λ (r : Result (Plan × Standing) PlanFault). (value_or (p, s) r).0) h in planned_known year b p (e ∙ ap Ok is)
+    by (Ok q) e h = let is : q ≡ p = ap (λ (r : Result (Plan × Standing) PlanFault). (value_or (p, s) r).0) h in
+        planned_known year b p (e ∙ ap Ok is)

@@ -3,7 +3,8 @@ use Rattle.std.proofs.Common.{◌≡◌, ◌≢◌, ℕ, length, List, [], ◌�
 use Rattle.std.specs.Prelude.{slice_get}
 use Rattle.std.proofs.lemmas.List.{append-nil}
 use Rattle.std.proofs.lemmas.Grind.{flat_map-append}
-use Rattle.cpi_store.specs.Office.{Office, Change, changed, PutsItem, PutsPlan, PutsCalendar, Registers, PutsOutlet, Assigns, HandsOver, Quotes, Freezes}
+use Rattle.cpi_store.specs.Office.{Office, Change, changed, PutsItem, PutsPlan, PutsCalendar, Registers, PutsOutlet}
+use Rattle.cpi_store.specs.Office.{Assigns, HandsOver, Quotes, Freezes}
 use Rattle.cpi_office.specs.Views.{View, view}
 use Rattle.cpi_office.specs.Verdicts.{Verdict, Refuses, Stands, Makes, after_verdict, accepted, made}
 use Rattle.cpi_office.specs.Sights.{sights, seen, build}
@@ -17,8 +18,9 @@ use Rattle.cpi_office.specs.declared.caller.Caller.{Caller}
 use Rattle.cpi_office.specs.declared.caller.Caller.TheVariants.{Public, Collector, Desk}
 use Rattle.cpi_office.specs.declared.request.Request.{Request}
 use Rattle.cpi_office.proofs.Accepted.{Holds, Fits}
-use Rattle.cpi_office.proofs.Sights.{shows_item, shows_plan, shows_calendar, shows_registered, shows_outlet, shows_assignment, shows_handover, shows_quote, shows_release, Shows, build_append}
-use Rattle.cpi_store.proofs.Published.{release_total}
+use Rattle.cpi_office.proofs.Sights.{shows_item, shows_plan, shows_calendar, shows_registered, shows_outlet}
+use Rattle.cpi_office.proofs.Sights.{shows_assignment, shows_handover, shows_quote, shows_release, Shows, build_append}
+use Rattle.cpi_store.proofs.Released.{release_total}
 use Rattle.cpi_office.proofs.Stood.{stood_shows}
 use Rattle.cpi_rows.specs.Keyed.{row_at}
 use Rattle.cpi_rows.proofs.Puts.{row_at-put_found}
@@ -50,7 +52,8 @@ module _ (o : Office) (s : IsSound o) where
   kept (Some (Makes c)) h = stays_sound c o s h
 
   module _ (k : Caller) (t : ℕ) where
-    step_shows : (v : Option Verdict) → Holds v o → view k t (after_verdict v o) ≡ build (view k t o) (seen k t (accepted v))
+    step_shows : (v : Option Verdict) → Holds v o → view k t (after_verdict v o) ≡ build (view k t o)
+        (seen k t (accepted v))
     step_shows None h = refl
     step_shows (Some (Refuses f)) h = refl
     step_shows (Some (Stands c)) h = stood_shows k t o s c h ∙ seen_one k t c (view k t o)
@@ -68,11 +71,13 @@ rebuilt [] o k t s = refl
 rebuilt (a ∷ asks) o k t s =
     let v = verdict a.now a.caller a.request o in
     rebuilt asks (next a o) k t (next_sound a o s)
-    ∙ ap (λ w. build w (seen k t (trace asks (next a o)))) (step_shows o s k t v (verdict_holds a.now o s a.caller a.request))
+    ∙ ap (λ w. build w (seen k t (trace asks (next a o))))
+    (step_shows o s k t v (verdict_holds a.now o s a.caller a.request))
     ∙ sym (build_append (view k t o) (seen k t (accepted v)) (seen k t (trace asks (next a o))))
     ∙ ap (build (view k t o)) (sym (flat_map-append (sights k t) (accepted v) (trace asks (next a o))))
 
-change_shows : (o : Office) → IsSound o → (k : Caller) (t : ℕ) (v : Option Verdict) → Holds v o → view k t (after_verdict v o) ≡ build (view k t o) (seen k t (made v))
+change_shows : (o : Office) → IsSound o → (k : Caller) (t : ℕ) (v : Option Verdict) → Holds v o →
+    view k t (after_verdict v o) ≡ build (view k t o) (seen k t (made v))
 change_shows o s k t None h = refl
 change_shows o s k t (Some (Refuses f)) h = refl
 change_shows o s k t (Some (Stands c)) h = refl
@@ -83,19 +88,24 @@ changes_are_enough [] o k t s = refl
 changes_are_enough (a ∷ asks) o k t s =
     let v = verdict a.now a.caller a.request o in
     changes_are_enough asks (next a o) k t (next_sound a o s)
-    ∙ ap (λ w. build w (seen k t (changes asks (next a o)))) (change_shows o s k t v (verdict_holds a.now o s a.caller a.request))
+    ∙ ap (λ w. build w (seen k t (changes asks (next a o))))
+    (change_shows o s k t v (verdict_holds a.now o s a.caller a.request))
     ∙ sym (build_append (view k t o) (seen k t (made v)) (seen k t (changes asks (next a o))))
     ∙ ap (build (view k t o)) (sym (flat_map-append (sights k t) (made v) (changes asks (next a o))))
 
 pub alike : AnswersAreAlike
 alike asks others o u k t r s s' same sees =
-    ap (answer t k r) (rebuilt asks o k t s ∙ ap (λ v. build v (seen k t (trace asks o))) same ∙ ap (build (view k t u)) sees ∙ sym (rebuilt others u k t s'))
+    ap (answer t k r) (rebuilt asks o k t s ∙ ap (λ v. build v (seen k t (trace asks o))) same
+    ∙ ap (build (view k t u)) sees ∙ sym (rebuilt others u k t s'))
 
-reply_at : (before rest : List Ask) (a : Ask) (o : Office) → slice_get (replies (before ++ a ∷ rest) o) (length before) ≡ Some (reply_to a.now a.caller a.request (after before o))
+reply_at : (before rest : List Ask) (a : Ask) (o : Office) →
+    slice_get (replies (before ++ a ∷ rest) o) (length before) ≡ Some
+    (reply_to a.now a.caller a.request (after before o))
 reply_at [] rest a o = refl
 reply_at (b ∷ before) rest a o = reply_at before rest a (next b o)
 
-pub told : (now : ℕ) (k : Caller) (r : Request) (o : Office) → k ≢ Desk → reply_to now k r o ≡ answer now k r (view k now o)
+pub told : (now : ℕ) (k : Caller) (r : Request) (o : Office) → k ≢ Desk →
+    reply_to now k r o ≡ answer now k r (view k now o)
 told now Public r o other = refl
 told now (Collector key) r o other = refl
 told now Desk r o other = absurd (other refl)
@@ -103,11 +113,13 @@ told now Desk r o other = absurd (other refl)
 pub replies_from_views : RepliesAreFromViews
 replies_from_views before rest a o s other =
     reply_at before rest a o
-    ∙ ap Some (told a.now a.caller a.request (after before o) other ∙ ap (answer a.now a.caller a.request) (rebuilt before o a.caller a.now s))
+    ∙ ap Some (told a.now a.caller a.request (after before o) other
+    ∙ ap (answer a.now a.caller a.request) (rebuilt before o a.caller a.now s))
 
 -- ---- releases
 
-module _ (o : Office) (s : IsSound o) (key : ReleaseKey) (r : Release) (there : row_at release_cmp release_key key o.releases ≡ Some r) where
+module _ (o : Office) (s : IsSound o) (key : ReleaseKey) (r : Release)
+    (there : row_at release_cmp release_key key o.releases ≡ Some r) where
   stays_after : (c : Change) → Fits c o → row_at release_cmp release_key key (changed c o).releases ≡ Some r
   stays_after (PutsItem i) h = there
   stays_after (PutsPlan p) h = there
@@ -117,9 +129,11 @@ module _ (o : Office) (s : IsSound o) (key : ReleaseKey) (r : Release) (there : 
   stays_after (Assigns b a) h = there
   stays_after (HandsOver n) h = there
   stays_after (Quotes b q) h = there
-  stays_after (Freezes n) h = row_at-put_found release_total release_key n o.releases s.releases (h.0 s.releases) key r there
+  stays_after (Freezes n) h = row_at-put_found release_total release_key n o.releases s.releases
+      (h.0 s.releases) key r there
 
-  stays_next : (v : Option Verdict) → Holds v o → row_at release_cmp release_key key (after_verdict v o).releases ≡ Some r
+  stays_next : (v : Option Verdict) → Holds v o →
+      row_at release_cmp release_key key (after_verdict v o).releases ≡ Some r
   stays_next None h = there
   stays_next (Some (Refuses f)) h = there
   stays_next (Some (Stands c)) h = there
@@ -128,4 +142,5 @@ module _ (o : Office) (s : IsSound o) (key : ReleaseKey) (r : Release) (there : 
 pub releases_stay : ReleasesStay
 releases_stay [] o s key r there = there
 releases_stay (a ∷ asks) o s key r there =
-    releases_stay asks (next a o) (next_sound a o s) key r (stays_next o s key r there (verdict a.now a.caller a.request o) (verdict_holds a.now o s a.caller a.request))
+    releases_stay asks (next a o) (next_sound a o s) key r
+    (stays_next o s key r there (verdict a.now a.caller a.request o) (verdict_holds a.now o s a.caller a.request))

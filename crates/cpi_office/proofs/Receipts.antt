@@ -22,41 +22,48 @@ use Rattle.cpi_office.specs.Verdicts.{with_verdict}
 use Rattle.cpi_office.specs.Receipts.{IsNew, stored}
 use Rattle.cpi_office.proofs.Failures.{if_holds}
 
-pub stored_is : (b : Bearer) (entry : EntryRow) (d : Result Decision EntryRefusal) (o : Office) → stored b d o ≡ with_verdict (decision_verdict b entry d) o
+pub stored_is : (b : Bearer) (entry : EntryRow) (d : Result Decision EntryRefusal) (o : Office) →
+    stored b d o ≡ with_verdict (decision_verdict b entry d) o
 stored_is b entry (Err f) o = refl
 stored_is b entry (Ok (Again receipt)) o = refl
 stored_is b entry (Ok (Put q)) o = refl
 
-module _ (entry : EntryRow) (own : OwnPart) (has : IsSome (at (λ a. a.assignment.slot) entry.slot own.assignments)) where
-  abbrev greatest : ℕ
-  greatest = greatest_receipt own.quotes
+module _ (entry : EntryRow) (own : OwnPart) (has : IsSome (at (λ a. a.assignment.slot) entry.slot own.assignments))
+  where
+    abbrev greatest : ℕ
+    greatest = greatest_receipt own.quotes
 
-  abbrev New : Result Decision EntryRefusal → Type 0
-  New d = IsNew d own
+    abbrev New : Result Decision EntryRefusal → Type 0
+    New d = IsNew d own
 
-  receipt_new : New (with_receipt entry greatest)
-  receipt_new = if_holds New (nat_le 1000000 greatest) _ _ (λ e. tt) (λ e. (omega arith, has))
+    receipt_new : New (with_receipt entry greatest)
+    receipt_new = if_holds New (nat_le 1000000 greatest) _ _ (λ e. tt) (λ e. (omega arith, has))
 
-  checked_new : (check : Result (Unit {0}) EntryRefusal) → New (once_checked entry check greatest)
-  checked_new (Ok _) = receipt_new
-  checked_new (Err f) = tt
+    checked_new : (check : Result (Unit {0}) EntryRefusal) → New (once_checked entry check greatest)
+    checked_new (Ok _) = receipt_new
+    checked_new (Err f) = tt
 
-  window_new : (now : ℕ) (row : CalendarPart) (a : Assignment) (check : Result (Unit {0}) EntryRefusal) → New (in_window now entry row a check greatest)
-  window_new now row a check =
-      if_holds New (is_active entry.month a) _ _ (λ e.
-      if_holds New (nat_lt now row.opens) _ _ (λ e. tt) (λ e.
-      if_holds New (nat_le row.closes now) _ _ (λ e. tt) (λ e. checked_new check))) (λ e. tt)
+    window_new : (now : ℕ) (row : CalendarPart) (a : Assignment) (check : Result (Unit {0}) EntryRefusal) →
+        New (in_window now entry row a check greatest)
+    window_new now row a check =
+        if_holds New (is_active entry.month a) _ _ (λ e.
+        if_holds New (nat_lt now row.opens) _ _ (λ e. tt) (λ e.
+        if_holds New (nat_le row.closes now) _ _ (λ e. tt) (λ e. checked_new check))) (λ e. tt)
 
-  month_new : (now : ℕ) (row : Option CalendarPart) (a : Assignment) (check : Result (Unit {0}) EntryRefusal) → New (in_month now entry row a check greatest)
-  month_new now None a check = tt
-  month_new now (Some row) a check = window_new now row a check
+    month_new : (now : ℕ) (row : Option CalendarPart) (a : Assignment) (check : Result (Unit {0}) EntryRefusal) →
+        New (in_month now entry row a check greatest)
+    month_new now None a check = tt
+    month_new now (Some row) a check = window_new now row a check
 
-  over_new : (now : ℕ) (row : Option CalendarPart) (a : Assignment) (q : Option QuoteRow) (check : Result (Unit {0}) EntryRefusal) → New (over_quote now entry row a q check greatest)
-  over_new now row a None check = month_new now row a check
-  over_new now row a (Some q) check = if_holds New (is_same_mark q.mark entry.mark) _ _ (λ same. tt) (λ other. month_new now row a check)
+    over_new : (now : ℕ) (row : Option CalendarPart) (a : Assignment) (q : Option QuoteRow)
+        (check : Result (Unit {0}) EntryRefusal) → New (over_quote now entry row a q check greatest)
+    over_new now row a None check = month_new now row a check
+    over_new now row a (Some q) check = if_holds New (is_same_mark q.mark entry.mark) _ _ (λ same. tt)
+        (λ other. month_new now row a check)
 
 -- a new quote has a receipt above all of its collector's, and its slot is the collector's
-pub decided_new : (now : ℕ) (entry : EntryRow) (public : PublicPart) (own : OwnPart) → IsNew (decided now entry public own) own
+pub decided_new : (now : ℕ) (entry : EntryRow) (public : PublicPart) (own : OwnPart) →
+    IsNew (decided now entry public own) own
 decided_new now entry public own = by (assignment_of entry.slot own) refl
   where
     by : (a : Option Assigned) → assignment_of entry.slot own ≡ a → IsNew (in_slot now entry public a own) own

@@ -15,7 +15,8 @@ use Rattle.cpi_office.specs.declared.reply.Reply.{Reply}
 use Rattle.cpi_office.specs.Releases.{KeepsReleases}
 use Rattle.cpi_office.proofs.Rebuilt.{rebuilt, told, releases_stay}
 
-pub run_rebuilt : (o u : Office) (asks : List Ask) (rs : List Reply) → IsSound o → IsRun o asks rs u → AreRebuilt o asks rs u
+pub run_rebuilt : (o u : Office) (asks : List Ask) (rs : List Reply) → IsSound o → IsRun o asks rs u →
+    AreRebuilt o asks rs u
 run_rebuilt o u asks rs s run k t = ap (view k t) run.office ∙ rebuilt (all_served asks rs) o k t s
 
 pub run_stays : (o u : Office) (asks : List Ask) (rs : List Reply) → IsSound o → IsRun o asks rs u → KeepsReleases o u
@@ -33,27 +34,35 @@ none_is x e = cc
 -- what is to be shown of the requests that are left, from the office as it is then
 abbrev RepliesIn : List Ask → List Reply → Office → Type 0
 RepliesIn asks rs u =
-    replies (all_served asks rs) u ≡ all_told rs → (m : ℕ) (a : Ask) (r : Reply) → slice_get asks m ≡ Some a → slice_get rs m ≡ Some r → IsFalse (is_failure r) →
+    replies (all_served asks rs) u ≡ all_told rs → (m : ℕ) (a : Ask) (r : Reply) → slice_get asks m ≡ Some a →
+    slice_get rs m ≡ Some r → IsFalse (is_failure r) →
     r ≡ reply_to a.now a.caller a.request (after (all_served (take m asks) (take m rs)) u)
 
 -- each reply in its place is that of the office after the requests before it
-pub reply_in : (o : Office) (asks : List Ask) (rs : List Reply) → replies (all_served asks rs) o ≡ all_told rs → (n : ℕ) (a : Ask) (r : Reply) → slice_get asks n ≡ Some a → slice_get rs n ≡ Some r → IsFalse (is_failure r) →
+pub reply_in : (o : Office) (asks : List Ask) (rs : List Reply) → replies (all_served asks rs) o ≡ all_told rs →
+    (n : ℕ) (a : Ask) (r : Reply) → slice_get asks n ≡ Some a → slice_get rs n ≡ Some r → IsFalse (is_failure r) →
     r ≡ reply_to a.now a.caller a.request (after (all_served (take n asks) (take n rs)) o)
 reply_in o [] rs run n a r asked said fine = none_is a asked
 reply_in o (b ∷ asks) [] run n a r asked said fine = none_is r said
-reply_in o (b ∷ asks) (s ∷ rs) run n a r asked said fine = by (is_failure s) refl n asked said (reply_in o asks rs) (reply_in (next b o) asks rs)
+reply_in o (b ∷ asks) (s ∷ rs) run n a r asked said fine = by (is_failure s) refl n asked said (reply_in o asks rs)
+    (reply_in (next b o) asks rs)
   where
-    by : (w : Bool) → is_failure s ≡ w → (n : ℕ) → slice_get (b ∷ asks) n ≡ Some a → slice_get (s ∷ rs) n ≡ Some r → RepliesIn asks rs o → RepliesIn asks rs (next b o) → r ≡ reply_to a.now a.caller a.request (after (all_served (take n (b ∷ asks)) (take n (s ∷ rs))) o)
+    by : (w : Bool) → is_failure s ≡ w → (n : ℕ) → slice_get (b ∷ asks) n ≡ Some a → slice_get (s ∷ rs) n ≡ Some r →
+        RepliesIn asks rs o → RepliesIn asks rs (next b o) →
+        r ≡ reply_to a.now a.caller a.request (after (all_served (take n (b ∷ asks)) (take n (s ∷ rs))) o)
     by true e zero asked said same on = absurd (false≢true (sym fine ∙ ap is_failure (sym (some_is s r said)) ∙ e))
     by false e zero asked said same on =
-        let first = same_heads (reply_to b.now b.caller b.request o) s (replies (all_served asks rs) (next b o)) (all_told rs) (rw e at run) in
+        let first = same_heads (reply_to b.now b.caller b.request o) s (replies (all_served asks rs) (next b o))
+        (all_told rs) (rw e at run) in
         sym (some_is s r said) ∙ sym first.0 ∙ ap (λ (x : Ask). reply_to x.now x.caller x.request o) (some_is b a asked)
     by true e (suc m) asked said same on = rw e (same (rw e at run) m a r asked said fine)
     by false e (suc m) asked said same on =
-        let first = same_heads (reply_to b.now b.caller b.request o) s (replies (all_served asks rs) (next b o)) (all_told rs) (rw e at run) in
+        let first = same_heads (reply_to b.now b.caller b.request o) s (replies (all_served asks rs) (next b o))
+        (all_told rs) (rw e at run) in
         rw e (on first.1 m a r asked said fine)
 
-pub run_from_views : (o u : Office) (asks : List Ask) (rs : List Reply) → IsSound o → IsRun o asks rs u → AreFromViews o asks rs
+pub run_from_views : (o u : Office) (asks : List Ask) (rs : List Reply) → IsSound o → IsRun o asks rs u →
+    AreFromViews o asks rs
 run_from_views o u asks rs s run n a r asked said fine other =
     let front = all_served (take n asks) (take n rs) in
     reply_in o asks rs run.answers n a r asked said fine

@@ -70,18 +70,32 @@ same_number x y e = eqb-true x y e
 
 pub item_equal : (a b : Item) → same_item a b ≡ true → a ≡ b
 item_equal a b e =
-    let h = both (a.code == b.code && same_text a.text b.text && same_text a.unit b.unit && a.low == b.low) (a.high == b.high) e in
+    let h = both (a.code == b.code && same_text a.text b.text && same_text a.unit b.unit && a.low == b.low)
+    (a.high == b.high) e in
     let i = both (a.code == b.code && same_text a.text b.text && same_text a.unit b.unit) (a.low == b.low) h.0 in
     let j = both (a.code == b.code && same_text a.text b.text) (same_text a.unit b.unit) i.0 in
     let k = both (a.code == b.code) (same_text a.text b.text) j.0 in
-    λ n. record { code = same_number a.code b.code k.0 n; text = text_equal a.text b.text k.1 n; unit = text_equal a.unit b.unit j.1 n; low = same_number a.low b.low i.1 n; high = same_number a.high b.high h.1 n }
+    λ n. record {
+      code = same_number a.code b.code k.0 n;
+      text = text_equal a.text b.text k.1 n;
+      unit =
+          text_equal a.unit b.unit j.1 n;
+      low = same_number a.low b.low i.1 n;
+      high = same_number a.high b.high h.1 n;
+    }
 
 pub calendar_equal : (a b : CalendarPart) → same_calendar a b ≡ true → a ≡ b
 calendar_equal a b e =
     let h = both (a.month == b.month && a.opens == b.opens && a.closes == b.closes) (a.publishes == b.publishes) e in
     let i = both (a.month == b.month && a.opens == b.opens) (a.closes == b.closes) h.0 in
     let j = both (a.month == b.month) (a.opens == b.opens) i.0 in
-    λ n. record { month = same_number a.month b.month j.0 n; opens = same_number a.opens b.opens j.1 n; closes = same_number a.closes b.closes i.1 n; publishes = same_number a.publishes b.publishes h.1 n }
+    λ n. record {
+      month = same_number a.month b.month j.0 n;
+      opens = same_number a.opens b.opens j.1 n;
+      closes =
+          same_number a.closes b.closes i.1 n;
+      publishes = same_number a.publishes b.publishes h.1 n;
+    }
 
 pub bearer_equal : (a b : Bearer) → same_bearer a b ≡ true → a ≡ b
 bearer_equal a b e =
@@ -97,7 +111,8 @@ price_equal (Some p) (Some q) e = ap Some (eqb-true p q e)
 pub assignment_equal : (a b : Assignment) → same_assignment a b ≡ true → a ≡ b
 assignment_equal a b e =
     let placed = a.slot == b.slot && a.outlet == b.outlet && a.item == b.item in
-    let g = both (placed && a.first_month == b.first_month && a.last_month == b.last_month) (same_price a.copied b.copied) e in
+    let g = both (placed && a.first_month == b.first_month && a.last_month == b.last_month)
+    (same_price a.copied b.copied) e in
     let h = both (placed && a.first_month == b.first_month) (a.last_month == b.last_month) g.0 in
     let i = both placed (a.first_month == b.first_month) h.0 in
     let j = both (a.slot == b.slot && a.outlet == b.outlet) (a.item == b.item) i.0 in
@@ -119,4 +134,8 @@ series_equal s t e =
 pub given_equal : (a b : Given) → same_given a b ≡ true → a ≡ b
 given_equal a b e =
     let h = both (same_assignment a.assignment b.assignment) (same_series a.series b.series) e in
-    λ n. record { assignment = assignment_equal a.assignment b.assignment h.0 n; series = series_equal a.series b.series h.1 n }
+    λ n. record {
+      assignment = assignment_equal a.assignment b.assignment h.0 n;
+      series =
+          series_equal a.series b.series h.1 n;
+    }

@@ -1,5 +1,6 @@
 -- A run goes on by one request.
-use Rattle.std.proofs.Common.{◌≡◌, false, inl, inr, List, [], ◌∷◌, ◌++◌, length, refl, sym, ap, ◌∙◌, arith, append_assoc}
+use Rattle.std.proofs.Common.{◌≡◌, false, inl, inr, List, [], ◌∷◌, ◌++◌, length, refl, sym, ap, ◌∙◌, arith}
+use Rattle.std.proofs.Common.{append_assoc}
 use Rattle.std.proofs.lemmas.List.{append-nil}
 use Rattle.cpi_store.specs.Office.{Office}
 use Rattle.cpi_office.specs.Runs.{replies, reply_to, after, next}
@@ -23,19 +24,22 @@ pub replies-append : (xs ys : List Ask) (o : Office) → replies (xs ++ ys) o �
 replies-append [] ys o = refl
 replies-append (x ∷ xs) ys o = ap (λ rs. reply_to x.now x.caller x.request o ∷ rs) (replies-append xs ys (next x o))
 
-served_more : (front : List Ask) (rs : List Reply) (a : Ask) (r : Reply) → length rs ≡ length front → all_served (front ++ a ∷ []) (rs ++ r ∷ []) ≡ all_served front rs ++ served a r
+served_more : (front : List Ask) (rs : List Reply) (a : Ask) (r : Reply) → length rs ≡ length front →
+    all_served (front ++ a ∷ []) (rs ++ r ∷ []) ≡ all_served front rs ++ served a r
 served_more [] [] a r e = append-nil (served a r)
 served_more [] (s ∷ rs) a r e = absurd (omega (arith, e))
 served_more (b ∷ front) [] a r e = absurd (omega (arith, e))
 served_more (b ∷ front) (s ∷ rs) a r e =
-    ap (λ xs. served b s ++ xs) (served_more front rs a r (omega (arith, e))) ∙ sym (append_assoc (served b s) (all_served front rs) (served a r))
+    ap (λ xs. served b s ++ xs) (served_more front rs a r (omega (arith, e)))
+    ∙ sym (append_assoc (served b s) (all_served front rs) (served a r))
 
 told_more : (rs : List Reply) (r : Reply) → all_told (rs ++ r ∷ []) ≡ all_told rs ++ told r
 told_more [] r = append-nil (told r)
 told_more (s ∷ rs) r = ap (λ xs. told s ++ xs) (told_more rs r) ∙ sym (append_assoc (told s) (all_told rs) (told r))
 
 module _ (o u w : Office) (front : List Ask) (rs : List Reply) (a : Ask) (r : Reply) where
-  pub run_more : length rs ≡ length front → IsRun o front rs u → replies (served a r) u ≡ told r → w ≡ after (served a r) u → IsRun o (front ++ a ∷ []) (rs ++ r ∷ []) w
+  pub run_more : length rs ≡ length front → IsRun o front rs u → replies (served a r) u ≡ told r →
+      w ≡ after (served a r) u → IsRun o (front ++ a ∷ []) (rs ++ r ∷ []) w
   run_more same so_far reply office = record {
     answers =
         ap (λ xs. replies xs o) (served_more front rs a r same)
@@ -56,12 +60,14 @@ pub run_sound : (o u : Office) (asks : List Ask) (rs : List Reply) → IsRun o a
 run_sound o u asks rs run s = rw run.office (sound_runs (all_served asks rs) o s)
 
 -- one call of the office is a run of the one request, or of none
-run_one : (a : Ask) (r : Reply) (o u : Office) → (r ≡ reply_to a.now a.caller a.request o) → (u ≡ next a o) → (replies (served a r) o ≡ told r) × (u ≡ after (served a r) o)
+run_one : (a : Ask) (r : Reply) (o u : Office) → (r ≡ reply_to a.now a.caller a.request o) → (u ≡ next a o) →
+    (replies (served a r) o ≡ told r) × (u ≡ after (served a r) o)
 run_one a r o u e f =
     let fair : is_failure r ≡ false = ap is_failure e ∙ never_failure a.now a.caller a.request o in
     rw fair (ap (λ x. x ∷ []) (sym e), f)
 
-run_none : (a : Ask) (r : Reply) (o u : Office) → (r ≡ Refused Unavailable) → (u ≡ o) → (replies (served a r) o ≡ told r) × (u ≡ after (served a r) o)
+run_none : (a : Ask) (r : Reply) (o u : Office) → (r ≡ Refused Unavailable) → (u ≡ o) →
+    (replies (served a r) o ≡ told r) × (u ≡ after (served a r) o)
 run_none a r o u e f = rw e (refl, f)
 
 -- of replies none of which fails, none of the first fails, and the last doesn't
@@ -73,16 +79,20 @@ none_before (s ∷ rs) r none = let rest = none_before rs r none.1 in ((none.0, 
 lasts_more : (old mid new : State Office) → Lasts old mid → Lasts mid new → Lasts old new
 lasts_more old mid new first then o left = by (then o left)
   where
-    before : new.held ≡ mid.held → (o ≡ mid.held) ⊎ ((mid.held ≡ old.held) × old.may_leave o) → (o ≡ new.held) ⊎ ((new.held ≡ old.held) × old.may_leave o)
+    before : new.held ≡ mid.held → (o ≡ mid.held) ⊎ ((mid.held ≡ old.held) × old.may_leave o) → (o ≡ new.held)
+        ⊎ ((new.held ≡ old.held) × old.may_leave o)
     before same (inl is) = inl (is ∙ sym same)
     before same (inr h) = inr (same ∙ h.0, h.1)
 
-    by : (o ≡ new.held) ⊎ ((new.held ≡ mid.held) × mid.may_leave o) → (o ≡ new.held) ⊎ ((new.held ≡ old.held) × old.may_leave o)
+    by : (o ≡ new.held) ⊎ ((new.held ≡ mid.held) × mid.may_leave o) → (o ≡ new.held)
+        ⊎ ((new.held ≡ old.held) × old.may_leave o)
     by (inl is) = inl is
     by (inr h) = before h.0 (first o h.1)
 
-pub ran_more : (old mid new : State Office) (front : List Ask) (rs : List Reply) (a : Ask) (r : Reply) → length rs ≡ length front → Ran old mid front rs →
-    ServesWhere mid new (IsSound mid.held) r (reply_to a.now a.caller a.request mid.held) (next a mid.held) → Ran old new (front ++ a ∷ []) (rs ++ r ∷ [])
+pub ran_more : (old mid new : State Office) (front : List Ask) (rs : List Reply) (a : Ask) (r : Reply) →
+    length rs ≡ length front → Ran old mid front rs →
+    ServesWhere mid new (IsSound mid.held) r (reply_to a.now a.caller a.request mid.held) (next a mid.held) →
+    Ran old new (front ++ a ∷ []) (rs ++ r ∷ [])
 ran_more old mid new front rs a r same ran serves = record {
   was_clean = λ clean. ran.was_clean (serves.was_clean clean);
   run = λ clean s.
@@ -94,6 +104,9 @@ ran_more old mid new front rs a r same ran serves = record {
       lasts_more old mid new (ran.lasts was s each.0) (serves.endures.answered each.1 clean);
 }
   where
-    by : IsServed r (reply_to a.now a.caller a.request mid.held) mid.held new.held (next a mid.held) → IsRun old.held front rs mid.held → IsRun old.held (front ++ a ∷ []) (rs ++ r ∷ []) new.held
-    by (inl h) so_far = let one = run_one a r mid.held new.held h.0 h.1 in run_more old.held mid.held new.held front rs a r same so_far one.0 one.1
-    by (inr h) so_far = let none = run_none a r mid.held new.held h.0 h.1 in run_more old.held mid.held new.held front rs a r same so_far none.0 none.1
+    by : IsServed r (reply_to a.now a.caller a.request mid.held) mid.held new.held (next a mid.held) →
+        IsRun old.held front rs mid.held → IsRun old.held (front ++ a ∷ []) (rs ++ r ∷ []) new.held
+    by (inl h) so_far = let one = run_one a r mid.held new.held h.0 h.1 in
+        run_more old.held mid.held new.held front rs a r same so_far one.0 one.1
+    by (inr h) so_far = let none = run_none a r mid.held new.held h.0 h.1 in
+        run_more old.held mid.held new.held front rs a r same so_far none.0 none.1

@@ -19,17 +19,23 @@ use Rattle.cpi_office.specs.declared.caller.Caller.TheVariants as caller
 use Rattle.cpi_office.specs.declared.request.Request.{Request}
 use Rattle.cpi_office.specs.declared.request.Request.TheVariants as request
 
-decision_stays : (b : Bearer) (entry : EntryRow) (d : Result Decision EntryRefusal) (o : Office) → IsTrue (is_refused (decision_reply d)) → after_verdict (Some (decision_verdict b entry d)) o ≡ o
+decision_stays : (b : Bearer) (entry : EntryRow) (d : Result Decision EntryRefusal) (o : Office) →
+    IsTrue (is_refused (decision_reply d)) → after_verdict (Some (decision_verdict b entry d)) o ≡ o
 decision_stays b entry (Err f) o refused = refl
 decision_stays b entry (Ok (Again receipt)) o refused = refl
 decision_stays b entry (Ok (Put q)) o refused = absurd (false≢true refused)
 
-entry_stays : (key now : ℕ) (entry : EntryRow) (v : View) (own : Option OwnView) (o : Office) → IsTrue (is_refused (known_answer now (request.Submit entry) v own)) → after_verdict (entered key now entry v own) o ≡ o
+entry_stays : (key now : ℕ) (entry : EntryRow) (v : View) (own : Option OwnView) (o : Office) →
+    IsTrue (is_refused (known_answer now (request.Submit entry) v own)) →
+    after_verdict (entered key now entry v own) o ≡ o
 entry_stays key now entry v None o refused = refl
-entry_stays key now entry v (Some own) o refused = decision_stays (record { number = own.number; key = key }) entry (decided now entry v.public own.part) o refused
+entry_stays key now entry v (Some own) o refused = decision_stays (record { number = own.number; key = key }) entry
+    (decided now entry v.public own.part) o refused
 
-pub collector_stays : (key now : ℕ) (r : Request) (o : Office) → IsTrue (is_refused (reply_to now (caller.Collector key) r o)) → after_one now (caller.Collector key) r o ≡ o
-collector_stays key now (request.Submit entry) o refused = entry_stays key now entry (view (caller.Collector key) now o) (view (caller.Collector key) now o).own o refused
+pub collector_stays : (key now : ℕ) (r : Request) (o : Office) →
+    IsTrue (is_refused (reply_to now (caller.Collector key) r o)) → after_one now (caller.Collector key) r o ≡ o
+collector_stays key now (request.Submit entry) o refused =
+    entry_stays key now entry (view (caller.Collector key) now o) (view (caller.Collector key) now o).own o refused
 collector_stays key now request.Items o refused = refl
 collector_stays key now request.Tables o refused = refl
 collector_stays key now (request.Table month form edition) o refused = refl

@@ -5,7 +5,7 @@ use Rattle.cpi_plan.specs.Plan.{Plan}
 use Rattle.cpi_plan.specs.Calendar.{CalendarPart}
 use Rattle.cpi_release.specs.FrozenMonths.{frozen_months, plan_for}
 use Rattle.cpi_release.specs.Releases.{release_of}
-use Rattle.cpi_release.specs.Publishing.{plan_of}
+use Rattle.cpi_release.specs.Releasing.{plan_of}
 use Rattle.cpi_release.specs.declared.release.Release.{Release}
 use Rattle.cpi_store.specs.Office.{Office}
 use Rattle.cpi_store.specs.Sound.{IsSound}

@@ -1,7 +1,7 @@
 -- What a request for a table is answered: the printed table that the index gives over what was frozen.
 use Rattle.std.specs.Prelude.{◌≡◌, ⊤, ℕ, IsFalse, IsSome, List, Option, Some, map, slice_get}
 use Rattle.cpi_release.specs.declared.form.Form.{Form}
-use Rattle.cpi_release.specs.Publishing.{all_published, freeze_of}
+use Rattle.cpi_release.specs.Releasing.{all_released, freeze_of}
 use Rattle.cpi_release.specs.PublishedTables.{PublishedTable, asked_table, published_until}
 use Rattle.cpi_store.specs.Bearer.{bearer_of}
 use Rattle.cpi_store.specs.Office.{Office}
@@ -19,7 +19,7 @@ use Rattle.cpi_office.specs.declared.request.Request.TheVariants.{Table}
 -- the tables that the index gives over the quotes and weights that were frozen, month by month, of which the moment of
 -- publishing has come
 abbrev pub computed_tables : ℕ → Office → List PublishedTable
-computed_tables now o = published_until now (all_published o.plans (map freeze_of o.releases))
+computed_tables now o = published_until now (all_released o.plans (map freeze_of o.releases))
 
 -- Of these the one of the month, printed: in the revision that is named, or else in the latest of them. Where there is
 -- none it is refused.

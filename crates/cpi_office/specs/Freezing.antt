@@ -1,6 +1,6 @@
 -- How a freeze is judged, from what was looked up: the months that were frozen, the calendar row, the plan of the year;
 -- and the release that is made of a month that may be frozen.
-use Rattle.std.specs.Prelude.{ℕ, Bool, false, not, is_some, nat_lt, List}
+use Rattle.std.specs.Prelude.{◌≡◌, ◌≢◌, ⊤, ℕ, Bool, false, not, is_some, nat_lt, List}
 use Rattle.std.specs.Prelude.{Option, Some, None, option_map, Result, Ok, Err}
 use Rattle.std.specs.Prelude.{if◌then◌else◌}
 use Rattle.std.specs.List.{list_any}
@@ -11,13 +11,16 @@ use Rattle.cpi_plan.specs.Plan.{Plan}
 use Rattle.cpi_plan.specs.Calendar.{CalendarPart}
 use Rattle.cpi_plan.specs.declared.plan_faults.PlanFault.TheVariants.{UnknownAggregate}
 use Rattle.cpi_index.specs.declared.fault.IndexFault.{IndexFault}
+use Rattle.cpi_index.specs.declared.fault.IndexFault.TheVariants.{NoMemory}
 use Rattle.cpi_release.specs.FrozenMonths.{stays_frozen, is_next, next_revision, frozen_months, plan_for, lacks_plan}
-use Rattle.cpi_release.specs.Publishing.{Freeze, published, fault_of}
+use Rattle.cpi_release.specs.Releasing.{Freeze, released, fault_of}
+use Rattle.cpi_release.specs.declared.freeze_fault.FreezeFault.{FreezeFault}
+use Rattle.cpi_release.specs.declared.freeze_fault.FreezeFault.TheVariants as fault
 use Rattle.cpi_release.specs.declared.frozen_month.FrozenMonth.{FrozenMonth}
 use Rattle.cpi_release.specs.declared.release.Release.{Release}
 use Rattle.cpi_store.specs.Office.{Office, Freezes, month_rows}
 use Rattle.cpi_office.specs.declared.refusal.Refusal.{Refusal}
-use Rattle.cpi_office.specs.declared.refusal.Refusal.TheVariants.{UnknownMonth, PlanFault, FreezeOrder}
+use Rattle.cpi_office.specs.declared.refusal.Refusal.TheVariants.{UnknownMonth, PlanFault, FreezeOrder, Unavailable}
 use Rattle.cpi_office.specs.declared.refusal.Refusal.TheVariants.{FreezeTooEarly, NoPlan, Index, MonthFrozen}
 use Rattle.cpi_office.specs.Verdicts.{Verdict, Refuses, Makes}
 
@@ -61,7 +64,19 @@ unless_fault None r = Ok r
 unless_fault (Some fault) r = Err fault
 
 abbrev pub made_release : Option Plan → List Release → Freeze → Result Release IndexFault
-made_release plan releases what = unless_fault (fault_of plan releases what) (published plan releases what)
+made_release plan releases what = unless_fault (fault_of plan releases what) (released plan releases what)
+
+-- what is made is the release or the fault that is wanted, want of memory and failed reads aside
+abbrev pub IsMade : Result Release IndexFault → Result Release FreezeFault → Type 0
+IsMade wanted (Ok release) = wanted ≡ Ok release
+IsMade wanted (Err fault.Group) = ⊤
+IsMade wanted (Err (fault.Index f)) = f ≢ NoMemory → wanted ≡ Err f
+
+-- how it is told that a month has no release
+abbrev pub fault_refusal : FreezeFault → Refusal
+fault_refusal fault.Group = Unavailable
+fault_refusal (fault.Index NoMemory) = Unavailable
+fault_refusal (fault.Index f) = Index f
 
 -- what is frozen of the row's month, in the revision that follows: its stored quotes as they are now
 abbrev pub frozen_with : ℕ → CalendarPart → List Code → Office → Freeze

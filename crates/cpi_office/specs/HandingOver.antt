@@ -1,5 +1,5 @@
 -- What becomes of a hand-over that the desk sends.
-use Rattle.std.specs.Prelude.{ℕ, ◌+◌, ◌-◌, ◌&&◌, ◌==◌, nat_lt, nat_le, not, Bool, false, List, Option, Some, None}
+use Rattle.std.specs.Prelude.{◌≡◌, ℕ, ◌+◌, ◌-◌, ◌&&◌, ◌==◌, nat_lt, nat_le, not, Bool, false, List, Option, Some, None}
 use Rattle.std.specs.Prelude.{Result, Ok, Err, if◌then◌else◌}
 use Rattle.cpi_rows.specs.Keyed.{at}
 use Rattle.cpi_rows.specs.Held.{held_by}
@@ -11,7 +11,7 @@ use Rattle.cpi_release.specs.FrozenMonths.{frozen_months, last_frozen}
 use Rattle.cpi_release.specs.declared.frozen_month.FrozenMonth.{FrozenMonth}
 use Rattle.cpi_store.specs.declared.bearer.Bearer.{Bearer}
 use Rattle.cpi_store.specs.declared.given.Given.{Given}
-use Rattle.cpi_store.specs.declared.handover.Handover.{Handover}
+use Rattle.cpi_store.specs.declared.series_move.SeriesMove.{SeriesMove}
 use Rattle.cpi_store.specs.Office.{Office, HandsOver, given_until}
 use Rattle.cpi_store.specs.Outlet.{with_name}
 use Rattle.cpi_store.specs.Series.{same_series}
@@ -30,13 +30,29 @@ taken_on h former quotes = record former {
 }
 
 -- what a hand-over does: the former slot ends with the month before, and the new one has this assignment
-abbrev pub handover_of : HandOver → Bearer → Bearer → Given → Assignment → Office → Handover
+abbrev pub handover_of : HandOver → Bearer → Bearer → Given → Assignment → Office → SeriesMove
 handover_of h b c former a o = record {
   former = b;
   ended = given_until (h.month - 1) former;
   taker = c;
   assigned = with_name o.outlets a;
 }
+
+-- ---- what is there
+
+-- both collectors are registered, with these keys
+pub record AreRegistered (former taker : Bearer) (o : Office) : Type 0 where
+  pub former_is : at (λ b. b.number) former.number o.collectors ≡ Some former
+  pub taker_is : at (λ b. b.number) taker.number o.collectors ≡ Some taker
+
+-- both collectors, and what the former one's slot was given
+pub record AreThere (h : HandOver) (former taker : Bearer) (given : Given) (o : Office) : Type 0 where
+  pub registered : AreRegistered former taker o
+  pub stands : at (λ g. g.assignment.slot) h.slot (held_by former.number o.assignments) ≡ Some given
+
+-- the new collector has nothing in the new slot
+abbrev pub IsFree : HandOver → Bearer → Office → Type 0
+IsFree h taker o = at (λ g. g.assignment.slot) h.new_slot (held_by taker.number o.assignments) ≡ None
 
 -- ---- a new slot that stands
 

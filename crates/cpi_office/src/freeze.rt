@@ -1,20 +1,15 @@
-ghost use Rattle.std.specs.Prelude.{◌≡◌, ◌≢◌, ◌≤◌, ℕ, true, Option, None, Some, Err, IfOk, IfErr, OnOk, OnErr, IsOk};
-ghost use Rattle.std.specs.Prelude.{IsErr, MatchResult, option_map};
+ghost use Rattle.std.specs.Prelude.{◌≡◌, ◌≢◌, ◌≤◌, ◌<◌, true, Err, IfOk, IfErr, IfSome, option_map};
 ghost use Rattle.std.specs.Option.{option_copied};
 ghost use Rattle.cpi_codes.specs.Month.{year_of};
 ghost use Rattle.cpi_rows.specs.Keyed.{at};
 ghost use Rattle.cpi_release.specs.FrozenMonths.{frozen_months, next_revision as revision_of};
 ghost use Rattle.cpi_release.specs.FrozenMonths.{is_next as next_after, is_after_first as after_first};
 ghost use Rattle.cpi_release.specs.FrozenMonths.{plan_for};
-ghost use Rattle.cpi_index.specs.declared.fault.IndexFault.{IndexFault};
-ghost use Rattle.cpi_index.specs.declared.fault.IndexFault.TheVariants.{NoMemory};
-ghost use Rattle.cpi_release.specs.Summed.{IsFreezeFault};
 ghost use Rattle.cpi_release.specs.declared.freeze_fault.FreezeFault.TheVariants.{Group};
-ghost use Rattle.cpi_release.specs.declared.release.Release.{Release};
-ghost use Rattle.cpi_release.specs.State.{Reads};
+ghost use Rattle.cpi_release.specs.State.{Reads, Keeps, StaysClean};
 ghost use Rattle.cpi_office.specs.Freezing.{frozen, freeze_judged, freeze_judged_in, plan_judged, carry_judged};
 ghost use Rattle.cpi_office.specs.Freezing.{has_weight as weighs, has_weightless as weightless_in};
-ghost use Rattle.cpi_office.specs.Freezing.{judged_release, release_verdict, unless_fault};
+ghost use Rattle.cpi_office.specs.Freezing.{judged_release, release_verdict, IsMade, fault_refusal};
 ghost use Rattle.cpi_store.specs.Sound.{IsSound};
 ghost use Rattle.cpi_office.specs.Verdicts.{with_verdict, verdict_reply};
 ghost use Rattle.cpi_office.specs.Calls.{ServesWhere};
@@ -46,7 +41,7 @@ pub fn freeze<B: Book>(
     match judge(book, now, month, carry.as_slice()) {
         Err(StoreFault) => Reply::Refused(Refusal::Unavailable),
         Ok(Err(refusal)) => Reply::Refused(refusal),
-        Ok(Ok(row)) => publish(alloc, book, now, row, carry),
+        Ok(Ok(row)) => release(alloc, book, now, row, carry),
     }
 }
 
@@ -194,7 +189,7 @@ fn next_revision(frozen: &[FrozenMonth], month: Month) -> Revision
 }
 
 /// Makes the release of a month that may be frozen, and puts it.
-fn publish<B: Book>(
+fn release<B: Book>(
     alloc: Global,
     book: &mut B,
     now: Moment,
@@ -210,12 +205,21 @@ fn publish<B: Book>(
         (verdict_reply v) (with_verdict v o) }
 {
     match make(alloc, book, now, row, carry) {
-        Ok(Ok(Ok(release))) => match book.put_release(release) {
+        Err(fault) => Reply::Refused(refusal_of(fault)),
+        Ok(release) => match book.put_release(release) {
             Ok(()) => Reply::Done,
             Err(StoreFault) => Reply::Refused(Refusal::Unavailable),
         },
-        Ok(Ok(Err(fault))) => Reply::Refused(Refusal::Index(fault)),
-        _ => Reply::Refused(Refusal::Unavailable),
+    }
+}
+
+/// How it is told that a month has no release.
+fn refusal_of(fault: FreezeFault) -> Refusal
+    ensures { result ≡ fault_refusal fault }
+{
+    match fault {
+        FreezeFault::Index(IndexFault::NoMemory) | FreezeFault::Group => Refusal::Unavailable,
+        FreezeFault::Index(fault) => Refusal::Index(fault),
     }
 }
 
@@ -227,37 +231,43 @@ fn make<B: Book>(
     now: Moment,
     row: CalendarRow,
     carry: Rows<Code>,
-) -> Result<Result<Result<Release, IndexFault>, AllocError>, StoreFault>
+) -> Result<Release, FreezeFault>
     requires next { (B.state book.old).is_clean →
         next_after row.month (frozen_months (B.state book.old).held.releases) ≡ true }
     requires few { (B.state book.old).is_clean →
         revision_of row.month (frozen_months (B.state book.old).held.releases) ≤ 9 }
-    ensures reads { let o = (B.state book.old).held in
-        Reads (B.state book.old) (B.state book.new) result (λ found.
-        IfOk found (λ made. IsSound o → made ≡ judged_release now carry o row)) }
-    ensures month { IfOk result (λ found. IfOk found (λ made. IfOk made (λ release. release.month ≡ row.month))) }
-    ensures revision { (B.state book.new).is_clean → IfOk result (λ found. IfOk found (λ made. IfOk made (λ release.
-        release.revision ≡ revision_of row.month (frozen_months (B.state book.old).held.releases)))) }
+    ensures keeps { Keeps (B.state book.old) (B.state book.new) }
+    ensures stays { result ≢ Err Group → StaysClean (B.state book.old) (B.state book.new) }
+    ensures count { (B.state book.old).failures ≤ (B.state book.new).failures }
+    ensures group { IfErr result (λ f. f ≡ Group → (B.state book.old).failures < (B.state book.new).failures) }
+    ensures made { let o = (B.state book.old).held in (B.state book.new).is_clean → IsSound o →
+        IsMade (judged_release now carry o row) result }
+    ensures month { IfOk result (λ release. release.month ≡ row.month) }
+    ensures revision { (B.state book.new).is_clean → IfOk result (λ release.
+        release.revision ≡ revision_of row.month (frozen_months (B.state book.old).held.releases)) }
 {
     let month = row.month();
     let publishes = row.publishes();
-    let Ok(Basis { plan, revision }) = find_basis(alloc, book, month)? else {
-        return Ok(Err(AllocError));
+    let basis = match find_basis(alloc, book, month) {
+        Ok(Some(basis)) => basis,
+        Ok(None) => return Err(FreezeFault::Index(IndexFault::NoMemory)),
+        Err(StoreFault) => return Err(FreezeFault::Group),
     };
-    let rows = book.month_rows(month)?;
+    let Ok(rows) = book.month_rows(month) else {
+        return Err(FreezeFault::Group);
+    };
     let carry = carry.into_vec();
-    let made = Release::compute_by_group(
+    Release::compute_by_group(
         alloc,
         book,
-        plan.as_ref(),
+        basis.plan.as_ref(),
         month,
-        revision,
+        basis.revision,
         now,
         publishes,
         rows,
         carry,
-    );
-    answer_made(made)
+    )
 }
 
 /// What the release of a month is made by: a copy of the plan of its year, none for the first release, and the
@@ -268,14 +278,15 @@ struct Basis {
     revision: Revision,
 }
 
+/// What the release of a month is made by; none where memory is refused.
 fn find_basis<B: Book>(
     alloc: Global,
     book: &mut B,
     month: Month,
-) -> Result<Result<Basis, AllocError>, StoreFault>
+) -> Result<Option<Basis>, StoreFault>
     ensures { let o = (B.state book.old).held in let frozen = frozen_months o.releases in
         Reads (B.state book.old) (B.state book.new) result (λ found.
-        IfOk found (λ basis. (basis.plan ≡ plan_for o.plans frozen month)
+        IfSome found (λ basis. (basis.plan ≡ plan_for o.plans frozen month)
         × (revision_of month frozen ≤ 9 → basis.revision ≡ revision_of month frozen))) }
 {
     let frozen = book.frozen_months()?;
@@ -283,17 +294,14 @@ fn find_basis<B: Book>(
     Ok(basis_in(alloc, &frozen, public, month))
 }
 
-fn basis_in(
-    alloc: Global,
-    frozen: &[FrozenMonth],
-    public: &Public,
-    month: Month,
-) -> Result<Basis, AllocError>
-    ensures { IfOk result (λ basis. (basis.plan ≡ plan_for public.now.plans frozen.now month)
+fn basis_in(alloc: Global, frozen: &[FrozenMonth], public: &Public, month: Month) -> Option<Basis>
+    ensures { IfSome result (λ basis. (basis.plan ≡ plan_for public.now.plans frozen.now month)
         × (revision_of month frozen.now ≤ 9 → basis.revision ≡ revision_of month frozen.now)) }
 {
-    let plan = copy_plan(alloc, frozen, public, month)?;
-    Ok(Basis {
+    let Ok(plan) = copy_plan(alloc, frozen, public, month) else {
+        return None;
+    };
+    Some(Basis {
         plan,
         revision: next_revision(frozen, month),
     })
@@ -313,52 +321,5 @@ fn copy_plan(
     match year_plan(public, month) {
         None => Ok(None),
         Some(plan) => Ok(Some(plan.copy(alloc)?)),
-    }
-}
-
-/// What the making of a release came to: failed reads and want of memory aside, the release or its fault.
-fn answer_made(
-    made: Result<Release, FreezeFault>,
-) -> Result<Result<Result<Release, IndexFault>, AllocError>, StoreFault>
-    ensures made { (fault : Option IndexFault) (release : Release) →
-        MatchResult made (λ r. (fault ≡ None) × (r ≡ release)) (IsFreezeFault fault) →
-        IfOk result (λ found. IfOk found (λ made. made ≡ unless_fault fault release)) }
-    ensures group { OnErr result (made ≡ Err Group) }
-    ensures read { OnOk result (made ≢ Err Group) }
-    ensures month { (month : ℕ) → IfOk made (λ r. r.month ≡ month) →
-        IfOk result (λ found. IfOk found (λ made. IfOk made (λ r. r.month ≡ month))) }
-    ensures revision { (revision : ℕ) → IfOk made (λ r. r.revision ≡ revision) →
-        IfOk result (λ found. IfOk found (λ made. IfOk made (λ r. r.revision ≡ revision))) }
-{
-    match made {
-        Ok(release) => Ok(Ok(Ok(release))),
-        Err(fault) => answer_fault(fault),
-    }
-}
-
-fn answer_fault(
-    fault: FreezeFault,
-) -> Result<Result<Result<Release, IndexFault>, AllocError>, StoreFault>
-    ensures fault { (wanted : Option IndexFault) → IsFreezeFault wanted fault →
-        IfOk result (λ found. IfOk found (λ made. IfErr made (λ f. wanted ≡ Some f))) }
-    ensures none { IfOk result (λ found. IfOk found (λ made. IsErr made)) }
-    ensures group { OnErr result (fault ≡ Group) }
-    ensures read { OnOk result (fault ≢ Group) }
-{
-    match fault {
-        FreezeFault::Index(fault) => answer_index(fault),
-        FreezeFault::Group => Err(StoreFault),
-    }
-}
-
-fn answer_index(
-    fault: IndexFault,
-) -> Result<Result<Result<Release, IndexFault>, AllocError>, StoreFault>
-    ensures made { IfOk result (λ found. IfOk found (λ made. (made ≡ Err fault) × (fault ≢ NoMemory))) }
-    ensures ok { IsOk result }
-{
-    match fault {
-        IndexFault::NoMemory => Ok(Err(AllocError)),
-        fault => Ok(Ok(Err(fault))),
     }
 }

@@ -3,14 +3,13 @@ ghost use Rattle.std.specs.Option.{option_copied};
 ghost use Rattle.cpi_rows.specs.Keyed.{at};
 ghost use Rattle.cpi_rows.specs.Held.{held_by};
 ghost use Rattle.cpi_release.specs.State.{Reads};
-ghost use Rattle.cpi_release.specs.FrozenMonths.{frozen_months, last_frozen};
+ghost use Rattle.cpi_release.specs.FrozenMonths.{frozen_months};
 ghost use Rattle.cpi_store.specs.Sound.{IsSound};
 ghost use Rattle.cpi_store.specs.Outlet.{with_name};
-ghost use Rattle.cpi_store.specs.Office.{changed, HandsOver, given_until as until};
+ghost use Rattle.cpi_store.specs.Office.{changed, HandsOver, given_until};
 ghost use Rattle.cpi_office.specs.HandingOver.{handed_over, over_collectors, over_slots, over_free, over_judged};
-ghost use Rattle.cpi_office.specs.HandingOver.{is_takeable as takeable_is};
-ghost use Rattle.cpi_office.specs.HandingOver.{judged_over, stands_over as stood_over, taken_on as made_of};
-ghost use Rattle.cpi_office.specs.HandingOver.{is_handed_within, is_not_after as comes_late};
+ghost use Rattle.cpi_office.specs.HandingOver.{judged_over, is_takeable, is_handed_within, is_not_after, taken_on};
+ghost use Rattle.cpi_office.specs.HandingOver.{stands_over, AreRegistered, AreThere, IsFree};
 ghost use Rattle.cpi_office.specs.Verdicts.{with_verdict, verdict_reply};
 ghost use Rattle.cpi_office.specs.Calls.{Serves, ServesWhere};
 
@@ -21,7 +20,7 @@ use crate::reply::Reply;
 use crate::request::HandOver;
 use cpi_codes::{CollectorId, Month};
 use cpi_release::FrozenMonth;
-use cpi_store::{Bearer, Book, Given, Handover, StoreFault};
+use cpi_store::{Bearer, Book, Given, SeriesMove, StoreFault};
 use cpi_survey::{Assignment, Own};
 use std::alloc::Global;
 
@@ -30,7 +29,7 @@ pub fn hand_over<B: Book>(alloc: Global, book: &mut B, what: HandOver) -> Reply
     ensures { let o = (B.state book.old).held in let v = handed_over what o in
         ServesWhere (B.state book.old) (B.state book.new) (IsSound o) result (verdict_reply v) (with_verdict v o) }
 {
-    if is_takeable(&what) {
+    if can_take(&what) {
         hand_over_between(alloc, book, what)
     } else {
         Reply::Refused(Refusal::BadRequest)
@@ -38,8 +37,8 @@ pub fn hand_over<B: Book>(alloc: Global, book: &mut B, what: HandOver) -> Reply
 }
 
 /// Whether the new collector's number and slot are within their limits, as they are by their types.
-fn is_takeable(what: &HandOver) -> bool
-    ensures { result ≡ takeable_is what.now }
+fn can_take(what: &HandOver) -> bool
+    ensures { result ≡ is_takeable what.now }
 {
     let number = what.to.number();
     let slot = what.new_slot.number();
@@ -86,10 +85,7 @@ fn hand_over_slot<B: Book>(
     former: Bearer,
     taker: Bearer,
 ) -> Reply
-    requires former { (B.state book.old).is_clean →
-        at (λ b. b.number) what.from (B.state book.old).held.collectors ≡ Some former }
-    requires taker { (B.state book.old).is_clean →
-        at (λ b. b.number) what.to (B.state book.old).held.collectors ≡ Some taker }
+    requires registered { (B.state book.old).is_clean → AreRegistered former taker (B.state book.old).held }
     ensures { let o = (B.state book.old).held in
         let v = over_slots what o former taker
         (at (λ g. g.assignment.slot) what.slot (held_by former.number o.assignments))
@@ -112,12 +108,7 @@ fn hand_over_given<B: Book>(
     taker: Bearer,
     given: Given,
 ) -> Reply
-    requires former { (B.state book.old).is_clean →
-        at (λ b. b.number) former.number (B.state book.old).held.collectors ≡ Some former }
-    requires taker { (B.state book.old).is_clean →
-        at (λ b. b.number) taker.number (B.state book.old).held.collectors ≡ Some taker }
-    requires stands { (B.state book.old).is_clean →
-        at (λ g. g.assignment.slot) what.slot (held_by former.number (B.state book.old).held.assignments) ≡ Some given }
+    requires there { (B.state book.old).is_clean → AreThere what former taker given (B.state book.old).held }
     ensures { let o = (B.state book.old).held in
         let v = over_slots what o former taker (Some given)
         (at (λ g. g.assignment.slot) what.new_slot (held_by taker.number o.assignments)) in
@@ -132,9 +123,9 @@ fn hand_over_given<B: Book>(
 
 /// Answers where the new slot stands: done where it took over this series in this month.
 fn answer_standing(what: HandOver, given: &Given, new: &Given) -> Reply
-    ensures { result ≡ (if stood_over what given.now new.now then Reply.Done else Reply.Refused Refusal.Taken) }
+    ensures { result ≡ (if stands_over what given.now new.now then Reply.Done else Reply.Refused Refusal.Taken) }
 {
-    if stands_over(what, given, new) {
+    if took_over(what, given, new) {
         Reply::Done
     } else {
         Reply::Refused(Refusal::Taken)
@@ -142,8 +133,8 @@ fn answer_standing(what: HandOver, given: &Given, new: &Given) -> Reply
 }
 
 /// Whether the new slot took this series over in this month, and the former one ended with the month before.
-fn stands_over(what: HandOver, given: &Given, new: &Given) -> bool
-    ensures { result ≡ stood_over what given.now new.now }
+fn took_over(what: HandOver, given: &Given, new: &Given) -> bool
+    ensures { result ≡ stands_over what given.now new.now }
 {
     new.series.collector == given.series.collector
         && new.series.slot == given.series.slot
@@ -160,14 +151,8 @@ fn hand_over_free<B: Book>(
     taker: Bearer,
     given: Given,
 ) -> Reply
-    requires former { (B.state book.old).is_clean →
-        at (λ b. b.number) former.number (B.state book.old).held.collectors ≡ Some former }
-    requires taker { (B.state book.old).is_clean →
-        at (λ b. b.number) taker.number (B.state book.old).held.collectors ≡ Some taker }
-    requires stands { (B.state book.old).is_clean →
-        at (λ g. g.assignment.slot) what.slot (held_by former.number (B.state book.old).held.assignments) ≡ Some given }
-    requires free { (B.state book.old).is_clean →
-        at (λ g. g.assignment.slot) what.new_slot (held_by taker.number (B.state book.old).held.assignments) ≡ None }
+    requires there { (B.state book.old).is_clean → AreThere what former taker given (B.state book.old).held }
+    requires free { (B.state book.old).is_clean → IsFree what taker (B.state book.old).held }
     ensures { let o = (B.state book.old).held in let v = over_free what o former taker given in
         ServesWhere (B.state book.old) (B.state book.new) (IsSound o) result (verdict_reply v) (with_verdict v o) }
 {
@@ -204,12 +189,12 @@ fn judge_by(
 {
     if !is_within(what, former) {
         Err(Refusal::NotActive)
-    } else if is_not_after(what.month, last(frozen)) {
+    } else if comes_late(what.month, last(frozen)) {
         Err(Refusal::MonthFrozen)
     } else if own.has_quotes_since(what.slot, what.month) {
         Err(Refusal::QuotesStand)
     } else {
-        Ok(taken_on(what, former, own))
+        Ok(take_on(what, former, own))
     }
 }
 
@@ -220,9 +205,9 @@ fn is_within(what: &HandOver, former: &Given) -> bool
     former.assignment.first_month < what.month && what.month <= former.assignment.last_month
 }
 
-/// Whether the month isn't after the last frozen one.
-fn is_not_after(month: Month, last: Option<&FrozenMonth>) -> bool
-    ensures { result ≡ comes_late month (option_copied last.entry) }
+/// Whether the month comes too late: it isn't after the last frozen one.
+fn comes_late(month: Month, last: Option<&FrozenMonth>) -> bool
+    ensures { result ≡ is_not_after month (option_copied last.entry) }
 {
     match last {
         None => false,
@@ -231,8 +216,8 @@ fn is_not_after(month: Month, last: Option<&FrozenMonth>) -> bool
 }
 
 /// The new assignment: as the former one is, from the month on, with the former one's last price.
-fn taken_on(what: &HandOver, former: &Given, own: &Own) -> Assignment
-    ensures { result ≡ made_of what.now former.now.assignment own.now.quotes }
+fn take_on(what: &HandOver, former: &Given, own: &Own) -> Assignment
+    ensures { result ≡ taken_on what.now former.now.assignment own.now.quotes }
 {
     let former = &former.assignment;
     Assignment {
@@ -255,15 +240,8 @@ fn put_over<B: Book>(
     given: Given,
     assignment: Assignment,
 ) -> Reply
-    requires former { (B.state book.old).is_clean →
-        at (λ b. b.number) former.number (B.state book.old).held.collectors ≡ Some former }
-    requires taker { (B.state book.old).is_clean →
-        at (λ b. b.number) taker.number (B.state book.old).held.collectors ≡ Some taker }
-    requires stands { (B.state book.old).is_clean →
-        at (λ g. g.assignment.slot) what.now.slot
-        (held_by former.number (B.state book.old).held.assignments) ≡ Some given }
-    requires free { (B.state book.old).is_clean → at (λ g. g.assignment.slot) assignment.slot
-        (held_by taker.number (B.state book.old).held.assignments) ≡ None }
+    requires there { (B.state book.old).is_clean → AreThere what.now former taker given (B.state book.old).held }
+    requires free { (B.state book.old).is_clean → IsFree what.now taker (B.state book.old).held }
     requires judged { (B.state book.old).is_clean → let o = (B.state book.old).held in
         judged_over what.now given.assignment (frozen_months o.releases) (held_by former.number o.quotes)
         ≡ Ok assignment }
@@ -275,8 +253,8 @@ fn put_over<B: Book>(
     };
     match name_outlet(alloc, book, assignment) {
         Ok(Ok(Some(assigned))) => {
-            let ended = given_until(given, last_month);
-            let handover = Handover {
+            let ended = end_given(given, last_month);
+            let handover = SeriesMove {
                 former,
                 ended,
                 taker,
@@ -289,13 +267,13 @@ fn put_over<B: Book>(
 }
 
 /// Stores both assignments.
-fn store_both<B: Book>(book: &mut B, handover: Handover) -> Reply
+fn store_both<B: Book>(book: &mut B, handover: SeriesMove) -> Reply
     requires former { (B.state book.old).is_clean →
         at (λ b. b.number) handover.former.number (B.state book.old).held.collectors ≡ Some handover.former }
     requires taker { (B.state book.old).is_clean →
         at (λ b. b.number) handover.taker.number (B.state book.old).held.collectors ≡ Some handover.taker }
     requires stands { (B.state book.old).is_clean →
-        option_map (until handover.ended.assignment.last_month) (at (λ g. g.assignment.slot)
+        option_map (given_until handover.ended.assignment.last_month) (at (λ g. g.assignment.slot)
         handover.ended.assignment.slot (held_by handover.former.number (B.state book.old).held.assignments))
         ≡ Some handover.ended }
     requires new { (B.state book.old).is_clean → at (λ g. g.assignment.slot) handover.assigned.assignment.slot
@@ -314,8 +292,8 @@ fn store_both<B: Book>(book: &mut B, handover: Handover) -> Reply
 }
 
 /// What a slot was given, with this last month.
-fn given_until(given: Given, last_month: Month) -> Given
-    ensures { result ≡ until last_month given }
+fn end_given(given: Given, last_month: Month) -> Given
+    ensures { result ≡ given_until last_month given }
 {
     let mut ended = given;
     ended.assignment.last_month = last_month;

@@ -30,7 +30,7 @@ pub fn views_are_rebuilt()
 /// Each table of a sound office is the index of what was frozen with it and before it, and it is what is told of it:
 /// whoever asks for a table is answered the printed form of the one that the definitions of the index give.
 ///
-/// A freeze takes the stored quotes of its month, each with its mark, and no others. Publishing what was frozen anew,
+/// A freeze takes the stored quotes of its month, each with its mark, and no others. Releasing what was frozen anew,
 /// month by month, gives the releases that stand; and whatever is asked, a release stays as it was frozen.
 pub fn tables_are_computed()
     ensures computed { ReleasesAreComputed }

@@ -1,9 +1,11 @@
 -- What is built of rows in order is built of the same rows in any order.
-use Rattle.std.proofs.Common.{◌≡◌, ℕ, cond, List, Option, Some, None, Result, Ok, Err, refl, sym, ap, ◌∙◌, ◌&&◌, not, ◌==◌}
+use Rattle.std.proofs.Common.{◌≡◌, ℕ, cond, List, Option, Some, None, Result, Ok, Err, refl, sym, ap, ◌∙◌, ◌&&◌, not}
+use Rattle.std.proofs.Common.{◌==◌}
 use Rattle.std.specs.Prelude.{option_map}
 use Rattle.std.specs.List.{list_any, list_all}
 use Rattle.std.specs.List.Sorted.{IsPermutation}
-use Rattle.std.proofs.lemmas.List.Sorted.{list_any-IsPermutation, sum_by-IsPermutation, IsPermutation-refl, IsPermutation-trans}
+use Rattle.std.proofs.lemmas.List.Sorted.{list_any-IsPermutation, sum_by-IsPermutation, IsPermutation-refl}
+use Rattle.std.proofs.lemmas.List.Sorted.{IsPermutation-trans}
 use Rattle.cpi_codes.specs.CodeOrder.{code_cmp, is_same, is_elementary}
 use Rattle.cpi_codes.specs.CodeText.{is_at_or_below}
 use Rattle.cpi_codes.specs.declared.codes.Code.{Code}
@@ -15,9 +17,13 @@ use Rattle.cpi_plan.specs.declared.plan_rows.Weight.{Weight}
 use Rattle.cpi_plan.specs.declared.plan_rows.Place.{Place}
 use Rattle.cpi_plan.specs.declared.plan_rows.Node.{Node}
 use Rattle.cpi_plan.specs.declared.plan_faults.PlanFault.{PlanFault}
-use Rattle.cpi_plan.specs.declared.plan_faults.PlanFault.TheVariants.{DuplicateCode, NotElementary, ZeroWeight, WeightSum, TitleMissing, UnknownItem, ItemTwice, UnknownAggregate, Reference, NoMemory}
+use Rattle.cpi_plan.specs.declared.plan_faults.PlanFault.TheVariants.{DuplicateCode, NotElementary, ZeroWeight}
+use Rattle.cpi_plan.specs.declared.plan_faults.PlanFault.TheVariants.{WeightSum, TitleMissing, UnknownItem, ItemTwice}
+use Rattle.cpi_plan.specs.declared.plan_faults.PlanFault.TheVariants.{UnknownAggregate, Reference, NoMemory}
 use Rattle.cpi_plan.specs.Sums.{is_node}
-use Rattle.cpi_plan.specs.Plan.{IsOnePlan, Body, Plan, IsBuilt, IsFirstFault, Passes2, Passes3, Passes4, Passes5, Passes6, Passes7, Passes8, Passes9, CodesOnce, are_elementary, has_zero, total, is_untitled, has_unplaced, row_of, node}
+use Rattle.cpi_plan.specs.Plan.{IsOnePlan, Body, Plan, IsBuilt, IsFirstFault, Passes2, Passes3, Passes4, Passes5}
+use Rattle.cpi_plan.specs.Plan.{Passes6, Passes7, Passes8, Passes9, CodesOnce, are_elementary, has_zero, total}
+use Rattle.cpi_plan.specs.Plan.{is_untitled, has_unplaced, row_of, node}
 use Rattle.cpi_plan.proofs.OnceLemmas.{once_from_order}
 use Rattle.cpi_plan.proofs.UnderLemmas.{any_agree}
 use Rattle.cpi_plan.proofs.MovedLemmas.{all_moved, weight_moved}
@@ -25,10 +31,17 @@ use Rattle.cpi_plan.proofs.NodeLemmas.{row_moved, plan_with}
 use Rattle.cpi_plan.proofs.SameLemmas.{same_rows}
 use Rattle.std.proofs.lemmas.Cmp.{nat_cmp_total as item-law}
 
-pub codes_once : (titles moved : List Title) (weights placed : List Weight) → IsPermutation titles moved → IsPermutation weights placed → IsInOrder code_cmp (λ t. t.code) moved → IsInOrder code_cmp (λ w. w.code) placed → CodesOnce titles weights
-codes_once titles moved weights placed m n s t = (once_from_order total-law (λ x. x.code) titles moved m s, once_from_order total-law (λ x. x.code) weights placed n t)
+pub codes_once : (titles moved : List Title) (weights placed : List Weight) → IsPermutation titles moved →
+    IsPermutation weights placed → IsInOrder code_cmp (λ t. t.code) moved → IsInOrder code_cmp (λ w. w.code) placed →
+    CodesOnce titles weights
+codes_once titles moved weights placed m n s t = (
+  once_from_order total-law (λ x. x.code) titles moved m s,
+  once_from_order total-law (λ x. x.code) weights placed n t,
+)
 
-module _ (year : ℕ) (known : List Item) (titles moved : List Title) (weights placed : List Weight) (places : List Place) (references : List ℕ) (m : IsPermutation titles moved) (n : IsPermutation weights placed) (s : IsInOrder code_cmp (λ t. t.code) moved) (t : IsInOrder code_cmp (λ w. w.code) placed) where
+module _ (year : ℕ) (known : List Item) (titles moved : List Title) (weights placed : List Weight)
+    (places : List Place) (references : List ℕ) (m : IsPermutation titles moved) (n : IsPermutation weights placed)
+    (s : IsInOrder code_cmp (λ t. t.code) moved) (t : IsInOrder code_cmp (λ w. w.code) placed) where
   abbrev given : Body
   given = record { known = known; titles = titles; weights = weights; places = places; references = references }
 
@@ -39,7 +52,8 @@ module _ (year : ℕ) (known : List Item) (titles moved : List Title) (weights p
   once = codes_once titles moved weights placed m n s t
 
   elementary : are_elementary weights places ≡ are_elementary placed places
-  elementary = ap (λ b. b && list_all (λ p. is_elementary p.aggregate) places) (all_moved (λ w. is_elementary w.code) weights placed n)
+  elementary = ap (λ b. b && list_all (λ p. is_elementary p.aggregate) places)
+      (all_moved (λ w. is_elementary w.code) weights placed n)
 
   zero : has_zero weights ≡ has_zero placed
   zero = list_any-IsPermutation (λ w. w.parts == 0) weights placed n
@@ -54,17 +68,21 @@ module _ (year : ℕ) (known : List Item) (titles moved : List Title) (weights p
   untitled q = rw (node_moved q, list_any-IsPermutation (λ x. is_same x.code q) titles moved m) refl
 
   unplaced : has_unplaced weights places ≡ has_unplaced placed places
-  unplaced = any_agree (λ p. not (list_any (λ w. is_same w.code p.aggregate) weights)) (λ p. not (list_any (λ w. is_same w.code p.aggregate) placed)) (λ p. ap not (list_any-IsPermutation (λ w. is_same w.code p.aggregate) weights placed n)) places
+  unplaced = any_agree (λ p. not (list_any (λ w. is_same w.code p.aggregate) weights))
+      (λ p. not (list_any (λ w. is_same w.code p.aggregate) placed))
+      (λ p. ap not (list_any-IsPermutation (λ w. is_same w.code p.aggregate) weights placed n)) places
 
   node_agree : (o : Option Title) → option_map (node placed) o ≡ option_map (node weights) o
   node_agree None = refl
-  node_agree (Some x) = ap (λ k. Some (record { code = x.code; title = x.title; weight = k })) (weight_moved x.code weights placed n)
+  node_agree (Some x) = ap (λ k. Some (record { code = x.code; title = x.title; weight = k }))
+      (weight_moved x.code weights placed n)
 
   row_agree : (q : Code) → row_of moved placed q ≡ row_of titles weights q
   row_agree q =
       ap (λ b. cond b (option_map (node placed) (row_at code_cmp (λ x. x.code) q moved)) None) (sym (node_moved q))
       ∙ ap (λ o. cond (is_node weights q) o None) (node_agree (row_at code_cmp (λ x. x.code) q moved))
-      ∙ ap (λ r. cond (is_node weights q) (option_map (node weights) r) None) (row_moved total-law (λ x. x.code) q titles moved m s)
+      ∙ ap (λ r. cond (is_node weights q) (option_map (node weights) r) None)
+      (row_moved total-law (λ x. x.code) q titles moved m s)
 
   pass2 : Passes2 ordered → Passes2 given
   pass2 p = (once, elementary ∙ p.1)
@@ -91,11 +109,15 @@ module _ (year : ℕ) (known : List Item) (titles moved : List Title) (weights p
   pass9 p = (pass8 p.0, p.1)
 
   fault_moved : (f : PlanFault) → IsFirstFault year f ordered → IsFirstFault year f given
-  fault_moved DuplicateCode h = absurd (h (codes_once moved moved placed placed (IsPermutation-refl moved) (IsPermutation-refl placed) s t))
+  fault_moved DuplicateCode h = absurd (h (codes_once moved moved placed placed (IsPermutation-refl moved)
+      (IsPermutation-refl placed) s t))
   fault_moved NotElementary h = (once, elementary ∙ h.1)
   fault_moved ZeroWeight h = (pass2 h.0, zero ∙ h.1)
   fault_moved (WeightSum found) h = (pass3 h.0, h.1 ∙ sum, h.2)
-  fault_moved (TitleMissing code) h = (pass4 h.0, (untitled code ∙ h.1.0, λ other w. h.1.1 other (sym (untitled other) ∙ w)))
+  fault_moved (TitleMissing code) h = (
+    pass4 h.0,
+    (untitled code ∙ h.1.0, λ other w. h.1.1 other (sym (untitled other) ∙ w)),
+  )
   fault_moved UnknownItem h = (pass5 h.0, h.1)
   fault_moved ItemTwice h = (pass6 h.0, h.1)
   fault_moved UnknownAggregate h = (pass7 h.0, unplaced ∙ h.1)
@@ -115,16 +137,24 @@ module _ (year : ℕ) (known : List Item) (titles moved : List Title) (weights p
   )
   built_moved (Err f) h = fault_moved f h
 
-parts_are : (y z : ℕ) (ws vs : List Weight) (ps qs : List Place) (r s : Option ℕ) (ns ms : List Node) → y ≡ z → ws ≡ vs → ps ≡ qs → r ≡ s → ns ≡ ms → plan_with y ws ps r ns ≡ plan_with z vs qs s ms
+parts_are : (y z : ℕ) (ws vs : List Weight) (ps qs : List Place) (r s : Option ℕ) (ns ms : List Node) → y ≡ z →
+    ws ≡ vs → ps ≡ qs → r ≡ s → ns ≡ ms → plan_with y ws ps r ns ≡ plan_with z vs qs s ms
 parts_are y z ws vs ps qs r s ns ms a b c d e = rw (a, b, c, d, e) refl
 
-pub plan_is : (p q : Plan) → p.year ≡ q.year → p.nodes ≡ q.nodes → p.weights ≡ q.weights → p.places ≡ q.places → p.reference ≡ q.reference → p ≡ q
-plan_is p q a b c d e = parts_are p.year q.year p.weights q.weights p.places q.places p.reference q.reference p.nodes q.nodes a c d e b
+pub plan_is : (p q : Plan) → p.year ≡ q.year → p.nodes ≡ q.nodes → p.weights ≡ q.weights → p.places ≡ q.places →
+    p.reference ≡ q.reference → p ≡ q
+plan_is p q a b c d e = parts_are p.year q.year p.weights q.weights p.places q.places p.reference q.reference p.nodes
+    q.nodes a c d e b
 
 pub one_plan : (year : ℕ) (b : Body) → IsOnePlan year b
 one_plan year b p q v w f g =
     plan_is p q (f.of_year ∙ sym g.of_year)
-    (same_rows total-law (λ n. n.code) p.nodes q.nodes v.nodes_in_order w.nodes_in_order (λ k. f.has_nodes k ∙ sym (g.has_nodes k)))
-    (same_rows total-law (λ x. x.code) p.weights q.weights v.weights_in_order w.weights_in_order (λ k. row_moved total-law (λ x. x.code) k b.weights p.weights f.has_weights v.weights_in_order ∙ sym (row_moved total-law (λ x. x.code) k b.weights q.weights g.has_weights w.weights_in_order)))
-    (same_rows item-law (λ x. x.item) p.places q.places v.places_in_order w.places_in_order (λ k. row_moved item-law (λ x. x.item) k b.places p.places f.has_places v.places_in_order ∙ sym (row_moved item-law (λ x. x.item) k b.places q.places g.has_places w.places_in_order)))
+    (same_rows total-law (λ n. n.code) p.nodes q.nodes v.nodes_in_order w.nodes_in_order
+    (λ k. f.has_nodes k ∙ sym (g.has_nodes k)))
+    (same_rows total-law (λ x. x.code) p.weights q.weights v.weights_in_order w.weights_in_order
+    (λ k. row_moved total-law (λ x. x.code) k b.weights p.weights f.has_weights v.weights_in_order
+    ∙ sym (row_moved total-law (λ x. x.code) k b.weights q.weights g.has_weights w.weights_in_order)))
+    (same_rows item-law (λ x. x.item) p.places q.places v.places_in_order w.places_in_order
+    (λ k. row_moved item-law (λ x. x.item) k b.places p.places f.has_places v.places_in_order
+    ∙ sym (row_moved item-law (λ x. x.item) k b.places q.places g.has_places w.places_in_order)))
     (f.has_reference ∙ sym g.has_reference)

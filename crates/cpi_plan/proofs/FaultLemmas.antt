@@ -9,8 +9,11 @@ use Rattle.cpi_codes.specs.contracts.codes.CodeOrd.TheImpl.Laws.{total-law}
 use Rattle.cpi_codes.proofs.CodeIs.{same_code_is}
 use Rattle.cpi_codes.proofs.CodePath.{same_part, is_eq-parts}
 use Rattle.cpi_plan.specs.declared.plan_faults.PlanFault.{PlanFault}
-use Rattle.cpi_plan.specs.declared.plan_faults.PlanFault.TheVariants.{DuplicateCode, NotElementary, ZeroWeight, WeightSum, TitleMissing, UnknownItem, ItemTwice, UnknownAggregate, Reference, NoMemory}
-use Rattle.cpi_plan.specs.Plan.{Body, IsFirstFault, CodesOnce, Passes2, Passes3, Passes4, Passes5, Passes6, Passes7, Passes8}
+use Rattle.cpi_plan.specs.declared.plan_faults.PlanFault.TheVariants.{DuplicateCode, NotElementary, ZeroWeight}
+use Rattle.cpi_plan.specs.declared.plan_faults.PlanFault.TheVariants.{WeightSum, TitleMissing, UnknownItem, ItemTwice}
+use Rattle.cpi_plan.specs.declared.plan_faults.PlanFault.TheVariants.{UnknownAggregate, Reference, NoMemory}
+use Rattle.cpi_plan.specs.Plan.{Body, IsFirstFault, CodesOnce, Passes2, Passes3, Passes4, Passes5, Passes6, Passes7}
+use Rattle.cpi_plan.specs.Plan.{Passes8}
 use Rattle.cpi_plan.proofs.UnderLemmas.{number_is, part_is, and_first, and_second}
 
 -- codes that compare equal are one code
@@ -20,7 +23,11 @@ equal_is n q h =
     let rest = and_second (q.division == n.division) _ parts in
     let third = and_second (same_part q.group n.group) _ rest in
     let fourth = and_second (same_part q.class n.class) _ third in
-    sym (same_code_is q n (number_is q.division n.division (and_first (q.division == n.division) _ parts)) (part_is q.group n.group (and_first (same_part q.group n.group) _ rest)) (part_is q.class n.class (and_first (same_part q.class n.class) _ third)) (part_is q.subclass n.subclass (and_first (same_part q.subclass n.subclass) _ fourth)) (part_is q.aggregate n.aggregate (and_second (same_part q.subclass n.subclass) _ fourth)))
+    sym (same_code_is q n (number_is q.division n.division (and_first (q.division == n.division) _ parts))
+    (part_is q.group n.group (and_first (same_part q.group n.group) _ rest))
+    (part_is q.class n.class (and_first (same_part q.class n.class) _ third))
+    (part_is q.subclass n.subclass (and_first (same_part q.subclass n.subclass) _ fourth))
+    (part_is q.aggregate n.aggregate (and_second (same_part q.subclass n.subclass) _ fourth)))
 
 pub level : (s t : Ordering) → s ≡ ordering_reverse t → is_gt s ≡ false → is_gt t ≡ false → is_eq s ≡ true
 level Equal t e f g = refl
@@ -57,7 +64,8 @@ module _ (year : ℕ) (b : Body) where
   clash8 : IsFirstFault year UnknownAggregate b → Passes8 b → ⊥
   clash8 h p = true_false (sym h.1 ∙ p.1)
 
-  pub one_fault : (f g : PlanFault) → f ≢ NoMemory → g ≢ NoMemory → IsFirstFault year f b → IsFirstFault year g b → f ≡ g
+  pub one_fault : (f g : PlanFault) → f ≢ NoMemory → g ≢ NoMemory → IsFirstFault year f b → IsFirstFault year g b →
+      f ≡ g
   one_fault NoMemory g p q h k = absurd (p refl)
   one_fault DuplicateCode NoMemory p q h k = absurd (q refl)
   one_fault DuplicateCode DuplicateCode p q h k = refl
@@ -104,7 +112,9 @@ module _ (year : ℕ) (b : Body) where
   one_fault (TitleMissing m) NotElementary p q h k = absurd (clash2 k h.0.0.0)
   one_fault (TitleMissing m) ZeroWeight p q h k = absurd (clash3 k h.0.0)
   one_fault (TitleMissing m) (WeightSum n) p q h k = absurd (clash4 n k h.0)
-  one_fault (TitleMissing m) (TitleMissing n) p q h k = ap (λ x. TitleMissing x) (equal_is m n (level (code_cmp m n) (code_cmp n m) (total-law.antisymm m n) (h.1.1 n k.1.0) (k.1.1 m h.1.0)))
+  one_fault (TitleMissing m) (TitleMissing n) p q h k =
+      ap (λ x. TitleMissing x) (equal_is m n (level (code_cmp m n) (code_cmp n m) (total-law.antisymm m n)
+      (h.1.1 n k.1.0) (k.1.1 m h.1.0)))
   one_fault (TitleMissing m) UnknownItem p q h k = absurd (clash5 m h k.0)
   one_fault (TitleMissing m) ItemTwice p q h k = absurd (clash5 m h k.0.0)
   one_fault (TitleMissing m) UnknownAggregate p q h k = absurd (clash5 m h k.0.0.0)

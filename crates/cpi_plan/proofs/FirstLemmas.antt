@@ -1,5 +1,6 @@
 -- The first code of a map of sums that has no title.
-use Rattle.std.proofs.Common.{◌≡◌, ℕ, ◌<◌, Bool, true, false, cond, List, [], ◌∷◌, Some, unwrap_or, refl, sym, ap, ◌∙◌, arith, ◌&&◌}
+use Rattle.std.proofs.Common.{◌≡◌, ℕ, ◌<◌, Bool, true, false, cond, List, [], ◌∷◌, Some, unwrap_or, refl, sym, ap, ◌∙◌}
+use Rattle.std.proofs.Common.{arith, ◌&&◌}
 use Rattle.std.proofs.lemmas.Bool.Decides.{nat_tests}
 use Rattle.std.specs.Prelude.{nat_lt}
 use Rattle.std.specs.declared.cmp.Ordering.{Ordering}
@@ -22,7 +23,8 @@ use Rattle.cpi_plan.proofs.UnderLemmas.{any_agree}
 
 -- what is asked for is still to come
 abbrev pub Ahead : BTreeMap Code ℕ → List Title → List (Code × ℕ) → Type 0
-Ahead sums titles es = (q : Code) → is_without sums titles q ≡ true → unwrap_or (lookup (λ k. is_eq (code_cmp q k)) es) 0 ≡ sum_at sums q
+Ahead sums titles es = (q : Code) → is_without sums titles q ≡ true →
+    unwrap_or (lookup (λ k. is_eq (code_cmp q k)) es) 0 ≡ sum_at sums q
 
 true_false : true ≡ false → ⊥
 true_false e = cc
@@ -30,36 +32,56 @@ true_false e = cc
 positive : (n : ℕ) (b : Bool) → (nat_lt 0 n && b) ≡ true → 0 < n
 positive n b h = grind (arith, nat_tests)
 
-found_above : (k q : Code) (es : List (Code × ℕ)) → AllByRecursion (λ y. code_cmp k y ≡ Less) (keys_of es) → 0 < unwrap_or (lookup (λ y. is_eq (code_cmp q y)) es) 0 → code_cmp k q ≡ Less
+found_above : (k q : Code) (es : List (Code × ℕ)) → AllByRecursion (λ y. code_cmp k y ≡ Less) (keys_of es) →
+    0 < unwrap_or (lookup (λ y. is_eq (code_cmp q y)) es) 0 → code_cmp k q ≡ Less
 found_above k q [] above h = absurd (omega arith)
 found_above k q (e ∷ es) above h = by (code_cmp q e.0) refl h (λ t. found_above k q es above.1 t)
   where
-    by : (s : Ordering) → code_cmp q e.0 ≡ s → 0 < unwrap_or (cond (is_eq s) (Some e.1) (lookup (λ y. is_eq (code_cmp q y)) es)) 0 → (0 < unwrap_or (lookup (λ y. is_eq (code_cmp q y)) es) 0 → code_cmp k q ≡ Less) → code_cmp k q ≡ Less
+    by : (s : Ordering) → code_cmp q e.0 ≡ s → 0 < unwrap_or
+        (cond (is_eq s) (Some e.1) (lookup (λ y. is_eq (code_cmp q y)) es)) 0 →
+        (0 < unwrap_or (lookup (λ y. is_eq (code_cmp q y)) es) 0 → code_cmp k q ≡ Less) → code_cmp k q ≡ Less
     by Less p h rest = rest h
     by Equal p h rest = alike_right total-law q e.0 k p ∙ above.0
     by Greater p h rest = rest h
 
 pub same_sum : (sums : BTreeMap Code ℕ) (q k : Code) → code_cmp q k ≡ Equal → sum_at sums q ≡ sum_at sums k
-same_sum sums q k p = ap (λ o. unwrap_or o 0) (lookup_agree (λ e. is_eq (code_cmp q e)) (λ e. is_eq (code_cmp k e)) (λ e. ap is_eq (total-law.congr q k e p)) sums.entries)
+same_sum sums q k p = ap (λ o. unwrap_or o 0)
+    (lookup_agree (λ e. is_eq (code_cmp q e)) (λ e. is_eq (code_cmp k e))
+    (λ e. ap is_eq (total-law.congr q k e p)) sums.entries)
 
-pub same_without : (sums : BTreeMap Code ℕ) (titles : List Title) (q k : Code) → code_cmp q k ≡ Equal → is_without sums titles q ≡ is_without sums titles k
+pub same_without : (sums : BTreeMap Code ℕ) (titles : List Title) (q k : Code) → code_cmp q k ≡ Equal →
+    is_without sums titles q ≡ is_without sums titles k
 same_without sums titles q k p =
-    let sum : sum_at sums q ≡ sum_at sums k = ap (λ o. unwrap_or o 0) (lookup_agree (λ e. is_eq (code_cmp q e)) (λ e. is_eq (code_cmp k e)) (λ e. ap is_eq (total-law.congr q k e p)) sums.entries) in
-    let any : list_any (λ t. is_same t.code q) titles ≡ list_any (λ t. is_same t.code k) titles = any_agree (λ t. is_same t.code q) (λ t. is_same t.code k) (λ t. ap is_eq (alike_right total-law q k t.code p)) titles in
+    let sum : sum_at sums q ≡ sum_at sums k = ap (λ o. unwrap_or o 0)
+    (lookup_agree (λ e. is_eq (code_cmp q e)) (λ e. is_eq (code_cmp k e))
+    (λ e. ap is_eq (total-law.congr q k e p)) sums.entries) in
+    let any : list_any (λ t. is_same t.code q) titles ≡ list_any (λ t. is_same t.code k) titles =
+    any_agree (λ t. is_same t.code q) (λ t. is_same t.code k) (λ t. ap is_eq (alike_right total-law q k t.code p))
+    titles in
     rw (sum, any) refl
 
-pub first_at : (sums : BTreeMap Code ℕ) (titles : List Title) (k : Code) (v : ℕ) (es : List (Code × ℕ)) → IsStrictlySortedBy code_cmp (keys_of ((k, v) ∷ es)) → Ahead sums titles ((k, v) ∷ es) → is_without sums titles k ≡ true → IsFirst (is_without sums titles) k
-first_at sums titles k v es rising ahead here = (here, λ other wanted. by other wanted (code_cmp other k) refl (ahead other wanted))
+pub first_at : (sums : BTreeMap Code ℕ) (titles : List Title) (k : Code) (v : ℕ) (es : List (Code × ℕ)) →
+    IsStrictlySortedBy code_cmp (keys_of ((k, v) ∷ es)) → Ahead sums titles ((k, v) ∷ es) →
+    is_without sums titles k ≡ true → IsFirst (is_without sums titles) k
+first_at sums titles k v es rising ahead here =
+    (here, λ other wanted. by other wanted (code_cmp other k) refl (ahead other wanted))
   where
-    by : (other : Code) → is_without sums titles other ≡ true → (s : Ordering) → code_cmp other k ≡ s → unwrap_or (cond (is_eq s) (Some v) (lookup (λ y. is_eq (code_cmp other y)) es)) 0 ≡ sum_at sums other → is_gt (code_cmp k other) ≡ false
+    by : (other : Code) → is_without sums titles other ≡ true → (s : Ordering) → code_cmp other k ≡ s →
+        unwrap_or (cond (is_eq s) (Some v) (lookup (λ y. is_eq (code_cmp other y)) es)) 0 ≡ sum_at sums other →
+        is_gt (code_cmp k other) ≡ false
     by other wanted Equal p h = ap is_gt (total-law.antisymm k other ∙ ap ordering_reverse p)
-    by other wanted Less p h = ap is_gt (found_above k other es (sorted_head code_cmp k (keys_of es) rising) (omega (arith, h, positive (sum_at sums other) _ wanted)))
-    by other wanted Greater p h = ap is_gt (found_above k other es (sorted_head code_cmp k (keys_of es) rising) (omega (arith, h, positive (sum_at sums other) _ wanted)))
+    by other wanted Less p h = ap is_gt (found_above k other es (sorted_head code_cmp k (keys_of es) rising)
+        (omega (arith, h, positive (sum_at sums other) _ wanted)))
+    by other wanted Greater p h = ap is_gt (found_above k other es (sorted_head code_cmp k (keys_of es) rising)
+        (omega (arith, h, positive (sum_at sums other) _ wanted)))
 
-pub ahead_after : (sums : BTreeMap Code ℕ) (titles : List Title) (k : Code) (v : ℕ) (es : List (Code × ℕ)) → Ahead sums titles ((k, v) ∷ es) → is_without sums titles k ≡ false → Ahead sums titles es
+pub ahead_after : (sums : BTreeMap Code ℕ) (titles : List Title) (k : Code) (v : ℕ) (es : List (Code × ℕ)) →
+    Ahead sums titles ((k, v) ∷ es) → is_without sums titles k ≡ false → Ahead sums titles es
 ahead_after sums titles k v es ahead here = λ q wanted. by q wanted (code_cmp q k) refl (ahead q wanted)
   where
-    by : (q : Code) → is_without sums titles q ≡ true → (s : Ordering) → code_cmp q k ≡ s → unwrap_or (cond (is_eq s) (Some v) (lookup (λ y. is_eq (code_cmp q y)) es)) 0 ≡ sum_at sums q → unwrap_or (lookup (λ y. is_eq (code_cmp q y)) es) 0 ≡ sum_at sums q
+    by : (q : Code) → is_without sums titles q ≡ true → (s : Ordering) → code_cmp q k ≡ s →
+        unwrap_or (cond (is_eq s) (Some v) (lookup (λ y. is_eq (code_cmp q y)) es)) 0 ≡ sum_at sums q →
+        unwrap_or (lookup (λ y. is_eq (code_cmp q y)) es) 0 ≡ sum_at sums q
     by q wanted Equal p h = absurd (true_false (sym wanted ∙ same_without sums titles q k p ∙ here))
     by q wanted Less p h = h
     by q wanted Greater p h = h

@@ -1,5 +1,6 @@
 -- The first untitled code is the least of those on the paths.
-use Rattle.std.proofs.Common.{◌≡◌, Bool, true, false, cond, List, [], ◌∷◌, filter, Option, Some, None, refl, sym, ap, ◌∙◌, subst, ◌&&◌, ◌||◌}
+use Rattle.std.proofs.Common.{◌≡◌, Bool, true, false, cond, List, [], ◌∷◌, filter, Option, Some, None, refl, sym, ap}
+use Rattle.std.proofs.Common.{◌∙◌, subst, ◌&&◌, ◌||◌}
 use Rattle.std.specs.declared.cmp.Ordering.{Ordering}
 use Rattle.std.specs.declared.cmp.Ordering.TheVariants.{Less, Equal, Greater}
 use Rattle.std.specs.Ordering.{is_gt, ordering_reverse}
@@ -31,7 +32,8 @@ NotAfter k None = ⊥
 NotAfter k (Some m) = is_gt (code_cmp m k) ≡ false
 
 module _ (p : Code → Bool) where
-  lesser_passes : (c : Code) (o : Option Code) (m : Code) → p c ≡ true → ((d : Code) → o ≡ Some d → p d ≡ true) → lesser c o ≡ m → p m ≡ true
+  lesser_passes : (c : Code) (o : Option Code) (m : Code) → p c ≡ true → ((d : Code) → o ≡ Some d → p d ≡ true) →
+      lesser c o ≡ m → p m ≡ true
   lesser_passes c None m pc po e = ap p (sym e) ∙ pc
   lesser_passes c (Some d) m pc po e = by (is_gt (code_cmp c d)) e
     where
@@ -43,8 +45,10 @@ module _ (p : Code → Bool) where
   first_passes [] m e = cc
   first_passes (c ∷ cs) m e = by (p c) refl (λ d f. first_passes cs d f) e
     where
-      by : (b : Bool) → p c ≡ b → ((d : Code) → first_of (filter p cs) ≡ Some d → p d ≡ true) → first_of (cond b (c ∷ filter p cs) (filter p cs)) ≡ Some m → p m ≡ true
-      by true pc rest e = let least : lesser c (first_of (filter p cs)) ≡ m = cc in lesser_passes c (first_of (filter p cs)) m pc rest least
+      by : (b : Bool) → p c ≡ b → ((d : Code) → first_of (filter p cs) ≡ Some d → p d ≡ true) →
+          first_of (cond b (c ∷ filter p cs) (filter p cs)) ≡ Some m → p m ≡ true
+      by true pc rest e = let least : lesser c (first_of (filter p cs)) ≡ m = cc in
+          lesser_passes c (first_of (filter p cs)) m pc rest least
       by false pc rest e = rest m e
 
 gt_self : (c : Code) → is_gt (code_cmp c c) ≡ false
@@ -59,15 +63,18 @@ not_after : (a b : Code) → is_gt (code_cmp a b) ≡ true → is_gt (code_cmp b
 not_after a b h = flip (code_cmp b a) (code_cmp a b) (total-law.antisymm b a) h
 
 -- at most as great as one that is at most as great as a third
-at_most : (s t u : Ordering) → is_gt s ≡ false → is_gt t ≡ false → (s ≡ Equal → u ≡ t) → (t ≡ Equal → s ≡ u) → (s ≡ Less → t ≡ Less → u ≡ Less) → is_gt u ≡ false
+at_most : (s t u : Ordering) → is_gt s ≡ false → is_gt t ≡ false → (s ≡ Equal → u ≡ t) → (t ≡ Equal → s ≡ u) →
+    (s ≡ Less → t ≡ Less → u ≡ Less) → is_gt u ≡ false
 at_most Greater t u g h e f l = cc
 at_most Equal t u g h e f l = ap is_gt (e refl) ∙ h
 at_most Less Greater u g h e f l = cc
 at_most Less Equal u g h e f l = ap is_gt (sym (f refl)) ∙ g
 at_most Less Less u g h e f l = ap is_gt (l refl refl)
 
-not_after_trans : (c d k : Code) → is_gt (code_cmp c d) ≡ false → is_gt (code_cmp d k) ≡ false → is_gt (code_cmp c k) ≡ false
-not_after_trans c d k g h = at_most (code_cmp c d) (code_cmp d k) (code_cmp c k) g h (λ e. total-law.congr c d k e) (λ e. alike_right total-law d k c e) (λ e f. total-law.trans c d k e f)
+not_after_trans : (c d k : Code) → is_gt (code_cmp c d) ≡ false → is_gt (code_cmp d k) ≡ false →
+    is_gt (code_cmp c k) ≡ false
+not_after_trans c d k g h = at_most (code_cmp c d) (code_cmp d k) (code_cmp c k) g h (λ e. total-law.congr c d k e)
+    (λ e. alike_right total-law d k c e) (λ e f. total-law.trans c d k e f)
 
 not_later : (k : Code) (cs : List Code) → list_any (is_same k) cs ≡ true → NotAfter k (first_of cs)
 not_later k [] h = cc
@@ -75,7 +82,8 @@ not_later k (c ∷ cs) h = by (is_same k c) refl (λ t. not_later k cs t) h
   where
     here : (o : Option Code) → k ≡ c → is_gt (code_cmp (lesser c o) k) ≡ false
     here None e = subst (λ z. is_gt (code_cmp c z) ≡ false) (sym e) (gt_self c)
-    here (Some d) e = subst (λ z. is_gt (code_cmp (lesser c (Some d)) z) ≡ false) (sym e) (least d (is_gt (code_cmp c d)) refl)
+    here (Some d) e = subst (λ z. is_gt (code_cmp (lesser c (Some d)) z) ≡ false) (sym e)
+        (least d (is_gt (code_cmp c d)) refl)
       where
         least : (d : Code) (b : Bool) → is_gt (code_cmp c d) ≡ b → is_gt (code_cmp (cond b d c) c) ≡ false
         least d true g = not_after c d g
@@ -85,11 +93,13 @@ not_later k (c ∷ cs) h = by (is_same k c) refl (λ t. not_later k cs t) h
     there None n = absurd n
     there (Some d) n = least d n (is_gt (code_cmp c d)) refl
       where
-        least : (d : Code) → is_gt (code_cmp d k) ≡ false → (b : Bool) → is_gt (code_cmp c d) ≡ b → is_gt (code_cmp (cond b d c) k) ≡ false
+        least : (d : Code) → is_gt (code_cmp d k) ≡ false → (b : Bool) → is_gt (code_cmp c d) ≡ b →
+            is_gt (code_cmp (cond b d c) k) ≡ false
         least d n true g = n
         least d n false g = not_after_trans c d k g n
 
-    by : (b : Bool) → is_same k c ≡ b → (list_any (is_same k) cs ≡ true → NotAfter k (first_of cs)) → (b || list_any (is_same k) cs) ≡ true → NotAfter k (first_of (c ∷ cs))
+    by : (b : Bool) → is_same k c ≡ b → (list_any (is_same k) cs ≡ true → NotAfter k (first_of cs)) →
+        (b || list_any (is_same k) cs) ≡ true → NotAfter k (first_of (c ∷ cs))
     by true e rest h = here (first_of cs) (equal_is k c e)
     by false e rest h = there (first_of cs) (rest h)
 
@@ -102,7 +112,8 @@ module _ (p : Code → Bool) (k : Code) (f : IsFirst p k) (cs : List Code) (amon
     where
       by : (o : Option Code) → first_of (filter p cs) ≡ o → NotAfter k o → o ≡ Some k
       by None e n = absurd n
-      by (Some m) e n = ap (λ c. Some c) (equal_is m k (level (code_cmp m k) (code_cmp k m) (total-law.antisymm m k) n (f.1 m (first_passes p cs m e))))
+      by (Some m) e n = ap (λ c. Some c) (equal_is m k
+          (level (code_cmp m k) (code_cmp k m) (total-law.antisymm m k) n (f.1 m (first_passes p cs m e))))
 
 or_true_left : (a b : Bool) → a ≡ true → (a || b) ≡ true
 or_true_left true b h = refl
@@ -113,11 +124,16 @@ or_true_right true b h = refl
 or_true_right false b h = h
 
 -- a node is on the path of a code with weight
-node_among : (k : Code) (ws : List Weight) → is_node ws k ≡ true → list_any (is_same k) (flat_map (λ w. path w.code) ws) ≡ true
+node_among : (k : Code) (ws : List Weight) → is_node ws k ≡ true →
+    list_any (is_same k) (flat_map (λ w. path w.code) ws) ≡ true
 node_among k [] h = h
-node_among k (w ∷ ws) h = list_any-append (is_same k) (path w.code) (flat_map (λ x. path x.code) ws) ∙ by (is_at_or_below k w.code) refl (λ t. node_among k ws t) h
+node_among k (w ∷ ws) h = list_any-append (is_same k) (path w.code) (flat_map (λ x. path x.code) ws)
+    ∙ by (is_at_or_below k w.code) refl (λ t. node_among k ws t) h
   where
-    by : (b : Bool) → is_at_or_below k w.code ≡ b → (is_node ws k ≡ true → list_any (is_same k) (flat_map (λ x. path x.code) ws) ≡ true) → (b || is_node ws k) ≡ true → (list_any (is_same k) (path w.code) || list_any (is_same k) (flat_map (λ x. path x.code) ws)) ≡ true
+    by : (b : Bool) → is_at_or_below k w.code ≡ b →
+        (is_node ws k ≡ true → list_any (is_same k) (flat_map (λ x. path x.code) ws) ≡ true) →
+        (b || is_node ws k) ≡ true → (list_any (is_same k) (path w.code) || list_any (is_same k)
+        (flat_map (λ x. path x.code) ws)) ≡ true
     by true e rest h = or_true_left (list_any (is_same k) (path w.code)) _ (in_path k w.code e)
     by false e rest h = or_true_right (list_any (is_same k) (path w.code)) _ (rest h)
 
@@ -125,8 +141,12 @@ and_left : (a b : Bool) → (a && b) ≡ true → a ≡ true
 and_left true b h = refl
 and_left false b h = cc
 
-pub first_untitled_is : (titles : List Title) (weights : List Weight) (k : Code) → IsFirst (is_untitled titles weights) k → first_untitled titles weights ≡ Some k
-first_untitled_is titles weights k f = first_is_least (is_untitled titles weights) k f (flat_map (λ w. path w.code) weights) (node_among k weights (and_left (is_node weights k) _ f.0))
+pub first_untitled_is : (titles : List Title) (weights : List Weight) (k : Code) →
+    IsFirst (is_untitled titles weights) k → first_untitled titles weights ≡ Some k
+first_untitled_is titles weights k f = first_is_least (is_untitled titles weights) k f
+    (flat_map (λ w. path w.code) weights) (node_among k weights (and_left (is_node weights k) _ f.0))
 
-pub none_untitled : (titles : List Title) (weights : List Weight) → ((k : Code) → is_untitled titles weights k ≡ false) → first_untitled titles weights ≡ None
-none_untitled titles weights h = ap first_of (none_left (is_untitled titles weights) h (flat_map (λ w. path w.code) weights))
+pub none_untitled : (titles : List Title) (weights : List Weight) →
+    ((k : Code) → is_untitled titles weights k ≡ false) → first_untitled titles weights ≡ None
+none_untitled titles weights h = ap first_of (none_left (is_untitled titles weights) h
+    (flat_map (λ w. path w.code) weights))

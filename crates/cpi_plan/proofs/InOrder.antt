@@ -19,14 +19,17 @@ module _ {X K : Type 0} {R : K → K → Ordering} (o : IsTotalOrder R) (key : X
   -- equal keys find the same
   tied_rows : (j k : K) → R j k ≡ Equal → (xs : List X) → row_at R key k xs ≡ row_at R key j xs
   tied_rows j k e [] = refl
-  tied_rows j k e (x ∷ xs) = ap (λ s. cond (is_eq s) (Some x) (row_at R key k xs)) (sym (alike_right o j k (key x) e)) ∙ ap (λ r. cond (is_eq (R (key x) j)) (Some x) r) (tied_rows j k e xs)
+  tied_rows j k e (x ∷ xs) = ap (λ s. cond (is_eq s) (Some x) (row_at R key k xs)) (sym (alike_right o j k (key x) e))
+      ∙ ap (λ r. cond (is_eq (R (key x) j)) (Some x) r) (tied_rows j k e xs)
 
   pub row_in_order : (k : K) (xs : List X) → row_at R key k (in_order R key xs) ≡ row_at R key k xs
   row_in_order k [] = refl
   row_in_order k (x ∷ xs) = by (R (key x) k) refl (row_in_order k xs)
     where
-      by : (s : Ordering) → R (key x) k ≡ s → row_at R key k (in_order R key xs) ≡ row_at R key k xs → row_at R key k (put R key x (in_order R key xs)) ≡ cond (is_eq s) (Some x) (row_at R key k xs)
-      by Equal e h = tied_rows (key x) k e (put R key x (in_order R key xs)) ∙ row_at-put_same o key x (in_order R key xs)
+      by : (s : Ordering) → R (key x) k ≡ s → row_at R key k (in_order R key xs) ≡ row_at R key k xs →
+          row_at R key k (put R key x (in_order R key xs)) ≡ cond (is_eq s) (Some x) (row_at R key k xs)
+      by Equal e h = tied_rows (key x) k e (put R key x (in_order R key xs))
+          ∙ row_at-put_same o key x (in_order R key xs)
       by Less e h = row_at-put_apart o key k x (in_order R key xs) (is_in_order xs) (ap is_eq e) ∙ h
       by Greater e h = row_at-put_apart o key k x (in_order R key xs) (is_in_order xs) (ap is_eq e) ∙ h
 
@@ -55,7 +58,8 @@ module _ {X : Type 0} (same : X → X → Bool) where
   pub from_distinct : (xs : List X) → are_distinct same xs ≡ true → IsDistinct same xs
   unfolding IsDistinct
   from_distinct [] h = tt
-  from_distinct (x ∷ xs) h = let both = and_not (list_any (same x) xs) (are_distinct same xs) h in (all_later x xs both.0, from_distinct xs both.1)
+  from_distinct (x ∷ xs) h = let both = and_not (list_any (same x) xs) (are_distinct same xs) h in
+      (all_later x xs both.0, from_distinct xs both.1)
 
   pub not_distinct : (xs : List X) → (IsDistinct same xs → ⊥) → are_distinct same xs ≡ false
   not_distinct xs h = by (are_distinct same xs) refl

@@ -1,5 +1,6 @@
 -- What is said of rows stays when they change places.
-use Rattle.std.proofs.Common.{◌≡◌, ℕ, ◌+◌, Bool, true, false, cond, List, [], ◌∷◌, filter, sum_by, refl, sym, ap, ◌∙◌, arith, ◌&&◌, ◌||◌, not}
+use Rattle.std.proofs.Common.{◌≡◌, ℕ, ◌+◌, Bool, true, false, cond, List, [], ◌∷◌, filter, sum_by, refl, sym, ap, ◌∙◌}
+use Rattle.std.proofs.Common.{arith, ◌&&◌, ◌||◌, not}
 use Rattle.std.specs.List.{list_any, list_all}
 use Rattle.std.specs.List.Sorted.{IsPermutation}
 use Rattle.std.proofs.lemmas.List.Sorted.{list_any-IsPermutation, sum_by-IsPermutation}
@@ -20,13 +21,17 @@ all_any p (x ∷ xs) = not_step (p x) (list_all p xs) (list_any (λ y. not (p y)
 pub all_moved : {X : Type 0} (p : X → Bool) (xs ys : List X) → IsPermutation xs ys → list_all p xs ≡ list_all p ys
 all_moved p xs ys m = all_any p xs ∙ ap not (list_any-IsPermutation (λ x. not (p x)) xs ys m) ∙ sym (all_any p ys)
 
-part_step : {X : Type 0} (f : X → ℕ) (p : X → Bool) (x : X) (xs : List X) (b : Bool) → p x ≡ b → sum_by f (filter p xs) ≡ sum_by (λ y. cond (p y) (f y) 0) xs → sum_by f (cond b (x ∷ filter p xs) (filter p xs)) ≡ cond b (f x) 0 + sum_by (λ y. cond (p y) (f y) 0) xs
+part_step : {X : Type 0} (f : X → ℕ) (p : X → Bool) (x : X) (xs : List X) (b : Bool) → p x ≡ b →
+    sum_by f (filter p xs) ≡ sum_by (λ y. cond (p y) (f y) 0) xs →
+    sum_by f (cond b (x ∷ filter p xs) (filter p xs)) ≡ cond b (f x) 0 + sum_by (λ y. cond (p y) (f y) 0) xs
 part_step f p x xs true e h = sum_by-cons f x (filter p xs) ∙ ap (λ n. f x + n) h
 part_step f p x xs false e h = h ∙ omega arith
 
-part_sum : {X : Type 0} (f : X → ℕ) (p : X → Bool) (xs : List X) → sum_by f (filter p xs) ≡ sum_by (λ y. cond (p y) (f y) 0) xs
+part_sum : {X : Type 0} (f : X → ℕ) (p : X → Bool) (xs : List X) →
+    sum_by f (filter p xs) ≡ sum_by (λ y. cond (p y) (f y) 0) xs
 part_sum f p [] = refl
-part_sum f p (x ∷ xs) = part_step f p x xs (p x) refl (part_sum f p xs) ∙ sym (sum_by-cons (λ y. cond (p y) (f y) 0) x xs)
+part_sum f p (x ∷ xs) = part_step f p x xs (p x) refl (part_sum f p xs)
+    ∙ sym (sum_by-cons (λ y. cond (p y) (f y) 0) x xs)
 
 pub weight_moved : (q : Code) (xs ys : List Weight) → IsPermutation xs ys → weight_under q ys ≡ weight_under q xs
 weight_moved q xs ys m =

@@ -5,8 +5,10 @@ use Rattle.cpi_codes.specs.CodeOrder.{code_cmp}
 use Rattle.cpi_codes.specs.declared.codes.Code.{Code}
 use Rattle.cpi_codes.specs.contracts.codes.CodeOrd.TheImpl.Laws.{total-law}
 use Rattle.cpi_rows.specs.Keyed.{IsInOrder}
-use Rattle.cpi_plan.specs.Plan.{Body, Plan, are_elementary, has_zero, total, has_unknown, has_unplaced, has_fit_reference}
-use Rattle.cpi_plan.specs.Planned.{are_codes_once, are_items_once, first_untitled, nodes_of, plan_of, placed, titled, planned}
+use Rattle.cpi_plan.specs.Plan.{Body, Plan, are_elementary, has_zero, total, has_unknown, has_unplaced}
+use Rattle.cpi_plan.specs.Plan.{has_fit_reference}
+use Rattle.cpi_plan.specs.Planned.{are_codes_once, are_items_once, first_untitled, nodes_of, plan_of, placed, titled}
+use Rattle.cpi_plan.specs.Planned.{planned}
 use Rattle.cpi_plan.specs.declared.plan_faults.PlanFault.{PlanFault}
 use Rattle.cpi_plan.proofs.InOrder.{is_in_order}
 

@@ -1,5 +1,6 @@
 -- What is built of a body is what is planned for it.
-use Rattle.std.proofs.Common.{◌≡◌, ◌≢◌, ℕ, Bool, true, false, cond, List, [], ◌∷◌, map, filter, Option, Some, None, Result, Ok, Err, IfOk, refl, sym, ap, ◌∙◌, subst, arith, not, ◌==◌}
+use Rattle.std.proofs.Common.{◌≡◌, ◌≢◌, ℕ, Bool, true, false, cond, List, [], ◌∷◌, map, filter, Option, Some, None}
+use Rattle.std.proofs.Common.{Result, Ok, Err, IfOk, refl, sym, ap, ◌∙◌, subst, arith, not, ◌==◌}
 use Rattle.std.proofs.lemmas.Bool.Decides.{nat_tests}
 use Rattle.std.specs.Prelude.{option_map}
 use Rattle.std.specs.declared.cmp.Ordering.{Ordering}
@@ -14,10 +15,15 @@ use Rattle.cpi_plan.specs.declared.plan_rows.Title.{Title}
 use Rattle.cpi_plan.specs.declared.plan_rows.Weight.{Weight}
 use Rattle.cpi_plan.specs.declared.plan_rows.Node.{Node}
 use Rattle.cpi_plan.specs.declared.plan_faults.PlanFault.{PlanFault}
-use Rattle.cpi_plan.specs.declared.plan_faults.PlanFault.TheVariants.{DuplicateCode, NotElementary, ZeroWeight, WeightSum, TitleMissing, UnknownItem, ItemTwice, UnknownAggregate, Reference, NoMemory}
+use Rattle.cpi_plan.specs.declared.plan_faults.PlanFault.TheVariants.{DuplicateCode, NotElementary, ZeroWeight}
+use Rattle.cpi_plan.specs.declared.plan_faults.PlanFault.TheVariants.{WeightSum, TitleMissing, UnknownItem, ItemTwice}
+use Rattle.cpi_plan.specs.declared.plan_faults.PlanFault.TheVariants.{UnknownAggregate, Reference, NoMemory}
 use Rattle.cpi_plan.specs.Sums.{is_node}
-use Rattle.cpi_plan.specs.Plan.{Body, Plan, IsPlan, IsPlanOf, IsBuilt, IsFirstFault, CodesOnce, Passes2, Passes3, Passes4, Passes5, Passes6, Passes7, Passes8, Passes9, are_elementary, has_zero, total, has_unknown, has_unplaced, is_same_item, row_of, node, has_fit_reference}
-use Rattle.cpi_plan.specs.Planned.{are_codes_once, are_items_once, are_distinct, first_untitled, nodes_of, in_order, plan_of, titled, planned}
+use Rattle.cpi_plan.specs.Plan.{Body, Plan, IsPlan, IsPlanOf, IsBuilt, IsFirstFault, CodesOnce, Passes2, Passes3}
+use Rattle.cpi_plan.specs.Plan.{Passes4, Passes5, Passes6, Passes7, Passes8, Passes9, are_elementary, has_zero, total}
+use Rattle.cpi_plan.specs.Plan.{has_unknown, has_unplaced, is_same_item, row_of, node, has_fit_reference}
+use Rattle.cpi_plan.specs.Planned.{are_codes_once, are_items_once, are_distinct, first_untitled, nodes_of, in_order}
+use Rattle.cpi_plan.specs.Planned.{plan_of, titled, planned}
 use Rattle.cpi_plan.proofs.InOrder.{distinct, from_distinct, not_distinct, is_in_order, row_in_order}
 use Rattle.cpi_plan.proofs.FirstUntitled.{first_untitled_is, none_untitled}
 use Rattle.cpi_plan.proofs.UnderLemmas.{same_node, and_first, and_second}
@@ -25,15 +31,24 @@ use Rattle.cpi_plan.proofs.NodeLemmas.{row_moved}
 use Rattle.cpi_plan.proofs.SameLemmas.{same_rows}
 use Rattle.cpi_plan.proofs.BuiltLemmas.{plan_is}
 
-codes_once : (titles : List Title) (weights : List Weight) → CodesOnce titles weights → are_codes_once titles weights ≡ true
-codes_once titles weights h = rw (distinct (λ s t. is_same s.code t.code) titles h.0, distinct (λ v w. is_same v.code w.code) weights h.1) refl
+codes_once : (titles : List Title) (weights : List Weight) → CodesOnce titles weights →
+    are_codes_once titles weights ≡ true
+codes_once titles weights h = rw (
+  distinct (λ s t. is_same s.code t.code) titles h.0,
+  distinct (λ v w. is_same v.code w.code) weights h.1,
+) refl
 
-codes_twice : (titles : List Title) (weights : List Weight) → (CodesOnce titles weights → ⊥) → are_codes_once titles weights ≡ false
+codes_twice : (titles : List Title) (weights : List Weight) → (CodesOnce titles weights → ⊥) →
+    are_codes_once titles weights ≡ false
 codes_twice titles weights h = by (are_codes_once titles weights) refl
   where
     by : (b : Bool) → are_codes_once titles weights ≡ b → b ≡ false
     by false e = refl
-    by true e = absurd (h (from_distinct (λ s t. is_same s.code t.code) titles (and_first _ _ e), from_distinct (λ v w. is_same v.code w.code) weights (and_second (are_distinct (λ s t. is_same s.code t.code) titles) _ e)))
+    by true e = absurd (h (
+      from_distinct (λ s t. is_same s.code t.code) titles (and_first _ _ e),
+      from_distinct (λ v w. is_same v.code w.code) weights
+          (and_second (are_distinct (λ s t. is_same s.code t.code) titles) _ e),
+    ))
 
 not_whole : (n : ℕ) → n ≢ 1000000 → (n == 1000000) ≡ false
 not_whole n h = by (n == 1000000) refl
@@ -102,20 +117,28 @@ module _ (year : ℕ) (b : Body) where
   fault_planned DuplicateCode n h = ap after_codes (codes_twice b.titles b.weights h)
   fault_planned NotElementary n h = step1 h.0 ∙ ap after_kinds h.1
   fault_planned ZeroWeight n h = step2 h.0 ∙ ap after_zero h.1
-  fault_planned (WeightSum found) n h = step3 h.0 ∙ ap after_sum (not_whole (total b.weights) (λ e. h.2 (h.1 ∙ e))) ∙ ap (λ k. Err (WeightSum k)) (sym h.1)
+  fault_planned (WeightSum found) n h = step3 h.0 ∙ ap after_sum (not_whole (total b.weights) (λ e. h.2 (h.1 ∙ e)))
+      ∙ ap (λ k. Err (WeightSum k)) (sym h.1)
   fault_planned (TitleMissing code) n h = step4 h.0 ∙ ap (titled year b) (first_untitled_is b.titles b.weights code h.1)
   fault_planned UnknownItem n h = step5 h.0 ∙ ap after_known h.1
-  fault_planned ItemTwice n h = step6 h.0 ∙ ap after_items (not_distinct (λ p q. is_same_item p.item q.item) b.places h.1)
+  fault_planned ItemTwice n h = step6 h.0 ∙ ap after_items
+      (not_distinct (λ p q. is_same_item p.item q.item) b.places h.1)
   fault_planned UnknownAggregate n h = step7 h.0 ∙ ap after_placed h.1
   fault_planned Reference n h = step8 h.0 ∙ ap after_referred h.1
 
 -- ---- the nodes
 module _ (weights : List Weight) where
-  nodes_step : (q : Code) (t : Title) (ts : List Title) (s : Ordering) (b : Bool) → code_cmp t.code q ≡ s → is_node weights t.code ≡ b
+  nodes_step : (q : Code) (t : Title) (ts : List Title) (s : Ordering) (b : Bool) → code_cmp t.code q ≡ s →
+      is_node weights t.code ≡ b
       → row_at code_cmp (λ n. n.code) q (nodes_of ts weights) ≡ row_of ts weights q
-      → row_at code_cmp (λ n. n.code) q (map (node weights) (cond b (t ∷ filter (λ x. is_node weights x.code) ts) (filter (λ x. is_node weights x.code) ts))) ≡ cond (is_node weights q) (option_map (node weights) (cond (is_eq s) (Some t) (row_at code_cmp (λ x. x.code) q ts))) None
-  nodes_step q t ts Equal true e p h = let same : is_node weights q ≡ true = sym (same_node t.code q (ap is_eq e) weights) ∙ p in rw (e, same) refl
-  nodes_step q t ts Equal false e p h = let same : is_node weights q ≡ false = sym (same_node t.code q (ap is_eq e) weights) ∙ p in h ∙ (rw same refl)
+      → row_at code_cmp (λ n. n.code) q (map (node weights)
+      (cond b (t ∷ filter (λ x. is_node weights x.code) ts) (filter (λ x. is_node weights x.code) ts))) ≡ cond
+      (is_node weights q) (option_map (node weights)
+      (cond (is_eq s) (Some t) (row_at code_cmp (λ x. x.code) q ts))) None
+  nodes_step q t ts Equal true e p h = let same : is_node weights q ≡ true =
+      sym (same_node t.code q (ap is_eq e) weights) ∙ p in rw (e, same) refl
+  nodes_step q t ts Equal false e p h = let same : is_node weights q ≡ false =
+      sym (same_node t.code q (ap is_eq e) weights) ∙ p in h ∙ (rw same refl)
   nodes_step q t ts Less true e p h = rw e h
   nodes_step q t ts Less false e p h = h
   nodes_step q t ts Greater true e p h = rw e h
@@ -133,17 +156,25 @@ module _ (weights : List Weight) where
 plan_planned : (year : ℕ) (b : Body) (plan : Plan) → IsPlan plan → IsPlanOf year b plan → plan ≡ plan_of year b
 plan_planned year b plan v f =
     plan_is plan (plan_of year b) f.of_year
-    (same_rows total-law (λ n. n.code) plan.nodes (in_order code_cmp (λ n. n.code) (nodes_of b.titles b.weights)) v.nodes_in_order (is_in_order total-law (λ n. n.code) (nodes_of b.titles b.weights))
-    (λ k. f.has_nodes k ∙ sym (node_row b.weights k b.titles) ∙ sym (row_in_order total-law (λ n. n.code) k (nodes_of b.titles b.weights))))
-    (same_rows total-law (λ w. w.code) plan.weights (in_order code_cmp (λ w. w.code) b.weights) v.weights_in_order (is_in_order total-law (λ w. w.code) b.weights)
-    (λ k. row_moved total-law (λ w. w.code) k b.weights plan.weights f.has_weights v.weights_in_order ∙ sym (row_in_order total-law (λ w. w.code) k b.weights)))
-    (same_rows item-law (λ p. p.item) plan.places (in_order nat_cmp (λ p. p.item) b.places) v.places_in_order (is_in_order item-law (λ p. p.item) b.places)
-    (λ k. row_moved item-law (λ p. p.item) k b.places plan.places f.has_places v.places_in_order ∙ sym (row_in_order item-law (λ p. p.item) k b.places)))
+    (same_rows total-law (λ n. n.code) plan.nodes (in_order code_cmp (λ n. n.code) (nodes_of b.titles b.weights))
+    v.nodes_in_order (is_in_order total-law (λ n. n.code) (nodes_of b.titles b.weights))
+    (λ k. f.has_nodes k ∙ sym (node_row b.weights k b.titles)
+    ∙ sym (row_in_order total-law (λ n. n.code) k (nodes_of b.titles b.weights))))
+    (same_rows total-law (λ w. w.code) plan.weights (in_order code_cmp (λ w. w.code) b.weights) v.weights_in_order
+    (is_in_order total-law (λ w. w.code) b.weights)
+    (λ k. row_moved total-law (λ w. w.code) k b.weights plan.weights f.has_weights v.weights_in_order
+    ∙ sym (row_in_order total-law (λ w. w.code) k b.weights)))
+    (same_rows item-law (λ p. p.item) plan.places (in_order nat_cmp (λ p. p.item) b.places) v.places_in_order
+    (is_in_order item-law (λ p. p.item) b.places)
+    (λ k. row_moved item-law (λ p. p.item) k b.places plan.places f.has_places v.places_in_order
+    ∙ sym (row_in_order item-law (λ p. p.item) k b.places)))
     f.has_reference
 
 -- what is built, unless memory was refused, is what is planned
-pub built_planned : (year : ℕ) (b : Body) (r : Result Plan PlanFault) → IsBuilt year b r → ((plan : Plan) → r ≡ Ok plan → IsPlan plan) → r ≢ Err NoMemory → r ≡ planned year b
-built_planned year b (Ok plan) h v n = ap (λ p. Ok p) (plan_planned year b plan (v plan refl) h.1) ∙ sym (step9 year b h.0)
+pub built_planned : (year : ℕ) (b : Body) (r : Result Plan PlanFault) → IsBuilt year b r →
+    ((plan : Plan) → r ≡ Ok plan → IsPlan plan) → r ≢ Err NoMemory → r ≡ planned year b
+built_planned year b (Ok plan) h v n = ap (λ p. Ok p) (plan_planned year b plan (v plan refl) h.1)
+    ∙ sym (step9 year b h.0)
 built_planned year b (Err f) h v n = sym (fault_planned year b f (λ e. n (ap (λ g. Err g) e)) h)
 
 other_fault : DuplicateCode ≢ NoMemory

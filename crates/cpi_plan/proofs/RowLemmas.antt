@@ -1,5 +1,6 @@
 -- What a look-up says of the rows.
-use Rattle.std.proofs.Common.{◌≡◌, Bool, true, false, cond, List, [], ◌∷◌, Option, Some, None, refl, sym, ap, ◌∙◌, ◌&&◌, not}
+use Rattle.std.proofs.Common.{◌≡◌, Bool, true, false, cond, List, [], ◌∷◌, Option, Some, None, refl, sym, ap, ◌∙◌, ◌&&◌}
+use Rattle.std.proofs.Common.{not}
 use Rattle.std.specs.declared.cmp.Ordering.{Ordering}
 use Rattle.std.specs.Ordering.{is_eq}
 use Rattle.std.specs.List.{list_any, list_all}
@@ -15,7 +16,9 @@ and_when true b c h e = e
 and_when false b c h e = cc
 
 module _ {X K : Type 0} (cmp : K → K → Ordering) (key : X → K) (k : K) where
-  by_test : (x : X) (xs : List X) (b : Bool) → is_eq (cmp (key x) k) ≡ b → is_some (row_at cmp key k xs) ≡ list_any (λ r. is_eq (cmp (key r) k)) xs → is_some (row_at cmp key k (x ∷ xs)) ≡ list_any (λ r. is_eq (cmp (key r) k)) (x ∷ xs)
+  by_test : (x : X) (xs : List X) (b : Bool) → is_eq (cmp (key x) k) ≡ b →
+      is_some (row_at cmp key k xs) ≡ list_any (λ r. is_eq (cmp (key r) k)) xs →
+      is_some (row_at cmp key k (x ∷ xs)) ≡ list_any (λ r. is_eq (cmp (key r) k)) (x ∷ xs)
   by_test x xs true e h = rw e refl
   by_test x xs false e h = rw e h
 
@@ -25,11 +28,16 @@ module _ {X K : Type 0} (cmp : K → K → Ordering) (key : X → K) (k : K) whe
   found (x ∷ xs) = by_test x xs (is_eq (cmp (key x) k)) refl (found xs)
 
   -- the row that is found has the key, and passes what all rows pass
-  pub found_has : (p : X → Bool) (xs : List X) (x : X) → row_at cmp key k xs ≡ Some x → list_all p xs ≡ true → (is_eq (cmp (key x) k) ≡ true) × (p x ≡ true)
+  pub found_has : (p : X → Bool) (xs : List X) (x : X) → row_at cmp key k xs ≡ Some x → list_all p xs ≡ true →
+      (is_eq (cmp (key x) k) ≡ true) × (p x ≡ true)
   found_has p [] x e a = cc
   found_has p (y ∷ ys) x e a = step (is_eq (cmp (key y) k)) (p y) refl refl (λ t. found_has p ys x t) e a
     where
-      step : (b c : Bool) → is_eq (cmp (key y) k) ≡ b → p y ≡ c → (row_at cmp key k ys ≡ Some x → list_all p ys ≡ true → (is_eq (cmp (key x) k) ≡ true) × (p x ≡ true)) → cond b (Some y) (row_at cmp key k ys) ≡ Some x → (c && list_all p ys) ≡ true → (is_eq (cmp (key x) k) ≡ true) × (p x ≡ true)
-      step true true eb ec h s a = let same : y ≡ x = cc in (ap (λ r. is_eq (cmp (key r) k)) (sym same) ∙ eb, ap p (sym same) ∙ ec)
+      step : (b c : Bool) → is_eq (cmp (key y) k) ≡ b → p y ≡ c →
+          (row_at cmp key k ys ≡ Some x → list_all p ys ≡ true → (is_eq (cmp (key x) k) ≡ true) × (p x ≡ true)) →
+          cond b (Some y) (row_at cmp key k ys) ≡ Some x → (c && list_all p ys) ≡ true →
+          (is_eq (cmp (key x) k) ≡ true) × (p x ≡ true)
+      step true true eb ec h s a = let same : y ≡ x = cc in
+          (ap (λ r. is_eq (cmp (key r) k)) (sym same) ∙ eb, ap p (sym same) ∙ ec)
       step false true eb ec h s a = h s a
       step b false eb ec h s a = cc

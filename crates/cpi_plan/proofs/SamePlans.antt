@@ -29,14 +29,19 @@ node_decides a b = (is, by)
     is : same_node a b ≡ true → a ≡ b
     is e =
         let front = and_first (is_same a.code b.code && same_text a.title b.title) (a.weight == b.weight) e in
-        let code : a.code ≡ b.code = (code_decides a.code b.code).0 (and_first (is_same a.code b.code) (same_text a.title b.title) front) in
-        let title : a.title ≡ b.title = (bytes_decides a.title b.title).0 (and_second (is_same a.code b.code) (same_text a.title b.title) front) in
-        let weight : a.weight ≡ b.weight = (Decides-eqb a.weight b.weight).0 (and_second (is_same a.code b.code && same_text a.title b.title) (a.weight == b.weight) e) in
+        let code : a.code ≡ b.code = (code_decides a.code b.code).0
+        (and_first (is_same a.code b.code) (same_text a.title b.title) front) in
+        let title : a.title ≡ b.title = (bytes_decides a.title b.title).0
+        (and_second (is_same a.code b.code) (same_text a.title b.title) front) in
+        let weight : a.weight ≡ b.weight = (Decides-eqb a.weight b.weight).0
+        (and_second (is_same a.code b.code && same_text a.title b.title) (a.weight == b.weight) e) in
         λ n. record { code = code n; title = title n; weight = weight n }
 
     by : a ≡ b → same_node a b ≡ true
     by e = all_true (is_same a.code b.code && same_text a.title b.title) (a.weight == b.weight)
-        (all_true (is_same a.code b.code) (same_text a.title b.title) ((code_decides a.code b.code).1 (ap (λ x. x.code) e)) ((bytes_decides a.title b.title).1 (ap (λ x. x.title) e)))
+        (all_true (is_same a.code b.code) (same_text a.title b.title)
+        ((code_decides a.code b.code).1 (ap (λ x. x.code) e))
+        ((bytes_decides a.title b.title).1 (ap (λ x. x.title) e)))
         ((Decides-eqb a.weight b.weight).1 (ap (λ x. x.weight) e))
 
 weight_decides : (a b : Weight) → Decides (same_weight a b) (a ≡ b)
@@ -44,30 +49,41 @@ weight_decides a b = (is, by)
   where
     is : same_weight a b ≡ true → a ≡ b
     is e =
-        let code : a.code ≡ b.code = (code_decides a.code b.code).0 (and_first (is_same a.code b.code) (a.parts == b.parts) e) in
-        let parts : a.parts ≡ b.parts = (Decides-eqb a.parts b.parts).0 (and_second (is_same a.code b.code) (a.parts == b.parts) e) in
+        let code : a.code ≡ b.code = (code_decides a.code b.code).0
+        (and_first (is_same a.code b.code) (a.parts == b.parts) e) in
+        let parts : a.parts ≡ b.parts = (Decides-eqb a.parts b.parts).0
+        (and_second (is_same a.code b.code) (a.parts == b.parts) e) in
         λ n. record { code = code n; parts = parts n }
 
     by : a ≡ b → same_weight a b ≡ true
-    by e = all_true (is_same a.code b.code) (a.parts == b.parts) ((code_decides a.code b.code).1 (ap (λ x. x.code) e)) ((Decides-eqb a.parts b.parts).1 (ap (λ x. x.parts) e))
+    by e = all_true (is_same a.code b.code) (a.parts == b.parts) ((code_decides a.code b.code).1 (ap (λ x. x.code) e))
+        ((Decides-eqb a.parts b.parts).1 (ap (λ x. x.parts) e))
 
 place_decides : (a b : Place) → Decides (same_place a b) (a ≡ b)
 place_decides a b = (is, by)
   where
     is : same_place a b ≡ true → a ≡ b
     is e =
-        let item : a.item ≡ b.item = (Decides-eqb a.item b.item).0 (and_first (a.item == b.item) (is_same a.aggregate b.aggregate) e) in
-        let aggregate : a.aggregate ≡ b.aggregate = (code_decides a.aggregate b.aggregate).0 (and_second (a.item == b.item) (is_same a.aggregate b.aggregate) e) in
+        let item : a.item ≡ b.item = (Decides-eqb a.item b.item).0
+        (and_first (a.item == b.item) (is_same a.aggregate b.aggregate) e) in
+        let aggregate : a.aggregate ≡ b.aggregate = (code_decides a.aggregate b.aggregate).0
+        (and_second (a.item == b.item) (is_same a.aggregate b.aggregate) e) in
         λ n. record { item = item n; aggregate = aggregate n }
 
     by : a ≡ b → same_place a b ≡ true
-    by e = all_true (a.item == b.item) (is_same a.aggregate b.aggregate) ((Decides-eqb a.item b.item).1 (ap (λ x. x.item) e)) ((code_decides a.aggregate b.aggregate).1 (ap (λ x. x.aggregate) e))
+    by e = all_true (a.item == b.item) (is_same a.aggregate b.aggregate)
+        ((Decides-eqb a.item b.item).1 (ap (λ x. x.item) e))
+        ((code_decides a.aggregate b.aggregate).1 (ap (λ x. x.aggregate) e))
 
 reference_decides : (a b : Option ℕ) → Decides (same_reference a b) (a ≡ b)
 reference_decides None None = (λ e. refl, λ e. refl)
 reference_decides None (Some y) = (λ e. cc, λ e. cc)
 reference_decides (Some x) None = (λ e. cc, λ e. cc)
-reference_decides (Some x) (Some y) = (λ e. ap (λ n. Some n) ((Decides-eqb x y).0 e), λ e. let same : x ≡ y = cc in (Decides-eqb x y).1 same)
+reference_decides (Some x) (Some y) = (
+  λ e. ap (λ n. Some n) ((Decides-eqb x y).0 e),
+  λ e. let same : x ≡ y = cc in
+      (Decides-eqb x y).1 same,
+)
 
 module _ (a b : Plan) where
   abbrev of_year : Bool
@@ -91,10 +107,14 @@ module _ (a b : Plan) where
       let front = and_first (of_year && of_nodes && of_weights) of_places all in
       let first = and_first (of_year && of_nodes) of_weights front in
       let year : a.year ≡ b.year = (Decides-eqb a.year b.year).0 (and_first of_year of_nodes first) in
-      let nodes : a.nodes ≡ b.nodes = (pointwise_decides node_decides a.nodes b.nodes).0 (and_second of_year of_nodes first) in
-      let weights : a.weights ≡ b.weights = (pointwise_decides weight_decides a.weights b.weights).0 (and_second (of_year && of_nodes) of_weights front) in
-      let places : a.places ≡ b.places = (pointwise_decides place_decides a.places b.places).0 (and_second (of_year && of_nodes && of_weights) of_places all) in
-      let reference : a.reference ≡ b.reference = (reference_decides a.reference b.reference).0 (and_second (of_year && of_nodes && of_weights && of_places) of_reference e) in
+      let nodes : a.nodes ≡ b.nodes = (pointwise_decides node_decides a.nodes b.nodes).0
+      (and_second of_year of_nodes first) in
+      let weights : a.weights ≡ b.weights = (pointwise_decides weight_decides a.weights b.weights).0
+      (and_second (of_year && of_nodes) of_weights front) in
+      let places : a.places ≡ b.places = (pointwise_decides place_decides a.places b.places).0
+      (and_second (of_year && of_nodes && of_weights) of_places all) in
+      let reference : a.reference ≡ b.reference = (reference_decides a.reference b.reference).0
+      (and_second (of_year && of_nodes && of_weights && of_places) of_reference e) in
       λ n. record { year = year n; nodes = nodes n; weights = weights n; places = places n; reference = reference n }
 
   is_plan : a ≡ b → same_plan a b ≡ true
@@ -102,7 +122,8 @@ module _ (a b : Plan) where
       all_true (of_year && of_nodes && of_weights && of_places) of_reference
       (all_true (of_year && of_nodes && of_weights) of_places
       (all_true (of_year && of_nodes) of_weights
-      (all_true of_year of_nodes ((Decides-eqb a.year b.year).1 (ap (λ p. p.year) e)) ((pointwise_decides node_decides a.nodes b.nodes).1 (ap (λ p. p.nodes) e)))
+      (all_true of_year of_nodes ((Decides-eqb a.year b.year).1 (ap (λ p. p.year) e))
+      ((pointwise_decides node_decides a.nodes b.nodes).1 (ap (λ p. p.nodes) e)))
       ((pointwise_decides weight_decides a.weights b.weights).1 (ap (λ p. p.weights) e)))
       ((pointwise_decides place_decides a.places b.places).1 (ap (λ p. p.places) e)))
       ((reference_decides a.reference b.reference).1 (ap (λ p. p.reference) e))

@@ -1,5 +1,6 @@
 -- A plan is what is made of its nodes, its places and its reference month.
-use Rattle.std.proofs.Common.{◌≡◌, ℕ, Bool, true, false, List, [], ◌∷◌, ◌++◌, Some, None, Option, refl, sym, ap, ◌∙◌, arith, ◌&&◌, ◌||◌, ◌==◌}
+use Rattle.std.proofs.Common.{◌≡◌, ℕ, Bool, true, false, List, [], ◌∷◌, ◌++◌, Some, None, Option, refl, sym, ap, ◌∙◌}
+use Rattle.std.proofs.Common.{arith, ◌&&◌, ◌||◌, ◌==◌}
 use Rattle.std.proofs.lemmas.Bool.Decides.{nat_tests}
 use Rattle.std.specs.Ordering.{is_eq}
 use Rattle.std.specs.Cmp.{tied_itself}
@@ -33,21 +34,34 @@ all_true s t e f = rw (e, f) refl
 division_same : (d : ℕ) → (d == d) ≡ true
 division_same d = grind (arith, nat_tests)
 
-fitting : (z e a b d f : Bool) → e ≡ true → a ≡ true → b ≡ true → d ≡ true → f ≡ true → (z || (e && (a && (b && (d && f))))) ≡ true
+fitting : (z e a b d f : Bool) → e ≡ true → a ≡ true → b ≡ true → d ≡ true → f ≡ true →
+    (z || (e && (a && (b && (d && f))))) ≡ true
 fitting true e a b d f p q r s t = refl
 fitting false e a b d f p q r s t = rw (p, q, r, s, t) refl
 
 -- a code is at or below itself
 pub below_itself : (c : Code) → is_at_or_below c c ≡ true
-below_itself c = at_or_below-parts c c ∙ fitting (c.division == 0) _ _ _ _ _ (division_same c.division) (fits_itself c.group) (fits_itself c.class) (fits_itself c.subclass) (fits_itself c.aggregate)
+below_itself c = at_or_below-parts c c ∙ fitting (c.division == 0) _ _ _ _ _ (division_same c.division)
+    (fits_itself c.group) (fits_itself c.class) (fits_itself c.subclass) (fits_itself c.aggregate)
 
 -- ---- completeness
 module _ (p : Code → Bool) where
-  if_all : (d : ℕ) (g c s a : Option ℕ) (b : Bool) (e : are_parts d g c s a ≡ b) → ((v : are_parts d g c s a ≡ true) → p (record { division = d; group = g; class = c; subclass = s; aggregate = a; valid = v }) ≡ true) → list_all p (code_if d g c s a b e) ≡ true
+  if_all : (d : ℕ) (g c s a : Option ℕ) (b : Bool) (e : are_parts d g c s a ≡ b) →
+      ((v : are_parts d g c s a ≡ true) → p (record {
+        division = d;
+        group = g;
+        class = c;
+        subclass = s;
+        aggregate =
+            a;
+        valid = v;
+      }) ≡ true) → list_all p (code_if d g c s a b e) ≡ true
   if_all d g c s a true e h = rw (h e) refl
   if_all d g c s a false e h = refl
 
-  with_all : (d : ℕ) (g c s a : Option ℕ) → ((v : are_parts d g c s a ≡ true) → p (record { division = d; group = g; class = c; subclass = s; aggregate = a; valid = v }) ≡ true) → list_all p (code_with d g c s a) ≡ true
+  with_all : (d : ℕ) (g c s a : Option ℕ) → ((v : are_parts d g c s a ≡ true) →
+      p (record { division = d; group = g; class = c; subclass = s; aggregate = a; valid = v }) ≡ true) →
+      list_all p (code_with d g c s a) ≡ true
   with_all d g c s a h = if_all d g c s a (are_parts d g c s a) refl h
 
   both_all : (xs ys : List Code) → list_all p xs ≡ true → list_all p ys ≡ true → list_all p (xs ++ ys) ≡ true
@@ -57,13 +71,33 @@ below_parts : (n c : Code) → (n.division == 0) ≡ true → is_at_or_below n c
 below_parts n c e = at_or_below-parts n c ∙ (rw e refl)
 
 -- what holds of each code that a code is at or below, holds on its path
-path_all : (p : Code → Bool) (c : Code) → ((n : Code) → is_at_or_below n c ≡ true → p n ≡ true) → list_all p (path c) ≡ true
+path_all : (p : Code → Bool) (c : Code) → ((n : Code) → is_at_or_below n c ≡ true → p n ≡ true) →
+    list_all p (path c) ≡ true
 path_all p c h =
-    both_all p (code_with 0 None None None None) _ (with_all p 0 None None None None (λ v. h (code 0 None None None None v) (below_parts (code 0 None None None None v) c refl)))
-    (both_all p (code_with c.division None None None None) _ (with_all p c.division None None None None (λ v. h (code c.division None None None None v) (at_or_below-parts (code c.division None None None None v) c ∙ fitting (c.division == 0) _ _ _ _ _ (division_same c.division) refl refl refl refl)))
-    (both_all p (code_with c.division c.group None None None) _ (with_all p c.division c.group None None None (λ v. h (code c.division c.group None None None v) (at_or_below-parts (code c.division c.group None None None v) c ∙ fitting (c.division == 0) _ _ _ _ _ (division_same c.division) (fits_itself c.group) refl refl refl)))
-    (both_all p (code_with c.division c.group c.class None None) _ (with_all p c.division c.group c.class None None (λ v. h (code c.division c.group c.class None None v) (at_or_below-parts (code c.division c.group c.class None None v) c ∙ fitting (c.division == 0) _ _ _ _ _ (division_same c.division) (fits_itself c.group) (fits_itself c.class) refl refl)))
-    (both_all p (code_with c.division c.group c.class c.subclass None) (c ∷ []) (with_all p c.division c.group c.class c.subclass None (λ v. h (code c.division c.group c.class c.subclass None v) (at_or_below-parts (code c.division c.group c.class c.subclass None v) c ∙ fitting (c.division == 0) _ _ _ _ _ (division_same c.division) (fits_itself c.group) (fits_itself c.class) (fits_itself c.subclass) refl)))
+    both_all p (code_with 0 None None None None) _
+    (with_all p 0 None None None None (λ v. h (code 0 None None None None v)
+    (below_parts (code 0 None None None None v) c refl)))
+    (both_all p (code_with c.division None None None None) _
+    (with_all p c.division None None None None (λ v. h (code c.division None None None None v)
+    (at_or_below-parts (code c.division None None None None v) c
+    ∙ fitting (c.division == 0) _ _ _ _ _ (division_same c.division) refl refl refl refl)))
+    (both_all p (code_with c.division c.group None None None) _
+    (with_all p c.division c.group None None None
+    (λ v. h (code c.division c.group None None None v)
+    (at_or_below-parts (code c.division c.group None None None v) c
+    ∙ fitting (c.division == 0) _ _ _ _ _ (division_same c.division) (fits_itself c.group) refl refl refl)))
+    (both_all p (code_with c.division c.group c.class None None) _
+    (with_all p c.division c.group c.class None None
+    (λ v. h (code c.division c.group c.class None None v)
+    (at_or_below-parts (code c.division c.group c.class None None v) c
+    ∙ fitting (c.division == 0) _ _ _ _ _ (division_same c.division) (fits_itself c.group)
+    (fits_itself c.class) refl refl)))
+    (both_all p (code_with c.division c.group c.class c.subclass None) (c ∷ [])
+    (with_all p c.division c.group c.class c.subclass None
+    (λ v. h (code c.division c.group c.class c.subclass None v)
+    (at_or_below-parts (code c.division c.group c.class c.subclass None v) c
+    ∙ fitting (c.division == 0) _ _ _ _ _ (division_same c.division) (fits_itself c.group) (fits_itself c.class)
+    (fits_itself c.subclass) refl)))
     (rw (h c (below_itself c)) refl)))))
 
 -- ---- a plan passes the tests
@@ -76,28 +110,36 @@ or_right true b h = refl
 or_right false b h = h
 
 -- each row of a list is among the list's rows
-all_among : {X : Type 0} (E : X → X → Bool) → ((x : X) → E x x ≡ true) → (q : X → Bool) (xs : List X) → ((x : X) → list_any (λ y. E y x) xs ≡ true → q x ≡ true) → list_all q xs ≡ true
+all_among : {X : Type 0} (E : X → X → Bool) → ((x : X) → E x x ≡ true) → (q : X → Bool) (xs : List X) →
+    ((x : X) → list_any (λ y. E y x) xs ≡ true → q x ≡ true) → list_all q xs ≡ true
 all_among E same q [] h = refl
 all_among E same q (x ∷ xs) h =
-    rw (h x (or_left (E x x) (list_any (λ y. E y x) xs) (same x))) (all_among E same q xs (λ y k. h y (or_right (E x y) (list_any (λ z. E z y) xs) k)))
+    rw (h x (or_left (E x x) (list_any (λ y. E y x) xs) (same x)))
+    (all_among E same q xs (λ y k. h y (or_right (E x y) (list_any (λ z. E z y) xs) k)))
 
-all_both : {X : Type 0} (p q : X → Bool) (xs : List X) → list_all p xs ≡ true → list_all q xs ≡ true → list_all (λ x. p x && q x) xs ≡ true
+all_both : {X : Type 0} (p q : X → Bool) (xs : List X) → list_all p xs ≡ true → list_all q xs ≡ true →
+    list_all (λ x. p x && q x) xs ≡ true
 all_both p q [] h k = refl
 all_both p q (x ∷ xs) h k =
-    all_true (p x && q x) (list_all (λ y. p y && q y) xs) (all_true (p x) (q x) (and_first (p x) (list_all p xs) h) (and_first (q x) (list_all q xs) k))
+    all_true (p x && q x) (list_all (λ y. p y && q y) xs)
+    (all_true (p x) (q x) (and_first (p x) (list_all p xs) h) (and_first (q x) (list_all q xs) k))
     (all_both p q xs (and_second (p x) (list_all p xs) h) (and_second (q x) (list_all q xs) k))
 
-all_paths : (q : Code → Bool) (xs : List Weight) → ((n : Code) → list_any (λ w. is_at_or_below n w.code) xs ≡ true → q n ≡ true) → list_all (λ w. list_all q (path w.code)) xs ≡ true
+all_paths : (q : Code → Bool) (xs : List Weight) →
+    ((n : Code) → list_any (λ w. is_at_or_below n w.code) xs ≡ true → q n ≡ true) →
+    list_all (λ w. list_all q (path w.code)) xs ≡ true
 all_paths q [] h = refl
 all_paths q (w ∷ xs) h =
-    rw (path_all q w.code (λ n below. h n (or_left (is_at_or_below n w.code) (list_any (λ v. is_at_or_below n v.code) xs) below)))
+    rw (path_all q w.code (λ n below. h n (or_left (is_at_or_below n w.code)
+    (list_any (λ v. is_at_or_below n v.code) xs) below)))
     (all_paths q xs (λ n k. h n (or_right (is_at_or_below n w.code) (list_any (λ v. is_at_or_below n v.code) xs) k)))
 
 module _ (p : Plan) (v : IsPlan p) where
   weighed : list_all (is_weighed p.weights) p.nodes ≡ true
   weighed =
       all_both (λ n. is_node p.weights n.code) (λ n. n.weight == weight_under n.code p.weights) p.nodes
-      (all_among (λ m n. is_same m.code n.code) (λ n. same_itself n.code) (λ n. is_node p.weights n.code) p.nodes (λ n h. v.complete n.code ∙ h))
+      (all_among (λ m n. is_same m.code n.code) (λ n. same_itself n.code) (λ n. is_node p.weights n.code) p.nodes
+      (λ n h. v.complete n.code ∙ h))
       v.weighed
 
   complete : is_complete p ≡ true

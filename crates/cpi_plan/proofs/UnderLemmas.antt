@@ -1,5 +1,6 @@
 -- Sums of weights under a code.
-use Rattle.std.proofs.Common.{◌≡◌, ℕ, ◌+◌, ◌<◌, ◌≤◌, Bool, true, false, cond, List, [], ◌∷◌, ◌++◌, length, take, get_or, filter, sum_by, Option, Some, None, refl, sym, ap, ◌∙◌, arith, ◌&&◌, ◌||◌, ◌==◌}
+use Rattle.std.proofs.Common.{◌≡◌, ℕ, ◌+◌, ◌<◌, ◌≤◌, Bool, true, false, cond, List, [], ◌∷◌, ◌++◌, length, take, get_or}
+use Rattle.std.proofs.Common.{filter, sum_by, Option, Some, None, refl, sym, ap, ◌∙◌, arith, ◌&&◌, ◌||◌, ◌==◌}
 use Rattle.std.proofs.lemmas.Bool.Decides.{nat_tests}
 use Rattle.std.proofs.lemmas.List.Elements.{filter_more}
 use Rattle.std.proofs.lemmas.List.Sums.{sum_by-append}
@@ -17,7 +18,8 @@ one : (b : Bool) (x : Weight) → sum_by (λ w. w.parts) (cond b (x ∷ []) []) 
 one true x = omega arith
 one false x = refl
 
-pub weight_more : (q : Code) (xs : List Weight) (i : ℕ) (x : Weight) → i < length xs → x ≡ get_or xs i x → weight_under q (take (i + 1) xs) ≡ weight_under q (take i xs) + cond (is_at_or_below q x.code) x.parts 0
+pub weight_more : (q : Code) (xs : List Weight) (i : ℕ) (x : Weight) → i < length xs → x ≡ get_or xs i x →
+    weight_under q (take (i + 1) xs) ≡ weight_under q (take i xs) + cond (is_at_or_below q x.code) x.parts 0
 weight_more q xs i x h is =
     let f : Weight → ℕ = λ w. w.parts in
     let p : Weight → Bool = λ w. is_at_or_below q w.code in
@@ -51,9 +53,11 @@ pub number_is : (d e : ℕ) → (d == e) ≡ true → d ≡ e
 number_is d e h = grind (arith, nat_tests)
 
 abbrev below_parts : Code → ℕ → Option ℕ → Option ℕ → Option ℕ → Option ℕ → Bool
-below_parts c d g k s a = (d == 0) || ((c.division == d) && (fits g c.group && (fits k c.class && (fits s c.subclass && fits a c.aggregate))))
+below_parts c d g k s a = (d == 0) || ((c.division == d)
+    && (fits g c.group && (fits k c.class && (fits s c.subclass && fits a c.aggregate))))
 
-below_parts_agree : (c : Code) (d e : ℕ) (g h k l s t a b : Option ℕ) → e ≡ d → h ≡ g → l ≡ k → t ≡ s → b ≡ a → below_parts c e h l t b ≡ below_parts c d g k s a
+below_parts_agree : (c : Code) (d e : ℕ) (g h k l s t a b : Option ℕ) → e ≡ d → h ≡ g → l ≡ k → t ≡ s → b ≡ a →
+    below_parts c e h l t b ≡ below_parts c d g k s a
 below_parts_agree c d e g h k l s t a b p1 p2 p3 p4 p5 = rw (p1, p2, p3, p4, p5) refl
 
 -- what is at or below a code is at or below one that compares equal
@@ -63,8 +67,13 @@ same_below n q h c =
     let rest = and_second (q.division == n.division) _ parts in
     let third = and_second (same_part q.group n.group) _ rest in
     let fourth = and_second (same_part q.class n.class) _ third in
-    at_or_below-parts n c ∙ sym (below_parts_agree c n.division q.division n.group q.group n.class q.class n.subclass q.subclass n.aggregate q.aggregate
-    (number_is q.division n.division (and_first (q.division == n.division) _ parts)) (part_is q.group n.group (and_first (same_part q.group n.group) _ rest)) (part_is q.class n.class (and_first (same_part q.class n.class) _ third)) (part_is q.subclass n.subclass (and_first (same_part q.subclass n.subclass) _ fourth)) (part_is q.aggregate n.aggregate (and_second (same_part q.subclass n.subclass) _ fourth)))
+    at_or_below-parts n c ∙ sym (below_parts_agree c n.division q.division n.group q.group n.class q.class n.subclass
+    q.subclass n.aggregate q.aggregate
+    (number_is q.division n.division (and_first (q.division == n.division) _ parts))
+    (part_is q.group n.group (and_first (same_part q.group n.group) _ rest))
+    (part_is q.class n.class (and_first (same_part q.class n.class) _ third))
+    (part_is q.subclass n.subclass (and_first (same_part q.subclass n.subclass) _ fourth))
+    (part_is q.aggregate n.aggregate (and_second (same_part q.subclass n.subclass) _ fourth)))
     ∙ sym (at_or_below-parts q c)
 
 filter_agree : {X : Type 0} (p q : X → Bool) → ((x : X) → p x ≡ q x) → (xs : List X) → filter p xs ≡ filter q xs
@@ -76,25 +85,32 @@ any_agree p q h [] = refl
 any_agree p q h (x ∷ xs) = rw (h x, any_agree p q h xs) refl
 
 pub same_weight : (n q : Code) → is_same n q ≡ true → (ws : List Weight) → weight_under n ws ≡ weight_under q ws
-same_weight n q h ws = ap (sum_by (λ w. w.parts)) (filter_agree (λ w. is_at_or_below n w.code) (λ w. is_at_or_below q w.code) (λ w. same_below n q h w.code) ws)
+same_weight n q h ws = ap (sum_by (λ w. w.parts))
+    (filter_agree (λ w. is_at_or_below n w.code) (λ w. is_at_or_below q w.code) (λ w. same_below n q h w.code) ws)
 
 pub same_node : (n q : Code) → is_same n q ≡ true → (ws : List Weight) → is_node ws n ≡ is_node ws q
-same_node n q h ws = any_agree (λ w. is_at_or_below n w.code) (λ w. is_at_or_below q w.code) (λ w. same_below n q h w.code) ws
+same_node n q h ws = any_agree (λ w. is_at_or_below n w.code) (λ w. is_at_or_below q w.code)
+    (λ w. same_below n q h w.code) ws
 
 -- ---- a code has a weight where it is a node, if no weight is 0
-has_more : (b : Bool) (n s : ℕ) (any : Bool) → (n == 0) ≡ false → (0 < s → any ≡ true) → (any ≡ true → 0 < s) → (0 < cond b n 0 + s → (b || any) ≡ true) × ((b || any) ≡ true → 0 < cond b n 0 + s)
+has_more : (b : Bool) (n s : ℕ) (any : Bool) → (n == 0) ≡ false → (0 < s → any ≡ true) → (any ≡ true → 0 < s) →
+    (0 < cond b n 0 + s → (b || any) ≡ true) × ((b || any) ≡ true → 0 < cond b n 0 + s)
 has_more true n s any p f g = (λ h. refl, λ h. grind (arith, nat_tests))
 has_more false n s any p f g = (λ h. f (omega arith), λ h. omega (arith, g h))
 
-pub under_cons : (q : Code) (x : Weight) (xs : List Weight) (b : Bool) → is_at_or_below q x.code ≡ b → weight_under q (x ∷ xs) ≡ cond b x.parts 0 + weight_under q xs
-under_cons q x xs true e = rw e (sum_by-append (λ w. w.parts) (x ∷ []) (filter (λ w. is_at_or_below q w.code) xs) ∙ omega arith)
+pub under_cons : (q : Code) (x : Weight) (xs : List Weight) (b : Bool) → is_at_or_below q x.code ≡ b →
+    weight_under q (x ∷ xs) ≡ cond b x.parts 0 + weight_under q xs
+under_cons q x xs true e = rw e (sum_by-append (λ w. w.parts) (x ∷ []) (filter (λ w. is_at_or_below q w.code) xs)
+    ∙ omega arith)
 under_cons q x xs false e = rw e (omega arith)
 
-pub weighs : (q : Code) (ws : List Weight) → has_zero ws ≡ false → (0 < weight_under q ws → is_node ws q ≡ true) × (is_node ws q ≡ true → 0 < weight_under q ws)
+pub weighs : (q : Code) (ws : List Weight) → has_zero ws ≡ false → (0 < weight_under q ws → is_node ws q ≡ true)
+    × (is_node ws q ≡ true → 0 < weight_under q ws)
 weighs q [] z = (λ h. absurd (omega arith), λ h. cc)
 weighs q (x ∷ xs) z =
     let rest = weighs q xs (or_second (x.parts == 0) (has_zero xs) z) in
-    let here = has_more (is_at_or_below q x.code) x.parts (weight_under q xs) (is_node xs q) (or_first (x.parts == 0) (has_zero xs) z) rest.0 rest.1 in
+    let here = has_more (is_at_or_below q x.code) x.parts (weight_under q xs) (is_node xs q)
+    (or_first (x.parts == 0) (has_zero xs) z) rest.0 rest.1 in
     let sum = under_cons q x xs (is_at_or_below q x.code) refl in
     (λ h. here.0 (omega (arith, sum, h)), λ h. omega (arith, sum, here.1 h)) where
       or_first : (a b : Bool) → (a || b) ≡ false → a ≡ false
@@ -108,4 +124,12 @@ weighs q (x ∷ xs) z =
 -- no code has more than all
 pub under_total : (q : Code) (ws : List Weight) → weight_under q ws ≤ total ws
 under_total q [] = omega arith
-under_total q (x ∷ xs) = omega (arith, sum_by-append (λ w. w.parts) (x ∷ []) xs, one true x, under_cons q x xs (is_at_or_below q x.code) refl, amount_fits (is_at_or_below q x.code) x.parts x.parts (omega arith), under_total q xs)
+under_total q (x ∷ xs) = omega (
+  arith,
+  sum_by-append (λ w. w.parts) (x ∷ []) xs,
+  one true x,
+  under_cons q x xs (is_at_or_below q x.code) refl,
+  amount_fits (is_at_or_below q x.code) x.parts x.parts
+      (omega arith),
+  under_total q xs,
+)

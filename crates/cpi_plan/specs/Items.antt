@@ -5,4 +5,5 @@ use Rattle.cpi_plan.specs.declared.items.Item.{Item}
 
 -- whether two items have one content
 abbrev pub same_item : Item → Item → Bool
-same_item a b = a.code == b.code && same_text a.text b.text && same_text a.unit b.unit && a.low == b.low && a.high == b.high
+same_item a b = a.code == b.code && same_text a.text b.text && same_text a.unit b.unit && a.low == b.low && a.high ==
+    b.high

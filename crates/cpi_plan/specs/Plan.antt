@@ -1,5 +1,6 @@
 -- A year's plan: what the desk sends for it, its faults, and the plan that is made of it.
-use Rattle.std.specs.Prelude.{ℕ, ◌≤◌, ◌≡◌, ◌==◌, ◌≢◌, ◌&&◌, ⊤, Bool, true, false, not, List, [], ◌∷◌, sum_by, nat_lt, Result, MatchResult, Option, Some, None, option_map, is_none, if◌then◌else◌}
+use Rattle.std.specs.Prelude.{ℕ, ◌≤◌, ◌≡◌, ◌==◌, ◌≢◌, ◌&&◌, ⊤, Bool, true, false, not, List, [], ◌∷◌, sum_by, nat_lt}
+use Rattle.std.specs.Prelude.{Result, MatchResult, Option, Some, None, option_map, is_none, if◌then◌else◌}
 use Rattle.std.specs.Option.{option_map_or}
 use Rattle.std.specs.Ordering.{nat_cmp, is_eq}
 use Rattle.std.specs.List.{list_any, list_all, IsDistinct}
@@ -16,7 +17,9 @@ use Rattle.cpi_plan.specs.declared.plan_rows.Weight.{Weight}
 use Rattle.cpi_plan.specs.declared.plan_rows.Place.{Place}
 use Rattle.cpi_plan.specs.declared.plan_rows.Node.{Node}
 use Rattle.cpi_plan.specs.declared.plan_faults.PlanFault.{PlanFault}
-use Rattle.cpi_plan.specs.declared.plan_faults.PlanFault.TheVariants.{DuplicateCode, NotElementary, ZeroWeight, WeightSum, TitleMissing, UnknownItem, ItemTwice, UnknownAggregate, Reference, NoMemory}
+use Rattle.cpi_plan.specs.declared.plan_faults.PlanFault.TheVariants.{DuplicateCode, NotElementary, ZeroWeight}
+use Rattle.cpi_plan.specs.declared.plan_faults.PlanFault.TheVariants.{WeightSum, TitleMissing, UnknownItem, ItemTwice}
+use Rattle.cpi_plan.specs.declared.plan_faults.PlanFault.TheVariants.{UnknownAggregate, Reference, NoMemory}
 
 -- what the desk sends, in any order, with the items that are known; references are months
 pub record Body : Type 0 where
@@ -25,6 +28,10 @@ pub record Body : Type 0 where
   pub weights : List Weight
   pub places : List Place
   pub references : List ℕ
+
+abbrev pub sent : List Item → List Title → List Weight → List Place → List ℕ → Body
+sent known titles weights places references =
+    record { known = known; titles = titles; weights = weights; places = places; references = references }
 
 -- a plan: nodes and weights by code, places by item; with a reference month, the weights are moved by prices from that
 -- month to the link month
@@ -35,16 +42,22 @@ pub record Plan : Type 0 where
   pub places : List Place
   pub reference : Option ℕ
 
+abbrev pub plan_with : ℕ → List Node → List Weight → List Place → Option ℕ → Plan
+plan_with year nodes weights places reference =
+    record { year = year; nodes = nodes; weights = weights; places = places; reference = reference }
+
 abbrev pub is_same_item : ℕ → ℕ → Bool
 is_same_item a b = is_eq (nat_cmp a b)
 
 -- ---- the tests, in the order in which they are made
 -- no code twice among the titles, and none twice among the weights
 abbrev pub CodesOnce : List Title → List Weight → Type 0
-CodesOnce titles weights = IsDistinct (λ s t. is_same s.code t.code) titles × IsDistinct (λ v w. is_same v.code w.code) weights
+CodesOnce titles weights = IsDistinct (λ s t. is_same s.code t.code) titles
+    × IsDistinct (λ v w. is_same v.code w.code) weights
 
 abbrev pub are_elementary : List Weight → List Place → Bool
-are_elementary weights places = list_all (λ w. is_elementary w.code) weights && list_all (λ p. is_elementary p.aggregate) places
+are_elementary weights places = list_all (λ w. is_elementary w.code) weights
+    && list_all (λ p. is_elementary p.aggregate) places
 
 abbrev pub has_zero : List Weight → Bool
 has_zero weights = list_any (λ w. w.parts == 0) weights
@@ -137,7 +150,8 @@ node weights t = record { code = t.code; title = t.title; weight = weight_under 
 
 -- the row of a code: none of a code that is no node
 abbrev pub row_of : List Title → List Weight → Code → Option Node
-row_of titles weights code = if is_node weights code then option_map (node weights) (row_at code_cmp (λ t. t.code) code titles) else None
+row_of titles weights code = if is_node weights code then option_map (node weights)
+    (row_at code_cmp (λ t. t.code) code titles) else None
 
 -- the plan has the nodes, the weights and the places that were sent. That it has them in order is kept by the type.
 pub record IsPlanOf (year : ℕ) (b : Body) (plan : Plan) : Type 0 where
@@ -168,7 +182,8 @@ pub record IsPlan (plan : Plan) : Type 0 where
 
 -- what is built of a body: a plan exactly where no test fails, else the first fault
 abbrev pub IsBuilt : ℕ → Body → Result Plan PlanFault → Type 0
-IsBuilt year b result = MatchResult result (λ plan. Passes9 year b × IsPlanOf year b plan) (λ fault. IsFirstFault year fault b)
+IsBuilt year b result = MatchResult result (λ plan. Passes9 year b × IsPlanOf year b plan)
+    (λ fault. IsFirstFault year fault b)
 
 -- two plans of one body are the same plan
 abbrev pub IsOnePlan : ℕ → Body → Type 0
@@ -176,4 +191,5 @@ IsOnePlan year b = (p q : Plan) → IsPlan p → IsPlan q → IsPlanOf year b p 
 
 -- two faults of one body are the same fault, want of memory aside
 abbrev pub IsOneFault : ℕ → Body → Type 0
-IsOneFault year b = (f g : PlanFault) → f ≢ NoMemory → g ≢ NoMemory → IsFirstFault year f b → IsFirstFault year g b → f ≡ g
+IsOneFault year b = (f g : PlanFault) → f ≢ NoMemory → g ≢ NoMemory → IsFirstFault year f b → IsFirstFault year g b →
+    f ≡ g

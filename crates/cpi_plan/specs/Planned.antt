@@ -1,5 +1,6 @@
 -- A year's plan as a function of what the desk sends: the plan, or the first fault.
-use Rattle.std.specs.Prelude.{ℕ, ◌==◌, Bool, true, ◌&&◌, not, List, [], ◌∷◌, map, filter, Option, Some, None, Result, Ok, Err, if◌then◌else◌}
+use Rattle.std.specs.Prelude.{ℕ, ◌==◌, Bool, true, ◌&&◌, not, List, [], ◌∷◌, map, filter, Option, Some, None, Result}
+use Rattle.std.specs.Prelude.{Ok, Err, if◌then◌else◌}
 use Rattle.std.specs.declared.cmp.Ordering.{Ordering}
 use Rattle.std.specs.Ordering.{nat_cmp, is_gt}
 use Rattle.std.specs.List.{list_any, flat_map}
@@ -8,13 +9,16 @@ use Rattle.cpi_codes.specs.CodePath.{path}
 use Rattle.cpi_codes.specs.declared.codes.Code.{Code}
 use Rattle.cpi_rows.specs.Keyed.{put}
 use Rattle.cpi_plan.specs.Sums.{is_node}
-use Rattle.cpi_plan.specs.Plan.{Body, Plan, node, are_elementary, has_zero, total, is_untitled, has_unknown, is_same_item, has_unplaced, has_fit_reference, reference_in}
+use Rattle.cpi_plan.specs.Plan.{Body, Plan, node, are_elementary, has_zero, total, is_untitled, has_unknown}
+use Rattle.cpi_plan.specs.Plan.{is_same_item, has_unplaced, has_fit_reference, reference_in}
 use Rattle.cpi_plan.specs.declared.plan_rows.Title.{Title}
 use Rattle.cpi_plan.specs.declared.plan_rows.Weight.{Weight}
 use Rattle.cpi_plan.specs.declared.plan_rows.Place.{Place}
 use Rattle.cpi_plan.specs.declared.plan_rows.Node.{Node}
 use Rattle.cpi_plan.specs.declared.plan_faults.PlanFault.{PlanFault}
-use Rattle.cpi_plan.specs.declared.plan_faults.PlanFault.TheVariants.{DuplicateCode, NotElementary, ZeroWeight, WeightSum, TitleMissing, UnknownItem, ItemTwice, UnknownAggregate, Reference}
+use Rattle.cpi_plan.specs.declared.plan_faults.PlanFault.TheVariants.{DuplicateCode, NotElementary, ZeroWeight}
+use Rattle.cpi_plan.specs.declared.plan_faults.PlanFault.TheVariants.{WeightSum, TitleMissing, UnknownItem, ItemTwice}
+use Rattle.cpi_plan.specs.declared.plan_faults.PlanFault.TheVariants.{UnknownAggregate, Reference}
 
 -- no row is the same as a later one
 abbrev pub are_distinct : {X : Type 0} → (X → X → Bool) → List X → Bool
@@ -23,7 +27,8 @@ are_distinct same (x ∷ xs) = not (list_any (same x) xs) && are_distinct same x
 
 -- no code twice among the titles, and none twice among the weights
 abbrev pub are_codes_once : List Title → List Weight → Bool
-are_codes_once titles weights = are_distinct (λ s t. is_same s.code t.code) titles && are_distinct (λ v w. is_same v.code w.code) weights
+are_codes_once titles weights = are_distinct (λ s t. is_same s.code t.code) titles
+    && are_distinct (λ v w. is_same v.code w.code) weights
 
 abbrev pub are_items_once : List Place → Bool
 are_items_once places = are_distinct (λ p q. is_same_item p.item q.item) places

@@ -23,4 +23,5 @@ same_reference (Some a) (Some b) = a == b
 same_reference _ _ = false
 
 abbrev pub same_plan : Plan → Plan → Bool
-same_plan a b = a.year == b.year && pointwise same_node a.nodes b.nodes && pointwise same_weight a.weights b.weights && pointwise same_place a.places b.places && same_reference a.reference b.reference
+same_plan a b = a.year == b.year && pointwise same_node a.nodes b.nodes && pointwise same_weight a.weights b.weights
+    && pointwise same_place a.places b.places && same_reference a.reference b.reference

@@ -15,7 +15,8 @@ is_without sums titles code = nat_lt 0 (sum_at sums code) && not (list_any (λ t
 
 -- the first code of a kind
 abbrev pub IsFirst : (Code → Bool) → Code → Type 0
-IsFirst is_wanted code = (is_wanted code ≡ true) × ((other : Code) → is_wanted other ≡ true → is_gt (code_cmp code other) ≡ false)
+IsFirst is_wanted code = (is_wanted code ≡ true)
+    × ((other : Code) → is_wanted other ≡ true → is_gt (code_cmp code other) ≡ false)
 
 abbrev pub node_with : (Code → ℕ) → Title → Node
 node_with weight t = record { code = t.code; title = t.title; weight = weight t.code }

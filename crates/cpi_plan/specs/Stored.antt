@@ -16,7 +16,14 @@ abbrev pub weights_of : List Node → List Weight
 weights_of nodes = map weight_of (filter (λ n. is_elementary n.code) nodes)
 
 abbrev pub plan_from : ℕ → List Node → List Place → Option ℕ → Plan
-plan_from year nodes places reference = record { year = year; nodes = nodes; weights = weights_of nodes; places = places; reference = reference }
+plan_from year nodes places reference = record {
+  year = year;
+  nodes = nodes;
+  weights = weights_of nodes;
+  places =
+      places;
+  reference = reference;
+}
 
 -- a node with its sum
 abbrev pub is_weighed : List Weight → Node → Bool
@@ -28,4 +35,5 @@ is_complete p = list_all (λ w. list_all (λ c. list_any (λ n. is_same n.code c
 
 -- whether the rows, each list in order, make a plan
 abbrev pub is_whole : Plan → Bool
-is_whole p = total p.weights == 1000000 && not (has_zero p.weights) && list_all (is_weighed p.weights) p.nodes && is_complete p && not (has_unplaced p.weights p.places) && is_fit_reference p.year p.reference
+is_whole p = total p.weights == 1000000 && not (has_zero p.weights) && list_all (is_weighed p.weights) p.nodes
+    && is_complete p && not (has_unplaced p.weights p.places) && is_fit_reference p.year p.reference

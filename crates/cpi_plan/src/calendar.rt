@@ -36,7 +36,8 @@ impl CalendarRow {
         closes: Moment,
         publishes: Moment,
     ) -> Option<CalendarRow>
-        ensures { SomeIff result (AreInTurn opens closes publishes) (record { month = month; opens = opens; closes = closes; publishes = publishes }) }
+        ensures { SomeIff result (AreInTurn opens closes publishes)
+            (record { month = month; opens = opens; closes = closes; publishes = publishes }) }
     {
         if opens < closes && closes <= publishes {
             Some(CalendarRow {

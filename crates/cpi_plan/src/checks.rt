@@ -6,7 +6,9 @@ ghost use Rattle.cpi_codes.specs.declared.codes.Code.{Code};
 ghost use Rattle.cpi_rows.specs.Keyed.{IsInOrder, at};
 ghost use Rattle.cpi_plan.specs.Sums.{sum_at, weight_under};
 ghost use Rattle.cpi_plan.specs.Steps.{is_without, IsFirst, nodes_with};
-ghost use Rattle.cpi_plan.specs.Plan.{are_elementary as are_all_elementary, has_zero as has_zero_weight, total as total_weight, has_unknown as has_unknown_item, is_unknown as is_unknown_item, has_unplaced as has_unplaced_item};
+ghost use Rattle.cpi_plan.specs.Plan.{are_elementary as are_all_elementary, has_zero as has_zero_weight};
+ghost use Rattle.cpi_plan.specs.Plan.{total as total_weight, has_unknown as has_unknown_item};
+ghost use Rattle.cpi_plan.specs.Plan.{is_unknown as is_unknown_item, has_unplaced as has_unplaced_item};
 ghost use Rattle.cpi_plan.specs.Plan.{may_refer as may_refer_to, has_fit_reference, reference_in};
 ghost use Rattle.cpi_plan.specs.declared.plan_faults.PlanFault.TheVariants.{Reference};
 

@@ -4,7 +4,7 @@ ghost use Rattle.std.specs.Option.{option_copied};
 ghost use Rattle.std.specs.Ordering.{nat_cmp};
 ghost use Rattle.cpi_codes.specs.CodeOrder.{code_cmp};
 ghost use Rattle.cpi_rows.specs.Keyed.{row_at, IsInOrder};
-ghost use Rattle.cpi_plan.specs.Plan.{Body, Plan, IsBuilt, IsOneFault, IsOnePlan, IsPlan};
+ghost use Rattle.cpi_plan.specs.Plan.{Body, Plan, IsBuilt, IsOneFault, IsOnePlan, IsPlan, sent};
 ghost use Rattle.cpi_plan.specs.Planned.{planned};
 ghost use Rattle.cpi_plan.specs.SamePlan.{same_plan};
 ghost use Rattle.cpi_plan.specs.Sums.{weight_under, is_node};
@@ -33,13 +33,13 @@ pub struct YearPlan {
 }
 
 impl Model for YearPlan {
-    ghost use Rattle.cpi_plan.specs.Plan.{Plan, IsPlan};
+    ghost use Rattle.cpi_plan.specs.Plan.{Plan, IsPlan, plan_with};
 
     ghost Value = { Plan };
 
-    ghost view = { λ p. record { year = p.year; nodes = p.nodes.items; weights = p.weights.items; places = p.places.items; reference = p.reference } };
+    ghost view = { λ p. plan_with p.year p.nodes.items p.weights.items p.places.items p.reference };
 
-    ghost invariant = { λ p. IsPlan (record { year = p.year; nodes = p.nodes.items; weights = p.weights.items; places = p.places.items; reference = p.reference }) };
+    ghost invariant = { λ p. IsPlan (plan_with p.year p.nodes.items p.weights.items p.places.items p.reference) };
 }
 
 fn of_ordered(
@@ -54,7 +54,7 @@ fn of_ordered(
     requires year_in_calendar { (2000 ≤ year) × (year ≤ 2199) }
     requires titles_in_order { IsInOrder code_cmp (λ t. t.code) titles.items }
     requires weights_in_order { IsInOrder code_cmp (λ w. w.code) weights.items }
-    ensures { IsBuilt year (record { known = known_items.now; titles = titles.items; weights = weights.items; places = places.items; references = references.items }) result }
+    ensures { IsBuilt year (sent known_items.now titles.items weights.items places.items references.items) result }
 {
     let sums = weighed(alloc, &titles, &weights, &places)?;
     if has_unknown(known_items, &places) {
@@ -117,8 +117,10 @@ impl YearPlan {
         references: Vec<Month>,
     ) -> Result<YearPlan, PlanFault>
         requires { (2000 ≤ year) × (year ≤ 2199) }
-        ensures built { IsBuilt year (record { known = known_items.now; titles = titles.items; weights = weights.items; places = places.items; references = references.items }) result }
-        ensures planned { result ≢ Err NoMemory → result ≡ planned year (record { known = known_items.now; titles = titles.items; weights = weights.items; places = places.items; references = references.items }) }
+        ensures built { IsBuilt year
+            (sent known_items.now titles.items weights.items places.items references.items) result }
+        ensures planned { result ≢ Err NoMemory →
+            result ≡ planned year (sent known_items.now titles.items weights.items places.items references.items) }
     {
         let titles_once = put_in_order(&mut titles).map_err(|_| PlanFault::NoMemory)?;
         let weights_once = put_in_order(&mut weights).map_err(|_| PlanFault::NoMemory)?;
@@ -210,7 +212,8 @@ impl YearPlan {
 
     /// The title of a node.
     pub fn title(&self, code: &Code) -> Option<&Name>
-        ensures { option_copied result ≡ option_map (λ n. n.title) (row_at code_cmp (λ n. n.code) code.now self.now.nodes) }
+        ensures { option_copied result
+            ≡ option_map (λ n. n.title) (row_at code_cmp (λ n. n.code) code.now self.now.nodes) }
     {
         Some(&find_row(&self.nodes, code)?.title)
     }
@@ -245,5 +248,6 @@ pub fn has_one_fault()
 
 /// A law: a plan that is made of what was sent has its nodes in the order of codes.
 pub fn nodes_are_in_order()
-    ensures { (year : ℕ) (b : Body) (plan : Plan) → planned year b ≡ Ok plan → IsInOrder code_cmp (λ n. n.code) plan.nodes }
+    ensures { (year : ℕ) (b : Body) (plan : Plan) → planned year b ≡ Ok plan →
+        IsInOrder code_cmp (λ n. n.code) plan.nodes }
 {}

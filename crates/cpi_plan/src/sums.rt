@@ -12,7 +12,8 @@ use std::collections::BTreeMap;
 // Adds an amount to a code's sum.
 fn add(sums: &mut BTreeMap<Code, u128>, node: Code, amount: u128) -> Result<(), AllocError>
     requires { sum_at sums.old node + amount < 2 ^ 128 }
-    ensures { OnOk result ((q : Code) → sum_at sums.new q ≡ sum_at sums.old q + (if is_same node q then amount else 0)) }
+    ensures { OnOk result ((q : Code) →
+        sum_at sums.new q ≡ sum_at sums.old q + (if is_same node q then amount else 0)) }
 {
     let had = sums.get(&node).copied().unwrap_or(0);
     sums.insert(node, had + amount)?;
@@ -24,7 +25,8 @@ fn add(sums: &mut BTreeMap<Code, u128>, node: Code, amount: u128) -> Result<(), 
 pub fn add_path(sums: &mut BTreeMap<Code, u128>, code: Code, amount: u128) -> Result<(), AllocError>
     requires elementary { IsSome code.aggregate }
     requires fits { (q : Code) → sum_at sums.old q + 6 * amount < 2 ^ 128 }
-    ensures { OnOk result ((q : Code) → sum_at sums.new q ≡ sum_at sums.old q + (if is_at_or_below q code then amount else 0)) }
+    ensures { OnOk result ((q : Code) →
+        sum_at sums.new q ≡ sum_at sums.old q + (if is_at_or_below q code then amount else 0)) }
 {
     let mut node = code;
     add(sums, node, amount)?;

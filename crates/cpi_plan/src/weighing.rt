@@ -2,6 +2,7 @@
 ghost use Rattle.std.specs.Prelude.{ℕ, List};
 ghost use Rattle.cpi_codes.specs.CodeOrder.{code_cmp};
 ghost use Rattle.cpi_rows.specs.Keyed.{IsInOrder};
+ghost use Rattle.cpi_plan.specs.Plan.{sent};
 ghost use Rattle.cpi_plan.specs.Weighing.{IsWeighed};
 ghost use Rattle.cpi_plan.specs.declared.items.Item.{Item};
 
@@ -24,8 +25,7 @@ pub(crate) fn weighed(
     requires titles_in_order { IsInOrder code_cmp (λ t. t.code) titles.now }
     requires weights_in_order { IsInOrder code_cmp (λ w. w.code) weights.now }
     ensures { (year : ℕ) (known : List Item) (references : List ℕ) →
-        IsWeighed year (record { known = known; titles = titles.now; weights = weights.now; places = places.now; references = references })
-        result }
+        IsWeighed year (sent known titles.now weights.now places.now references) result }
 {
     if !are_elementary(weights, places) {
         return Err(PlanFault::NotElementary);

@@ -1,6 +1,6 @@
 -- A month after a frozen one comes after a December.
 use Rattle.std.proofs.Common.{◌≡◌, inl, inr, ℕ, zero, suc, ◌+◌, ◌<◌, ◌≤◌, ◌%◌, List, length, get_or, map, ap, arith}
-use Rattle.cpi_release.specs.Publishing.{AreMonths, AreInOrder}
+use Rattle.cpi_release.specs.Releasing.{AreMonths, AreInOrder}
 use Rattle.cpi_release.specs.GroupCalls.{Sources, IsAfterFrozen}
 use Rattle.cpi_release.proofs.LatestRows.{latest_place}
 use Rattle.cpi_release.specs.declared.release.Release.{Release}

@@ -1,11 +1,13 @@
 -- A record of texts is a text.
-use Rattle.std.proofs.Common.{◌≡◌, ◌∙◌, ℕ, suc, ◌+◌, take, ◌<◌, ◌≤◌, ◌==◌, Bool, true, false, List, [], ◌∷◌, ◌++◌, length, get_or, IsUtf8, if◌then◌else◌, inl, inr, refl, sym, ap, subst, arith, append-nil}
+use Rattle.std.proofs.Common.{◌≡◌, ◌∙◌, ℕ, suc, ◌+◌, take, ◌<◌, ◌≤◌, ◌==◌, Bool, true, false, List, [], ◌∷◌, ◌++◌}
+use Rattle.std.proofs.Common.{length, get_or, IsUtf8, if◌then◌else◌, inl, inr, refl, sym, ap, subst, arith, append-nil}
 use Rattle.std.proofs.lemmas.List.{flat_map_more, take_more}
 use Rattle.std.specs.List.{flat_map}
 use Rattle.std.proofs.lemmas.Bool.{and_parts, cases_lt, ne_eqb}
 use Rattle.std.proofs.lemmas.Str.{IsUtf8-append, IsUtf8-nil, IsUtf8-encode, encode_ascii, inside_one}
 use lib.Utf8.{scalar, scalars, encode, encodes}
-use Rattle.csv.specs.Writing.{escaped, field_text, fields_text, is_blank, row_body, row_text, needs_quotes, default_writer}
+use Rattle.csv.specs.Writing.{escaped, field_text, fields_text, is_blank, row_body, row_text, needs_quotes}
+use Rattle.csv.specs.Writing.{default_writer}
 use Rattle.csv.proofs.WriteFacts.{escaped-append}
 use Rattle.cpi_release.specs.Texts.{AreTexts}
 
@@ -69,7 +71,8 @@ further-fields : (fields : List (List ℕ)) → AreTexts fields → IsUtf8 (fiel
 unfolding fields_text encode
 further-fields [] texts = IsUtf8-nil
 further-fields (field ∷ fields) texts =
-    IsUtf8-append (44 ∷ []) _ (44 ∷ [], (refl, refl)) (IsUtf8-append _ _ (one-field field texts.0) (further-fields fields texts.1))
+    IsUtf8-append (44 ∷ []) _ (44 ∷ [], (refl, refl))
+    (IsUtf8-append _ _ (one-field field texts.0) (further-fields fields texts.1))
 
 body : (fields : List (List ℕ)) → AreTexts fields → IsUtf8 (row_body default_writer fields)
 body [] texts = IsUtf8-nil
@@ -78,7 +81,8 @@ body (field ∷ fields) texts = IsUtf8-append _ _ (one-field field texts.0) (fur
 pub record-text : (fields : List (List ℕ)) → AreTexts fields → IsUtf8 (row_text default_writer fields)
 unfolding encode
 record-text fields texts =
-    IsUtf8-append _ _ (body fields texts) (IsUtf8-append _ (10 ∷ []) (by (is_blank default_writer fields)) (10 ∷ [], (refl, refl)))
+    IsUtf8-append _ _ (body fields texts) (IsUtf8-append _ (10 ∷ []) (by (is_blank default_writer fields))
+    (10 ∷ [], (refl, refl)))
   where
     by : (blank : Bool) → IsUtf8 (if blank then 34 ∷ 34 ∷ [] else [])
     by true = (34 ∷ 34 ∷ [], (refl, refl))
@@ -103,6 +107,7 @@ pub records-more : {X : Type 0} (fields_of : X → List (List ℕ)) (xs : List X
     → IsUtf8 (rows_of fields_of (take (i + 1) xs))
 records-more {X} fields_of xs i x within is texts u =
     let f : X → List ℕ = λ y. row_text default_writer (fields_of y) in
-    let next : take (i + 1) xs ≡ take i xs ++ x ∷ [] = take_more xs i x within ∙ ap (λ y. take i xs ++ y ∷ []) (sym is) in
+    let next : take (i + 1) xs ≡ take i xs ++ x ∷ [] = take_more xs i x within
+    ∙ ap (λ y. take i xs ++ y ∷ []) (sym is) in
     subst (λ ys. IsUtf8 (flat_map f ys)) (sym next)
     (subst IsUtf8 (flat_map_more f [] (take i xs) x) (IsUtf8-append _ _ u (record-text (fields_of x) texts)))

@@ -7,7 +7,7 @@ use Rattle.cpi_index.specs.Month.{is_listed}
 use Rattle.cpi_index.specs.Series.{is_by_series, row_serial}
 use Rattle.cpi_index.specs.declared.fault.IndexFault.TheVariants.{NoMemory}
 use Rattle.cpi_release.specs.GroupCalls.{Sources, group_of, IsAfterFrozen}
-use Rattle.cpi_release.specs.Publishing.{Freeze, plan_of}
+use Rattle.cpi_release.specs.Releasing.{Freeze, plan_of}
 use Rattle.cpi_release.specs.declared.freeze_fault.FreezeFault.{FreezeFault}
 use Rattle.cpi_release.specs.declared.freeze_fault.FreezeFault.TheVariants.{Index, Group}
 

@@ -9,7 +9,7 @@ use Rattle.std.specs.Global.{Vec}
 use Rattle.cpi_index.specs.Row.{Row}
 use Rattle.cpi_index.specs.MonthGroups.{AreGroups}
 use Rattle.cpi_release.specs.Releases.{rows_in}
-use Rattle.cpi_release.specs.Publishing.{AreInOrder}
+use Rattle.cpi_release.specs.Releasing.{AreInOrder}
 use Rattle.cpi_release.specs.GroupCalls.{Sources}
 use Rattle.cpi_release.specs.declared.cached.Cached.{Cached}
 use Rattle.cpi_release.specs.declared.release.Release.{Release}

@@ -76,7 +76,7 @@ abbrev pub stays_frozen : ℕ → Option ℕ → List FrozenMonth → Bool
 stays_frozen month publishes frozen = is_frozen month frozen && not (is_reopened month publishes (last_frozen frozen))
 
 -- ---- plans
--- the plan by which a month is published: that of its year, and none for the first release
+-- the plan by which a month is released: that of its year, and none for the first release
 abbrev pub plan_by : {X : Type 0} → (X → ℕ) → List Plan → List X → ℕ → Option Plan
 plan_by month_of plans xs month =
     if is_after_any month_of xs month then at (λ y. y.year) (year_of month) plans else None

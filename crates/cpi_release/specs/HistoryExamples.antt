@@ -12,7 +12,7 @@ use Rattle.cpi_index.specs.Frozen.{Frozen}
 use Rattle.cpi_index.specs.Examples.{all_items, rice, flour, quote}
 use Rattle.cpi_index.specs.declared.fault.IndexFault.{IndexFault}
 use Rattle.cpi_index.specs.declared.fault.IndexFault.TheVariants.{NoReference, NoSample, NoMatch, OutOfRange}
-use Rattle.cpi_release.specs.Publishing.{Freeze, plan_of, published, fault_of, all_published}
+use Rattle.cpi_release.specs.Releasing.{Freeze, plan_of, released, fault_of, all_released}
 use Rattle.cpi_release.specs.Releases.{levels_of}
 use Rattle.cpi_release.specs.CsvTable.{csv_table}
 use Rattle.cpi_release.specs.declared.level.Level.{Level}
@@ -75,7 +75,7 @@ table_at month releases = map line (levels_of releases month)
 
 -- the table of a month, and its fault, after these releases
 abbrev pub table_after : List Plan → List Release → Freeze → List Line
-table_after plans before x = map line (published (plan_of plans before x.month) before x).levels
+table_after plans before x = map line (released (plan_of plans before x.month) before x).levels
 
 abbrev pub fault_after : List Plan → List Release → Freeze → Option IndexFault
 fault_after plans before x = fault_of (plan_of plans before x.month) before x
@@ -110,7 +110,7 @@ abbrev pub rice_at : ℕ → Mark → Freeze
 rice_at month mark = freeze month (priced 1 1 mark ∷ [])
 
 abbrev pub two_years : Freeze → List Release
-two_years last = all_published (rice_alone 2026 ∷ rice_alone 2027 ∷ []) (
+two_years last = all_released (rice_alone 2026 ∷ rice_alone 2027 ∷ []) (
     rice_at 311 (Price 200)
     ∷ map (λ month. rice_at month (Price 210)) (312 ∷ 313 ∷ 314 ∷ 315 ∷ 316 ∷ 317 ∷ 318 ∷ 319 ∷ 320 ∷ 321 ∷ 322 ∷ [])
     ++ last ∷ rice_at 324 (Price 220) ∷ [])
@@ -153,7 +153,7 @@ abbrev pub two_prices : ℕ → Mark → Mark → Freeze
 two_prices month a b = freeze month (priced 1 1 a ∷ priced 2 1 b ∷ [])
 
 abbrev pub back_in_february : List Release
-back_in_february = all_published (rice_alone 2026 ∷ []) (
+back_in_february = all_released (rice_alone 2026 ∷ []) (
     two_prices 311 (Price 200) (Price 300) ∷ two_prices 312 (Price 210) (Missing Stock)
     ∷ two_prices 313 (Price 210) (Price 330) ∷ [])
 
@@ -204,7 +204,7 @@ abbrev pub both : List Plan
 both = rice_and_flour 2026 rice ∷ []
 
 abbrev pub until_january : List Release
-until_january = all_published both (
+until_january = all_released both (
     rice_and_flour_at 311 (Price 200) (Price 500) ∷ rice_and_flour_at 312 (Price 210) (Price 490) ∷ [])
 
 abbrev pub february : Freeze
@@ -280,7 +280,7 @@ abbrev pub start_of_2026 : Freeze
 start_of_2026 = rice_and_flour_at 312 (Price 102) (Price 101)
 
 abbrev pub weights_after : List Plan → List Release → Freeze → List ℕ
-weights_after plans before x = map (λ l. l.weight) (published (plan_of plans before x.month) before x).levels
+weights_after plans before x = map (λ l. l.weight) (released (plan_of plans before x.month) before x).levels
 
 -- December's levels are 105 and 98 where November's are 100
 abbrev pub by_december : List Release → List Release

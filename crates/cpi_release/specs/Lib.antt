@@ -2,7 +2,7 @@ pub mod Change
 pub mod Latest
 pub mod Releases
 pub mod MonthTable
-pub mod Publishing
+pub mod Releasing
 pub mod State
 pub mod GroupCalls
 pub mod Passing

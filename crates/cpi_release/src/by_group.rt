@@ -7,7 +7,7 @@ ghost use Rattle.cpi_index.specs.Month.{carry_month, sample_rows};
 ghost use Rattle.cpi_release.specs.State.{Keeps, StaysClean};
 ghost use Rattle.cpi_release.specs.GroupCalls.{group_of};
 ghost use Rattle.cpi_release.specs.Asking.{CanAsk};
-ghost use Rattle.cpi_release.specs.Publishing.{fault_in, table_in};
+ghost use Rattle.cpi_release.specs.Releasing.{fault_in, table_in};
 ghost use Rattle.cpi_release.specs.Summed.{IsFreezeFault};
 ghost use Rattle.cpi_release.specs.declared.freeze_fault.FreezeFault.TheVariants.{Group};
 

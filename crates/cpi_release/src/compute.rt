@@ -3,7 +3,7 @@ ghost use Rattle.std.specs.Prelude.{◌≡◌, ◌≢◌, ◌<◌, ◌≤◌, No
 ghost use Rattle.std.specs.Option.{option_copied};
 ghost use Rattle.cpi_release.specs.State.{Keeps, StaysClean};
 ghost use Rattle.cpi_release.specs.Asking.{IsAsked};
-ghost use Rattle.cpi_release.specs.Publishing.{Freeze, fault_of, published};
+ghost use Rattle.cpi_release.specs.Releasing.{Freeze, fault_of, released};
 ghost use Rattle.cpi_release.specs.Summed.{IsFreezeFault};
 ghost use Rattle.cpi_release.specs.declared.freeze_fault.FreezeFault.TheVariants.{Group};
 
@@ -84,7 +84,7 @@ impl Release {
             } in
             IsAsked s (option_copied plan.entry) x → let fault = fault_of (option_copied plan.entry) s.releases x in
             MatchResult result
-            (λ r. (fault ≡ None) × (r ≡ published (option_copied plan.entry) s.releases x))
+            (λ r. (fault ≡ None) × (r ≡ released (option_copied plan.entry) s.releases x))
             (IsFreezeFault fault) }
     {
         let Some(plan) = plan else {

@@ -11,7 +11,7 @@ use cpi_index::{ChainedLevel, GroupRow};
 pub trait Groups {
     ghost use Rattle.cpi_codes.specs.Month.{year_of};
     ghost use Rattle.cpi_release.specs.Releases.{level_at};
-    ghost use Rattle.cpi_release.specs.Publishing.{AreInOrder};
+    ghost use Rattle.cpi_release.specs.Releasing.{AreInOrder};
     ghost use Rattle.cpi_release.specs.State.{State, Reads};
     ghost use Rattle.cpi_release.specs.GroupCalls.{Sources, group_of, IsAfterFrozen};
 

@@ -1,14 +1,15 @@
 //! The release of a month, over a whole history.
 ghost use Rattle.std.specs.Prelude.{◌≡◌, ◌≢◌, Option, None, Some, true, nat_lt, IsSome, MatchResult};
 ghost use Rattle.std.specs.List.{list_any};
+ghost use Rattle.std.specs.Option.{option_copied};
 ghost use Rattle.cpi_index.specs.Series.{is_by_series, frozen_serial};
 ghost use Rattle.cpi_index.specs.declared.fault.IndexFault.{IndexFault};
 ghost use Rattle.cpi_index.specs.declared.fault.IndexFault.TheVariants.{NoMemory};
 ghost use Rattle.cpi_release.specs.Summed.{IsFreezeFault};
 ghost use Rattle.cpi_release.specs.Cached.{sources_of};
 ghost use Rattle.cpi_release.specs.GroupCalls.{IsAfterFrozen};
-ghost use Rattle.cpi_release.specs.Publishing.{Freeze, AreInOrder, has_earlier as has_an_earlier};
-ghost use Rattle.cpi_release.specs.Publishing.{plan_of as plan_in, fault_of, published};
+ghost use Rattle.cpi_release.specs.Releasing.{Freeze, AreInOrder, has_earlier as has_an_earlier};
+ghost use Rattle.cpi_release.specs.Releasing.{plan_of as plan_in, fault_of, released};
 
 use crate::freeze_fault::FreezeFault;
 use crate::history_groups::HistoryGroups;
@@ -17,6 +18,7 @@ use crate::release::{History, Release};
 use crate::revision::Revision;
 use cpi_codes::{Code, Moment, Month};
 use cpi_index::{FrozenQuote, IndexFault};
+use cpi_plan::YearPlan;
 use std::alloc::Global;
 
 // Whether an earlier month was frozen.
@@ -24,6 +26,17 @@ fn has_earlier(releases: &[Release], month: Month) -> bool
     ensures { result ≡ has_an_earlier releases.now month }
 {
     releases.iter().any(|release| release.month < month)
+}
+
+// The plan by which a month is released: that of its year, and none where no earlier month was frozen.
+fn releasing_plan(history: &History, month: Month) -> Option<&YearPlan>
+    ensures { option_copied result ≡ plan_in history.now.plans history.now.releases month }
+{
+    if has_earlier(history.releases.as_slice(), month) {
+        plan_of(history.plans.as_slice(), month.year())
+    } else {
+        None
+    }
 }
 
 // Over a history that is at hand, a read fails for want of memory alone.
@@ -61,35 +74,21 @@ fn over(
         lent.now ≡ frozen.items → AreInOrder releases → is_by_series frozen_serial frozen.items ≡ true →
         (IsSome plan → IsAfterFrozen (sources_of plans releases frozen.items) month) →
         let fault = fault_of plan releases x in
-        MatchResult result (λ r. (fault ≡ None) × (r ≡ published plan releases x)) (IsFreezeFault fault) }
+        MatchResult result (λ r. (fault ≡ None) × (r ≡ released plan releases x)) (IsFreezeFault fault) }
 {
     let mut groups = HistoryGroups::new(alloc, history, lent);
-    if has_earlier(history.releases.as_slice(), month) {
-        let plan = plan_of(history.plans.as_slice(), month.year());
-        Release::compute_by_group(
-            alloc,
-            &mut groups,
-            plan,
-            month,
-            revision,
-            frozen_at,
-            publishes,
-            frozen,
-            carry,
-        )
-    } else {
-        Release::compute_by_group(
-            alloc,
-            &mut groups,
-            None,
-            month,
-            revision,
-            frozen_at,
-            publishes,
-            frozen,
-            carry,
-        )
-    }
+    let plan = releasing_plan(history, month);
+    Release::compute_by_group(
+        alloc,
+        &mut groups,
+        plan,
+        month,
+        revision,
+        frozen_at,
+        publishes,
+        frozen,
+        carry,
+    )
 }
 
 impl Release {
@@ -120,7 +119,7 @@ impl Release {
             (IsSome plan → IsAfterFrozen (sources_of plans releases frozen.items) month) →
             let fault = fault_of plan releases x in
             MatchResult result
-            (λ r. (fault ≡ None) × (r ≡ published plan releases x))
+            (λ r. (fault ≡ None) × (r ≡ released plan releases x))
             (λ f. f ≢ NoMemory → fault ≡ Some f) }
     {
         let Ok(lent) = Vec::from_slice(alloc, &frozen) else {

@@ -1,5 +1,6 @@
 -- What putting a row among rows in order does to a filter, a map and a search.
-use Rattle.std.proofs.Common.{◌≡◌, ◌≢◌, ℕ, Bool, true, false, List, [], ◌∷◌, ◌++◌, map, Some, None, Option, refl, sym, ap, ◌∙◌, subst}
+use Rattle.std.proofs.Common.{◌≡◌, ◌≢◌, ℕ, Bool, true, false, List, [], ◌∷◌, ◌++◌, map, Some, None, Option, refl, sym}
+use Rattle.std.proofs.Common.{ap, ◌∙◌, subst}
 use Rattle.std.specs.Prelude.{if◌then◌else◌, filter, IsSome}
 use Rattle.std.specs.declared.cmp.Ordering.{Ordering}
 use Rattle.std.specs.declared.cmp.Ordering.TheVariants.{Less, Equal, Greater}
@@ -18,18 +19,21 @@ filter-filter : {X : Type 0} (p q : X → Bool) (xs : List X) → filter p (filt
 filter-filter p q [] = refl
 filter-filter p q (x ∷ xs) = by (p x) (q x) refl refl (filter-filter p q xs)
   where
-    by : (s t : Bool) → p x ≡ s → q x ≡ t → filter p (filter q xs) ≡ filter q (filter p xs) → filter p (filter q (x ∷ xs)) ≡ filter q (filter p (x ∷ xs))
+    by : (s t : Bool) → p x ≡ s → q x ≡ t → filter p (filter q xs) ≡ filter q (filter p xs) →
+        filter p (filter q (x ∷ xs)) ≡ filter q (filter p (x ∷ xs))
     by true true e f rest = rw (e, f, e) (ap (λ ys. x ∷ ys) rest)
     by true false e f rest = rw (e, f) rest
     by false true e f rest = rw (e, f, e) rest
     by false false e f rest = rw (e, f) rest
 
 -- a filter by what a map gives
-map-filter : {X Y : Type 0} (f : X → Y) (p : Y → Bool) (xs : List X) → map f (filter (λ x. p (f x)) xs) ≡ filter p (map f xs)
+map-filter : {X Y : Type 0} (f : X → Y) (p : Y → Bool) (xs : List X) →
+    map f (filter (λ x. p (f x)) xs) ≡ filter p (map f xs)
 map-filter f p [] = refl
 map-filter f p (x ∷ xs) = by (p (f x)) refl (map-filter f p xs)
   where
-    by : (s : Bool) → p (f x) ≡ s → map f (filter (λ x. p (f x)) xs) ≡ filter p (map f xs) → map f (filter (λ x. p (f x)) (x ∷ xs)) ≡ filter p (map f (x ∷ xs))
+    by : (s : Bool) → p (f x) ≡ s → map f (filter (λ x. p (f x)) xs) ≡ filter p (map f xs) →
+        map f (filter (λ x. p (f x)) (x ∷ xs)) ≡ filter p (map f (x ∷ xs))
     by true e rest = rw e (ap (λ ys. f x ∷ ys) rest)
     by false e rest = rw e rest
 
@@ -55,11 +59,15 @@ module _ {X K : Type 0} (cmp : K → K → Ordering) (key : X → K) (p : X → 
       ∙ ap (λ ys. filter below (filter p rows) ++ row ∷ ys) (filter-filter p above rows)
 
 -- a map that keeps the keys
-pub map-put : {X Y K : Type 0} (cmp : K → K → Ordering) (key : Y → K) (f : X → Y) (row : X) (rows : List X) → map f (put cmp (λ x. key (f x)) row rows) ≡ put cmp key (f row) (map f rows)
+pub map-put : {X Y K : Type 0} (cmp : K → K → Ordering) (key : Y → K) (f : X → Y) (row : X) (rows : List X) →
+    map f (put cmp (λ x. key (f x)) row rows) ≡ put cmp key (f row) (map f rows)
 map-put cmp key f row rows =
-    map-append f (filter (λ r. is_lt (cmp (key (f r)) (key (f row)))) rows) (row ∷ filter (λ r. is_gt (cmp (key (f r)) (key (f row)))) rows)
-    ∙ ap (λ ys. ys ++ f row ∷ map f (filter (λ r. is_gt (cmp (key (f r)) (key (f row)))) rows)) (map-filter f (λ r. is_lt (cmp (key r) (key (f row)))) rows)
-    ∙ ap (λ ys. filter (λ r. is_lt (cmp (key r) (key (f row)))) (map f rows) ++ f row ∷ ys) (map-filter f (λ r. is_gt (cmp (key r) (key (f row)))) rows)
+    map-append f (filter (λ r. is_lt (cmp (key (f r)) (key (f row)))) rows)
+    (row ∷ filter (λ r. is_gt (cmp (key (f r)) (key (f row)))) rows)
+    ∙ ap (λ ys. ys ++ f row ∷ map f (filter (λ r. is_gt (cmp (key (f r)) (key (f row)))) rows))
+    (map-filter f (λ r. is_lt (cmp (key r) (key (f row)))) rows)
+    ∙ ap (λ ys. filter (λ r. is_lt (cmp (key r) (key (f row)))) (map f rows) ++ f row ∷ ys)
+    (map-filter f (λ r. is_gt (cmp (key r) (key (f row)))) rows)
 
 module _ {X K : Type 0} {R : K → K → Ordering} (o : IsTotalOrder R) (key : X → K) where
   abbrev c : X → X → Ordering
@@ -83,20 +91,29 @@ module _ {X K : Type 0} {R : K → K → Ordering} (o : IsTotalOrder R) (key : X
       }
 
   -- what is above a row is above a key that the row is level with or above
-  above_level : (k : K) (r : X) (rows : List X) → R (key r) k ≡ Equal → AllByRecursion (λ y. c r y ≡ Less) rows → AllByRecursion (λ y. R k (key y) ≡ Less) rows
+  above_level : (k : K) (r : X) (rows : List X) → R (key r) k ≡ Equal → AllByRecursion (λ y. c r y ≡ Less) rows →
+      AllByRecursion (λ y. R k (key y) ≡ Less) rows
   above_level k r [] e all = tt
   above_level k r (y ∷ ys) e all = (sym (o.congr (key r) k (key y) e) ∙ all.0, above_level k r ys e all.1)
 
-  above_higher : (k : K) (r : X) (rows : List X) → R (key r) k ≡ Greater → AllByRecursion (λ y. c r y ≡ Less) rows → AllByRecursion (λ y. R k (key y) ≡ Less) rows
+  above_higher : (k : K) (r : X) (rows : List X) → R (key r) k ≡ Greater → AllByRecursion (λ y. c r y ≡ Less) rows →
+      AllByRecursion (λ y. R k (key y) ≡ Less) rows
   above_higher k r [] e all = tt
-  above_higher k r (y ∷ ys) e all = (o.trans k (key r) (key y) (o.antisymm k (key r) ∙ ap ordering_reverse e) all.0, above_higher k r ys e all.1)
+  above_higher k r (y ∷ ys) e all = (
+    o.trans k (key r) (key y) (o.antisymm k (key r) ∙ ap ordering_reverse e) all.0,
+    above_higher k r ys e all.1,
+  )
 
   -- where no row has the key, the rows below it and those above are all rows
-  pub parted : (k : K) (rows : List X) → IsInOrder R key rows → row_at R key k rows ≡ None → filter (λ r. is_lt (R (key r) k)) rows ++ filter (λ r. is_gt (R (key r) k)) rows ≡ rows
+  pub parted : (k : K) (rows : List X) → IsInOrder R key rows → row_at R key k rows ≡ None →
+      filter (λ r. is_lt (R (key r) k)) rows ++ filter (λ r. is_gt (R (key r) k)) rows ≡ rows
   parted k [] sorted none = refl
   parted k (r ∷ rows) sorted none = by (R (key r) k) refl none (parted k rows (sorted_tail c r rows sorted))
     where
-      by : (s : Ordering) → R (key r) k ≡ s → row_at R key k (r ∷ rows) ≡ None → (row_at R key k rows ≡ None → filter (λ r. is_lt (R (key r) k)) rows ++ filter (λ r. is_gt (R (key r) k)) rows ≡ rows) → filter (λ r. is_lt (R (key r) k)) (r ∷ rows) ++ filter (λ r. is_gt (R (key r) k)) (r ∷ rows) ≡ r ∷ rows
+      by : (s : Ordering) → R (key r) k ≡ s → row_at R key k (r ∷ rows) ≡ None →
+          (row_at R key k rows ≡ None → filter (λ r. is_lt (R (key r) k)) rows
+          ++ filter (λ r. is_gt (R (key r) k)) rows ≡ rows) → filter (λ r. is_lt (R (key r) k)) (r ∷ rows)
+          ++ filter (λ r. is_gt (R (key r) k)) (r ∷ rows) ≡ r ∷ rows
       by Less e none rest = rw (ap is_lt e, ap is_gt e) (ap (λ ys. r ∷ ys) (rest (rw (ap is_eq e) at none)))
       by Equal e none rest = let same : Some r ≡ None = rw (ap is_eq e) at none in cc
       by Greater e none rest =
@@ -104,11 +121,14 @@ module _ {X K : Type 0} {R : K → K → Ordering} (o : IsTotalOrder R) (key : X
           rw (ap is_lt e, ap is_gt e, all.none_below, all.all_above) refl
 
   -- a row that stands is put in place of itself
-  pub put_standing : (row : X) (rows : List X) → IsInOrder R key rows → row_at R key (key row) rows ≡ Some row → put R key row rows ≡ rows
+  pub put_standing : (row : X) (rows : List X) → IsInOrder R key rows → row_at R key (key row) rows ≡ Some row →
+      put R key row rows ≡ rows
   put_standing row [] sorted there = let no : None ≡ Some row = there in cc
-  put_standing row (r ∷ rows) sorted there = by (R (key r) (key row)) refl there (put_standing row rows (sorted_tail c r rows sorted))
+  put_standing row (r ∷ rows) sorted there = by (R (key r) (key row)) refl there
+      (put_standing row rows (sorted_tail c r rows sorted))
     where
-      by : (s : Ordering) → R (key r) (key row) ≡ s → row_at R key (key row) (r ∷ rows) ≡ Some row → (row_at R key (key row) rows ≡ Some row → put R key row rows ≡ rows) → put R key row (r ∷ rows) ≡ r ∷ rows
+      by : (s : Ordering) → R (key r) (key row) ≡ s → row_at R key (key row) (r ∷ rows) ≡ Some row →
+          (row_at R key (key row) rows ≡ Some row → put R key row rows ≡ rows) → put R key row (r ∷ rows) ≡ r ∷ rows
       by Less e there rest = rw (ap is_lt e, ap is_gt e) (ap (λ ys. r ∷ ys) (rest (rw (ap is_eq e) at there)))
       by Equal e there rest =
           let all = are_above (key row) rows (above_level (key row) r rows e (sorted_head c r rows sorted)) in
@@ -120,7 +140,8 @@ module _ {X K : Type 0} {R : K → K → Ordering} (o : IsTotalOrder R) (key : X
           let no : None ≡ Some row = sym all.none_there ∙ (rw (ap is_eq e) at there) in cc
 
   -- a new row that does not pass a filter
-  pub filter-put_out : (p : X → Bool) (row : X) (rows : List X) → IsInOrder R key rows → row_at R key (key row) rows ≡ None → p row ≡ false → filter p (put R key row rows) ≡ filter p rows
+  pub filter-put_out : (p : X → Bool) (row : X) (rows : List X) → IsInOrder R key rows →
+      row_at R key (key row) rows ≡ None → p row ≡ false → filter p (put R key row rows) ≡ filter p rows
   filter-put_out p row rows sorted none e =
       let below : X → Bool = λ r. is_lt (R (key r) (key row)) in
       let above : X → Bool = λ r. is_gt (R (key r) (key row)) in
@@ -130,7 +151,8 @@ module _ {X K : Type 0} {R : K → K → Ordering} (o : IsTotalOrder R) (key : X
       ∙ ap (filter p) (parted (key row) rows sorted none)
 
   -- a later row has another key than the first
-  pub first_apart : (k : K) (x y : X) (rows : List X) → IsInOrder R key (x ∷ rows) → row_at R key k rows ≡ Some y → is_eq (R (key x) k) ≡ false
+  pub first_apart : (k : K) (x y : X) (rows : List X) → IsInOrder R key (x ∷ rows) → row_at R key k rows ≡ Some y →
+      is_eq (R (key x) k) ≡ false
   first_apart k x y rows sorted there = by (R (key x) k) refl
     where
       by : (s : Ordering) → R (key x) k ≡ s → is_eq (R (key x) k) ≡ false
@@ -140,16 +162,20 @@ module _ {X K : Type 0} {R : K → K → Ordering} (o : IsTotalOrder R) (key : X
           let no : None ≡ Some y = sym all.none_there ∙ there in cc
       by Greater e = ap is_eq e
 
-  passed_over : (k : K) (row : X) (xs ys : List X) → is_eq (R (key row) k) ≡ false → row_at R key k (xs ++ row ∷ ys) ≡ row_at R key k (xs ++ ys)
+  passed_over : (k : K) (row : X) (xs ys : List X) → is_eq (R (key row) k) ≡ false →
+      row_at R key k (xs ++ row ∷ ys) ≡ row_at R key k (xs ++ ys)
   passed_over k row [] ys e = rw e refl
   passed_over k row (x ∷ xs) ys e = by (is_eq (R (key x) k)) refl (passed_over k row xs ys e)
     where
-      by : (s : Bool) → is_eq (R (key x) k) ≡ s → row_at R key k (xs ++ row ∷ ys) ≡ row_at R key k (xs ++ ys) → row_at R key k (x ∷ xs ++ row ∷ ys) ≡ row_at R key k (x ∷ xs ++ ys)
+      by : (s : Bool) → is_eq (R (key x) k) ≡ s → row_at R key k (xs ++ row ∷ ys) ≡ row_at R key k (xs ++ ys) →
+          row_at R key k (x ∷ xs ++ row ∷ ys) ≡ row_at R key k (x ∷ xs ++ ys)
       by true f rest = rw f refl
       by false f rest = rw f rest
 
   -- a new row leaves each other key's row
-  pub row_at-put_other : (k : K) (row : X) (rows : List X) → IsInOrder R key rows → row_at R key (key row) rows ≡ None → is_eq (R (key row) k) ≡ false → row_at R key k (put R key row rows) ≡ row_at R key k rows
+  pub row_at-put_other : (k : K) (row : X) (rows : List X) → IsInOrder R key rows →
+      row_at R key (key row) rows ≡ None → is_eq (R (key row) k) ≡ false →
+      row_at R key k (put R key row rows) ≡ row_at R key k rows
   row_at-put_other k row rows sorted none e =
       passed_over k row _ _ e ∙ ap (row_at R key k) (parted (key row) rows sorted none)
 
@@ -158,37 +184,49 @@ module _ {X K : Type 0} {R : K → K → Ordering} (o : IsTotalOrder R) (key : X
   level_apart k k' r e apart = ap is_eq (o.congr (key r) k' k e) ∙ apart
 
   others_kept : (k k' : K) (rows : List X) → IsInOrder R key rows → is_eq (R k' k) ≡ false →
-      row_at R key k (filter (λ r. is_lt (R (key r) k')) rows ++ filter (λ r. is_gt (R (key r) k')) rows) ≡ row_at R key k rows
+      row_at R key k (filter (λ r. is_lt (R (key r) k')) rows ++ filter (λ r. is_gt (R (key r) k')) rows) ≡ row_at R
+      key k rows
   others_kept k k' [] sorted apart = refl
-  others_kept k k' (r ∷ rows) sorted apart = by (R (key r) k') refl (others_kept k k' rows (sorted_tail c r rows sorted) apart)
+  others_kept k k' (r ∷ rows) sorted apart = by (R (key r) k') refl
+      (others_kept k k' rows (sorted_tail c r rows sorted) apart)
     where
       Kept : List X → Type 0
-      Kept rs = row_at R key k (filter (λ r. is_lt (R (key r) k')) rs ++ filter (λ r. is_gt (R (key r) k')) rs) ≡ row_at R key k rs
+      Kept rs = row_at R key k (filter (λ r. is_lt (R (key r) k')) rs ++ filter (λ r. is_gt (R (key r) k')) rs) ≡
+          row_at R key k rs
 
-      front : (s : Bool) → is_eq (R (key r) k) ≡ s → Kept rows → row_at R key k (r ∷ filter (λ r. is_lt (R (key r) k')) rows ++ filter (λ r. is_gt (R (key r) k')) rows) ≡ row_at R key k (r ∷ rows)
+      front : (s : Bool) → is_eq (R (key r) k) ≡ s → Kept rows →
+          row_at R key k (r ∷ filter (λ r. is_lt (R (key r) k')) rows ++ filter (λ r. is_gt (R (key r) k')) rows) ≡
+          row_at R key k (r ∷ rows)
       front true f rest = rw f refl
       front false f rest = rw f rest
 
-      by : (s : Ordering) → R (key r) k' ≡ s → row_at R key k (filter (λ r. is_lt (R (key r) k')) rows ++ filter (λ r. is_gt (R (key r) k')) rows) ≡ row_at R key k rows → row_at R key k (filter (λ r. is_lt (R (key r) k')) (r ∷ rows) ++ filter (λ r. is_gt (R (key r) k')) (r ∷ rows)) ≡ row_at R key k (r ∷ rows)
+      by : (s : Ordering) → R (key r) k' ≡ s → row_at R key k
+          (filter (λ r. is_lt (R (key r) k')) rows ++ filter (λ r. is_gt (R (key r) k')) rows) ≡ row_at R key k rows →
+          row_at R key k (filter (λ r. is_lt (R (key r) k')) (r ∷ rows)
+          ++ filter (λ r. is_gt (R (key r) k')) (r ∷ rows)) ≡ row_at R key k (r ∷ rows)
       by Less e rest = rw (ap is_lt e, ap is_gt e) (front (is_eq (R (key r) k)) refl rest)
       by Equal e rest = rw (ap is_lt e, ap is_gt e, level_apart k k' r e apart) rest
       by Greater e rest =
           let all = are_above k' rows (above_higher k' r rows e (sorted_head c r rows sorted)) in
           rw (ap is_lt e, ap is_gt e, all.none_below, all.all_above) refl
 
-  pub row_at-put_apart : (k : K) (row : X) (rows : List X) → IsInOrder R key rows → is_eq (R (key row) k) ≡ false → row_at R key k (put R key row rows) ≡ row_at R key k rows
+  pub row_at-put_apart : (k : K) (row : X) (rows : List X) → IsInOrder R key rows → is_eq (R (key row) k) ≡ false →
+      row_at R key k (put R key row rows) ≡ row_at R key k rows
   row_at-put_apart k row rows sorted e = passed_over k row _ _ e ∙ others_kept k (key row) rows sorted e
 
   -- a row above all is put at the end
-  pub put_last : (row : X) (rows : List X) → AllByRecursion (λ r. R (key r) (key row) ≡ Less) rows → put R key row rows ≡ rows ++ row ∷ []
+  pub put_last : (row : X) (rows : List X) → AllByRecursion (λ r. R (key r) (key row) ≡ Less) rows →
+      put R key row rows ≡ rows ++ row ∷ []
   put_last row [] all = refl
   put_last row (r ∷ rows) all = rw (ap is_lt all.0, ap is_gt all.0) (ap (λ ys. r ∷ ys) (put_last row rows all.1))
 
-  found_after : (k : K) (row : X) (xs ys : List X) → is_eq (R (key row) k) ≡ true → row_at R key k (filter (λ r. is_lt (R (key r) k)) xs ++ row ∷ ys) ≡ Some row
+  found_after : (k : K) (row : X) (xs ys : List X) → is_eq (R (key row) k) ≡ true →
+      row_at R key k (filter (λ r. is_lt (R (key r) k)) xs ++ row ∷ ys) ≡ Some row
   found_after k row [] ys e = rw e refl
   found_after k row (x ∷ xs) ys e = by (R (key x) k) refl (found_after k row xs ys e)
     where
-      by : (s : Ordering) → R (key x) k ≡ s → row_at R key k (filter (λ r. is_lt (R (key r) k)) xs ++ row ∷ ys) ≡ Some row → row_at R key k (filter (λ r. is_lt (R (key r) k)) (x ∷ xs) ++ row ∷ ys) ≡ Some row
+      by : (s : Ordering) → R (key x) k ≡ s → row_at R key k (filter (λ r. is_lt (R (key r) k)) xs ++ row ∷ ys) ≡ Some
+          row → row_at R key k (filter (λ r. is_lt (R (key r) k)) (x ∷ xs) ++ row ∷ ys) ≡ Some row
       by Less f rest = rw (ap is_lt f, ap is_eq f) rest
       by Equal f rest = rw (ap is_lt f) rest
       by Greater f rest = rw (ap is_lt f) rest
@@ -199,15 +237,19 @@ module _ {X K : Type 0} {R : K → K → Ordering} (o : IsTotalOrder R) (key : X
 -- ---- what is found is still found
 
 -- keys that are level are found alike
-row_at_level : {X K : Type 0} {R : K → K → Ordering} (o : IsTotalOrder R) (key : X → K) (k k' : K) (rows : List X) → R k k' ≡ Equal → row_at R key k rows ≡ row_at R key k' rows
+row_at_level : {X K : Type 0} {R : K → K → Ordering} (o : IsTotalOrder R) (key : X → K) (k k' : K) (rows : List X) →
+    R k k' ≡ Equal → row_at R key k rows ≡ row_at R key k' rows
 row_at_level o key k k' [] e = refl
-row_at_level {R = R} o key k k' (r ∷ rows) e = rw (alike_right o k k' (key r) e) (by (is_eq (R (key r) k')) (row_at_level o key k k' rows e))
+row_at_level {R = R} o key k k' (r ∷ rows) e =
+    rw (alike_right o k k' (key r) e) (by (is_eq (R (key r) k')) (row_at_level o key k k' rows e))
   where
-    by : (s : Bool) → row_at R key k rows ≡ row_at R key k' rows → (if s then Some r else row_at R key k rows) ≡ (if s then Some r else row_at R key k' rows)
+    by : (s : Bool) → row_at R key k rows ≡ row_at R key k' rows →
+        (if s then Some r else row_at R key k rows) ≡ (if s then Some r else row_at R key k' rows)
     by true rest = refl
     by false rest = rest
 
-module _ {X K : Type 0} {R : K → K → Ordering} (o : IsTotalOrder R) (key : X → K) (row : X) (rows : List X) (sorted : IsInOrder R key rows) (none : row_at R key (key row) rows ≡ None) where
+module _ {X K : Type 0} {R : K → K → Ordering} (o : IsTotalOrder R) (key : X → K) (row : X) (rows : List X)
+    (sorted : IsInOrder R key rows) (none : row_at R key (key row) rows ≡ None) where
   pub row_at-put_found : (k : K) (x : X) → row_at R key k rows ≡ Some x → row_at R key k (put R key row rows) ≡ Some x
   row_at-put_found k x found = by (R (key row) k) refl
     where
@@ -236,7 +278,8 @@ different m n h = by (nat_cmp m n) refl
     by Equal e = absurd (h (ranked m n Equal (sym e)))
     by Greater e = ap is_eq e
 
-module _ {X : Type 0} (key : X → ℕ) (row : X) (rows : List X) (sorted : IsInOrder nat_cmp key rows) (none : at key (key row) rows ≡ None) where
+module _ {X : Type 0} (key : X → ℕ) (row : X) (rows : List X) (sorted : IsInOrder nat_cmp key rows)
+    (none : at key (key row) rows ≡ None) where
   pub at-put_other : (n : ℕ) → key row ≢ n → at key n (put_by key row rows) ≡ at key n rows
   at-put_other n h = row_at-put_other nat_cmp_total key n row rows sorted none (different (key row) n h)
 

@@ -3,7 +3,8 @@ use Rattle.std.proofs.Common.{◌≡◌, ◌⊎◌, ℕ, ◌<◌, Ok, Err, IsTru
 use Rattle.sqlite.specs.Tree.{Trees}
 use Rattle.sqlite.specs.Effect.{Database}
 use Rattle.sqlite.specs.State.{State, HasCleanDisk, Survives}
-use Rattle.cpi_release.specs.State.{Keeps, Reads}
+use Rattle.cpi_release.specs.State.{State as BookState, Keeps, Reads}
+use Rattle.cpi_release.proofs.PassLemmas.{keeps_more, stays_more}
 use Rattle.cpi_store.specs.Office.{Office}
 use Rattle.cpi_store.specs.Calls.{Writes}
 use Rattle.cpi_sql_rows.specs.Lists.{office_in}
@@ -82,3 +83,56 @@ module _ (old new : State) (n : ℕ) (tables : IsCleanBook old → HasTables old
       crash = left;
       answered = λ is_clean. tt;
     }
+
+-- ---- what follows a read that was answered
+
+module _ {T U F G : Type 0} {P : U → Type 0} (a : BookState Office) (u : U) (Shown : T → Type 0) where
+  -- it is shown from memory
+  pub then_shown : (b : BookState Office) (x : T) → Reads a b {T = U} {F = F} (Ok u) P → (b.is_clean → Shown x)
+      → Reads a b {T = T} {F = G} (Ok x) Shown
+  then_shown b x r shown = record {
+    keeps = r.keeps;
+    stays = r.stays;
+    shown = shown;
+    count = r.count;
+    fault = tt;
+  }
+
+  -- memory was refused for it
+  pub then_refused : (s : State) (n m : ℕ) (e : G) → Reads a (office_state s n) {T = U} {F = F} (Ok u) P → n < m
+      → Reads a (office_state s m) {T = T} {F = G} (Err e) Shown
+  then_refused s n m e r more = record {
+    keeps = record {
+      was_kept = r.keeps.was_kept;
+      was_clean = r.keeps.was_clean;
+      kept = r.keeps.kept;
+      crash = r.keeps.crash;
+    };
+    stays = tt;
+    shown = λ clean. tt;
+    count = omega (arith, r.count, more);
+    fault = omega (arith, r.count, more);
+  }
+
+  -- it is read next
+  pub then_read : {K V : Type 0} {v : V} {Q : V → Type 0} (b c : BookState Office) (x : T)
+      → Reads a b {T = U} {F = F} (Ok u) P → Reads b c {T = V} {F = K} (Ok v) Q → (c.is_clean → Shown x) →
+      Reads a c {T = T} {F = G} (Ok x) Shown
+  then_read b c x r next shown = record {
+    keeps = keeps_more a b c r.keeps r.stays next.keeps;
+    stays = stays_more a b c r.stays next.keeps next.stays;
+    shown = shown;
+    count = omega (arith, r.count, next.count);
+    fault = tt;
+  }
+
+  pub then_fails : {K V : Type 0} {k : K} {Q : V → Type 0} (b c : BookState Office) (e : G)
+      → Reads a b {T = U} {F = F} (Ok u) P → Reads b c {T = V} {F = K} (Err k) Q →
+      Reads a c {T = T} {F = G} (Err e) Shown
+  then_fails b c e r next = record {
+    keeps = keeps_more a b c r.keeps r.stays next.keeps;
+    stays = tt;
+    shown = λ clean. tt;
+    count = omega (arith, r.count, next.count);
+    fault = omega (arith, r.count, next.fault);
+  }

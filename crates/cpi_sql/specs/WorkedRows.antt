@@ -15,9 +15,11 @@ use Rattle.cpi_sql_rows.specs.Lists.{frozen_in, carried_in, level_in}
 
 -- ---- values. A row is its rowid, and then its columns; where the key is the rowid, its column is NULL
 
+-- a number as a value
 abbrev pub number : ℕ → Value
 number n = Int (pos n)
 
+-- a text as a value
 abbrev pub word : List ℕ → Value
 word text = Text text
 
@@ -25,18 +27,22 @@ word text = Text text
 abbrev pub rice_code : ℕ
 rice_code = 25466340061561856917373976576
 
+-- the code of rice
 abbrev pub rice : Code
 rice = record { division = 1; group = Some 1; class = Some 1; subclass = Some 1; aggregate = Some 1; valid = refl }
 
+-- the code of flour
 abbrev pub flour : Code
 flour = record { division = 1; group = Some 1; class = Some 1; subclass = Some 2; aggregate = Some 1; valid = refl }
 
 -- ---- items
 
+-- a row of an item with these tolerances
 abbrev pub item_row : ℕ → ℕ → Row
 item_row low high =
     number 1 ∷ word (codes "RICE") ∷ word (codes "Rice, white") ∷ word (codes "1 kg") ∷ number low ∷ number high ∷ []
 
+-- which rows are items
 abbrev pub Items : Type 0
 Items =
     (item_in (item_row 700 1500) ≡ Some (record {
@@ -51,10 +57,12 @@ Items =
 
 -- ---- calendar: January 2026 is month 312
 
+-- a row of the calendar with these moments
 abbrev pub calendar_row : ℕ → ℕ → ℕ → ℕ → Row
 calendar_row month opens closes publishes =
     number month ∷ Null ∷ number opens ∷ number closes ∷ number publishes ∷ []
 
+-- which rows are of the calendar
 abbrev pub Calendar : Type 0
 Calendar =
     (calendar_in (calendar_row 202601 1000 2000 3000) ≡ Some (record {
@@ -69,10 +77,12 @@ Calendar =
 
 -- ---- quotes of collector 7: December 2025 is month 311
 
+-- a row of a quote with this mark and value
 abbrev pub quote_row : List ℕ → ℕ → Row
 quote_row mark value =
     number 5 ∷ number 7 ∷ number 4 ∷ number 202512 ∷ word mark ∷ number value ∷ number 9 ∷ []
 
+-- which rows are quotes
 abbrev pub Quotes : Type 0
 Quotes =
     (quote_in (quote_row (codes "price") 200)
@@ -84,11 +94,13 @@ Quotes =
 
 -- ---- assignments of collector 7: December 2026 is month 323
 
+-- a row of an assignment with this series and copied price
 abbrev pub assignment_row : ℕ → ℕ → ℕ → Value → Row
 assignment_row slot series_collector series_slot copied =
     number 5 ∷ number 7 ∷ number slot ∷ number 10 ∷ word (codes "RICE") ∷ number 202512 ∷ number 202612
     ∷ number series_collector ∷ number series_slot ∷ copied ∷ []
 
+-- what a slot was given with this series and copied price
 abbrev pub given_with : SeriesId → Option ℕ → Given
 given_with series copied = record {
   assignment = record {
@@ -119,9 +131,11 @@ Assignments =
 
 -- ---- nodes
 
+-- a row of a node with this code
 abbrev pub node_row : List ℕ → Row
 node_row code = number 5 ∷ number 2026 ∷ word code ∷ word (codes "Rice, packed") ∷ number 600000 ∷ []
 
+-- which rows are nodes
 abbrev pub Nodes : Type 0
 Nodes =
     (node_in (node_row (codes "01.1.1.1-01"))
@@ -130,21 +144,32 @@ Nodes =
 
 -- ---- releases: revision 2 of January 2026 has the number 3122
 
+-- a row of a header with these aggregates that may be carried
 abbrev pub header_row : List ℕ → Row
 header_row carry = number 5 ∷ number 202601 ∷ number 2 ∷ number 2000 ∷ number 3000 ∷ word carry ∷ []
 
+-- which rows are headers
 abbrev pub Headers : Type 0
 Headers =
     (header_in (header_row (codes "01.1.1.1-01 01.1.1.2-01"))
     ≡ Some (record { month = 312; revision = 2; frozen_at = 2000; publishes = 3000; carry = rice ∷ flour ∷ [] }))
-    × (header_in (header_row []) ≡ Some (record { month = 312; revision = 2; frozen_at = 2000; publishes = 3000; carry = [] }))
+    × (header_in (header_row []) ≡ Some (record {
+      month = 312;
+      revision = 2;
+      frozen_at = 2000;
+      publishes =
+          3000;
+      carry = [];
+    }))
     × (header_in (header_row (codes "01.1.1.1-01  01.1.1.2-01")) ≡ None)
 
+-- a row of a frozen quote with this revision
 abbrev pub frozen_row : ℕ → Row
 frozen_row last =
     number 5 ∷ number 202601 ∷ number 2 ∷ number 7 ∷ number 1 ∷ word (codes "RICE") ∷ number last ∷ word (codes "price")
     ∷ number 210 ∷ []
 
+-- which rows are frozen quotes
 abbrev pub FrozenQuotes : Type 0
 FrozenQuotes =
     (frozen_in (frozen_row 202612) ≡ Some (
@@ -164,6 +189,7 @@ carried_row imputed =
     number 5 ∷ number 202603 ∷ number 1 ∷ number 7 ∷ number 2 ∷ word (codes "RICE") ∷ number 202612 ∷ number 3040000
     ∷ number 3040000 ∷ number 400 ∷ number 1 ∷ number imputed ∷ []
 
+-- the carried price of the row
 abbrev pub carried_price : Carried
 carried_price = record {
   series = record { collector = 7; slot = 2 };
@@ -176,6 +202,7 @@ carried_price = record {
   imputed = false;
 }
 
+-- which rows are carried prices
 abbrev pub CarriedPrices : Type 0
 CarriedPrices =
     (carried_in (carried_row 0) ≡ Some (3141, carried_price))
@@ -188,6 +215,7 @@ level_row weight year_change imputed =
     number 5 ∷ number 202601 ∷ number 2 ∷ word (codes "01.1.1.2-01") ∷ word (codes "Flour, wheat") ∷ number weight
     ∷ number 98000000 ∷ number 98000000 ∷ Int (negsuc 19) ∷ year_change ∷ number imputed ∷ []
 
+-- the row of a table with this chained level and annual change
 abbrev pub level_with : ℕ → Option ℤ → Level
 level_with weight year_change = record {
   code = flour;
@@ -200,6 +228,7 @@ level_with weight year_change = record {
   imputed = false;
 }
 
+-- which rows are rows of a table
 abbrev pub Levels : Type 0
 Levels =
     (level_in (level_row 400000 Null 0) ≡ Some (3122, level_with 400000 None))

@@ -5,16 +5,17 @@ use cpi_release::{Cached, Failures, FrozenMonth, GroupFault, Groups, Level, Rele
 use cpi_rows::Rows;
 use cpi_sql_open::open_office;
 use cpi_sql_reads::{
-    LevelTable, all_months, find_revision, find_table, follow_assignment, follow_calendar,
-    follow_collector, follow_handover, follow_item, follow_outlet, follow_plan, follow_quote,
-    lent_table, level_of, months_published, quotes_of_month, ready_survey, sample_rows,
+    LevelTable, chained_level, follow_assignment, follow_calendar, follow_collector,
+    follow_handover, follow_item, follow_outlet, follow_plan, follow_quote, frozen_months,
+    is_there, lent_table, published_months, read_headers, read_survey, ready_table,
+    revision_published, sample_of,
 };
 use cpi_sql_rows::{Header, settle};
 use cpi_sql_writes::{
     put_assignment, put_calendar, put_collector, put_handover, put_item, put_outlet, put_plan,
     put_quote, put_release,
 };
-use cpi_store::{Bearer, Book, Given, Handover, OpenFault, Outlet, Parts, StoreFault, Survey};
+use cpi_store::{Bearer, Book, Given, OpenFault, Outlet, Parts, SeriesMove, StoreFault, Survey};
 use cpi_survey::{Assigned, Own, Public, Quote};
 use sqlite::{Alter, Connection};
 use std::alloc::Global;
@@ -42,6 +43,7 @@ pub struct SqlBook<S: Alter> {
 }
 
 impl<S: Alter> Model for SqlBook<S> {
+    ghost use Rattle.std.specs.Prelude.{is_some, length};
     ghost use Rattle.sqlite.specs.Held.{state};
     ghost use Rattle.cpi_sql_rows.specs.Shelf.{Shelf, shelf_code, IsSound};
 
@@ -49,7 +51,14 @@ impl<S: Alter> Model for SqlBook<S> {
 
     ghost coded = { shelf_code S.code };
 
-    ghost view = { λ b. record { held = b.conn; is_read = b.is_read; failures = b.failed.count } };
+    ghost view = { λ b. record {
+      held = b.conn;
+      is_read = b.is_read;
+      has_headers = b.has_headers;
+      has_samples = is_some b.cached;
+      tables = length b.tables.items;
+      failures = b.failed.count;
+    } };
 
     ghost invariant = { λ b. IsSound (state S.Store b.conn) (record {
       is_read = b.is_read;
@@ -93,9 +102,11 @@ impl<S: Alter + Drop> SqlBook<S> {
         ensures settled { IfOk result (λ b. IsCleanBook (state S.Store b.held) → IsSettled (state S.Store b.held)) }
         ensures crash { IfOk result (λ b.
             Survives (state S.Store conn) (state S.Store b.held) (MayBeMade (state S.Store conn))) }
-        ensures whole { IfOk result (λ b. IsCleanBook (state S.Store b.held) → AreWhole (state S.Store b.held).now.trees) }
+        ensures whole { IfOk result (λ b. IsCleanBook (state S.Store b.held) →
+            AreWhole (state S.Store b.held).now.trees) }
         ensures count { IfOk result (λ b. b.failures ≡ 0) }
         ensures unread { IfOk result (λ b. b.is_read ≡ false) }
+        ensures no_headers { IfOk result (λ b. b.has_headers ≡ false) }
         ensures kept { IfErr result (λ e.
             IsCleanBook (state S.Store e.conn) → IsKept (state S.Store conn) (state S.Store e.conn)) }
         ensures settled_fault { IfErr result (λ e.
@@ -129,12 +140,15 @@ impl<S: Alter + Drop> SqlBook<S> {
         requires { (state S.Store conn).in_transaction ≡ false }
         ensures opened { IfOk result (λ b.
             IsCleanBook (state S.Store b.held) → IsOpened (state S.Store conn) (state S.Store b.held)) }
+        ensures stays { IfOk result (λ b. StaysOpen (state S.Store conn) (state S.Store b.held)) }
         ensures settled { IfOk result (λ b. IsCleanBook (state S.Store b.held) → IsSettled (state S.Store b.held)) }
         ensures crash { IfOk result (λ b.
             Survives (state S.Store conn) (state S.Store b.held) (MayBeMade (state S.Store conn))) }
-        ensures whole { IfOk result (λ b. IsCleanBook (state S.Store b.held) → AreWhole (state S.Store b.held).now.trees) }
+        ensures whole { IfOk result (λ b. IsCleanBook (state S.Store b.held) →
+            AreWhole (state S.Store b.held).now.trees) }
         ensures count { IfOk result (λ b. b.failures ≡ 0) }
         ensures unread { IfOk result (λ b. b.is_read ≡ false) }
+        ensures no_headers { IfOk result (λ b. b.has_headers ≡ false) }
     {
         match SqlBook::over(alloc, conn) {
             Ok(book) => Ok(book),
@@ -150,11 +164,111 @@ impl<S: Alter + Drop> SqlBook<S> {
     }
 }
 
+impl<S: Alter> SqlBook<S> {
+    ghost use Rattle.std.specs.Prelude.{◌≡◌, ⊤, false, IsTrue, OnOk};
+    ghost use Rattle.sqlite.specs.Held.{state};
+    ghost use Rattle.cpi_release.specs.State.{Reads};
+    ghost use Rattle.cpi_sql_rows.specs.Lists.{header_in};
+    ghost use Rattle.cpi_sql_rows.specs.Shelf.{AllStand, AreTaken, IsCleanBook, book_state};
+
+    // Reads the survey, unless it is read.
+    fn ready_survey(&mut self) -> Result<(), StoreFault>
+        ensures reads { Reads (book_state S.Store self.old) (book_state S.Store self.new) result (λ _. ⊤) }
+        ensures now { IsCleanBook (state S.Store self.new.held) →
+            (state S.Store self.new.held).now ≡ (state S.Store self.old.held).now }
+        ensures ready { OnOk result (IsTrue self.new.is_read) }
+        ensures taken { IsCleanBook (state S.Store self.new.held) → self.old.is_read ≡ false →
+            OnOk result (AreTaken (state S.Store self.old.held).now.trees) }
+        ensures kept { (self.new.has_headers ≡ self.old.has_headers) × (self.new.has_samples ≡ self.old.has_samples) }
+    {
+        if self.is_read {
+            return Ok(());
+        }
+        match read_survey(&mut self.conn, self.alloc) {
+            Ok(survey) => {
+                self.survey = survey;
+                self.is_read = true;
+                Ok(())
+            }
+            Err(_) => Err(self.failed.counted(StoreFault)),
+        }
+    }
+
+    // Reads the headers of the releases, unless they are read.
+    fn ready_headers(&mut self) -> Result<(), StoreFault>
+        ensures reads { Reads (book_state S.Store self.old) (book_state S.Store self.new) result (λ _. ⊤) }
+        ensures now { IsCleanBook (state S.Store self.new.held) →
+            (state S.Store self.new.held).now ≡ (state S.Store self.old.held).now }
+        ensures ready { OnOk result (IsTrue self.new.has_headers) }
+        ensures headers { IsCleanBook (state S.Store self.new.held) → self.old.has_headers ≡ false →
+            OnOk result (AllStand header_in ((state S.Store self.old.held).now.trees 26)) }
+        ensures kept { (self.new.is_read ≡ self.old.is_read) × (self.new.has_samples ≡ self.old.has_samples)
+            × (self.new.tables ≡ self.old.tables) }
+    {
+        if self.has_headers {
+            return Ok(());
+        }
+        match read_headers(&mut self.conn, self.alloc) {
+            Ok(headers) => {
+                self.headers = headers;
+                self.has_headers = true;
+                Ok(())
+            }
+            Err(_) => Err(self.failed.counted(StoreFault)),
+        }
+    }
+
+    // Reads what the levels of earlier tables are found by.
+    fn ready_levels(&mut self) -> Result<(), GroupFault>
+        ensures reads { Reads (book_state S.Store self.old) (book_state S.Store self.new) result (λ _. ⊤) }
+        ensures now { IsCleanBook (state S.Store self.new.held) →
+            (state S.Store self.new.held).now ≡ (state S.Store self.old.held).now }
+        ensures ready { OnOk result (IsTrue self.new.has_headers) }
+        ensures headers { IsCleanBook (state S.Store self.new.held) → self.old.has_headers ≡ false →
+            OnOk result (AllStand header_in ((state S.Store self.old.held).now.trees 26)) }
+        ensures kept { (self.new.is_read ≡ self.old.is_read) × (self.new.has_samples ≡ self.old.has_samples)
+            × (self.new.tables ≡ self.old.tables) }
+    {
+        match self.ready_headers() {
+            Ok(()) => Ok(()),
+            Err(_) => Err(GroupFault),
+        }
+    }
+
+    // Reads what the samples of a month are made from, but for the lists of earlier releases.
+    fn ready_samples(&mut self) -> Result<(), GroupFault>
+        ensures reads { Reads (book_state S.Store self.old) (book_state S.Store self.new) result (λ _. ⊤) }
+        ensures now { IsCleanBook (state S.Store self.new.held) →
+            (state S.Store self.new.held).now ≡ (state S.Store self.old.held).now }
+        ensures ready { OnOk result (IsTrue self.new.has_headers × IsTrue self.new.is_read) }
+        ensures taken { IsCleanBook (state S.Store self.new.held) → self.old.is_read ≡ false →
+            OnOk result (AreTaken (state S.Store self.old.held).now.trees) }
+        ensures headers { IsCleanBook (state S.Store self.new.held) → self.old.has_headers ≡ false →
+            OnOk result (AllStand header_in ((state S.Store self.old.held).now.trees 26)) }
+        ensures kept { self.new.has_samples ≡ self.old.has_samples }
+    {
+        self.ready_levels()?;
+        match self.ready_survey() {
+            Ok(()) => Ok(()),
+            Err(_) => Err(GroupFault),
+        }
+    }
+}
+
 impl<S: Alter> Groups for SqlBook<S> {
+    ghost use Rattle.std.specs.Prelude.{◌≡◌, ◌≤◌, false, IsSome, OnOk};
+    ghost use Rattle.sqlite.specs.Held.{state};
+    ghost use Rattle.cpi_codes.specs.Month.{year_of};
+    ghost use Rattle.cpi_rows.specs.Keyed.{at};
+    ghost use Rattle.cpi_release.specs.State.{Reads};
+    ghost use Rattle.cpi_release.specs.Releases.{level_at};
+    ghost use Rattle.cpi_release.specs.GroupCalls.{group_of, IsAfterFrozen};
+    ghost use Rattle.cpi_sql_reads.specs.Headers.{LatestStands, SamplesStand};
+    ghost use Rattle.cpi_sql_rows.specs.Lists.{header_in, level_in, office_in};
     ghost use Rattle.cpi_store.specs.Office.{Office};
     ghost use Rattle.cpi_store.specs.Sources.{office_sources};
     ghost use Rattle.cpi_release.specs.Cached.{IsFit};
-    ghost use Rattle.cpi_sql_rows.specs.Shelf.{book_state};
+    ghost use Rattle.cpi_sql_rows.specs.Shelf.{AllStand, AreTaken, IsCleanBook, book_state};
 
     ghost Held = { Office };
 
@@ -166,14 +280,26 @@ impl<S: Alter> Groups for SqlBook<S> {
 
     ghost has_sound = { λ o s. s.0 };
 
-    fn rows(&mut self, _year: u16, month: Month, code: Code) -> Result<Vec<GroupRow>, GroupFault> {
-        match sample_rows(
+    fn rows(&mut self, _year: u16, month: Month, code: Code) -> Result<Vec<GroupRow>, GroupFault>
+        ensures reads { let h = (book_state S.Store self.old).held in
+            Reads (book_state S.Store self.old) (book_state S.Store self.new) result (λ rows.
+            IsFit (office_sources h) → _year ≡ year_of month → IsAfterFrozen (office_sources h) month →
+            rows.items ≡ group_of (office_sources h) month code) }
+        ensures taken { IsCleanBook (state S.Store self.new.held) → self.old.is_read ≡ false →
+            OnOk result (AreTaken (state S.Store self.old.held).now.trees) }
+        ensures headers { IsCleanBook (state S.Store self.new.held) → self.old.has_headers ≡ false →
+            OnOk result (AllStand header_in ((state S.Store self.old.held).now.trees 26)) }
+        ensures lists { let trees = (state S.Store self.old.held).now.trees in
+            IsCleanBook (state S.Store self.new.held) → self.old.has_samples ≡ false → 12 ≤ month →
+            IsSome (at (λ p. p.year) (year_of month) (office_in trees).plans) →
+            OnOk result (SamplesStand month trees) }
+    {
+        self.ready_samples()?;
+        match sample_of(
             &mut self.conn,
             self.alloc,
-            &mut self.headers,
-            &mut self.has_headers,
-            &mut self.survey,
-            &mut self.is_read,
+            &self.headers,
+            &self.survey,
             &mut self.cached,
             month,
             code,
@@ -183,12 +309,20 @@ impl<S: Alter> Groups for SqlBook<S> {
         }
     }
 
-    fn chained(&mut self, month: Month, code: Code) -> Result<Option<ChainedLevel>, GroupFault> {
-        match level_of(
+    fn chained(&mut self, month: Month, code: Code) -> Result<Option<ChainedLevel>, GroupFault>
+        ensures reads { let h = (book_state S.Store self.old).held in
+            Reads (book_state S.Store self.old) (book_state S.Store self.new) result (λ level.
+            IsFit (office_sources h) → level ≡ level_at (office_sources h).releases month code) }
+        ensures headers { IsCleanBook (state S.Store self.new.held) → self.old.has_headers ≡ false →
+            OnOk result (AllStand header_in ((state S.Store self.old.held).now.trees 26)) }
+        ensures rows { IsCleanBook (state S.Store self.new.held) → self.old.tables ≡ 0 →
+            OnOk result (LatestStands level_in 32 month (state S.Store self.old.held).now.trees) }
+    {
+        self.ready_levels()?;
+        match chained_level(
             &mut self.conn,
             self.alloc,
-            &mut self.headers,
-            &mut self.has_headers,
+            &self.headers,
             &mut self.tables,
             month,
             code,
@@ -200,7 +334,7 @@ impl<S: Alter> Groups for SqlBook<S> {
 }
 
 impl<S: Alter> Book for SqlBook<S> {
-    ghost use Rattle.std.specs.Prelude.{◌≡◌, OnOk, false, true, refl};
+    ghost use Rattle.std.specs.Prelude.{◌≡◌, None, OnOk, false, map, option_map, true, refl};
     ghost use Rattle.sqlite.specs.Held.{state};
     ghost use Rattle.cpi_index.specs.Series.{frozen_serial, is_by_series};
     ghost use Rattle.cpi_release.specs.State.{Reads};
@@ -208,7 +342,11 @@ impl<S: Alter> Book for SqlBook<S> {
     ghost use Rattle.cpi_rows.specs.Keyed.{at};
     ghost use Rattle.cpi_store.specs.Office.{month_rows as rows_of_month};
     ghost use Rattle.cpi_store.specs.Bearer.{bearer_of, collector_of, collector_key};
-    ghost use Rattle.cpi_sql_rows.specs.Shelf.{AreTaken, IsCleanBook, book_state};
+    ghost use Rattle.cpi_release.specs.FrozenMonths.{frozen_months};
+    ghost use Rattle.cpi_release.specs.PublishedTables.{frozen_month_of, published_until};
+    ghost use Rattle.cpi_store.specs.Tables.{table_until};
+    ghost use Rattle.cpi_sql_rows.specs.Lists.{header_in};
+    ghost use Rattle.cpi_sql_rows.specs.Shelf.{AllStand, AreTaken, IsCleanBook, book_state};
 
     ghost state = { book_state S.Store };
 
@@ -228,15 +366,8 @@ impl<S: Alter> Book for SqlBook<S> {
         ensures taken { IsCleanBook (state S.Store self.new.held) → self.old.is_read ≡ false →
             OnOk result (AreTaken (state S.Store self.old.held).now.trees) }
     {
-        match ready_survey(
-            &mut self.conn,
-            self.alloc,
-            &mut self.survey,
-            &mut self.is_read,
-        ) {
-            Ok(()) => Ok(self.survey.bearer_of(key)),
-            Err(_) => Err(self.failed.counted(StoreFault)),
-        }
+        self.ready_survey()?;
+        Ok(self.survey.bearer_of(key))
     }
 
     fn bearer_at(&mut self, number: CollectorId) -> Result<Option<Bearer>, StoreFault>
@@ -245,15 +376,8 @@ impl<S: Alter> Book for SqlBook<S> {
         ensures taken { IsCleanBook (state S.Store self.new.held) → self.old.is_read ≡ false →
             OnOk result (AreTaken (state S.Store self.old.held).now.trees) }
     {
-        match ready_survey(
-            &mut self.conn,
-            self.alloc,
-            &mut self.survey,
-            &mut self.is_read,
-        ) {
-            Ok(()) => Ok(self.survey.bearer_at(number)),
-            Err(_) => Err(self.failed.counted(StoreFault)),
-        }
+        self.ready_survey()?;
+        Ok(self.survey.bearer_at(number))
     }
 
     fn collector_of(&mut self, key: Key) -> Result<Option<CollectorId>, StoreFault>
@@ -262,15 +386,8 @@ impl<S: Alter> Book for SqlBook<S> {
         ensures taken { IsCleanBook (state S.Store self.new.held) → self.old.is_read ≡ false →
             OnOk result (AreTaken (state S.Store self.old.held).now.trees) }
     {
-        match ready_survey(
-            &mut self.conn,
-            self.alloc,
-            &mut self.survey,
-            &mut self.is_read,
-        ) {
-            Ok(()) => Ok(self.survey.bearer_of(key).map(|bearer| bearer.number)),
-            Err(_) => Err(self.failed.counted(StoreFault)),
-        }
+        self.ready_survey()?;
+        Ok(self.survey.bearer_of(key).map(|bearer| bearer.number))
     }
 
     fn collector_key(&mut self, number: CollectorId) -> Result<Option<Key>, StoreFault>
@@ -279,89 +396,49 @@ impl<S: Alter> Book for SqlBook<S> {
         ensures taken { IsCleanBook (state S.Store self.new.held) → self.old.is_read ≡ false →
             OnOk result (AreTaken (state S.Store self.old.held).now.trees) }
     {
-        match ready_survey(
-            &mut self.conn,
-            self.alloc,
-            &mut self.survey,
-            &mut self.is_read,
-        ) {
-            Ok(()) => Ok(self.survey.bearer_at(number).map(|bearer| bearer.key)),
-            Err(_) => Err(self.failed.counted(StoreFault)),
-        }
+        self.ready_survey()?;
+        Ok(self.survey.bearer_at(number).map(|bearer| bearer.key))
     }
 
     fn outlet(&mut self, number: OutletId) -> Result<Option<&Outlet>, StoreFault> {
-        match ready_survey(
-            &mut self.conn,
-            self.alloc,
-            &mut self.survey,
-            &mut self.is_read,
-        ) {
-            Ok(()) => Ok(self.survey.outlet(number)),
-            Err(_) => Err(self.failed.counted(StoreFault)),
-        }
+        self.ready_survey()?;
+        Ok(self.survey.outlet(number))
     }
 
     fn public_part(&mut self) -> Result<&Public, StoreFault> {
-        match ready_survey(
-            &mut self.conn,
-            self.alloc,
-            &mut self.survey,
-            &mut self.is_read,
-        ) {
-            Ok(()) => Ok(self.survey.public()),
-            Err(_) => Err(self.failed.counted(StoreFault)),
-        }
+        self.ready_survey()?;
+        Ok(self.survey.public())
     }
 
     fn own(&mut self, collector: CollectorId) -> Result<&Own, StoreFault> {
-        match ready_survey(
-            &mut self.conn,
-            self.alloc,
-            &mut self.survey,
-            &mut self.is_read,
-        ) {
-            Ok(()) => Ok(self.survey.own(collector)),
-            Err(_) => Err(self.failed.counted(StoreFault)),
-        }
+        self.ready_survey()?;
+        Ok(self.survey.own(collector))
     }
 
     fn parts(&mut self, collector: CollectorId) -> Result<Parts<'_>, StoreFault> {
-        match ready_survey(
-            &mut self.conn,
-            self.alloc,
-            &mut self.survey,
-            &mut self.is_read,
-        ) {
-            Ok(()) => Ok(self.survey.parts(collector)),
-            Err(_) => Err(self.failed.counted(StoreFault)),
-        }
+        self.ready_survey()?;
+        Ok(self.survey.parts(collector))
     }
 
     fn given(&mut self, collector: CollectorId, slot: Slot) -> Result<Option<Given>, StoreFault>
         ensures reads { Reads (book_state S.Store self.old) (book_state S.Store self.new) result (λ found.
-            found ≡ at (λ g. g.assignment.slot) slot (held_by collector (book_state S.Store self.old).held.assignments)) }
+            found ≡ at (λ g. g.assignment.slot) slot
+            (held_by collector (book_state S.Store self.old).held.assignments)) }
         ensures taken { IsCleanBook (state S.Store self.new.held) → self.old.is_read ≡ false →
             OnOk result (AreTaken (state S.Store self.old.held).now.trees) }
     {
-        match ready_survey(
-            &mut self.conn,
-            self.alloc,
-            &mut self.survey,
-            &mut self.is_read,
-        ) {
-            Ok(()) => Ok(self.survey.given(collector, slot)),
-            Err(_) => Err(self.failed.counted(StoreFault)),
-        }
+        self.ready_survey()?;
+        Ok(self.survey.given(collector, slot))
     }
 
-    fn frozen_months(&mut self) -> Result<Vec<FrozenMonth>, StoreFault> {
-        match all_months(
-            &mut self.conn,
-            self.alloc,
-            &mut self.headers,
-            &mut self.has_headers,
-        ) {
+    fn frozen_months(&mut self) -> Result<Vec<FrozenMonth>, StoreFault>
+        ensures reads { Reads (book_state S.Store self.old) (book_state S.Store self.new) result (λ found.
+            found.items ≡ frozen_months (book_state S.Store self.old).held.releases) }
+        ensures headers { IsCleanBook (state S.Store self.new.held) → self.old.has_headers ≡ false →
+            OnOk result (AllStand header_in ((state S.Store self.old.held).now.trees 26)) }
+    {
+        self.ready_headers()?;
+        match frozen_months(self.alloc, &self.headers) {
             Ok(found) => Ok(found),
             Err(_) => Err(self.failed.counted(StoreFault)),
         }
@@ -374,26 +451,22 @@ impl<S: Alter> Book for SqlBook<S> {
         ensures taken { IsCleanBook (state S.Store self.new.held) → self.old.is_read ≡ false →
             OnOk result (AreTaken (state S.Store self.old.held).now.trees) }
     {
-        match quotes_of_month(
-            &mut self.conn,
-            self.alloc,
-            &mut self.survey,
-            &mut self.is_read,
-            month,
-        ) {
+        self.ready_survey()?;
+        match self.survey.month_rows(month) {
             Ok(found) => Ok(found),
             Err(_) => Err(self.failed.counted(StoreFault)),
         }
     }
 
-    fn tables_until(&mut self, until: Moment) -> Result<Vec<FrozenMonth>, StoreFault> {
-        match months_published(
-            &mut self.conn,
-            self.alloc,
-            &mut self.headers,
-            &mut self.has_headers,
-            until,
-        ) {
+    fn tables_until(&mut self, until: Moment) -> Result<Vec<FrozenMonth>, StoreFault>
+        ensures reads { Reads (book_state S.Store self.old) (book_state S.Store self.new) result (λ found.
+            found.items
+            ≡ map frozen_month_of (published_until until (book_state S.Store self.old).held.releases)) }
+        ensures headers { IsCleanBook (state S.Store self.new.held) → self.old.has_headers ≡ false →
+            OnOk result (AllStand header_in ((state S.Store self.old.held).now.trees 26)) }
+    {
+        self.ready_headers()?;
+        match published_months(self.alloc, until, &self.headers) {
             Ok(found) => Ok(found),
             Err(_) => Err(self.failed.counted(StoreFault)),
         }
@@ -403,18 +476,15 @@ impl<S: Alter> Book for SqlBook<S> {
         &mut self,
         month: Month,
         until: Moment,
-    ) -> Result<Option<Revision>, StoreFault> {
-        match find_revision(
-            &mut self.conn,
-            self.alloc,
-            &mut self.headers,
-            &mut self.has_headers,
-            month,
-            until,
-        ) {
-            Ok(found) => Ok(found),
-            Err(_) => Err(self.failed.counted(StoreFault)),
-        }
+    ) -> Result<Option<Revision>, StoreFault>
+        ensures reads { Reads (book_state S.Store self.old) (book_state S.Store self.new) result (λ found.
+            found ≡ option_map (λ t. t.revision)
+            (table_until month None until (book_state S.Store self.old).held.releases)) }
+        ensures headers { IsCleanBook (state S.Store self.new.held) → self.old.has_headers ≡ false →
+            OnOk result (AllStand header_in ((state S.Store self.old.held).now.trees 26)) }
+    {
+        self.ready_headers()?;
+        Ok(revision_published(&self.headers, month, until))
     }
 
     fn table(
@@ -423,17 +493,19 @@ impl<S: Alter> Book for SqlBook<S> {
         revision: Revision,
         until: Moment,
     ) -> Result<Option<&Rows<Level>>, StoreFault> {
-        match find_table(
+        self.ready_headers()?;
+        if !is_there(&self.headers, month, revision, until) {
+            return Ok(None);
+        }
+        match ready_table(
             &mut self.conn,
             self.alloc,
-            &mut self.headers,
-            &mut self.has_headers,
+            &self.headers,
             &mut self.tables,
             month,
             revision,
-            until,
         ) {
-            Ok(is_there) => Ok(lent_table(&self.tables, is_there, month, revision)),
+            Ok(()) => Ok(lent_table(&self.tables, month, revision)),
             Err(_) => Err(self.failed.counted(StoreFault)),
         }
     }
@@ -518,7 +590,7 @@ impl<S: Alter> Book for SqlBook<S> {
         }
     }
 
-    fn put_handover(&mut self, handover: Handover) -> Result<(), StoreFault> {
+    fn put_handover(&mut self, handover: SeriesMove) -> Result<(), StoreFault> {
         match put_handover(&mut self.conn, self.alloc, &handover) {
             Ok(()) => {
                 settle(&self.conn);

@@ -1,5 +1,5 @@
 -- The old tables are cleared, and the number of the schema is put anew.
-use Rattle.std.proofs.Common.{◌≡◌, ℕ, pos, not, Bool, true, false, if◌then◌else◌, List, [], ◌∷◌, map, Ok, Err, Result, OnOk}
+use Rattle.std.proofs.Common.{◌≡◌, ℕ, pos, not, Bool, true, false, if◌then◌else◌, List, [], ◌∷◌, map}
 use Rattle.std.proofs.Common.{inl, IsTrue, refl, sym, ap, subst, ◌∙◌}
 use Rattle.std.specs.Cmp.{tied_itself}
 use Rattle.std.specs.List.Sorted.{IsPermutation}
@@ -10,7 +10,6 @@ use Rattle.sqlite.specs.Order.{Row, column, value_cmp}
 use Rattle.sqlite.specs.Edit.{edited, edit_of, without_all}
 use Rattle.sqlite.specs.Rowids.TheVariants.{Chosen}
 use Rattle.sqlite.specs.Source.TheVariants.{Values}
-use Rattle.sqlite.specs.State.{State, Executes}
 use Rattle.sqlite.specs.Term.{lit}
 use Rattle.sqlite.specs.Edit.{id_in}
 use Rattle.sqlite.specs.Tree.{has_rowid, put_row, rowid}
@@ -29,20 +28,20 @@ use Rattle.cpi_sql_rows.specs.Making.{HasAllTables}
 use Rattle.cpi_sql_rows.specs.Numbered.{IsVersion}
 use Rattle.cpi_sql_rows.specs.Shelf.{HasRowids}
 use Rattle.cpi_sql_rows.proofs.Reading.{left_has}
-use Rattle.cpi_sql_open.specs.CopyTexts.{clear_command, clear_levels_text, clear_carried_text, clear_frozen_text}
-use Rattle.cpi_sql_open.specs.CopyTexts.{clear_releases_text, clear_quotes_text, clear_assignments_text, clear_version_text}
-use Rattle.cpi_sql_open.specs.Copies.{IsLeft, IsNumbered, KeepsBut}
+use Rattle.cpi_sql_open.proofs.Copies.{IsLeft, IsNumbered, is_other}
 use Rattle.cpi_sql_rows.proofs.Texts.{put_version_is}
-use Rattle.cpi_sql_open.proofs.CopyTexts.{clear_levels_is, clear_carried_is, clear_frozen_is, clear_releases_is}
-use Rattle.cpi_sql_open.proofs.CopyTexts.{clear_quotes_is, clear_assignments_is, clear_version_is}
-use Rattle.cpi_sql_open.proofs.CopiedTables.{all_there, did, cleared, put_left, left_then}
-use Rattle.cpi_sql_open.proofs.CopySteps.{Ran}
+use Rattle.cpi_sql_open.specs.Stages.{Ran, RanEach, Stage}
+use Rattle.cpi_sql_open.proofs.CopyTexts.{clear_command, clears_are, numbers_are}
+use Rattle.cpi_sql_open.proofs.CopiedTables.{Acts, Cleared, all_there, cleared, put_left, left_then}
+use Rattle.cpi_sql_open.proofs.Texts.{◌▸◌}
+use Rattle.cpi_sql_rows.proofs.Texts.{Makes}
+use Rattle.sqlite.specs.Table.{Table}
+use Rattle.sqlite_rules.specs.Action.{works}
+use Rattle.sqlite_schema.specs.declared.schema.Keys.TheVariants.{Enforced}
+use Rattle.std.proofs.lemmas.Bool.{and_parts}
+use Rattle.std.specs.List.{AllByRecursion, list_all}
 use Rattle.cpi_sql_rows.proofs.Writing.{cast_int, cast_null}
-
-abbrev left_by : (tree : ℕ) (old new : State) → IsTrue old.in_transaction → new.in_transaction ≡ old.in_transaction
-    → new.now.schema ≡ office_schema → KeepsBut (tree ∷ []) old.now.trees new.now.trees → IsLeft (tree ∷ []) old new
-left_by tree old new inside mode schema others =
-    record { inside = mode ∙ inside; schema = schema; others = others }
+use Rattle.cpi_sql_open.proofs.CopyTexts.{clear_texts, number_texts}
 
 -- ---- each row of a table is taken out
 
@@ -71,120 +70,102 @@ all_gone rows found ids shown = nothing_has (without_all rows (ids_of found)) (�
     cc)
 
 -- a table is cleared, and the others are as they were
-record Clears (tree : ℕ) (old new : State) : Type 0 where
+record Clears (tree : ℕ) (old new : Stage) : Type 0 where
   left : IsLeft (tree ∷ []) old new
   gone : HasRowids (old.now.trees tree) → new.now.trees tree ≡ []
 
-module _ (old new : State) (inside : IsTrue old.in_transaction) (has : old.now.schema ≡ office_schema) where
-  levels_cleared : Ran clear_levels_text old new → Clears 20 old new
-  levels_cleared ran =
-      let r = ran inside in
-      let d = did clear_levels_text (clear_command 12 20) clear_levels_is old new r.0 (λ s w. w) has r.1 in
-      let t = level in
-      let it = cleared t.name t.tree t.columns t.key t.primary t.uniques t.orders t.references old.step_limit old
-      old.now.trees 12 d.tally new.now (λ olds. refl) refl d.does in
-      record {
-        left = left_by 20 old new inside d.mode it.schema it.others;
-        gone = λ ids. it.rows ∙ all_gone (old.now.trees 20) it.found ids it.shown;
-      }
+-- what a DELETE of each row of the table leaves
+clear_ran : (like : Table) (index : ℕ) (text : List ℕ) → Makes text (clear_command index like.tree)
+    → Acts like text (clear_command index like.tree)
+    → ((olds : List Row) → works office_schema Enforced 0 like.tree olds [] ≡ [])
+    → (old new : Stage) → Ran text old new → IsTrue old.in_transaction → old.now.schema ≡ office_schema
+    → IsLeft (like.tree ∷ []) old new × Cleared like.tree old.now.trees new.now
+clear_ran like index text is acts none old new ran inside has =
+    let d = ran office_schema (clear_command index like.tree) refl is.0 is.1 inside has in
+    let it = cleared like d.limit old.now.trees index d.tally new.now none
+    (acts d.limit old.now.trees d.tally new.now d.does) in
+    (record { inside = d.mode ∙ inside; schema = it.schema; others = it.others }, it)
 
-  carried_cleared : Ran clear_carried_text old new → Clears 18 old new
-  carried_cleared ran =
-      let r = ran inside in
-      let d = did clear_carried_text (clear_command 11 18) clear_carried_is old new r.0 (λ s w. w) has r.1 in
-      let t = carried in
-      let it = cleared t.name t.tree t.columns t.key t.primary t.uniques t.orders t.references old.step_limit old
-      old.now.trees 11 d.tally new.now (λ olds. refl) refl d.does in
-      record {
-        left = left_by 18 old new inside d.mode it.schema it.others;
-        gone = λ ids. it.rows ∙ all_gone (old.now.trees 18) it.found ids it.shown;
-      }
+table_cleared : (like : Table) (index : ℕ) (text : List ℕ) → Makes text (clear_command index like.tree)
+    → Acts like text (clear_command index like.tree)
+    → ((olds : List Row) → works office_schema Enforced 0 like.tree olds [] ≡ [])
+    → (old new : Stage) → Ran text old new → IsTrue old.in_transaction → old.now.schema ≡ office_schema
+    → Clears like.tree old new
+table_cleared like index text is acts none old new ran inside has =
+    let it = clear_ran like index text is acts none old new ran inside has in
+    record { left = it.0; gone = λ ids. it.1.rows ∙ all_gone (old.now.trees like.tree) it.1.found ids it.1.shown }
 
-  frozen_cleared : Ran clear_frozen_text old new → Clears 16 old new
-  frozen_cleared ran =
-      let r = ran inside in
-      let d = did clear_frozen_text (clear_command 10 16) clear_frozen_is old new r.0 (λ s w. w) has r.1 in
-      let t = frozen in
-      let it = cleared t.name t.tree t.columns t.key t.primary t.uniques t.orders t.references old.step_limit old
-      old.now.trees 10 d.tally new.now (λ olds. refl) refl d.does in
-      record {
-        left = left_by 16 old new inside d.mode it.schema it.others;
-        gone = λ ids. it.rows ∙ all_gone (old.now.trees 16) it.found ids it.shown;
-      }
+-- each of the texts clears the table with its tree, and no tree comes twice
+abbrev ClearEach : List (List ℕ) → List ℕ → Type 0
+ClearEach [] [] = Unit
+ClearEach [] (tree ∷ trees) = ⊥
+ClearEach (text ∷ texts) [] = ⊥
+ClearEach (text ∷ texts) (tree ∷ trees) =
+    (((old new : Stage) → Ran text old new → IsTrue old.in_transaction → old.now.schema ≡ office_schema
+    → Clears tree old new) × (is_other trees tree ≡ true) × (list_all (is_other (tree ∷ [])) trees ≡ true))
+    × ClearEach texts trees
 
-  releases_cleared : Ran clear_releases_text old new → Clears 15 old new
-  releases_cleared ran =
-      let r = ran inside in
-      let d = did clear_releases_text (clear_command 9 15) clear_releases_is old new r.0 (λ s w. w) has r.1 in
-      let t = release in
-      let it = cleared t.name t.tree t.columns t.key t.primary t.uniques t.orders t.references old.step_limit old
-      old.now.trees 9 d.tally new.now (λ olds. refl) refl d.does in
-      record {
-        left = left_by 15 old new inside d.mode it.schema it.others;
-        gone = λ ids. it.rows ∙ all_gone (old.now.trees 15) it.found ids it.shown;
-      }
+-- the tables that are cleared later have the rowids that they had
+later_ids : (tree : ℕ) (trees : List ℕ) (a b : Stage) → list_all (is_other (tree ∷ [])) trees ≡ true
+    → IsLeft (tree ∷ []) a b → AllByRecursion (λ n. HasRowids (a.now.trees n)) trees
+    → AllByRecursion (λ n. HasRowids (b.now.trees n)) trees
+later_ids tree [] a b apart left ids = tt
+later_ids tree (n ∷ trees) a b apart left ids = let parts = and_parts _ _ apart in
+    (subst HasRowids (sym (left.others n parts.0)) ids.0, later_ids tree trees a b parts.1 left ids.1)
 
-  quotes_cleared : Ran clear_quotes_text old new → Clears 13 old new
-  quotes_cleared ran =
-      let r = ran inside in
-      let d = did clear_quotes_text (clear_command 8 13) clear_quotes_is old new r.0 (λ s w. w) has r.1 in
-      let t = quote in
-      let it = cleared t.name t.tree t.columns t.key t.primary t.uniques t.orders t.references old.step_limit old
-      old.now.trees 8 d.tally new.now (λ olds. refl) refl d.does in
-      record {
-        left = left_by 13 old new inside d.mode it.schema it.others;
-        gone = λ ids. it.rows ∙ all_gone (old.now.trees 13) it.found ids it.shown;
-      }
+each_cleared : (texts : List (List ℕ)) (trees : List ℕ) (a b : Stage) → ClearEach texts trees → RanEach texts a b
+    → IsTrue a.in_transaction → a.now.schema ≡ office_schema
+    → AllByRecursion (λ n. HasRowids (a.now.trees n)) trees
+    → IsLeft trees a b × AllByRecursion (λ n. b.now.trees n ≡ []) trees
+each_cleared [] [] a b each ran inside has ids =
+    (subst (IsLeft [] a) ran (record { inside = inside; schema = has; others = λ n other. refl }), tt)
+each_cleared [] (tree ∷ trees) a b each ran inside has ids = absurd each
+each_cleared (text ∷ texts) [] a b each ran inside has ids = absurd each
+each_cleared (text ∷ texts) (tree ∷ trees) a b each ran inside has ids =
+    let one = each.0.0 a ran.0 ran.1 inside has in
+    let rest = each_cleared texts trees ran.0 b each.1 ran.2 one.left.inside one.left.schema
+    (later_ids tree trees a ran.0 each.0.2 one.left ids.1) in
+    (left_then (tree ∷ []) trees a ran.0 b one.left rest.0, (rest.0.others tree each.0.1 ∙ one.gone ids.0, rest.1))
 
-  assignments_cleared : Ran clear_assignments_text old new → Clears 11 old new
-  assignments_cleared ran =
-      let r = ran inside in
-      let d = did clear_assignments_text (clear_command 7 11) clear_assignments_is old new r.0 (λ s w. w) has r.1 in
-      let t = assignment in
-      let it = cleared t.name t.tree t.columns t.key t.primary t.uniques t.orders t.references old.step_limit old
-      old.now.trees 7 d.tally new.now (λ olds. refl) refl d.does in
-      record {
-        left = left_by 11 old new inside d.mode it.schema it.others;
-        gone = λ ids. it.rows ∙ all_gone (old.now.trees 11) it.found ids it.shown;
-      }
-
-abbrev cleared_trees : List ℕ
+abbrev pub cleared_trees : List ℕ
 cleared_trees = 20 ∷ 18 ∷ 16 ∷ 15 ∷ 13 ∷ 11 ∷ []
 
--- the steps after the first, second, .. leave what was cleared before
-pub rows_cleared : {A E : Type 0} (r : Result A E) (a b c d e f g : State) → IsTrue a.in_transaction
-    → a.now.schema ≡ office_schema → HaveFirstRowids a.now.trees → Ran clear_levels_text a b
-    → Ran clear_carried_text b c → Ran clear_frozen_text c d → Ran clear_releases_text d e → Ran clear_quotes_text e f
-    → (IsTrue f.in_transaction → OnOk r ((count : ℕ) × Executes clear_assignments_text [] f g (Ok count)))
-    → OnOk r (IsLeft cleared_trees a g × AreCleared g.now.trees)
-rows_cleared (Err x) a b c d e f g inside has ids r₁ r₂ r₃ r₄ r₅ r₆ = tt
-rows_cleared (Ok x) a b c d e f g inside has ids r₁ r₂ r₃ r₄ r₅ r₆ =
-    let one = levels_cleared a b inside has r₁ in
-    let two = carried_cleared b c one.left.inside one.left.schema r₂ in
-    let to_c = left_then (20 ∷ []) (18 ∷ []) a b c one.left two.left in
-    let three = frozen_cleared c d to_c.inside to_c.schema r₃ in
-    let to_d = left_then (20 ∷ 18 ∷ []) (16 ∷ []) a c d to_c three.left in
-    let four = releases_cleared d e to_d.inside to_d.schema r₄ in
-    let to_e = left_then (20 ∷ 18 ∷ 16 ∷ []) (15 ∷ []) a d e to_d four.left in
-    let five = quotes_cleared e f to_e.inside to_e.schema r₅ in
-    let to_f = left_then (20 ∷ 18 ∷ 16 ∷ 15 ∷ []) (13 ∷ []) a e f to_e five.left in
-    let six = assignments_cleared f g to_f.inside to_f.schema r₆ in
-    let from_e = left_then (13 ∷ []) (11 ∷ []) e f g five.left six.left in
-    let from_d = left_then (15 ∷ []) (13 ∷ 11 ∷ []) d e g four.left from_e in
-    let from_c = left_then (16 ∷ []) (15 ∷ 13 ∷ 11 ∷ []) c d g three.left from_d in
-    let from_b = left_then (18 ∷ []) (16 ∷ 15 ∷ 13 ∷ 11 ∷ []) b c g two.left from_c in (
-      left_then (20 ∷ []) (18 ∷ 16 ∷ 15 ∷ 13 ∷ 11 ∷ []) a b g one.left from_b,
+clear_each : ClearEach clear_texts cleared_trees
+clear_each =
+    (table_cleared level 12 _ clears_are.0 (λ limit db tally after d. d) (λ olds. refl), refl, refl) ▸
+    (table_cleared carried 11 _ clears_are.1.0 (λ limit db tally after d. d) (λ olds. refl), refl, refl) ▸
+    (table_cleared frozen 10 _ clears_are.1.1.0 (λ limit db tally after d. d) (λ olds. refl), refl, refl) ▸
+    (table_cleared release 9 _ clears_are.1.1.1.0 (λ limit db tally after d. d) (λ olds. refl), refl, refl) ▸
+    (table_cleared quote 8 _ clears_are.1.1.1.1.0 (λ limit db tally after d. d) (λ olds. refl), refl, refl) ▸
+    (table_cleared assignment 7 _ clears_are.1.1.1.1.1.0 (λ limit db tally after d. d) (λ olds. refl), refl, refl) ▸
+    tt
+
+pub rows_cleared : (a b : Stage) → RanEach clear_texts a b → IsTrue a.in_transaction
+    → a.now.schema ≡ office_schema → HaveFirstRowids a.now.trees
+    → IsLeft cleared_trees a b × AreCleared b.now.trees
+rows_cleared a b ran inside has ids =
+    let it = each_cleared clear_texts cleared_trees a b clear_each ran inside has (
+      ids.releases.levels,
+      (
+        ids.releases.carried,
+        (
+          ids.releases.frozen,
+          (
+            ids.releases.headers,
+            (ids.survey.quotes, (ids.survey.assignments, tt)),
+          ),
+        ),
+      ),
+    ) in
+    let gone = it.1 in (
+      it.0,
       record {
-        assignments = six.gone (subst HasRowids (sym (to_f.others 11 refl)) ids.survey.assignments);
-        quotes = six.left.others 13 refl
-            ∙ five.gone (subst HasRowids (sym (to_e.others 13 refl)) ids.survey.quotes);
-        headers = from_e.others 15 refl
-            ∙ four.gone (subst HasRowids (sym (to_d.others 15 refl)) ids.releases.headers);
-        frozen = from_d.others 16 refl
-            ∙ three.gone (subst HasRowids (sym (to_c.others 16 refl)) ids.releases.frozen);
-        carried = from_c.others 18 refl
-            ∙ two.gone (subst HasRowids (sym (one.left.others 18 refl)) ids.releases.carried);
-        levels = from_b.others 20 refl ∙ one.gone ids.releases.levels;
+        assignments = gone.1.1.1.1.1.0;
+        quotes = gone.1.1.1.1.0;
+        headers = gone.1.1.1.0;
+        frozen = gone.1.1.0;
+        carried = gone.1.0;
+        levels = gone.0;
       },
     )
 
@@ -203,55 +184,49 @@ none_left row found is same =
     gone true e = refl
     gone false e = cc
 
-version_cleared : (old new : State) → IsTrue old.in_transaction → old.now.schema ≡ office_schema
-    → IsVersion 1 (old.now.trees 0) → Ran clear_version_text old new
+version_cleared : (text : List ℕ) → Makes text (clear_command 0 0) → (old new : Stage) → Ran text old new
+    → IsTrue old.in_transaction
+    → old.now.schema ≡ office_schema → IsVersion 1 (old.now.trees 0)
     → IsLeft (0 ∷ []) old new × (new.now.trees 0 ≡ [])
-version_cleared old new inside has one ran =
-    let r = ran inside in
-    let d = did clear_version_text (clear_command 0 0) clear_version_is old new r.0 (λ s w. w) has r.1 in
-    let t = version in
-    let it = cleared t.name t.tree t.columns t.key t.primary t.uniques t.orders t.references old.step_limit old
-    old.now.trees 0 d.tally new.now (λ olds. refl) refl d.does in
+version_cleared text is old new ran inside has one =
+    let both = clear_ran version 0 text is (λ limit db tally after d. d) (λ olds. refl) old new ran inside
+    has in
+    let it = both.1 in
     let rows : old.now.trees 0 ≡ one.0 ∷ [] = one.1 in
     let shown = subst (λ l. IsPermutation (map (λ r. column r 0 ∷ []) l) it.found) rows it.shown in
-    let found = one_permutation (column one.0 0 ∷ []) it.found shown in (
-      left_by 0 old new inside d.mode it.schema it.others,
-      it.rows ∙ ap (λ l. without_all l (ids_of it.found)) rows ∙ none_left one.0 it.found one.2 found,
-    )
+    let found = one_permutation (column one.0 0 ∷ []) it.found shown in
+    (both.0, it.rows ∙ ap (λ l. without_all l (ids_of it.found)) rows ∙ none_left one.0 it.found one.2 found)
 
 abbrev version_row : Row
 version_row = Int (pos 2) ∷ Null ∷ []
 
-version_put : (old new : State) → IsTrue old.in_transaction → old.now.schema ≡ office_schema
-    → old.now.trees 0 ≡ [] → Ran put_version_text old new
+pub version_put : (old new : Stage) → Ran put_version_text old new → IsTrue old.in_transaction
+    → old.now.schema ≡ office_schema → old.now.trees 0 ≡ []
     → IsLeft (0 ∷ []) old new × IsVersion 2 (new.now.trees 0) × HasAllTables new.now.trees
-version_put old new inside has empty ran =
-    let r = ran inside in
-    let d = did put_version_text put_version_command put_version_is old new r.0 (λ s w. w) has r.1 in
-    let t = version in
-    let it = put_left t.name t.tree t.columns t.key t.primary t.uniques t.orders t.references old.step_limit old
-    old.now.trees 0 (Values (lit (Int (pos 2)) ∷ lit Null ∷ []) 2) d.tally new.now d.does in
-    let is : edited old.now.trees (edit_of old.now.trees t [] Chosen 0 (version_row ∷ []))
+version_put old new ran inside has empty =
+    let d = ran office_schema put_version_command refl put_version_is.0 put_version_is.1 inside has in
+    let it = put_left version d.limit old.now.trees 0 (Values (lit (Int (pos 2)) ∷ lit Null ∷ []) 2) d.tally new.now
+    d.does in
+    let is : edited old.now.trees (edit_of old.now.trees version [] Chosen 0 (version_row ∷ []))
     ≡ put_row version_row (old.now.trees 0) = rw (cast_null, cast_int (pos 2)) refl in
     let sources : it.sources ≡ version_row ∷ [] = it.given.1 in
     let rows : new.now.trees 0 ≡ version_row ∷ [] = it.rows
-    ∙ ap (λ xs. edited old.now.trees (edit_of old.now.trees t [] Chosen 0 xs)) sources
+    ∙ ap (λ xs. edited old.now.trees (edit_of old.now.trees version [] Chosen 0 xs)) sources
     ∙ is ∙ ap (put_row version_row) empty in (
-      left_by 0 old new inside d.mode it.schema it.others,
+      record { inside = d.mode ∙ inside; schema = it.schema; others = it.others },
       (version_row, rows, refl),
       all_there new.now d.sound it.schema,
     )
 
-pub numbered : {A E : Type 0} (r : Result A E) (a b c : State) → IsTrue a.in_transaction
-    → a.now.schema ≡ office_schema → IsVersion 1 (a.now.trees 0) → Ran clear_version_text a b
-    → (IsTrue b.in_transaction → OnOk r ((count : ℕ) × Executes put_version_text [] b c (Ok count)))
-    → OnOk r (IsNumbered a c)
-numbered (Err x) a b c inside has one r₁ r₂ = tt
-numbered (Ok x) a b c inside has one r₁ r₂ =
-    let first = version_cleared a b inside has one r₁ in
-    let second = version_put b c first.0.inside first.0.schema first.1 r₂ in
+pub numbered : (a b : Stage) → RanEach number_texts a b → IsTrue a.in_transaction
+    → a.now.schema ≡ office_schema → IsVersion 1 (a.now.trees 0) → IsNumbered a b
+numbered a b ran inside has one =
+    let mid = ran.0 in
+    let first = version_cleared _ numbers_are.0 a mid ran.1 inside has one in
+    let second = version_put mid b (subst (Ran put_version_text mid) ran.2.2 ran.2.1) first.0.inside first.0.schema
+    first.1 in
     record {
-      left = left_then (0 ∷ []) (0 ∷ []) a b c first.0 second.0;
+      left = left_then (0 ∷ []) (0 ∷ []) a mid b first.0 second.0;
       tables = second.2;
       version = second.1;
     }

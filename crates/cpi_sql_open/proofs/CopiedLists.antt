@@ -5,7 +5,7 @@ use Rattle.std.specs.Cmp.{IsTotalOrder}
 use Rattle.sqlite.specs.Order.{Row}
 use Rattle.cpi_sql_rows.specs.Lists.{listed}
 use Rattle.cpi_sql_rows.specs.Shelf.{IsKeyed}
-use Rattle.cpi_sql_open.specs.Copies.{StandsAs}
+use Rattle.cpi_sql_open.proofs.Copies.{StandsAs}
 use Rattle.cpi_sql_rows.proofs.Listed.{listed_is, listed_in_order, listed_stands, stands_listed}
 
 module _ {X K : Type 0} {R : K → K → Ordering} (o : IsTotalOrder R) (key : X → K) (entry first : Row → Option X)

@@ -25,9 +25,9 @@ use Rattle.cpi_sql_rows.specs.Tables.{assignment_2, quote_2, release_2, frozen_2
 use Rattle.cpi_sql_rows.specs.Lists.{number_in, month_from, month_at, assignment_in, quote_in, header_in, frozen_in}
 use Rattle.cpi_sql_rows.specs.Lists.{carried_in, level_in}
 use Rattle.cpi_sql_rows.specs.FirstSchema.{assignment_copy, header_copy, frozen_copy, carried_copy, level_copy}
-use Rattle.cpi_sql_open.specs.CopyTexts.{assignment_terms, quote_terms, release_terms, frozen_terms, carried_terms}
-use Rattle.cpi_sql_open.specs.CopyTexts.{level_terms, has_number}
-use Rattle.cpi_sql_open.specs.Copies.{StandsAs}
+use Rattle.cpi_sql_open.proofs.CopyTexts.{assignment_terms, quote_terms, release_terms, frozen_terms, carried_terms}
+use Rattle.cpi_sql_open.proofs.CopyTexts.{level_terms, has_number}
+use Rattle.cpi_sql_open.proofs.Copies.{StandsAs}
 use Rattle.cpi_sql_rows.proofs.Lists.{bound_is}
 use Rattle.cpi_sql_rows.proofs.Writing.{cast_int, cast_null}
 use Rattle.cpi_sql_open.proofs.CopiedRows.{Settled, row_settled, is_office_column, rows_stand}

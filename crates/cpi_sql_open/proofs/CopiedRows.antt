@@ -21,7 +21,7 @@ use Rattle.sqlite.specs.Ops.{is_null}
 use Rattle.sqlite_rules.specs.Lists.{Has}
 use Rattle.sqlite_rules.proofs.ProbeLemmas.{has_mapped, mapped_has}
 use Rattle.sqlite_rules.proofs.TableLemmas.{put_all_has, put_all_adds}
-use Rattle.cpi_sql_open.specs.Copies.{StandsAs}
+use Rattle.cpi_sql_open.proofs.Copies.{StandsAs}
 use Rattle.cpi_sql_rows.proofs.Writing.{cast_int, cast_null}
 
 -- ---- what a strict column holds is what it makes of it
@@ -74,7 +74,8 @@ fits c v kind strict false f = same_cast c.kind v kind (typed c.is_strict strict
     typed true s g = g
     typed false s g = cc
 
-settled : (key : Option ℕ) (at : ℕ) (cs : List Column) (vs : Row) (n : ℕ) (r : Row) → list_all is_office_column cs ≡ true
+settled : (key : Option ℕ) (at : ℕ) (cs : List Column) (vs : Row) (n : ℕ) (r : Row) →
+    list_all is_office_column cs ≡ true
     → ((k : ℕ) → column r (n + k) ≡ column vs k) → are_typed key at cs vs ≡ true → Settled cs n r
 settled key at [] vs n r usual same e = tt
 settled key at (c ∷ cs) [] n r usual same e =

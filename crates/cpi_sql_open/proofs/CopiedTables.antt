@@ -21,15 +21,11 @@ use Rattle.sqlite.specs.Does.{Tally, Does, OnRows}
 use Rattle.sqlite.specs.Effect.{Database, IsDatabase, IsSource}
 use Rattle.sqlite.specs.Listing.{understood}
 use Rattle.sqlite.specs.Program.{overlay}
-use Rattle.sqlite.specs.Rows.{Written, Inserts}
-use Rattle.sqlite.specs.State.{State, Executes, Runs, Writes, mode_of}
+use Rattle.sqlite.specs.Rows.{Task, Written, Inserts}
 use Rattle.sqlite.specs.Command.{Command}
 use Rattle.sqlite.specs.Command.TheVariants.{Insert}
-use Rattle.sqlite.proofs.Callers.{one_step, runs_as, statement_of}
-use Rattle.sqlite_value.specs.declared.keys.Order.{Order}
-use Rattle.sqlite_schema.specs.declared.schema.Column.{Column}
+use Rattle.sqlite.proofs.Callers.{one_step, statement_of}
 use Rattle.sqlite_schema.specs.declared.schema.Keys.TheVariants.{Enforced}
-use Rattle.sqlite_schema.specs.declared.schema.Reference.{Reference}
 use Rattle.sqlite_schema.specs.Rules.{Fits}
 use Rattle.sqlite_catalog.specs.Listing.{IsSound}
 use Rattle.sqlite_rules.specs.Action.{works}
@@ -37,11 +33,12 @@ use Rattle.sqlite_rules.specs.Calls.{ids_of}
 use Rattle.sqlite_rules.proofs.ActionLemmas.{no_works}
 use Rattle.sqlite_rules.proofs.ListLemmas.{all_has, some_has}
 use Rattle.cpi_sql_rows.specs.Tables.{office_schema}
-use Rattle.cpi_sql_open.specs.CopyTexts.{copy_command, copy_query, clear_command}
+use Rattle.cpi_sql_open.proofs.CopyTexts.{copy_command, copy_query, clear_command}
 use Rattle.cpi_sql_rows.specs.Making.{HasAllTables}
 use Rattle.cpi_sql_rows.specs.Texts.{whole_query}
-use Rattle.cpi_sql_open.specs.Copies.{KeepsBut, IsLeft}
-use Rattle.cpi_sql_rows.proofs.Texts.{Makes}
+use Rattle.cpi_sql_open.proofs.Copies.{KeepsBut, IsLeft}
+use Rattle.cpi_sql_open.specs.Stages.{Stage, usual}
+use Rattle.cpi_sql_open.proofs.Looks.{overlay_none}
 use Rattle.cpi_sql_rows.proofs.Distinct.{shown_all}
 use Rattle.cpi_sql_rows.proofs.Reading.{Members, members}
 use Rattle.cpi_sql_rows.proofs.Writing as writing
@@ -80,7 +77,7 @@ kept_then xs ys a b c p q n e =
     let both = halves (λ t. not (t == n)) xs ys parts.1 in
     q n (and_from _ _ parts.0 both.1) ∙ p n (and_from _ _ parts.0 both.0)
 
-pub left_then : (xs ys : List ℕ) (a b c : State) → IsLeft xs a b → IsLeft ys b c → IsLeft (xs ++ ys) a c
+pub left_then : (xs ys : List ℕ) (a b c : Stage) → IsLeft xs a b → IsLeft ys b c → IsLeft (xs ++ ys) a c
 left_then xs ys a b c p q = record {
   inside = q.inside;
   schema = q.schema;
@@ -90,7 +87,8 @@ left_then xs ys a b c p q = record {
 -- ---- rows from another table
 
 -- the rows that the query shows are in the table, each with a rowid that was chosen
-pub record Inserted (from tree : ℕ) (t : Table) (terms project : List Term) (db : Trees) (after : Database) : Type 0 where
+pub record Inserted (from tree : ℕ) (t : Table) (terms project : List Term) (db : Trees)
+    (after : Database) : Type 0 where
   pub schema : after.schema ≡ office_schema
   pub sources : List Row
   pub members : Members terms project (db from) [] sources
@@ -118,7 +116,8 @@ pub record Cleared (tree : ℕ) (db : Trees) (after : Database) : Type 0 where
 
 -- with no DISTINCT, no collation matters
 any_collation : (tree : ℕ) (terms project : List Term) (db : Trees) (params : Row) (rows : List Row)
-    → IsAnswer (copy_query tree terms project) db params rows → IsAnswer (whole_query tree terms project []) db params rows
+    → IsAnswer (copy_query tree terms project) db params rows →
+    IsAnswer (whole_query tree terms project []) db params rows
 any_collation tree terms project db params rows a = record {
   staged = a.staged;
   grouped = a.grouped;
@@ -130,14 +129,28 @@ any_collation tree terms project db params rows a = record {
   shown = a.shown;
 }
 
-module _ (name : List ℕ) (tree : ℕ) (columns : List Column) (key : Option ℕ) (primary : List ℕ)
-    (uniques : List (List ℕ)) (orders : List Order) (references : List Reference) where
-  abbrev t : Table
-  t = writing.table None Enforced office_schema name tree columns key primary uniques orders references []
+-- tables that are made as this one is
+module _ (like : Table) where
+  abbrev tree : ℕ
+  tree = like.tree
 
-  pub insert_rows : (limit : Option ℕ) (from : Source) (db : Trees) (w : Written)
-      → Inserts (writing.task limit Enforced office_schema name tree columns key primary uniques orders references [])
-      from db (Ok w)
+  abbrev pub task : Option ℕ → Task
+  task limit = writing.task limit Enforced office_schema like.name like.tree like.columns like.key like.primary
+      like.uniques like.orders like.references []
+
+  abbrev pub t : Table
+  t = writing.table None Enforced office_schema like.name like.tree like.columns like.key like.primary like.uniques
+      like.orders like.references []
+
+  -- it is the table that a command names
+  abbrev pub Acts : List ℕ → Command → Type 0
+  Acts text command = (limit : Option ℕ) (db : Trees) (tally : Tally) (after : Database)
+      → Does limit usual [] (record { schema = office_schema; trees = db })
+      (statement_of text (understood office_schema text)) None command (Ok (tally, after))
+      → OnRows (task limit) usual None command db (Ok (tally, after))
+
+  insert_rows : (limit : Option ℕ) (from : Source) (db : Trees) (w : Written)
+      → Inserts (task limit) from db (Ok w)
       → (rows : List Row) × IsSource (record { schema = office_schema; trees = db }) [] from rows
       × Applies office_schema Enforced db (edit_of db t [] Chosen 0 rows) w.trees
   insert_rows limit from db w h =
@@ -151,12 +164,11 @@ module _ (name : List ℕ) (tree : ℕ) (columns : List Column) (key : Option �
       let trees : w.trees ≡ made.0 = ap (λ (it : Written). it.trees) (same_value kept.2) ∙ same_value kept.1 in
       (sourced.0, sourced.1, subst (Applies office_schema Enforced db edit) (sym trees) applied)
 
-  pub copied : (limit : Option ℕ) (s₀ : State) (db : Trees) (index from : ℕ) (terms project : List Term)
+  pub copied : (limit : Option ℕ) (db : Trees) (index from : ℕ) (terms project : List Term)
       (tally : Tally) (after : Database)
-      → OnRows (writing.task limit Enforced office_schema name tree columns key primary uniques orders references [])
-      (mode_of s₀) None (copy_command index from terms project) db (Ok (tally, after))
-      → overlay db [] from ≡ db from → db tree ≡ [] → Inserted from tree t terms project db after
-  copied limit s₀ db index from terms project tally after does over empty =
+      → OnRows (task limit) usual None (copy_command index from terms project) db (Ok (tally, after))
+      → db tree ≡ [] → Inserted from tree t terms project db after
+  copied limit db index from terms project tally after does empty =
       let done = went does in
       let now = ap (λ (p : Tally × Database). p.1) (same_value (went (went done.2).2).2) in
       let it = insert_rows limit (source.Query (record { lets = []; body = copy_query from terms project })) db done.0
@@ -171,7 +183,7 @@ module _ (name : List ℕ) (tree : ℕ) (columns : List Column) (key : Option �
       record {
         schema = ap (λ (d : Database). d.schema) now;
         sources = it.0;
-        members = subst (λ l. Members terms project l [] it.0) over m;
+        members = subst (λ l. Members terms project l [] it.0) (overlay_none db from) m;
         rows = ap (λ (d : Trees). d tree) at ∙ news.0;
         keyed = news.1;
         fresh = news.2;
@@ -180,11 +192,10 @@ module _ (name : List ℕ) (tree : ℕ) (columns : List Column) (key : Option �
       }
 
   -- rows that are given are put
-  pub put_left : (limit : Option ℕ) (s₀ : State) (db : Trees) (index : ℕ) (from : Source) (tally : Tally)
+  pub put_left : (limit : Option ℕ) (db : Trees) (index : ℕ) (from : Source) (tally : Tally)
       (after : Database)
-      → OnRows (writing.task limit Enforced office_schema name tree columns key primary uniques orders references [])
-      (mode_of s₀) None (Insert index from) db (Ok (tally, after)) → Put tree t from db after
-  put_left limit s₀ db index from tally after does =
+      → OnRows (task limit) usual None (Insert index from) db (Ok (tally, after)) → Put tree t from db after
+  put_left limit db index from tally after does =
       let done = went does in
       let now = ap (λ (p : Tally × Database). p.1) (same_value (went (went done.2).2).2) in
       let it = insert_rows limit from db done.0 done.1 in
@@ -198,11 +209,10 @@ module _ (name : List ℕ) (tree : ℕ) (columns : List Column) (key : Option �
       }
 
   -- each row is taken out, and no foreign key acts
-  pub cleared : (limit : Option ℕ) (s₀ : State) (db : Trees) (index : ℕ) (tally : Tally) (after : Database)
-      → ((olds : List Row) → works office_schema Enforced 0 tree olds [] ≡ []) → overlay db [] tree ≡ db tree
-      → OnRows (writing.task limit Enforced office_schema name tree columns key primary uniques orders references [])
-      (mode_of s₀) None (clear_command index tree) db (Ok (tally, after)) → Cleared tree db after
-  cleared limit s₀ db index tally after none over does =
+  pub cleared : (limit : Option ℕ) (db : Trees) (index : ℕ) (tally : Tally) (after : Database)
+      → ((olds : List Row) → works office_schema Enforced 0 tree olds [] ≡ [])
+      → OnRows (task limit) usual None (clear_command index tree) db (Ok (tally, after)) → Cleared tree db after
+  cleared limit db index tally after none does =
       let done = went does in
       let now = ap (λ (p : Tally × Database). p.1) (same_value (went (went done.2).2).2) in
       let asked = went done.1 in
@@ -215,38 +225,12 @@ module _ (name : List ℕ) (tree : ℕ) (columns : List Column) (key : Option �
       record {
         schema = ap (λ (d : Database). d.schema) now;
         found = asked.0;
-        shown = subst (λ l. IsPermutation (map (λ r. column r 0 ∷ []) l) asked.0) over shown;
+        shown = subst (λ l. IsPermutation (map (λ r. column r 0 ∷ []) l) asked.0) (overlay_none db tree) shown;
         rows = ap (λ (d : Trees). d tree) at ∙ applied.rows;
         others = subst (KeepsBut (tree ∷ []) db) (sym at) (kept_others tree db made.0 applied.tables);
       }
-
--- ---- a statement that ran
 
 -- what a database lists of itself is its schema
 pub all_there : (db : Database) → IsDatabase db → db.schema ≡ office_schema → HasAllTables db.trees
 unfolding HasAllTables
 all_there db sound has = subst (λ s. IsSound s db.trees) has sound
-
-pub record Did (text : List ℕ) (command : Command) (old new : State) : Type 0 where
-  pub tally : Tally
-  pub does : Does old.step_limit (mode_of old) [] (record {
-    schema = office_schema;
-    trees = old.now.trees;
-  }) (statement_of text (understood office_schema text)) None command (Ok (tally, new.now))
-  pub sound : IsDatabase new.now
-  pub mode : new.in_transaction ≡ old.in_transaction
-
-pub did : (text : List ℕ) (command : Command) → Makes text command → (old new : State) (count : ℕ)
-    → ((t : List ℕ) → Runs old new None command t [] count → Writes old new None command t [] count)
-    → old.now.schema ≡ office_schema → Executes text [] old new (Ok count) → Did text command old new
-did text command is old new count writes has ran =
-    let s = statement_of text (understood office_schema text) in
-    let w = writes s (runs_as text [] old new office_schema has command is.0 is.1 count ran) in
-    record {
-      tally = w.tally;
-      does = subst
-          (λ x. Does old.step_limit (mode_of old) [] (record old.now { schema = x }) s None command (Ok (w.tally, new.now)))
-          has w.changed;
-      sound = w.sound;
-      mode = w.shown.mode;
-    }

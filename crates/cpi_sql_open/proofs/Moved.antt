@@ -1,5 +1,5 @@
 -- The steps of the migration, taken together.
-use Rattle.std.proofs.Common.{◌≡◌, ℕ, List, [], ◌∷◌, ◌++◌, Ok, Err, Result, OnOk, IsTrue, refl, sym, ap}
+use Rattle.std.proofs.Common.{◌≡◌, ℕ, List, [], ◌∷◌, ◌++◌, IsTrue, refl, sym, ap}
 use Rattle.std.proofs.Common.{subst, ◌∙◌, arith}
 use Rattle.sqlite.specs.Order.{Row}
 use Rattle.sqlite.specs.Tree.{Trees}
@@ -11,16 +11,19 @@ use Rattle.cpi_sql_rows.specs.Lists.{office_in}
 use Rattle.cpi_sql_rows.specs.FirstSchema.{first_office_in, first_releases_in}
 use Rattle.cpi_sql_rows.specs.Finding.{AreCleared, HaveFirstRowids, HaveReleaseRowids, HaveSurveyRowids}
 use Rattle.cpi_sql_rows.specs.Finding.{IsMigrated, IsMoved, KeepsLists}
-use Rattle.cpi_sql_rows.specs.Making.{MakesTables, AreMade, second_tables}
+use Rattle.cpi_sql_rows.specs.Making.{second_tables}
 use Rattle.cpi_sql_rows.specs.Numbered.{IsVersion, version_text}
-use Rattle.cpi_sql_open.specs.Copies.{HasCopied, IsLeft, IsNumbered, IsReady, KeepsBut}
+use Rattle.cpi_sql_open.proofs.Copies.{HasCopied, IsLeft, IsNumbered, KeepsBut}
 use Rattle.cpi_sql_rows.specs.Shelf.{HasRowids}
+use Rattle.cpi_sql_open.specs.Stages.{RanEach, Stage, stage_of}
+use Rattle.cpi_sql_open.proofs.ClearSteps.{cleared_trees, numbered, rows_cleared}
 use Rattle.cpi_sql_open.proofs.CopiedTables.{left_then}
+use Rattle.cpi_sql_open.proofs.CopySteps.{all_copied}
+use Rattle.cpi_sql_open.proofs.Making.{Made, made_each, second_make}
 use Rattle.cpi_sql_open.proofs.FirstNumber.{first_seen}
 use Rattle.cpi_sql_rows.proofs.Unchanged.{same_releases}
-
-abbrev cleared_trees : List ℕ
-cleared_trees = 20 ∷ 18 ∷ 16 ∷ 15 ∷ 13 ∷ 11 ∷ []
+use Rattle.cpi_sql_open.proofs.Making.{second_texts}
+use Rattle.cpi_sql_open.proofs.CopyTexts.{copy_texts, clear_texts, number_texts}
 
 abbrev rest_trees : List ℕ
 rest_trees = cleared_trees ++ 0 ∷ 0 ∷ []
@@ -45,8 +48,11 @@ same_office old new k = rw (
   }),
 ) refl
 
-module _ (a b : State) (was : IsVersion 1 (a.now.trees 0))
-    (m : AreMade first_schema office_schema second_tables a b) where
+module _ (old : State) (b : Stage) (was : IsVersion 1 (old.now.trees 0))
+    (m : Made first_schema office_schema second_tables (stage_of old) b) where
+  abbrev a : Stage
+  a = stage_of old
+
   first_releases : first_releases_in b.now.trees ≡ first_releases_in a.now.trees
   unfolding first_releases_in
   first_releases = rw (
@@ -71,7 +77,7 @@ module _ (a b : State) (was : IsVersion 1 (a.now.trees 0))
   ) refl
 
   -- the rowids of the old tables are those that were there
-  first_rowids : (c : State) → HasCopied b c → HaveFirstRowids a.now.trees → HaveFirstRowids c.now.trees
+  first_rowids : (c : Stage) → HasCopied b c → HaveFirstRowids a.now.trees → HaveFirstRowids c.now.trees
   first_rowids c copied ids = record {
     survey = record {
       assignments = subst HasRowids (sym (copied.left.others 11 refl ∙ m.others.1.1.1.1.1.1.1.0))
@@ -90,8 +96,11 @@ module _ (a b : State) (was : IsVersion 1 (a.now.trees 0))
     };
   }
 
-  module _ (c d e : State) (copied : HasCopied b c) (cleared : IsLeft cleared_trees c d)
-      (gone : AreCleared d.now.trees) (n : IsNumbered d e) where
+  module _ (c d : Stage) (new : State) (copied : HasCopied b c) (cleared : IsLeft cleared_trees c d)
+      (gone : AreCleared d.now.trees) (n : IsNumbered d (stage_of new)) where
+    abbrev e : Stage
+    e = stage_of new
+
     rest : KeepsBut rest_trees c.now.trees e.now.trees
     rest = (left_then cleared_trees (0 ∷ 0 ∷ []) c d e cleared n.left).others
 
@@ -108,7 +117,7 @@ module _ (a b : State) (was : IsVersion 1 (a.now.trees 0))
     office : office_in e.now.trees ≡ first_office_in a.now.trees
     office = same_office c.now.trees e.now.trees rest ∙ copied.office ∙ first_office
 
-    moved : IsMoved a e
+    moved : IsMoved old new
     moved = record {
       schema = n.left.schema;
       migrated = record {
@@ -140,28 +149,20 @@ module _ (a b : State) (was : IsVersion 1 (a.now.trees 0))
     }
 
 -- each step by what its call ensures
-pub all_moved : {A E : Type 0} (r : Result A E) (a b c d e : State) → Survives d e (λ _. ⊥)
-    → Survives c d (λ _. ⊥) → Survives b c (λ _. ⊥)
-    → (HasCleanDisk b → MakesTables first_schema office_schema second_tables a b)
-    → (HasCleanDisk c → IsReady b → HasCopied b c)
-    → (HasCleanDisk d → IsTrue c.in_transaction → c.now.schema ≡ office_schema → HaveFirstRowids c.now.trees
-    → IsLeft cleared_trees c d × AreCleared d.now.trees)
-    → (HasCleanDisk e → IsTrue d.in_transaction → d.now.schema ≡ office_schema → IsVersion 1 (d.now.trees 0)
-    → OnOk r (IsNumbered d e))
-    → HasCleanDisk e → IsTrue a.in_transaction → a.now.schema ≡ first_schema → IsVersion 1 (a.now.trees 0)
-    → HaveFirstRowids a.now.trees → OnOk r (IsMoved a e)
-all_moved (Err x) a b c d e last third second makes copies clears numbers clean inside first one ids = tt
-all_moved (Ok x) a b c d e last third second makes copies clears numbers clean inside first one ids =
-    let clean_d : HasCleanDisk d = omega (arith, last.clean) in
-    let clean_c : HasCleanDisk c = omega (arith, third.clean) in
-    let clean_b : HasCleanDisk b = omega (arith, second.clean) in
-    let m = makes clean_b inside first in
-    let copied = copies clean_c (record { inside = m.inside; schema = m.schema; empty = m.empty }) in
-    let cleared = clears clean_d copied.left.inside copied.left.schema (first_rowids a b one m c copied ids) in
+pub all_moved : (old new : State) (b c d : Stage) → RanEach second_texts (stage_of old) b
+    → RanEach copy_texts b c → RanEach clear_texts c d
+    → RanEach number_texts d (stage_of new) → IsTrue old.in_transaction
+    → old.now.schema ≡ first_schema → IsVersion 1 (old.now.trees 0) → HaveFirstRowids old.now.trees → IsMoved old new
+all_moved old new b c d makes copies clears numbers inside first one ids =
+    let a = stage_of old in
+    let m = made_each second_texts second_tables first_schema office_schema a b second_make makes inside first in
+    let copied = all_copied b c (record { inside = m.inside; schema = m.schema; empty = m.empty }) copies in
+    let cleared = rows_cleared c d clears copied.left.inside copied.left.schema
+    (first_rowids old b one m c copied ids) in
     let left = cleared.0 in
     let number : d.now.trees 0 ≡ a.now.trees 0 = left.others 0 refl ∙ copied.left.others 0 refl ∙ m.others.0 in
-    moved a b one m c d e copied left cleared.1
-    (numbers clean left.inside left.schema (subst (IsVersion 1) (sym number) one))
+    moved old b one m c d new copied left cleared.1
+    (numbered d (stage_of new) numbers left.inside left.schema (subst (IsVersion 1) (sym number) one))
 
 -- ---- after the look at the number
 

@@ -1,3 +1,4 @@
 pub mod Said
-pub mod CopyTexts
-pub mod Copies
+pub mod Looks
+pub mod Making
+pub mod Stages

@@ -5,6 +5,7 @@ use Rattle.cpi_sql_open.specs.declared.version.Version.{Version}
 use Rattle.cpi_sql_open.specs.declared.version.Version.TheVariants.{First, Second, Other}
 use Rattle.cpi_sql_rows.specs.Numbered.{IsVersion}
 
+-- the rows of `version` say this number, or another
 abbrev pub Says : Version → List Row → Type 0
 Says First rows = IsVersion 1 rows
 Says Second rows = IsVersion 2 rows

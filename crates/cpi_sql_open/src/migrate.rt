@@ -7,11 +7,43 @@ ghost use Rattle.cpi_sql_rows.specs.Numbered.{IsVersion};
 ghost use Rattle.cpi_sql_rows.specs.Shelf.{IsCleanBook};
 ghost use Rattle.cpi_sql_rows.specs.Tables.{first_schema};
 
-use crate::copy_rows::{clear_rows, copy_rows, number_again};
-use crate::make::make_revisions;
+use crate::make::{NUMBER, SECOND_TABLES};
+use crate::perform::perform_each;
 use crate::version::{Version, look};
 use cpi_sql_rows::Unread;
 use sqlite::{Alter, Connection, Error, Transaction};
+
+// The rows of each table of schema 1 that schema 2 has anew are copied.
+const COPIES: [&str; 6] = [
+    "INSERT INTO assignment_2 (collector, slot, outlet, item, first_month, last_month, series_collector, \
+     series_slot, copied) SELECT collector, slot, outlet, item, first_month, last_month, collector, slot, \
+     NULL FROM assignment",
+    "INSERT INTO quote_2 (collector, slot, month, mark, value, receipt) SELECT collector, slot, month, mark, \
+     value, receipt FROM quote",
+    "INSERT INTO release_2 (month, revision, frozen_at, publishes, carry) SELECT month, 1, frozen_at, \
+     publishes, carry FROM release WHERE typeof(month) = 'integer'",
+    "INSERT INTO frozen_2 (month, revision, collector, slot, item, last_month, mark, value) SELECT month, 1, \
+     collector, slot, item, last_month, mark, value FROM frozen",
+    "INSERT INTO carried_2 (month, revision, collector, slot, item, last_month, ticks, knum, kden, observed, \
+     imputed) SELECT month, 1, collector, slot, item, last_month, ticks, knum, kden, observed, imputed FROM \
+     carried",
+    "INSERT INTO level_2 (month, revision, code, title, weight, within, chained, month_change, year_change, \
+     imputed) SELECT month, 1, code, title, weight, within, chained, month_change, year_change, imputed FROM \
+     level",
+];
+
+// The tables whose rows were copied are cleared, those that refer to others first.
+const CLEARS: [&str; 6] = [
+    "DELETE FROM level",
+    "DELETE FROM carried",
+    "DELETE FROM frozen",
+    "DELETE FROM release",
+    "DELETE FROM quote",
+    "DELETE FROM assignment",
+];
+
+// The number of schema 2 is put in place of that of schema 1.
+const NUMBERS: [&str; 2] = ["DELETE FROM version", NUMBER];
 
 // The new tables, their rows, and the number.
 fn rewrite<S: Alter>(tx: &mut Transaction<'_, S>) -> Result<(), Error>
@@ -26,10 +58,10 @@ fn rewrite<S: Alter>(tx: &mut Transaction<'_, S>) -> Result<(), Error>
         KeepsCommit (state S.Store tx.old.conn.now) (state S.Store tx.new.conn.now) }
     ensures survives { Survives (state S.Store tx.old.conn.now) (state S.Store tx.new.conn.now) (λ _. ⊥) }
 {
-    make_revisions(tx)?;
-    copy_rows(tx)?;
-    clear_rows(tx)?;
-    number_again(tx)
+    perform_each(tx, &SECOND_TABLES)?;
+    perform_each(tx, &COPIES)?;
+    perform_each(tx, &CLEARS)?;
+    perform_each(tx, &NUMBERS)
 }
 
 // The same, once the number is seen to be that of schema 1.

@@ -4,8 +4,9 @@ ghost use Rattle.sqlite.specs.Held.{state};
 ghost use Rattle.sqlite.specs.State.{HasCleanDisk, Survives};
 ghost use Rattle.cpi_sql_rows.specs.Shelf.{IsCleanBook, IsKept, HasTables, StaysOpen};
 ghost use Rattle.cpi_sql_rows.specs.Tables.{first_schema, office_schema};
-ghost use Rattle.cpi_sql_rows.specs.Finding.{AreWhole, HaveFirstRowids, HavePlanRowids, IsMigrated, IsOpened, MayBeMade};
-ghost use Rattle.cpi_sql_rows.specs.Numbered.{IsVersion, ShowsOther};
+ghost use Rattle.cpi_sql_rows.specs.Finding.{AreWhole, HaveFirstRowids, HavePlanRowids, IsMigrated, IsOpened};
+ghost use Rattle.cpi_sql_rows.specs.Finding.{MayBeMade};
+ghost use Rattle.cpi_sql_rows.specs.Numbered.{ShowsOther};
 ghost use Rattle.cpi_store.specs.declared.open_fault.OpenFault.TheVariants.{UnknownSchema};
 
 use crate::inspect::{has_first_tables, has_tables, obeys, test_first_rows, test_rows};

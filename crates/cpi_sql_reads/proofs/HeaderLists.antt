@@ -9,31 +9,34 @@ use Rattle.std.specs.declared.cmp.Ordering.{Ordering}
 use Rattle.std.specs.declared.cmp.Ordering.TheVariants.{Less, Equal, Greater}
 use Rattle.std.specs.Ordering.{nat_cmp, is_eq, ordering_then}
 use Rattle.std.specs.Cmp.{tied_itself}
-use Rattle.std.proofs.lemmas.Bool.{and_parts, eqb-true}
+use Rattle.std.proofs.lemmas.Bool.{and_from, and_parts, eq-eqb, eqb-true}
 use Rattle.std.proofs.lemmas.Bool.Decides.{eqb_tells}
 use Rattle.std.proofs.lemmas.Cmp.{nat_cmp_total, ranked}
+use Rattle.sqlite.specs.Order.{Row}
 use Rattle.sqlite.specs.Tree.{Trees}
 use Rattle.sqlite_rules.specs.Lists.{Has}
 use Rattle.sqlite_rules.proofs.ProbeLemmas.{mapped_has}
 use Rattle.cpi_rows.specs.Keyed.{IsInOrder, row_at}
-use Rattle.cpi_rows.specs.Held.{held_by}
+use Rattle.cpi_rows.specs.Held.{held_by, held_cmp, held_key}
 use Rattle.cpi_rows.proofs.Found.{row_key}
 use Rattle.cpi_index.specs.Frozen.{Frozen}
 use Rattle.cpi_index.specs.Carried.{Carried}
 use Rattle.cpi_release.specs.FrozenMonths.{ReleaseKey, frozen_months, release_cmp, release_key}
 use Rattle.cpi_release.specs.Latest.{latest}
 use Rattle.cpi_release.specs.PublishedTables.{PublishedTable, published_table, published_until, frozen_month_of}
-use Rattle.cpi_release.specs.Releases.{release_of, frozen_of, carried_of, levels_of}
+use Rattle.cpi_release.specs.Releases.{release_of, levels_of}
 use Rattle.cpi_release.specs.declared.level.Level.{Level}
 use Rattle.cpi_release.specs.declared.release.Release.{Release}
-use Rattle.cpi_store.proofs.Published.{release_total}
+use Rattle.cpi_store.proofs.Released.{release_total}
 use Rattle.cpi_store.specs.Tables.{table_until}
 use Rattle.cpi_sql_rows.specs.declared.release_rows.Header.{Header}
 use Rattle.cpi_sql_reads.specs.Headers.{has_release, headers_until, is_there, latest_header, months_of, months_until}
 use Rattle.cpi_sql_reads.specs.Headers.{revision_published}
+use Rattle.cpi_sql_rows.specs.HeldTables.{HeldTable, OfReleases, beside, release_in}
 use Rattle.cpi_sql_rows.specs.LevelTables.{ReleaseLevels, AreTablesOf, levels_at, table_key}
-use Rattle.cpi_sql_rows.specs.Lists.{header_in, header_key, headers_in, frozens_in, carrieds_in, levels_in, release_from}
-use Rattle.cpi_sql_rows.specs.Lists.{release_number, releases_in}
+use Rattle.cpi_sql_rows.specs.Lists.{header_in, header_key, headers_in, frozens_in, carrieds_in, levels_in}
+use Rattle.cpi_sql_rows.specs.Lists.{listed, release_from, release_number, releases_in}
+use Rattle.cpi_sql_rows.specs.Texts.{is_release}
 use Rattle.cpi_sql_rows.proofs.Listed.{listed_in_order}
 use Rattle.cpi_sql_rows.proofs.Members.{has_row, row_of}
 
@@ -144,6 +147,25 @@ all_has : {X : Type 0} (P : X → Type 0) (xs : List X) (x : X) → AllByRecursi
 all_has P [] x all h = absurd h
 all_has P (y ∷ ys) x all (inl is) = subst P (sym is) all.0
 all_has P (y ∷ ys) x all (inr h) = all_has P ys x all.1 h
+
+-- a header that is among them is that of a release that there is
+has_there : (headers : List Header) (h : Header) → Has headers h → has_release h.month h.revision headers ≡ true
+has_there [] h k = absurd k
+has_there (g ∷ gs) h (inl same) = ap (λ b. b || has_release h.month h.revision gs)
+    (and_from _ _ (eq-eqb g.month h.month (ap (λ (x : Header). x.month) (sym same)))
+    (eq-eqb g.revision h.revision (ap (λ (x : Header). x.revision) (sym same))))
+has_there (g ∷ gs) h (inr k) = or_right _ (has_there gs h k)
+  where
+    or_right : (a : Bool) {b : Bool} → b ≡ true → (a || b) ≡ true
+    or_right true e = refl
+    or_right false e = e
+
+-- so is the latest of a month
+pub latest_there : (month : ℕ) (headers : List Header) (h : Header) → latest_header month headers ≡ Some h
+    → has_release month h.revision headers ≡ true
+latest_there month headers h e =
+    let it = latest_has (λ (g : Header). g.month) month headers h e in
+    subst (λ m. has_release m h.revision headers ≡ true) it.1 (has_there headers h it.0)
 
 -- the header of a release that there is
 release_there : (month revision : ℕ) (headers : List Header) → has_release month revision headers ≡ true
@@ -414,21 +436,17 @@ module _ (trees : Trees) where
   table_is month revision until =
       levels_shown all_frozen all_carried all_levels headers headers_ordered month revision until
 
-  -- the lists of the latest release of a month
-  pub carried_found : (month : ℕ) (h : Header) → latest_header month headers ≡ Some h
-      → carried_of (releases_in trees) month ≡ held_by (release_number month h.revision) all_carried
+  -- what the latest release of a month lists
+  pub list_found : {X K : Type 0} {R : K → K → Ordering} {key : X → K} {stands : Row → Option X}
+      (t : HeldTable X is_release) (list : Release → List X) (law : OfReleases R key stands t list) (month : ℕ)
+      (h : Header) → latest_header month headers ≡ Some h
+      → option_map_or list (release_of (releases_in trees) month) [] ≡ held_by (release_number month h.revision)
+      (listed (held_cmp R) (held_key key) (beside release_in t.after) (trees t.tree))
   unfolding releases_in
-  carried_found month h e =
-      list_made all_frozen all_carried all_levels (λ (r : Release). r.carried) month headers (Some h) e
-      ∙ ap (λ m. held_by (release_number m h.revision) all_carried)
-      (latest_has (λ (g : Header). g.month) month headers h e).1
-
-  pub frozen_found : (month : ℕ) (h : Header) → latest_header month headers ≡ Some h
-      → frozen_of (releases_in trees) month ≡ held_by (release_number month h.revision) all_frozen
-  unfolding releases_in
-  frozen_found month h e =
-      list_made all_frozen all_carried all_levels (λ (r : Release). r.frozen) month headers (Some h) e
-      ∙ ap (λ m. held_by (release_number m h.revision) all_frozen)
+  list_found {R = R} {key = key} t list law month h e =
+      list_made all_frozen all_carried all_levels list month headers (Some h) e ∙ law.lists trees h
+      ∙ ap (λ m. held_by (release_number m h.revision)
+      (listed (held_cmp R) (held_key key) (beside release_in t.after) (trees t.tree)))
       (latest_has (λ (g : Header). g.month) month headers h e).1
 
   pub none_found : {X : Type 0} (month : ℕ) (list : Release → List X) → latest_header month headers ≡ None

@@ -1,8 +1,9 @@
 -- What a release of the tables has in its lists.
-use Rattle.std.proofs.Common.{◌≡◌, ℕ, List, Some, None, Option, Result, Ok, Err, IfOk, OnOk, IsTrue, sym, ap, ◌∙◌}
+use Rattle.std.proofs.Common.{◌≡◌, ℕ, List, Some, None, Option, Result, Ok, Err, IfOk, OnOk, sym, ap, ◌∙◌}
+use Rattle.std.proofs.Common.{subst}
 use Rattle.std.specs.Prelude.{option_map}
 use Rattle.std.specs.Global.{Vec}
-use Rattle.sqlite.specs.State.{State, HasCleanDisk}
+use Rattle.sqlite.specs.Order.{Row}
 use Rattle.sqlite.specs.Tree.{Trees}
 use Rattle.cpi_codes.specs.CodeOrder.{code_cmp}
 use Rattle.cpi_codes.specs.declared.codes.Code.{Code}
@@ -11,10 +12,10 @@ use Rattle.cpi_release.specs.Releases.{level_at}
 use Rattle.cpi_release.specs.declared.level.Level.{Level}
 use Rattle.cpi_release.specs.declared.release.Release.{Release}
 use Rattle.cpi_sql_rows.specs.declared.release_rows.Header.{Header}
-use Rattle.cpi_sql_reads.specs.Headers.{latest_header}
+use Rattle.cpi_sql_reads.specs.Headers.{LatestStands, latest_header}
 use Rattle.cpi_sql_rows.specs.LevelTables.{levels_at}
-use Rattle.cpi_sql_rows.specs.Shelf.{StaysOpen}
-use Rattle.cpi_sql_rows.specs.Lists.{headers_in, releases_in}
+use Rattle.cpi_sql_rows.specs.Shelf.{AllStandOf}
+use Rattle.cpi_sql_rows.specs.Lists.{headers_in, release_number, releases_in}
 use Rattle.cpi_sql_reads.proofs.HeaderLists.{levels_latest, none_found}
 
 -- the answer of a read, where the header is found among those that were read
@@ -23,11 +24,22 @@ pub read_found : {X E : Type 0} (r : Result (Vec X) E) (xs ys : List X) → IfOk
 read_found (Ok v) xs ys h e = h ∙ sym e
 read_found (Err f) xs ys h e = tt
 
--- a statement that was answered leaves the connection open
-pub answered_open : {A E : Type 0} (r : Result A E) (a b : State) → (HasCleanDisk b → OnOk r (IsTrue b.is_open))
-    → OnOk r (StaysOpen a b)
-answered_open (Ok v) a b h = λ disk was. h disk
-answered_open (Err f) a b h = tt
+-- ---- rows that stand for something
+
+-- those of the latest release, whose header was found
+pub latest_stands : {X A E : Type 0} (r : Result A E) (entry : Row → Option X) (tree month : ℕ) (trees : Trees)
+    (h : Header) → latest_header month (headers_in (trees 26)) ≡ Some h
+    → OnOk r (AllStandOf entry (release_number month h.revision) (trees tree))
+    → OnOk r (LatestStands entry tree month trees)
+latest_stands (Ok v) entry tree month trees h found stand = λ g is.
+    let same : h ≡ g = cc in
+    subst (λ (x : Header). AllStandOf entry (release_number month x.revision) (trees tree)) same stand
+latest_stands (Err e) entry tree month trees h found stand = tt
+
+-- where the month has no release
+pub none_stands : {X : Type 0} (entry : Row → Option X) (tree month : ℕ) (trees : Trees)
+    → latest_header month (headers_in (trees 26)) ≡ None → LatestStands entry tree month trees
+none_stands entry tree month trees none h is = absurd (cc)
 
 -- ---- the level of a code in a table
 

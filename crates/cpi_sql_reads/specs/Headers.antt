@@ -1,13 +1,20 @@
 -- What the headers tell of the releases without the rows of their lists.
-use Rattle.std.specs.Prelude.{ℕ, ◌==◌, ◌&&◌, nat_le, Bool, List, Option, filter, map, option_map}
+use Rattle.std.specs.Prelude.{◌≡◌, ℕ, ◌-◌, ◌==◌, ◌&&◌, nat_le, Bool, List, Option, Some, filter, map, option_map}
 use Rattle.std.specs.List.{list_any}
+use Rattle.sqlite.specs.Order.{Row}
+use Rattle.sqlite.specs.Tree.{Trees}
 use Rattle.cpi_release.specs.Latest.{latest}
 use Rattle.cpi_release.specs.declared.frozen_month.FrozenMonth.{FrozenMonth}
 use Rattle.cpi_sql_rows.specs.declared.release_rows.Header.{Header}
+use Rattle.cpi_sql_rows.specs.Lists.{carried_in, frozen_in, headers_in, release_number}
+use Rattle.cpi_release.specs.Releases.{link_month}
+use Rattle.cpi_sql_rows.specs.Shelf.{AllStandOf}
 
+-- the frozen month of a header
 abbrev pub header_month : Header → FrozenMonth
 header_month h = record { month = h.month; revision = h.revision; publishes = h.publishes }
 
+-- the frozen months of all headers
 abbrev pub months_of : List Header → List FrozenMonth
 months_of headers = map header_month headers
 
@@ -15,6 +22,7 @@ months_of headers = map header_month headers
 abbrev pub headers_until : ℕ → List Header → List Header
 headers_until until headers = filter (λ h. nat_le h.publishes until) headers
 
+-- the frozen months whose moment of publishing has come
 abbrev pub months_until : ℕ → List Header → List FrozenMonth
 months_until until headers = months_of (headers_until until headers)
 
@@ -22,9 +30,22 @@ months_until until headers = months_of (headers_until until headers)
 abbrev pub latest_header : ℕ → List Header → Option Header
 latest_header month headers = latest (λ h. h.month) month headers
 
+-- each row of the month's latest release stands for something, in the table with that tree
+abbrev pub LatestStands : {X : Type 0} → (Row → Option X) → ℕ → ℕ → Trees → Type 0
+LatestStands entry tree month trees = (h : Header) → latest_header month (headers_in (trees 26)) ≡ Some h →
+    AllStandOf entry (release_number month h.revision) (trees tree)
+
+-- each row that the samples of a month are made from stands for something: the carried prices and the frozen quotes of
+-- its link month, and the carried prices of the month before
+pub record SamplesStand (month : ℕ) (trees : Trees) : Type 0 where
+  pub link_carried : LatestStands carried_in 30 (link_month month) trees
+  pub link_frozen : LatestStands frozen_in 28 (link_month month) trees
+  pub last_carried : LatestStands carried_in 30 (month - 1) trees
+
 -- the latest revision whose moment of publishing has come
 abbrev pub revision_published : ℕ → ℕ → List Header → Option ℕ
-revision_published month until headers = option_map (λ h. h.revision) (latest_header month (headers_until until headers))
+revision_published month until headers = option_map (λ h. h.revision)
+    (latest_header month (headers_until until headers))
 
 -- whether there is that release
 abbrev pub has_release : ℕ → ℕ → List Header → Bool

@@ -1,13 +1,14 @@
 //! The chained levels of earlier months, read a table at a time.
-ghost use Rattle.std.specs.Prelude.{◌≡◌, IfOk, IsSome, OnOk, option_map};
+ghost use Rattle.std.specs.Prelude.{◌≡◌, [], IfOk, IsSome, IsTrue, OnOk, option_map};
 ghost use Rattle.cpi_codes.specs.CodeOrder.{code_cmp};
 ghost use Rattle.cpi_rows.specs.Keyed.{row_at};
 ghost use Rattle.sqlite.specs.Held.{state};
 ghost use Rattle.cpi_release.specs.FrozenMonths.{release_cmp};
 ghost use Rattle.cpi_release.specs.Releases.{level_at};
 ghost use Rattle.cpi_sql_rows.specs.LevelTables.{AreTablesOf, levels_at, table_key};
-ghost use Rattle.cpi_sql_rows.specs.Shelf.{IsCleanBook, IsLook, HasTables, StaysOpen};
-ghost use Rattle.cpi_sql_rows.specs.Lists.{headers_in, releases_in};
+ghost use Rattle.cpi_sql_reads.specs.Headers.{LatestStands, has_release};
+ghost use Rattle.cpi_sql_rows.specs.Shelf.{AllStandOf, IsCleanBook, HasTables, Looks};
+ghost use Rattle.cpi_sql_rows.specs.Lists.{headers_in, level_in, release_number, releases_in};
 
 use crate::earlier::earlier_levels;
 use crate::headers::header_of;
@@ -27,13 +28,15 @@ fn read_table<S: Alter>(
     month: Month,
     revision: Revision,
 ) -> Result<LevelTable, Unread>
-    ensures look { IsLook (state S.Store conn.old) (state S.Store conn.new) }
-    ensures open { OnOk result (StaysOpen (state S.Store conn.old) (state S.Store conn.new)) }
+    ensures look { Looks (state S.Store conn.old) (state S.Store conn.new) result }
     ensures month { IfOk result (λ t. t.month ≡ month) }
     ensures revision { IfOk result (λ t. t.revision ≡ revision) }
     ensures read { IsCleanBook (state S.Store conn.new) → HasTables (state S.Store conn.old) →
         headers.now ≡ headers_in ((state S.Store conn.old).now.trees 26) →
         IfOk result (λ t. t.levels ≡ levels_at (releases_in (state S.Store conn.old).now.trees) (month, revision)) }
+    ensures stand { IsCleanBook (state S.Store conn.new) → HasTables (state S.Store conn.old) →
+        IsTrue (has_release month revision headers.now) → OnOk result
+        (AllStandOf level_in (release_number month revision) ((state S.Store conn.old).now.trees 32)) }
 {
     let levels = earlier_levels(conn, alloc, headers, month, revision)?;
     Ok(LevelTable::new(month, revision, levels))
@@ -48,8 +51,7 @@ fn table_at<S: Alter>(
     month: Month,
     revision: Revision,
 ) -> Result<LevelTable, Unread>
-    ensures look { IsLook (state S.Store conn.old) (state S.Store conn.new) }
-    ensures open { OnOk result (StaysOpen (state S.Store conn.old) (state S.Store conn.new)) }
+    ensures look { Looks (state S.Store conn.old) (state S.Store conn.new) result }
     ensures month { IfOk result (λ t. t.month ≡ month) }
     ensures revision { IfOk result (λ t. t.revision ≡ revision) }
     ensures left { (releases : _) → AreTablesOf releases tables.old.items → AreTablesOf releases tables.new.items }
@@ -57,6 +59,9 @@ fn table_at<S: Alter>(
         headers.now ≡ headers_in ((state S.Store conn.old).now.trees 26) →
         let releases = releases_in (state S.Store conn.old).now.trees in
         AreTablesOf releases tables.old.items → IfOk result (λ t. t.levels ≡ levels_at releases (month, revision)) }
+    ensures stand { IsCleanBook (state S.Store conn.new) → HasTables (state S.Store conn.old) →
+        tables.old.items ≡ [] → IsTrue (has_release month revision headers.now) → OnOk result
+        (AllStandOf level_in (release_number month revision) ((state S.Store conn.old).now.trees 32)) }
 {
     if let Some(table) = take_table(tables, month, revision) {
         return Ok(table);
@@ -73,8 +78,7 @@ pub fn ready_table<S: Alter>(
     month: Month,
     revision: Revision,
 ) -> Result<(), Unread>
-    ensures look { IsLook (state S.Store conn.old) (state S.Store conn.new) }
-    ensures open { OnOk result (StaysOpen (state S.Store conn.old) (state S.Store conn.new)) }
+    ensures look { Looks (state S.Store conn.old) (state S.Store conn.new) result }
     ensures kept { IsCleanBook (state S.Store conn.new) → HasTables (state S.Store conn.old) →
         headers.now ≡ headers_in ((state S.Store conn.old).now.trees 26) →
         let releases = releases_in (state S.Store conn.old).now.trees in
@@ -95,8 +99,7 @@ fn release_level<S: Alter>(
     revision: Revision,
     code: Code,
 ) -> Result<Option<ChainedLevel>, Unread>
-    ensures look { IsLook (state S.Store conn.old) (state S.Store conn.new) }
-    ensures open { OnOk result (StaysOpen (state S.Store conn.old) (state S.Store conn.new)) }
+    ensures look { Looks (state S.Store conn.old) (state S.Store conn.new) result }
     ensures kept { IsCleanBook (state S.Store conn.new) → HasTables (state S.Store conn.old) →
         headers.now ≡ headers_in ((state S.Store conn.old).now.trees 26) →
         let releases = releases_in (state S.Store conn.old).now.trees in
@@ -106,6 +109,9 @@ fn release_level<S: Alter>(
         let releases = releases_in (state S.Store conn.old).now.trees in
         AreTablesOf releases tables.old.items → IfOk result (λ level. level
         ≡ option_map (λ l. l.chained) (row_at code_cmp (λ l. l.code) code (levels_at releases (month, revision)))) }
+    ensures stand { IsCleanBook (state S.Store conn.new) → HasTables (state S.Store conn.old) →
+        tables.old.items ≡ [] → IsTrue (has_release month revision headers.now) → OnOk result
+        (AllStandOf level_in (release_number month revision) ((state S.Store conn.old).now.trees 32)) }
 {
     let table = table_at(conn, alloc, headers, tables, month, revision)?;
     let level = table.chained(code);
@@ -125,8 +131,7 @@ pub fn chained_level<S: Alter>(
     month: Month,
     code: Code,
 ) -> Result<Option<ChainedLevel>, Unread>
-    ensures look { IsLook (state S.Store conn.old) (state S.Store conn.new) }
-    ensures open { OnOk result (StaysOpen (state S.Store conn.old) (state S.Store conn.new)) }
+    ensures look { Looks (state S.Store conn.old) (state S.Store conn.new) result }
     ensures kept { IsCleanBook (state S.Store conn.new) → HasTables (state S.Store conn.old) →
         headers.now ≡ headers_in ((state S.Store conn.old).now.trees 26) →
         let releases = releases_in (state S.Store conn.old).now.trees in
@@ -135,6 +140,9 @@ pub fn chained_level<S: Alter>(
         headers.now ≡ headers_in ((state S.Store conn.old).now.trees 26) →
         let releases = releases_in (state S.Store conn.old).now.trees in
         AreTablesOf releases tables.old.items → IfOk result (λ level. level ≡ level_at releases month code) }
+    ensures stand { IsCleanBook (state S.Store conn.new) → HasTables (state S.Store conn.old) →
+        headers.now ≡ headers_in ((state S.Store conn.old).now.trees 26) → tables.old.items ≡ [] →
+        OnOk result (LatestStands level_in 32 month (state S.Store conn.old).now.trees) }
 {
     match header_of(headers, month) {
         Some(header) => release_level(conn, alloc, headers, tables, month, header.revision, code),

@@ -1,57 +1,44 @@
 //! What a month reads of the latest release of an earlier month.
-ghost use Rattle.std.specs.Prelude.{◌≡◌, IfOk, OnOk};
+ghost use Rattle.std.specs.Prelude.{◌≡◌, [], IfOk, IsTrue, OnOk};
+ghost use Rattle.std.specs.Option.{option_map_or};
 ghost use Rattle.sqlite.specs.Held.{state};
 ghost use Rattle.cpi_codes.specs.CodeOrder.{code_cmp};
 ghost use Rattle.cpi_rows.specs.Keyed.{IsInOrder};
-ghost use Rattle.cpi_release.specs.Releases.{carried_of as carried_in, frozen_of as frozen_in};
+ghost use Rattle.cpi_release.specs.Releases.{release_of};
+ghost use Rattle.cpi_sql_rows.specs.HeldTables.{beside, release_in as held_by_release};
 ghost use Rattle.cpi_sql_rows.specs.LevelTables.{levels_at};
-ghost use Rattle.cpi_sql_rows.specs.Shelf.{IsCleanBook, IsLook, HasTables, StaysOpen};
-ghost use Rattle.cpi_sql_rows.specs.Lists.{headers_in, releases_in};
+ghost use Rattle.cpi_sql_rows.specs.Shelf.{AllStandOf, IsCleanBook, HasTables, Looks};
+ghost use Rattle.cpi_sql_reads.specs.Headers.{LatestStands, has_release as release_in};
+ghost use Rattle.cpi_sql_rows.specs.Lists.{headers_in, level_in as level_row, release_number, releases_in};
 
 use crate::headers::{has_release, header_of};
-use crate::releases::{carried_of, frozen_of, levels_of};
+use crate::releases::{ReleaseRow, rows_of_release};
 use cpi_codes::Month;
-use cpi_index::{CarriedPrice, FrozenQuote};
 use cpi_release::{Level, Revision};
 use cpi_sql_rows::{Header, Unread};
 use sqlite::{Alter, Connection};
 use std::alloc::Global;
 
-/// The carried prices of the month's latest release, by series; none where it has none. Rows of a release without a
-/// header don't count.
-pub fn earlier_carried<S: Alter>(
+/// What the month's latest release lists of such rows, by their keys; none where it has none. Rows of a release without
+/// a header don't count.
+pub fn earlier_rows<S: Alter, T: ReleaseRow>(
     conn: &mut Connection<S>,
     alloc: Global,
     headers: &[Header],
     month: Month,
-) -> Result<Vec<CarriedPrice>, Unread>
-    ensures look { IsLook (state S.Store conn.old) (state S.Store conn.new) }
-    ensures open { OnOk result (StaysOpen (state S.Store conn.old) (state S.Store conn.new)) }
+) -> Result<Vec<T>, Unread>
+    ensures look { Looks (state S.Store conn.old) (state S.Store conn.new) result }
     ensures read { IsCleanBook (state S.Store conn.new) → HasTables (state S.Store conn.old) →
         headers.now ≡ headers_in ((state S.Store conn.old).now.trees 26) →
-        IfOk result (λ xs. xs.items ≡ carried_in (releases_in (state S.Store conn.old).now.trees) month) }
-{
-    match header_of(headers, month) {
-        Some(header) => carried_of(conn, alloc, month, header.revision),
-        None => Ok(Vec::new(alloc)),
-    }
-}
-
-/// The frozen quotes of the month's latest release, by series; none where it has none.
-pub fn earlier_frozen<S: Alter>(
-    conn: &mut Connection<S>,
-    alloc: Global,
-    headers: &[Header],
-    month: Month,
-) -> Result<Vec<FrozenQuote>, Unread>
-    ensures look { IsLook (state S.Store conn.old) (state S.Store conn.new) }
-    ensures open { OnOk result (StaysOpen (state S.Store conn.old) (state S.Store conn.new)) }
-    ensures read { IsCleanBook (state S.Store conn.new) → HasTables (state S.Store conn.old) →
+        let releases = releases_in (state S.Store conn.old).now.trees in
+        IfOk result (λ xs. xs.items ≡ option_map_or T.listed_by (release_of releases month) []) }
+    ensures stand { IsCleanBook (state S.Store conn.new) → HasTables (state S.Store conn.old) →
         headers.now ≡ headers_in ((state S.Store conn.old).now.trees 26) →
-        IfOk result (λ xs. xs.items ≡ frozen_in (releases_in (state S.Store conn.old).now.trees) month) }
+        OnOk result (LatestStands (beside held_by_release T.table.after) T.table.tree month
+        (state S.Store conn.old).now.trees) }
 {
     match header_of(headers, month) {
-        Some(header) => frozen_of(conn, alloc, month, header.revision),
+        Some(header) => rows_of_release(conn, alloc, month, header.revision),
         None => Ok(Vec::new(alloc)),
     }
 }
@@ -64,15 +51,17 @@ pub fn earlier_levels<S: Alter>(
     month: Month,
     revision: Revision,
 ) -> Result<Vec<Level>, Unread>
-    ensures look { IsLook (state S.Store conn.old) (state S.Store conn.new) }
-    ensures open { OnOk result (StaysOpen (state S.Store conn.old) (state S.Store conn.new)) }
+    ensures look { Looks (state S.Store conn.old) (state S.Store conn.new) result }
     ensures read { IsCleanBook (state S.Store conn.new) → HasTables (state S.Store conn.old) →
         headers.now ≡ headers_in ((state S.Store conn.old).now.trees 26) → IfOk result (λ xs.
         xs.items ≡ levels_at (releases_in (state S.Store conn.old).now.trees) (month, revision)) }
     ensures order { IfOk result (λ xs. IsInOrder code_cmp (λ l. l.code) xs.items) }
+    ensures stand { IsCleanBook (state S.Store conn.new) → HasTables (state S.Store conn.old) →
+        IsTrue (release_in month revision headers.now) → OnOk result
+        (AllStandOf level_row (release_number month revision) ((state S.Store conn.old).now.trees 32)) }
 {
     if !has_release(headers, month, revision) {
         return Ok(Vec::new(alloc));
     }
-    levels_of(conn, alloc, month, revision)
+    rows_of_release(conn, alloc, month, revision)
 }

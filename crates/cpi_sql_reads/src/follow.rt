@@ -9,7 +9,7 @@ ghost use Rattle.cpi_store.specs.Outlet.{with_name};
 
 use cpi_codes::CollectorId;
 use cpi_plan::{CalendarRow, Item, YearPlan};
-use cpi_store::{Bearer, Handover, Outlet, Survey};
+use cpi_store::{Bearer, Outlet, SeriesMove, Survey};
 use cpi_survey::{Assigned, Quote};
 
 /// Puts an item.
@@ -105,7 +105,7 @@ pub fn follow_assignment(
 }
 
 // Whether the assignment that ends is there, and the taker can take the new one.
-fn can_pass(survey: &Survey, handover: &Handover) -> bool
+fn can_pass(survey: &Survey, handover: &SeriesMove) -> bool
     ensures stands { IsTrue result → IsSome (at (λ g. g.assignment.slot) handover.now.ended.assignment.slot
         (held_by handover.now.former.number survey.now.assignments)) }
     ensures taker { IsTrue result → IsSome (at (λ b. b.number) handover.now.taker.number survey.now.collectors) }
@@ -121,7 +121,7 @@ fn can_pass(survey: &Survey, handover: &Handover) -> bool
 }
 
 /// Hands a series over.
-pub fn follow_handover(survey: &mut Survey, is_read: &mut bool, handover: Handover)
+pub fn follow_handover(survey: &mut Survey, is_read: &mut bool, handover: SeriesMove)
     ensures { IsTrue is_read.new → IsTrue is_read.old × (survey.new ≡ changed (HandsOver handover) survey.old) }
 {
     if can_pass(survey, &handover) {

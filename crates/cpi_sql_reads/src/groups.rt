@@ -1,5 +1,5 @@
 //! The samples of a month, made at once from the tables, and handed out one by one.
-ghost use Rattle.std.specs.Prelude.{◌≡◌, ◌≤◌, ◌-◌, Some, IfOk, IfSome, IsSome, OnOk};
+ghost use Rattle.std.specs.Prelude.{◌≡◌, ◌≤◌, ◌-◌, None, Some, IfOk, IfSome, IsSome, IsTrue, OnOk};
 ghost use Rattle.sqlite.specs.Held.{state};
 ghost use Rattle.cpi_codes.specs.Month.{year_of};
 ghost use Rattle.cpi_rows.specs.Keyed.{at};
@@ -7,10 +7,12 @@ ghost use Rattle.cpi_release.specs.Releases.{carried_of as carried_in, frozen_of
 ghost use Rattle.cpi_release.specs.GroupCalls.{Sources, group_of};
 ghost use Rattle.cpi_release.specs.Cached.{AreGroupsOf, AreKept, IsFit};
 ghost use Rattle.cpi_store.specs.Sources.{office_sources};
-ghost use Rattle.cpi_sql_rows.specs.Shelf.{IsCleanBook, IsLook, HasTables, StaysOpen, survey_of};
+ghost use Rattle.cpi_sql_rows.specs.Shelf.{IsCleanBook, HasTables, Looks, survey_of};
 ghost use Rattle.cpi_sql_rows.specs.Lists.{headers_in, office_in, releases_in};
+ghost use Rattle.cpi_sql_rows.specs.Lists.{carried_in as carried_row, frozen_in as frozen_row};
+ghost use Rattle.cpi_sql_reads.specs.Headers.{LatestStands, SamplesStand};
 
-use crate::earlier::{earlier_carried, earlier_frozen};
+use crate::earlier::earlier_rows;
 use cpi_codes::{Code, Month};
 use cpi_index::{CarriedPrice, FrozenQuote, GroupRow};
 use cpi_plan::YearPlan;
@@ -39,6 +41,13 @@ fn earlier_months(month: Month) -> Option<EarlierMonths>
     Some(EarlierMonths { link, last })
 }
 
+// Whether the month before is the link month, as in January.
+fn are_one(earlier: &EarlierMonths) -> bool
+    ensures { IsTrue result → earlier.now.last ≡ earlier.now.link }
+{
+    earlier.last == earlier.link
+}
+
 // Carried prices and quotes, both by series.
 #[derive(Drop)]
 struct SeriesLists {
@@ -53,16 +62,47 @@ fn link_lists<S: Alter>(
     headers: &[Header],
     link: Month,
 ) -> Result<SeriesLists, Unread>
-    ensures look { IsLook (state S.Store conn.old) (state S.Store conn.new) }
-    ensures open { OnOk result (StaysOpen (state S.Store conn.old) (state S.Store conn.new)) }
+    ensures look { Looks (state S.Store conn.old) (state S.Store conn.new) result }
     ensures read { IsCleanBook (state S.Store conn.new) → HasTables (state S.Store conn.old) →
         headers.now ≡ headers_in ((state S.Store conn.old).now.trees 26) → IfOk result (λ x.
         let releases = releases_in (state S.Store conn.old).now.trees in
         (x.carried.items ≡ carried_in releases link) × (x.quotes.items ≡ frozen_in releases link)) }
+    ensures stand { IsCleanBook (state S.Store conn.new) → HasTables (state S.Store conn.old) →
+        headers.now ≡ headers_in ((state S.Store conn.old).now.trees 26) →
+        OnOk result (LatestStands carried_row 30 link (state S.Store conn.old).now.trees
+        × LatestStands frozen_row 28 link (state S.Store conn.old).now.trees) }
 {
-    let carried = earlier_carried(conn, alloc, headers, link)?;
-    let quotes = earlier_frozen(conn, alloc, headers, link)?;
+    let carried = earlier_rows(conn, alloc, headers, link)?;
+    let quotes = earlier_rows(conn, alloc, headers, link)?;
     Ok(SeriesLists { carried, quotes })
+}
+
+// The samples of a month by the lists of its link month, the carried prices of the month before, and its own quotes.
+fn grouped(
+    alloc: Global,
+    plan: &YearPlan,
+    link: &SeriesLists,
+    last: &[CarriedPrice],
+    month: Month,
+    quotes: &[FrozenQuote],
+) -> Result<Vec<Vec<GroupRow>>, Unread>
+    ensures { IfOk result (λ v. (s : Sources) → at (λ p. p.year) (year_of month) s.plans ≡ Some plan.now →
+        link.now.carried.items ≡ carried_in s.releases (link_month month) →
+        link.now.quotes.items ≡ frozen_in s.releases (link_month month) →
+        last.now ≡ carried_in s.releases (month - 1) → s.quotes month ≡ quotes.now → AreGroupsOf s month v.items) }
+{
+    match groups_after(
+        alloc,
+        plan,
+        &link.carried,
+        &link.quotes,
+        last,
+        month,
+        quotes,
+    ) {
+        Ok(groups) => Ok(groups),
+        Err(_) => Err(Unread),
+    }
 }
 
 // The samples of a month by the plan of its year. `quotes` are those of the month.
@@ -75,8 +115,7 @@ fn samples<S: Alter>(
     month: Month,
     quotes: &[FrozenQuote],
 ) -> Result<Vec<Vec<GroupRow>>, Unread>
-    ensures look { IsLook (state S.Store conn.old) (state S.Store conn.new) }
-    ensures open { OnOk result (StaysOpen (state S.Store conn.old) (state S.Store conn.new)) }
+    ensures look { Looks (state S.Store conn.old) (state S.Store conn.new) result }
     ensures read { IsCleanBook (state S.Store conn.new) → HasTables (state S.Store conn.old) →
         headers.now ≡ headers_in ((state S.Store conn.old).now.trees 26) →
         let sources = office_sources (office_in (state S.Store conn.old).now.trees) in
@@ -84,22 +123,17 @@ fn samples<S: Alter>(
         earlier.link ≡ link_month month → earlier.last ≡ month - 1 →
         (IsFit sources → quotes.now ≡ sources.quotes month) →
         IfOk result (λ v. AreGroupsOf sources month v.items) }
+    ensures stand { IsCleanBook (state S.Store conn.new) → HasTables (state S.Store conn.old) →
+        headers.now ≡ headers_in ((state S.Store conn.old).now.trees 26) →
+        earlier.link ≡ link_month month → earlier.last ≡ month - 1 →
+        OnOk result (SamplesStand month (state S.Store conn.old).now.trees) }
 {
     let link = link_lists(conn, alloc, headers, earlier.link)?;
-    let last = earlier_carried(conn, alloc, headers, earlier.last)?;
-    let groups = groups_after(
-        alloc,
-        plan,
-        &link.carried,
-        &link.quotes,
-        &last,
-        month,
-        quotes,
-    );
-    match groups {
-        Ok(groups) => Ok(groups),
-        Err(_) => Err(Unread),
+    if are_one(&earlier) {
+        return grouped(alloc, plan, &link, &link.carried, month, quotes);
     }
+    let last: Vec<CarriedPrice> = earlier_rows(conn, alloc, headers, earlier.last)?;
+    grouped(alloc, plan, &link, &last, month, quotes)
 }
 
 // The samples of a month, one list for each weight of the plan of its year.
@@ -110,13 +144,17 @@ fn month_samples<S: Alter>(
     survey: &Survey,
     month: Month,
 ) -> Result<Vec<Vec<GroupRow>>, Unread>
-    ensures look { IsLook (state S.Store conn.old) (state S.Store conn.new) }
-    ensures open { OnOk result (StaysOpen (state S.Store conn.old) (state S.Store conn.new)) }
+    ensures look { Looks (state S.Store conn.old) (state S.Store conn.new) result }
     ensures read { IsCleanBook (state S.Store conn.new) → HasTables (state S.Store conn.old) →
         headers.now ≡ headers_in ((state S.Store conn.old).now.trees 26) →
         let office = office_in (state S.Store conn.old).now.trees in
         survey.now ≡ survey_of office →
         IfOk result (λ v. AreGroupsOf (office_sources office) month v.items) }
+    ensures stand { IsCleanBook (state S.Store conn.new) → HasTables (state S.Store conn.old) →
+        headers.now ≡ headers_in ((state S.Store conn.old).now.trees 26) →
+        let office = office_in (state S.Store conn.old).now.trees in
+        survey.now ≡ survey_of office → IsSome (at (λ p. p.year) (year_of month) office.plans) → 12 ≤ month →
+        OnOk result (SamplesStand month (state S.Store conn.old).now.trees) }
 {
     let Some(plan) = find_row(survey.public().plans(), &month.year()) else {
         return Ok(Vec::new(alloc));
@@ -136,8 +174,9 @@ fn kept_rows(
     month: Month,
     code: Code,
 ) -> Result<Option<Vec<GroupRow>>, Unread>
-    ensures { IfOk result (λ o. IfSome o (λ v. (s : Sources) → s.plans ≡ survey.now.plans →
+    ensures rows { IfOk result (λ o. IfSome o (λ v. (s : Sources) → s.plans ≡ survey.now.plans →
         AreKept s cached.now → IsFit s → 12 ≤ month → v.items ≡ group_of s month code)) }
+    ensures kept { IfOk result (λ o. IsSome o → IsSome cached.now) }
 {
     let Some(cached) = cached else {
         return Ok(None);
@@ -163,8 +202,7 @@ pub fn sample_of<S: Alter>(
     month: Month,
     code: Code,
 ) -> Result<Vec<GroupRow>, Unread>
-    ensures look { IsLook (state S.Store conn.old) (state S.Store conn.new) }
-    ensures open { OnOk result (StaysOpen (state S.Store conn.old) (state S.Store conn.new)) }
+    ensures look { Looks (state S.Store conn.old) (state S.Store conn.new) result }
     ensures kept { IsCleanBook (state S.Store conn.new) → HasTables (state S.Store conn.old) →
         headers.now ≡ headers_in ((state S.Store conn.old).now.trees 26) →
         let office = office_in (state S.Store conn.old).now.trees in
@@ -176,6 +214,12 @@ pub fn sample_of<S: Alter>(
         survey.now ≡ survey_of office → AreKept (office_sources office) cached.old →
         IsFit (office_sources office) → 12 ≤ month →
         IfOk result (λ v. v.items ≡ group_of (office_sources office) month code) }
+    ensures stand { IsCleanBook (state S.Store conn.new) → HasTables (state S.Store conn.old) →
+        headers.now ≡ headers_in ((state S.Store conn.old).now.trees 26) →
+        let office = office_in (state S.Store conn.old).now.trees in
+        survey.now ≡ survey_of office → cached.old ≡ None →
+        IsSome (at (λ p. p.year) (year_of month) office.plans) → 12 ≤ month →
+        OnOk result (SamplesStand month (state S.Store conn.old).now.trees) }
 {
     if let Some(rows) = kept_rows(alloc, survey, cached, month, code)? {
         return Ok(rows);

@@ -1,5 +1,5 @@
 //! The table of a release, kept to look up its levels.
-ghost use Rattle.std.specs.Prelude.{◌≡◌, ◌<◌, None, IfSome, IsSome, OnOk, length, option_map, slice_index_or, if◌then◌else◌};
+ghost use Rattle.std.specs.Prelude.{◌≡◌, ◌<◌, IfSome, IsSome, OnOk, length, option_map, slice_index_or};
 ghost use Rattle.std.specs.Option.{option_copied};
 ghost use Rattle.cpi_codes.specs.CodeOrder.{code_cmp};
 ghost use Rattle.cpi_rows.specs.Keyed.{IsInOrder, row_at};
@@ -139,19 +139,11 @@ pub fn keep_table(tables: &mut Vec<LevelTable>, table: LevelTable) -> Result<(),
     }
 }
 
-/// The rows of the table of a release among those that are kept, where it is asked for.
-pub fn lent_table(
-    tables: &[LevelTable],
-    is_asked: bool,
-    month: Month,
-    revision: Revision,
-) -> Option<&Rows<Level>>
-    ensures { option_copied result ≡ (if is_asked
-        then option_map (λ t. t.levels) (row_at release_cmp table_key (month, revision) tables.now) else None) }
+/// The rows of the table of a release among those that are kept.
+pub fn lent_table(tables: &[LevelTable], month: Month, revision: Revision) -> Option<&Rows<Level>>
+    ensures { option_copied result
+        ≡ option_map (λ t. t.levels) (row_at release_cmp table_key (month, revision) tables.now) }
 {
-    if !is_asked {
-        return None;
-    }
     match table_of(tables, month, revision) {
         Some(table) => Some(table.levels()),
         None => None,

@@ -6,19 +6,18 @@ mod earlier;
 mod follow;
 mod groups;
 mod headers;
-mod history;
 mod level_table;
-mod ready;
 mod releases;
 mod survey;
 mod years;
 
+pub use chained::{chained_level, ready_table};
 pub use follow::{
     follow_assignment, follow_calendar, follow_collector, follow_handover, follow_item,
     follow_outlet, follow_plan, follow_quote,
 };
-pub use history::{
-    all_months, find_revision, find_table, level_of, months_published, quotes_of_month, sample_rows,
-};
+pub use groups::sample_of;
+pub use headers::{frozen_months, is_there, published_months, revision_published};
 pub use level_table::{LevelTable, lent_table};
-pub use ready::ready_survey;
+pub use releases::read_headers;
+pub use survey::read_survey;

@@ -1,18 +1,18 @@
 //! What the tables hold of an office but for its releases, read whole.
-ghost use Rattle.std.specs.Prelude.{◌≡◌, [], IsTrue, OnOk, IfOk};
+ghost use Rattle.std.specs.Prelude.{◌≡◌, [], OnOk, IfOk};
 ghost use Rattle.std.specs.Ordering.{nat_cmp};
 ghost use Rattle.sqlite.specs.Held.{state};
-ghost use Rattle.sqlite.specs.State.{HasCleanDisk};
 ghost use Rattle.cpi_rows.specs.Held.{held_cmp, held_key};
 ghost use Rattle.cpi_rows.specs.Keyed.{IsInOrder};
 ghost use Rattle.cpi_survey.specs.Quote.{quote_cmp, quote_key};
 ghost use Rattle.cpi_store.specs.Office.{public_part};
-ghost use Rattle.cpi_sql_rows.specs.Shelf.{AreTaken, IsCleanBook, IsLook, HasTables, StaysOpen, survey_of};
+ghost use Rattle.cpi_sql_rows.specs.Shelf.{AreTaken, IsCleanBook, HasTables, Looks, survey_of};
 ghost use Rattle.cpi_sql_rows.specs.Lists.{assignments_in, collectors_in, outlets_in, office_in, quotes_in};
 
 use crate::years::plans;
+use cpi_plan::Item;
 use cpi_rows::RowsByKey;
-use cpi_sql_rows::{Unread, all_given, all_quotes, bearers, by_key, calendar, items, outlets};
+use cpi_sql_rows::{Unread, all_quotes, by_key, read_all};
 use cpi_store::{Bearer, HeldGiven, HeldQuote, Outlet, Survey};
 use cpi_survey::Public;
 use sqlite::{Alter, Connection};
@@ -20,15 +20,14 @@ use std::alloc::Global;
 
 // What everybody may see.
 fn read_public<S: Alter>(conn: &mut Connection<S>, alloc: Global) -> Result<Public, Unread>
-    ensures look { IsLook (state S.Store conn.old) (state S.Store conn.new) }
-    ensures open { HasCleanDisk (state S.Store conn.new) → OnOk result (IsTrue (state S.Store conn.new).is_open) }
+    ensures look { Looks (state S.Store conn.old) (state S.Store conn.new) result }
     ensures read { IsCleanBook (state S.Store conn.new) → HasTables (state S.Store conn.old)
         → IfOk result (λ p. p ≡ public_part (office_in (state S.Store conn.old).now.trees)) }
 {
-    let read = items(conn, alloc)?;
+    let read: Vec<Item> = read_all(conn, alloc)?;
     let items = by_key(alloc, read)?;
     let plans = plans(conn, alloc, &items)?;
-    let rows = calendar(conn, alloc)?;
+    let rows = read_all(conn, alloc)?;
     Ok(Public::from_parts(items, plans, rows))
 }
 
@@ -41,16 +40,15 @@ struct Registers {
 
 // Reads the collectors and the outlets.
 fn read_registers<S: Alter>(conn: &mut Connection<S>, alloc: Global) -> Result<Registers, Unread>
-    ensures look { IsLook (state S.Store conn.old) (state S.Store conn.new) }
-    ensures open { HasCleanDisk (state S.Store conn.new) → OnOk result (IsTrue (state S.Store conn.new).is_open) }
+    ensures look { Looks (state S.Store conn.old) (state S.Store conn.new) result }
     ensures bearers { IsCleanBook (state S.Store conn.new) → HasTables (state S.Store conn.old)
         → IfOk result (λ r. r.bearers.items ≡ collectors_in ((state S.Store conn.old).now.trees 1)) }
     ensures outlets { IsCleanBook (state S.Store conn.new) → HasTables (state S.Store conn.old)
         → IfOk result (λ r. r.outlets ≡ outlets_in ((state S.Store conn.old).now.trees 3)) }
     ensures order { IfOk result (λ r. IsInOrder nat_cmp (λ b. b.number) r.bearers.items) }
 {
-    let bearers = bearers(conn, alloc)?;
-    let read = outlets(conn, alloc)?;
+    let bearers = read_all(conn, alloc)?;
+    let read: Vec<Outlet> = read_all(conn, alloc)?;
     let outlets = by_key(alloc, read)?;
     Ok(Registers { bearers, outlets })
 }
@@ -64,8 +62,7 @@ struct Collected {
 
 // Reads the assignments and the quotes of all collectors.
 fn read_collected<S: Alter>(conn: &mut Connection<S>, alloc: Global) -> Result<Collected, Unread>
-    ensures look { IsLook (state S.Store conn.old) (state S.Store conn.new) }
-    ensures open { HasCleanDisk (state S.Store conn.new) → OnOk result (IsTrue (state S.Store conn.new).is_open) }
+    ensures look { Looks (state S.Store conn.old) (state S.Store conn.new) result }
     ensures given { IsCleanBook (state S.Store conn.new) → HasTables (state S.Store conn.old)
         → IfOk result (λ r. r.given.items ≡ assignments_in ((state S.Store conn.old).now.trees 22)) }
     ensures quotes { IsCleanBook (state S.Store conn.new) → HasTables (state S.Store conn.old)
@@ -76,7 +73,7 @@ fn read_collected<S: Alter>(conn: &mut Connection<S>, alloc: Global) -> Result<C
     ensures taken { IsCleanBook (state S.Store conn.new) → HasTables (state S.Store conn.old)
         → OnOk result (AreTaken (state S.Store conn.old).now.trees) }
 {
-    let given = all_given(conn, alloc)?;
+    let given = read_all(conn, alloc)?;
     let quotes = all_quotes(conn, alloc)?;
     Ok(Collected { given, quotes })
 }
@@ -112,8 +109,7 @@ fn survey_from(
 
 /// What the tables hold of an office but for its releases. For n rows it takes O(n log n) steps.
 pub fn read_survey<S: Alter>(conn: &mut Connection<S>, alloc: Global) -> Result<Survey, Unread>
-    ensures look { IsLook (state S.Store conn.old) (state S.Store conn.new) }
-    ensures open { OnOk result (StaysOpen (state S.Store conn.old) (state S.Store conn.new)) }
+    ensures look { Looks (state S.Store conn.old) (state S.Store conn.new) result }
     ensures read { IsCleanBook (state S.Store conn.new) → HasTables (state S.Store conn.old)
         → IfOk result (λ s. s ≡ survey_of (office_in (state S.Store conn.old).now.trees)) }
     ensures taken { IsCleanBook (state S.Store conn.new) → HasTables (state S.Store conn.old)

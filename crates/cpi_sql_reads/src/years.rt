@@ -1,86 +1,98 @@
 //! The plans of the years, read from the tables.
-ghost use Rattle.std.specs.Prelude.{◌≡◌, ◌≤◌, ◌++◌, IfOk, IsTrue, OnOk};
+ghost use Rattle.std.specs.Prelude.{◌≡◌, ◌≤◌, ◌++◌, ℕ, IfOk, OnOk};
 ghost use Rattle.std.specs.Option.{option_to_list};
 ghost use Rattle.std.specs.Ordering.{nat_cmp};
 ghost use Rattle.sqlite.specs.Held.{state};
-ghost use Rattle.sqlite.specs.State.{HasCleanDisk, Survives};
-ghost use Rattle.cpi_codes.specs.CodeOrder.{code_cmp};
 ghost use Rattle.cpi_rows.specs.Keyed.{IsInOrder};
-ghost use Rattle.cpi_rows.specs.Held.{held_by};
+ghost use Rattle.cpi_rows.specs.Held.{held_by, held_cmp, held_key};
 ghost use Rattle.cpi_plan.specs.Stored.{plan_from};
-ghost use Rattle.cpi_sql_rows.specs.Shelf.{IsCleanBook, IsKept, HasTables, StaysOpen};
-ghost use Rattle.cpi_sql_rows.specs.Lists.{if_whole, nodes_in, places_in, plan_at, plans_in, plans_of, years};
+ghost use Rattle.cpi_sql_rows.specs.HeldTables.{HeldTable, Holds, beside, year_in};
+ghost use Rattle.cpi_sql_rows.specs.Shelf.{HasTables, IsCleanBook, Looks};
+ghost use Rattle.cpi_sql_rows.specs.Lists.{if_whole, listed, nodes_in, places_in, plan_at, plans_in, plans_of, years};
 ghost use Rattle.cpi_sql_rows.specs.Lists.{reference_of, references_in};
+ghost use Rattle.cpi_sql_rows.specs.Texts.{is_first};
 
 use cpi_codes::Month;
 use cpi_plan::{Item, Node, Place, YearPlan};
 use cpi_rows::{RowsByKey, are_in_order};
-use cpi_sql_rows::{ReferenceMonth, Unread, list};
+use cpi_sql_rows::{ReferenceMonth, Stored, Unread, list};
 use sqlite::{Alter, Connection, params};
 use std::alloc::Global;
 
-const NODES: &str =
-    "SELECT year, code, title, weight FROM node WHERE year = ?1 ORDER BY year, code";
+/// A row of a list that a table keeps for each year.
+pub trait YearRow: Stored {
+    /// The column of the year.
+    ghost place: { ℕ };
 
-// The nodes of a year.
-fn nodes_of<S: Alter>(
-    conn: &mut Connection<S>,
-    alloc: Global,
-    year: u16,
-) -> Result<Vec<Node>, Unread>
-    ensures clean { IsCleanBook (state S.Store conn.new) → IsCleanBook (state S.Store conn.old) }
-    ensures kept { IsCleanBook (state S.Store conn.new) → HasTables (state S.Store conn.old)
-        → IsKept (state S.Store conn.old) (state S.Store conn.new) }
-    ensures read { IsCleanBook (state S.Store conn.new) → HasTables (state S.Store conn.old)
-        → IfOk result (λ xs. xs.items ≡ held_by year (nodes_in ((state S.Store conn.old).now.trees 6))) }
-    ensures open { HasCleanDisk (state S.Store conn.new) → OnOk result (IsTrue (state S.Store conn.new).is_open) }
-    ensures crash { Survives (state S.Store conn.old) (state S.Store conn.new)
-        (λ _. HasTables (state S.Store conn.old) → ⊥) }
-{
-    let number = u32::from(year);
-    list(conn, alloc, NODES, params![number])
+    /// The table, and the statement that asks for the rows of a year, by their keys.
+    ghost table: { HeldTable Self (is_first place) };
+
+    /// The statement.
+    fn text() -> &'static str
+        ensures { result.now ≡ table.text };
+
+    /// What it shows of a row stands for what the row does.
+    ghost holds: { Holds (year_in place) Self.Key.cmp Self.key Self.stands_for table };
 }
 
-const PLACES: &str = "SELECT year, item, code FROM plan_item WHERE year = ?1 ORDER BY year, item";
+impl YearRow for Node {
+    ghost use Rattle.std.specs.Prelude.{refl};
+    ghost use Rattle.cpi_sql_rows.specs.HeldTables.{node_table};
 
-// The places of a year.
-fn places_of<S: Alter>(
-    conn: &mut Connection<S>,
-    alloc: Global,
-    year: u16,
-) -> Result<Vec<Place>, Unread>
-    ensures clean { IsCleanBook (state S.Store conn.new) → IsCleanBook (state S.Store conn.old) }
-    ensures kept { IsCleanBook (state S.Store conn.new) → HasTables (state S.Store conn.old)
-        → IsKept (state S.Store conn.old) (state S.Store conn.new) }
-    ensures read { IsCleanBook (state S.Store conn.new) → HasTables (state S.Store conn.old)
-        → IfOk result (λ xs. xs.items ≡ held_by year (places_in ((state S.Store conn.old).now.trees 8))) }
-    ensures open { HasCleanDisk (state S.Store conn.new) → OnOk result (IsTrue (state S.Store conn.new).is_open) }
-    ensures crash { Survives (state S.Store conn.old) (state S.Store conn.new)
-        (λ _. HasTables (state S.Store conn.old) → ⊥) }
-{
-    let number = u32::from(year);
-    list(conn, alloc, PLACES, params![number])
+    ghost place = { 1 };
+
+    ghost table = { node_table };
+
+    ghost holds = { record { same = λ _. refl; keyed = λ _ plans releases. plans.nodes } };
+
+    fn text() -> &'static str {
+        "SELECT year, code, title, weight FROM node WHERE year = ?1 ORDER BY year, code"
+    }
 }
 
-const REFERENCES: &str = "SELECT year, month FROM plan_ref WHERE year = ?1 ORDER BY year, month";
+impl YearRow for Place {
+    ghost use Rattle.std.specs.Prelude.{refl};
+    ghost use Rattle.cpi_sql_rows.specs.HeldTables.{place_table};
 
-// The reference month of a year.
-fn references_of<S: Alter>(
+    ghost place = { 1 };
+
+    ghost table = { place_table };
+
+    ghost holds = { record { same = λ _. refl; keyed = λ _ plans releases. plans.places } };
+
+    fn text() -> &'static str {
+        "SELECT year, item, code FROM plan_item WHERE year = ?1 ORDER BY year, item"
+    }
+}
+
+impl YearRow for ReferenceMonth {
+    ghost use Rattle.std.specs.Prelude.{refl};
+    ghost use Rattle.cpi_sql_rows.specs.HeldTables.{reference_table};
+
+    ghost place = { 0 };
+
+    ghost table = { reference_table };
+
+    ghost holds = { record { same = λ _. refl; keyed = λ _ plans releases. plans.references } };
+
+    fn text() -> &'static str {
+        "SELECT year, month FROM plan_ref WHERE year = ?1 ORDER BY year, month"
+    }
+}
+
+// The rows of a year, by their keys.
+fn rows_of_year<S: Alter, T: YearRow>(
     conn: &mut Connection<S>,
     alloc: Global,
     year: u16,
-) -> Result<Vec<ReferenceMonth>, Unread>
-    ensures clean { IsCleanBook (state S.Store conn.new) → IsCleanBook (state S.Store conn.old) }
-    ensures kept { IsCleanBook (state S.Store conn.new) → HasTables (state S.Store conn.old)
-        → IsKept (state S.Store conn.old) (state S.Store conn.new) }
-    ensures read { IsCleanBook (state S.Store conn.new) → HasTables (state S.Store conn.old)
-        → IfOk result (λ xs. xs.items ≡ held_by year (references_in ((state S.Store conn.old).now.trees 34))) }
-    ensures open { HasCleanDisk (state S.Store conn.new) → OnOk result (IsTrue (state S.Store conn.new).is_open) }
-    ensures crash { Survives (state S.Store conn.old) (state S.Store conn.new)
-        (λ _. HasTables (state S.Store conn.old) → ⊥) }
+) -> Result<Vec<T>, Unread>
+    ensures look { Looks (state S.Store conn.old) (state S.Store conn.new) result }
+    ensures read { IsCleanBook (state S.Store conn.new) → HasTables (state S.Store conn.old) →
+        IfOk result (λ xs. xs.items ≡ held_by year (listed (held_cmp T.Key.cmp) (held_key T.key)
+        (beside (year_in T.place) T.table.after) ((state S.Store conn.old).now.trees T.table.tree))) }
 {
     let number = u32::from(year);
-    list(conn, alloc, REFERENCES, params![number])
+    list(conn, alloc, T::text(), params![number])
 }
 
 fn first_month(references: &[ReferenceMonth]) -> Option<Month>
@@ -117,7 +129,6 @@ fn made(
 }
 
 // The plan of a year, if there is one.
-#[tactic(auto, using(cpi_sql_rows::proofs::Kept::kept_tables, cpi_sql_rows::proofs::Kept::kept_then))]
 fn plan_of<S: Alter>(
     conn: &mut Connection<S>,
     alloc: Global,
@@ -125,20 +136,15 @@ fn plan_of<S: Alter>(
     year: u16,
 ) -> Result<Option<YearPlan>, Unread>
     requires year_in_calendar { (2000 ≤ year) × (year ≤ 2199) }
-    ensures clean { IsCleanBook (state S.Store conn.new) → IsCleanBook (state S.Store conn.old) }
-    ensures kept { IsCleanBook (state S.Store conn.new) → HasTables (state S.Store conn.old)
-        → IsKept (state S.Store conn.old) (state S.Store conn.new) }
+    ensures look { Looks (state S.Store conn.old) (state S.Store conn.new) result }
     ensures read { IsCleanBook (state S.Store conn.new) → HasTables (state S.Store conn.old)
         → IfOk result (λ p. p ≡ plan_at (nodes_in ((state S.Store conn.old).now.trees 6))
         (places_in ((state S.Store conn.old).now.trees 8))
         (references_in ((state S.Store conn.old).now.trees 34)) year) }
-    ensures open { HasCleanDisk (state S.Store conn.new) → OnOk result (IsTrue (state S.Store conn.new).is_open) }
-    ensures crash { Survives (state S.Store conn.old) (state S.Store conn.new)
-        (λ _. HasTables (state S.Store conn.old) → ⊥) }
 {
-    let nodes = nodes_of(conn, alloc, year)?;
-    let places = places_of(conn, alloc, year)?;
-    let references = references_of(conn, alloc, year)?;
+    let nodes: Vec<Node> = rows_of_year(conn, alloc, year)?;
+    let places: Vec<Place> = rows_of_year(conn, alloc, year)?;
+    let references: Vec<ReferenceMonth> = rows_of_year(conn, alloc, year)?;
     made(
         alloc,
         items,
@@ -166,16 +172,11 @@ fn plans_until<S: Alter>(
     count: u16,
 ) -> Result<Vec<YearPlan>, Unread>
     requires in_calendar { count ≤ 200 }
-    ensures clean { IsCleanBook (state S.Store conn.new) → IsCleanBook (state S.Store conn.old) }
-    ensures kept { IsCleanBook (state S.Store conn.new) → HasTables (state S.Store conn.old)
-        → IsKept (state S.Store conn.old) (state S.Store conn.new) }
+    ensures look { Looks (state S.Store conn.old) (state S.Store conn.new) result }
     ensures read { IsCleanBook (state S.Store conn.new) → HasTables (state S.Store conn.old)
         → IfOk result (λ ps. ps.items ≡ plans_of (years count) (nodes_in ((state S.Store conn.old).now.trees 6))
         (places_in ((state S.Store conn.old).now.trees 8))
         (references_in ((state S.Store conn.old).now.trees 34))) }
-    ensures open { OnOk result (StaysOpen (state S.Store conn.old) (state S.Store conn.new)) }
-    ensures crash { Survives (state S.Store conn.old) (state S.Store conn.new)
-        (λ _. IsCleanBook (state S.Store conn.old) → HasTables (state S.Store conn.old) → ⊥) }
 {
     let mut plans = Vec::new(alloc);
     'years: for n in 0..count {
@@ -191,15 +192,10 @@ pub fn plans<S: Alter>(
     alloc: Global,
     items: &RowsByKey<Item>,
 ) -> Result<Vec<YearPlan>, Unread>
-    ensures clean { IsCleanBook (state S.Store conn.new) → IsCleanBook (state S.Store conn.old) }
-    ensures kept { IsCleanBook (state S.Store conn.new) → HasTables (state S.Store conn.old)
-        → IsKept (state S.Store conn.old) (state S.Store conn.new) }
+    ensures look { Looks (state S.Store conn.old) (state S.Store conn.new) result }
     ensures read { IsCleanBook (state S.Store conn.new) → HasTables (state S.Store conn.old)
         → IfOk result (λ ps. ps.items ≡ plans_in (state S.Store conn.old).now.trees) }
     ensures order { IfOk result (λ ps. IsInOrder nat_cmp (λ p. p.year) ps.items) }
-    ensures open { OnOk result (StaysOpen (state S.Store conn.old) (state S.Store conn.new)) }
-    ensures crash { Survives (state S.Store conn.old) (state S.Store conn.new)
-        (λ _. IsCleanBook (state S.Store conn.old) → HasTables (state S.Store conn.old) → ⊥) }
 {
     let plans = plans_until(conn, alloc, items, 200)?;
     if are_in_order(&plans) {

@@ -76,7 +76,8 @@ module _ {X K : Type 0} {R : K → K → Ordering} (o : IsTotalOrder R) (key : X
   unfolding AllStand
   whole_read entry stands shape same table rows xs shows read order = record {
     keyed = keyed_read entry stands shape same table rows xs shows read order;
-    stand = λ r h. subst (λ (o : Option X). IsSome o) (same r) (stands_read stands rows xs (shape r) read (shows.complete r h refl));
+    stand = λ r h. subst (λ (o : Option X). IsSome o) (same r)
+        (stands_read stands rows xs (shape r) read (shows.complete r h refl));
   }
 
 pub none_whole : {X K : Type 0} (R : K → K → Ordering) (key : X → K) (entry : Row → Option X) → IsWhole R key entry []
@@ -164,7 +165,8 @@ module _ (db : Trees) (sound : IsSound office_schema db) where
       && differ (rowid other) (rowid s)) (db 24) r hr (and_from _ _ level apart) in
       let no : true ≡ false = sym clash ∙ none in cc
 
-  pub assignments_keyed : HasRowids (db 22) → IsKeyed (held_cmp nat_cmp) (held_key (λ g. g.assignment.slot)) assignment_in (db 22)
+  pub assignments_keyed : HasRowids (db 22) → IsKeyed (held_cmp nat_cmp)
+      (held_key (λ g. g.assignment.slot)) assignment_in (db 22)
   unfolding IsKeyed
   assignments_keyed h r s x y hr hs er es tie =
       let a = slot_in r x.0 x.1 er in

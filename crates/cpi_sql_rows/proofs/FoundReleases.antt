@@ -51,7 +51,8 @@ use Rattle.cpi_sql_rows.proofs.Reading.{text_equality}
 use Rattle.cpi_sql_rows.proofs.Lists.{bound_is, ranged_is, number_is}
 use Rattle.cpi_sql_rows.proofs.QuoteRows.{not_true}
 use Rattle.cpi_sql_rows.proofs.QuoteOffice.{same_month, first_tied, second_tied}
-use Rattle.cpi_sql_rows.proofs.Found.{some_is, and_true, added, agree_same, apart_or, pair_agrees, triple_agrees, four_agree}
+use Rattle.cpi_sql_rows.proofs.Found.{some_is, and_true, added, agree_same, apart_or, pair_agrees, triple_agrees}
+use Rattle.cpi_sql_rows.proofs.Found.{four_agree}
 
 -- ---- no two rows have one key
 
@@ -329,7 +330,8 @@ module _ (db : Trees) (sound : IsSound office_schema db) where
       (subst (λ m. HasRelease r m x.revision) month (header_parts r x er)) in
       let is = agree_release r s y.month y.revision a (header_parts s y es) in
       let same : r ≡ s = one_row db 26 (1 ∷ 2 ∷ []) (λ t h. keeps_at Unique office_schema db release_2 t
-      (sound.obeys.rules Unique) (added _ (inr (inr (inl refl)))) h) ids r s hr hs (pair_agrees r s is.month is.revision) in
+      (sound.obeys.rules Unique) (added _ (inr (inr (inl refl)))) h) ids r s hr hs
+      (pair_agrees r s is.month is.revision) in
       some_is (sym er ∙ ap header_in same ∙ es)
 
   pub frozen_keyed : HasRowids (db 28) → IsKeyed (held_cmp nat_cmp) (held_key frozen_serial) frozen_in (db 28)

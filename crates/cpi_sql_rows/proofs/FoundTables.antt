@@ -1,11 +1,10 @@
 -- The tests of an open, taken together.
-use Rattle.std.proofs.Common.{◌≡◌, inl, inr, ℕ, List, [], ◌∷◌, codes, false, Result, OnOk, Ok, Err, IsTrue, arith, refl}
+use Rattle.std.proofs.Common.{◌≡◌, inl, inr, ℕ, List, [], ◌∷◌, codes, false, Result, OnOk, Ok, Err, IsTrue, refl}
 use Rattle.std.proofs.Common.{sym, subst}
 use Rattle.sqlite.specs.Tree.{Trees}
 use Rattle.sqlite.specs.Effect.{Database}
 use Rattle.sqlite.specs.Listing.{understood}
-use Rattle.sqlite.specs.State.{State, IsLive, HasCleanDisk, Survives}
-use Rattle.sqlite.proofs.StateLemmas.{survives_then, survives_weaker}
+use Rattle.sqlite.specs.State.{State, IsLive}
 use Rattle.sqlite_catalog.specs.Listing.{IsSound}
 use Rattle.sqlite_trees.specs.View.{doubt}
 use Rattle.sqlite_trees.specs.Memory.{memory_view}
@@ -13,10 +12,9 @@ use Rattle.sqlite_trees.specs.declared.memory.MemStore.{MemStore}
 use Rattle.sqlite_tied.specs.Compute.{everything}
 use Rattle.sqlite.specs.Schema.{Schema}
 use Rattle.cpi_sql_rows.specs.Tables.{first_schema, office_schema}
-use Rattle.cpi_sql_rows.specs.Finding.{AsksRowids, HaveRowids, HavePlanRowids, AreWhole, IsOfOffice, IsFirst, IsSecond, IsQuiet}
-use Rattle.cpi_sql_rows.specs.Finding.{IsQuietOver, KeepsLists, IsMoved}
-use Rattle.cpi_sql_rows.specs.Shelf.{HasTables, HasRowids, IsKept, IsCleanBook}
-use Rattle.cpi_sql_rows.proofs.Kept.{kept_then}
+use Rattle.cpi_sql_rows.specs.Finding.{AsksRowids, HaveRowids, HavePlanRowids, AreWhole, IsOfOffice, IsFirst, IsSecond}
+use Rattle.cpi_sql_rows.specs.Finding.{KeepsLists, IsMoved}
+use Rattle.cpi_sql_rows.specs.Shelf.{HasTables, HasRowids, IsKept}
 use Rattle.cpi_sql_rows.proofs.Found.{assignments_keyed, quotes_keyed}
 use Rattle.cpi_sql_rows.proofs.FoundPlans.{nodes_keyed, places_keyed, references_keyed}
 use Rattle.cpi_sql_rows.proofs.FoundReleases.{headers_keyed, frozen_keyed, carried_keyed, levels_keyed}
@@ -227,45 +225,6 @@ found_tables s alone has is_open live whole rise =
 pub clean_memory : (s : MemStore) → doubt (memory_view s).is_clean ≡ 0
 unfolding doubt
 clean_memory s = refl
-
-abbrev pub Keeps : (Schema → Type 0) → State → State → Type 0
-Keeps Fits a b = IsCleanBook b → a.in_transaction ≡ false → Fits a.now.schema → IsKept a b
-
--- two looks in turn, the first of which left the connection open
-pub quiet_then : (Fits : Schema → Type 0) (a b c : State) → (HasCleanDisk b → IsTrue b.is_open) → Keeps Fits a b
-    → Survives a b (λ _. IsQuietOver Fits a) → Survives b c (λ _. IsQuietOver Fits b)
-    → Survives a c (λ _. IsQuietOver Fits a)
-quiet_then Fits a b c stays kept one two =
-    survives_then a b c _ _ _ (λ _ db q. q)
-    (λ clean db q alone has.
-    let disk : HasCleanDisk b = omega (arith, two.clean) in
-    let same = kept (record { disk = disk; is_open = stays disk }) alone has in
-    q same.alone (schema_after Fits a b same has)) one two
-
-pub scan_quiet : (Fits : Schema → Type 0) (text : List ℕ) (tree : ℕ)
-    → ((schema : Schema) → Fits schema → AsksRowids schema text tree) → (a b : State)
-    → Survives a b (λ _. (t : ℕ) → AsksRowids a.now.schema text t → ⊥) → Survives a b (λ _. IsQuietOver Fits a)
-scan_quiet Fits text tree asks a b h =
-    survives_weaker a b _ _ (λ _ db none alone has. none tree (asks a.now.schema has)) h
-
-pub step_kept : (Fits : Schema → Type 0) (a b c : State) → (IsCleanBook c → IsCleanBook b) → Keeps Fits a b
-    → Keeps Fits b c → Keeps Fits a c
-step_kept Fits a b c was one two clean alone has = let first = one (was clean) alone has in
-    kept_then a b c first (two clean first.alone (schema_after Fits a b first has))
-
--- what holds over both schemas holds over the second
-pub second_keeps : (a b : State) → Keeps IsOfOffice a b → Keeps IsSecond a b
-second_keeps a b k clean alone has = k clean alone (inr has)
-
-pub second_quiet : (a b : State) → Survives a b (λ _. IsQuiet a) → Survives a b (λ _. IsQuietOver IsSecond a)
-second_quiet a b h = survives_weaker a b _ _ (λ _ db none alone has. none alone (inr has)) h
-
--- and over the first
-pub first_keeps : (a b : State) → Keeps IsOfOffice a b → Keeps IsFirst a b
-first_keeps a b k clean alone has = k clean alone (inl has)
-
-pub first_quiet : (a b : State) → Survives a b (λ _. IsQuiet a) → Survives a b (λ _. IsQuietOver IsFirst a)
-first_quiet a b h = survives_weaker a b _ _ (λ _ db none alone has. none alone (inl has)) h
 
 -- ---- what a migration leaves
 

@@ -1,86 +1,142 @@
--- What the statements show that read all assignments and all quotes.
-use Rattle.std.proofs.Common.{◌≡◌, ℕ, List, [], ◌∷◌, true, ap, refl, sym, subst, ◌∙◌}
+-- What the statements show that read the rows of one holder, and the quotes of all.
+use Rattle.std.proofs.Common.{◌≡◌, ◌≤◌, ℕ, pos, List, [], ◌∷◌, map, true, Option, Some, None}
+use Rattle.std.proofs.Common.{IsSome, refl, sym, ap, subst, ◌∙◌}
+use Rattle.std.specs.Cmp.{IsTotalOrder}
+use Rattle.std.specs.List.{list_all}
 use Rattle.std.specs.List.Sorted.{IsPermutation}
-use Rattle.std.proofs.lemmas.List.Elements.{All-from_recursion, recursion_from_All}
-use Rattle.std.proofs.lemmas.List.Sorted.{All-permutation, IsPermutation-sym}
-use Rattle.sqlite_rules.specs.Lists.{Has}
-use Rattle.sqlite_rules.proofs.ListLemmas.{all_from, all_has}
-use Rattle.std.specs.Ordering.{nat_cmp}
-use Rattle.std.proofs.lemmas.Cmp.{nat_cmp_total}
+use Rattle.std.specs.declared.cmp.Ordering.{Ordering}
+use Rattle.std.proofs.lemmas.Bool.{and_parts}
+use Rattle.std.proofs.lemmas.List.Sorted.{IsPermutation-sym}
+use Rattle.sqlite.specs.declared.types.Value.TheVariants.{Int}
 use Rattle.sqlite.specs.Order.{Row, column}
-use Rattle.sqlite.specs.Listing.{understood}
 use Rattle.sqlite.specs.State.{State, Shown}
-use Rattle.sqlite.proofs.Callers.{IsPlain}
+use Rattle.sqlite.specs.Term.{Term, holds}
 use Rattle.cpi_rows.specs.Keyed.{IsInOrder}
-use Rattle.cpi_rows.specs.Held.{held_cmp, held_key}
+use Rattle.cpi_rows.specs.Held.{held_by, held_cmp, held_key}
 use Rattle.cpi_survey.specs.Quote.{QuoteRow, quote_cmp, quote_key}
-use Rattle.cpi_store.specs.declared.given.Given.{Given}
-use Rattle.cpi_sql_rows.specs.Texts.{all_assignments_text, all_quotes_text}
+use Rattle.cpi_sql_rows.specs.HeldTables.{HeldTable, Holds, beside, release_in, year_in}
+use Rattle.cpi_sql_rows.specs.Lists.{and_then, listed, month_at, quote_in, quotes_in, release_number, shown_quote}
 use Rattle.cpi_sql_rows.specs.Read.{AreRead}
-use Rattle.cpi_sql_rows.specs.Lists.{assignment_in, assignments_in, shown_given, quote_in, quotes_in, shown_quote}
-use Rattle.cpi_sql_rows.specs.Shelf.{HasTables, AllStand}
-use Rattle.cpi_sql_rows.proofs.Texts.{all_assignments_is, all_quotes_is}
-use Rattle.cpi_sql_rows.proofs.Lists.{Shows, has_read, list_read, read_has, stands_read, held_total, quote_total}
+use Rattle.cpi_sql_rows.specs.Shelf.{HasTables, AllStand, AllStandFor}
+use Rattle.cpi_sql_rows.specs.Tables.{quote_2}
+use Rattle.cpi_sql_rows.specs.Texts.{all_quotes_text, is_first, is_release}
+use Rattle.cpi_sql_rows.specs.WholeTables.{all_quotes_asked}
 use Rattle.cpi_sql_rows.proofs.Listed.{listed_is}
-use Rattle.cpi_sql_rows.proofs.GivenRows.{assignment_shape}
-use Rattle.cpi_sql_rows.proofs.Whole.{asked}
+use Rattle.cpi_sql_rows.proofs.Lists.{Shows, bound_is, equal_number, has_read, held_read, held_total, quote_total}
+use Rattle.cpi_sql_rows.proofs.Lists.{ranged_is, read_has, same_number, stands_read}
+use Rattle.cpi_sql_rows.proofs.Reading.{equality, has_permuted}
+use Rattle.cpi_sql_rows.proofs.ReleaseRows.{release_named, release_of, release_tested}
+use Rattle.cpi_sql_rows.proofs.Whole.{shows}
 
-module _ (old new : State) (rows : List Row) (xs : List (ℕ × Given)) (has : HasTables old)
-    (h : Shown all_assignments_text [] old new rows) (read : AreRead shown_given rows xs) where
-  all_shows : Shows (λ r. true) assignment_shape (old.now.trees 22) rows
-  all_shows = let found = asked all_assignments_text 22 [] (1 ∷ 2 ∷ 3 ∷ 4 ∷ 5 ∷ 6 ∷ 7 ∷ 8 ∷ 9 ∷ []) (1 ∷ 2 ∷ []) _
-      all_assignments_is old new [] has.schema rows h in
-      record {
-        sound = λ x k. let it = found.sound x k in (it.0, it.1, refl, it.3);
-        complete = λ r k _. found.complete r k refl;
-      }
+some_is : {X : Type 0} {x y : X} → ◌≡◌ {A = Option X} (Some x) (Some y) → x ≡ y
+some_is e = cc
 
-  pub all_given_read : IsInOrder (held_cmp nat_cmp) (held_key (λ g. g.assignment.slot)) xs
-      → xs ≡ assignments_in (old.now.trees 22)
-  all_given_read order =
-      list_read (held_total nat_cmp_total) (held_key (λ (g : Given). g.assignment.slot)) assignment_in shown_given
-      assignment_shape (λ r. refl) (old.now.trees 22) rows xs has.assignments all_shows read order
+-- ---- the rows of one holder
 
-  pub all_given_stand : AllStand assignment_in (old.now.trees 22)
-  unfolding AllStand
-  all_given_stand r k = stands_read shown_given rows xs (assignment_shape r) read (all_shows.complete r k refl)
+-- where the statement is given these parameters, the rows that pass are those of the holder with that number
+pub record Names (holder : Row → Option ℕ) (terms : List Term) (params : Row) (number : ℕ) : Type 0 where
+  pub own : (r : Row) (n : ℕ) → list_all (holds (params ∷ r ∷ [])) terms ≡ true → holder r ≡ Some n → n ≡ number
+  pub all : (r : Row) → holder r ≡ Some number → list_all (holds (params ∷ r ∷ [])) terms ≡ true
 
-pub all_given_plain : (s : State) → HasTables s → IsPlain (understood s.now.schema all_assignments_text)
-all_given_plain s has = subst (λ x. IsPlain (understood x all_assignments_text)) (sym has.schema) all_assignments_is.2
+module _ {X K : Type 0} {R : K → K → Ordering} (o : IsTotalOrder R) (key : X → K) (holder : Row → Option ℕ)
+    {terms : List Term} (stands : Row → Option X) (t : HeldTable X terms) (law : Holds holder R key stands t)
+    (params : Row) (number : ℕ) (names : Names holder terms params number) where
+  same : (r : Row) (x : X) → list_all (holds (params ∷ r ∷ [])) terms ≡ true
+      → stands (map (column r) t.shown) ≡ Some x → beside holder t.after r ≡ Some (number, x)
+  same r x passes e =
+      let it = bound_is (holder r) _ _ (sym (law.same r) ∙ e) in
+      let is : holder r ≡ Some number = it.1 ∙ ap Some (names.own r it.0 passes it.1) in
+      ap (λ n. and_then n (λ k. and_then (t.after r) (λ w. Some (k, w)))) is
+      ∙ ap (λ a. and_then a (λ w. Some (number, w))) it.2
 
--- rows that were put in another order are the same rows
-has_permuted : {X : Type 0} (xs ys : List X) (x : X) → IsPermutation xs ys → Has ys x → Has xs x
-has_permuted xs ys x moved h = all_has (Has xs) ys x (recursion_from_All (Has xs) ys
-    (All-permutation (Has xs) xs ys moved (All-from_recursion (Has xs) xs (all_from (Has xs) xs (λ e k. k))))) h
+  back : (r : Row) (x : X) → beside holder t.after r ≡ Some (number, x)
+      → (list_all (holds (params ∷ r ∷ [])) terms ≡ true) × (stands (map (column r) t.shown) ≡ Some x)
+  back r x e =
+      let one = bound_is (holder r) _ _ e in
+      let two = bound_is (t.after r) _ _ one.2 in
+      let pair : ◌≡◌ {A = ℕ × X} (one.0, two.0) (number, x) = some_is two.2 in
+      let is : holder r ≡ Some number = one.1 ∙ ap (λ (p : ℕ × X). Some p.0) pair in (
+        names.all r is,
+        law.same r ∙ ap (λ n. and_then n (λ _. t.after r)) is ∙ two.1
+            ∙ ap (λ (p : ℕ × X). Some p.1) pair,
+      )
 
--- the six columns of a quote, as an answer shows them
-abbrev pub quote_shape : Row → Row
-quote_shape r = column r 1 ∷ column r 2 ∷ column r 3 ∷ column r 4 ∷ column r 5 ∷ column r 6 ∷ []
+  -- a row of the holder stands for something, where what is read of it does
+  some : (r : Row) → holder r ≡ Some number → IsSome (stands (map (column r) t.shown))
+      → IsSome (beside holder t.after r)
+  some r e is =
+      subst (λ n. IsSome {T = ℕ × X} (and_then n (λ k. and_then (t.after r) (λ x. Some (k, x))))) (sym e)
+      (by (t.after r) (subst (λ n. IsSome (and_then n (λ _. t.after r))) e (subst (λ a. IsSome a) (law.same r) is)))
+    where
+      by : (a : Option X) → IsSome a → IsSome {T = ℕ × X} (and_then a (λ x. Some (number, x)))
+      by (Some x) is = refl
+      by None is = absurd (let no = is in cc)
+
+  module _ (old new : State) (rows : List Row) (xs : List X) (has : HasTables old)
+      (h : Shown t.text params old new rows) (read : AreRead stands rows xs) where
+    seen : Shows (λ r. list_all (holds (params ∷ r ∷ [])) terms) (λ r. map (column r) t.shown)
+        (old.now.trees t.tree) rows
+    seen = shows t.text t.tree terms t.shown old new params rows (rw has.schema t.asks) h
+
+    pub list_is : IsInOrder R key xs
+        → xs ≡ held_by number (listed (held_cmp R) (held_key key) (beside holder t.after) (old.now.trees t.tree))
+    list_is order =
+        held_read o key (beside holder t.after) stands (λ r. map (column r) t.shown)
+        (λ r. list_all (holds (params ∷ r ∷ [])) terms) number same back (old.now.trees t.tree) rows xs
+        (law.keyed old.now.trees has.plans has.releases) seen read order
+
+    pub list_stands : AllStandFor holder (beside holder t.after) number (old.now.trees t.tree)
+    unfolding AllStandFor
+    list_stands r k e =
+        some r e (stands_read stands rows xs (map (column r) t.shown) read (seen.complete r k (names.all r e)))
+
+-- ---- the parameters
+
+-- the number of a year
+pub names_year : (place c : ℕ) → Names (year_in place) (is_first place) (Int (pos c) ∷ []) c
+names_year place c = record {
+  own = λ r n passes e.
+      same_number (column r place) n c (ranged_is 2000 2199 (column r place) n e)
+      (sym (equality (column r place) (pos c)) ∙ passes);
+  all = λ r e.
+      equality (column r place) (pos c)
+      ∙ equal_number (column r place) c (ranged_is 2000 2199 (column r place) c e);
+}
+
+-- the month of a release, and its revision
+pub names_release : (n m v : ℕ) → month_at n ≡ Some m → 1 ≤ v → v ≤ 9
+    → Names release_in is_release (Int (pos n) ∷ Int (pos v) ∷ []) (release_number m v)
+names_release n m v is low high = record {
+  own = λ r k passes e.
+      let a = release_of r k e in
+      let both = and_parts _ _ (sym (release_tested r n v) ∙ passes) in
+      let same : a.named.number ≡ n = same_number (column r 1) a.named.number n a.named.column both.0 in
+      let months : a.month ≡ m = some_is (sym a.named.is ∙ ap month_at same ∙ is) in
+      let revisions : a.revision ≡ v = same_number (column r 2) a.revision v a.column both.1 in
+      sym a.is ∙ ap (λ x. release_number x a.revision) months ∙ ap (release_number m) revisions;
+  all = λ r e. release_tested r n v ∙ release_named n m v is low high r e;
+}
+
+-- ---- the quotes of all collectors, in the order in which they stand
 
 module _ (old new : State) (rows : List Row) (read : List (ℕ × QuoteRow)) (has : HasTables old)
     (h : Shown all_quotes_text [] old new rows) (are : AreRead shown_quote rows read) where
-  quotes_show : Shows (λ r. true) quote_shape (old.now.trees 24) rows
-  quotes_show = let found = asked all_quotes_text 24 [] (1 ∷ 2 ∷ 3 ∷ 4 ∷ 5 ∷ 6 ∷ []) [] _ all_quotes_is old new []
-      has.schema rows h in
-      record {
-        sound = λ x k. let it = found.sound x k in (it.0, it.1, refl, it.3);
-        complete = λ r k _. found.complete r k refl;
-      }
+  quotes_show : Shows (λ r. true) (λ r. map (column r) (1 ∷ 2 ∷ 3 ∷ 4 ∷ 5 ∷ 6 ∷ [])) (old.now.trees quote_2.tree) rows
+  quotes_show =
+      shows all_quotes_text quote_2.tree [] (1 ∷ 2 ∷ 3 ∷ 4 ∷ 5 ∷ 6 ∷ []) old new [] rows
+      (all_quotes_asked old.now.schema has.schema) h
 
   pub all_quotes_read : (xs : List (ℕ × QuoteRow)) → IsPermutation read xs
-      → IsInOrder (held_cmp quote_cmp) (held_key quote_key) xs → xs ≡ quotes_in (old.now.trees 24)
+      → IsInOrder (held_cmp quote_cmp) (held_key quote_key) xs → xs ≡ quotes_in (old.now.trees quote_2.tree)
   all_quotes_read xs moved order =
-      listed_is (held_total quote_total) (held_key quote_key) quote_in (old.now.trees 24) xs has.quotes order
+      listed_is (held_total quote_total) (held_key quote_key) quote_in (old.now.trees quote_2.tree) xs has.quotes order
       (λ x k.
       let s = read_has shown_quote rows read x are (has_permuted read xs x moved k) in
       let r = quotes_show.sound s.0 s.1 in
       (r.0, r.1, ap shown_quote (sym r.3) ∙ s.2))
       (λ r x k e. has_permuted xs read x (IsPermutation-sym read xs moved)
-      (has_read shown_quote rows read (quote_shape r) x are (quotes_show.complete r k refl) e))
+      (has_read shown_quote rows read _ x are (quotes_show.complete r k refl) e))
 
-  pub all_quotes_stand : AllStand quote_in (old.now.trees 24)
+  pub all_quotes_stand : AllStand quote_in (old.now.trees quote_2.tree)
   unfolding AllStand
-  all_quotes_stand r k = stands_read shown_quote rows read (quote_shape r) are (quotes_show.complete r k refl)
-
-pub all_quotes_plain : (s : State) → HasTables s → IsPlain (understood s.now.schema all_quotes_text)
-all_quotes_plain s has = subst (λ x. IsPlain (understood x all_quotes_text)) (sym has.schema) all_quotes_is.2
+  all_quotes_stand r k = stands_read shown_quote rows read _ are (quotes_show.complete r k refl)

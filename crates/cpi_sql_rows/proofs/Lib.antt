@@ -20,7 +20,6 @@ pub mod Keyed
 pub mod YearLemmas
 pub mod Found
 pub mod FoundPlans
-pub mod FoundWhole
 pub mod FoundTables
 pub mod Members
 pub mod ReleaseRows

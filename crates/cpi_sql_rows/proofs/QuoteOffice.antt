@@ -33,7 +33,8 @@ use Rattle.cpi_sql_rows.specs.Shelf.{HasTables, HasRowids, IsDone}
 use Rattle.cpi_sql_rows.proofs.Texts.{put_quote_is}
 use Rattle.cpi_sql_rows.proofs.Change.{change_done, change_commits}
 use Rattle.cpi_sql_rows.proofs.Listed.{PutsRow, listed_put, still_keyed}
-use Rattle.cpi_sql_rows.proofs.Lists.{held_total, quote_total, bound_is, number_is, ranged_is, same_number, equal_number}
+use Rattle.cpi_sql_rows.proofs.Lists.{held_total, quote_total, bound_is, number_is, ranged_is, same_number}
+use Rattle.cpi_sql_rows.proofs.Lists.{equal_number}
 use Rattle.cpi_sql_rows.proofs.QuoteRows.{PutsQuote, QuoteDone, quote_columns, quote_done, has_key}
 
 some_is : {X : Type 0} {x y : X} → ◌≡◌ {A = Option X} (Some x) (Some y) → x ≡ y

@@ -344,7 +344,8 @@ abbrev pub QuoteDone : ℕ → ℕ → ℕ → Row → Trees → Trees → Type 
 QuoteDone c s m columns old new = IsQuotePut c s m columns old new × HasRowids (new 24)
 
 put_either : (limit : Option ℕ) (db next : Trees) (c s m : ℕ) (mark : List ℕ) (v n : ℕ) → HasRowids (db 24)
-    → writing.IsPut limit Enforced office_schema quote_2.name 24 quote_2.columns quote_2.key quote_2.primary quote_2.uniques
+    → writing.IsPut limit Enforced office_schema quote_2.name 24 quote_2.columns quote_2.key quote_2.primary
+    quote_2.uniques
     quote_2.orders quote_2.references (quote_columns c s m mark v n) (1 ∷ 2 ∷ 3 ∷ [])
     (record { lets = []; body = update_quote }) (quote_row (Int (next_rowid (db 24))) c s m mark v n) db next
     → QuoteDone c s m (quote_columns c s m mark v n) db next
@@ -391,10 +392,12 @@ quote_done limit s₀ db c s m mark v n text tally after shaped does =
     let done = went does in
     let now = ap (λ (p : Tally × Database). p.1) (same_value (went (went done.2).2).2) in
     let put = writing.put_one limit Enforced office_schema quote_2.name 24 quote_2.columns quote_2.key quote_2.primary
-    quote_2.uniques quote_2.orders quote_2.references columns (1 ∷ 2 ∷ 3 ∷ []) (record { lets = []; body = update_quote })
+    quote_2.uniques quote_2.orders quote_2.references columns (1 ∷ 2 ∷ 3 ∷ [])
+    (record { lets = []; body = update_quote })
     (Values given_quote 7) (Null ∷ columns) db done.0 (λ rows h. h.1) done.1 in
     let made = subst (λ r.
-    writing.IsPut limit Enforced office_schema quote_2.name 24 quote_2.columns quote_2.key quote_2.primary quote_2.uniques
+    writing.IsPut limit Enforced office_schema quote_2.name 24 quote_2.columns quote_2.key quote_2.primary
+    quote_2.uniques
     quote_2.orders quote_2.references columns (1 ∷ 2 ∷ 3 ∷ [])
     (record { lets = []; body = update_quote }) r db done.0.trees) (new_is db c s m mark v n) put.0 in (
       ap (λ (d : Database). d.schema) now,

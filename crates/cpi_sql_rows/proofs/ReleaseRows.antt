@@ -175,6 +175,15 @@ release_tested r n v =
     ap (λ b. is_true (binary (Compare Eq Binary) (column r 1) (Int (pos n))) && b) (equality (column r 2) (pos v))
     ∙ ap (λ b. b && equals (column r 2) (Int (pos v))) (sym (and_true _) ∙ equality (column r 1) (pos n))
 
+pub release_named : (n m v : ℕ) → month_at n ≡ Some m → 1 ≤ v → v ≤ 9 → (r : Row)
+    → release_from_key (column r 1) (column r 2) ≡ Some (release_number m v) → of_release n v r ≡ true
+release_named n m v is low high r e =
+    let a = release_of r (release_number m v) e in
+    let key = one_release a.month a.revision m v a.low a.high low high a.is in
+    let same : a.named.number ≡ n = same_month a.named.number n m (a.named.is ∙ ap Some key.0) is in
+    and_from _ _ (equal_number (column r 1) n (a.named.column ∙ ap (λ k. Int (pos k)) same))
+    (equal_number (column r 2) v (a.column ∙ ap (λ k. Int (pos k)) key.1))
+
 module _ {X : Type 0} (from : Row → Option X) where
   abbrev pub release_entry : Row → Option (ℕ × X)
   release_entry r = and_then (release_from_key (column r 1) (column r 2)) (λ n. and_then (from r) (λ x. Some (n, x)))
@@ -220,10 +229,4 @@ module _ {X : Type 0} (from : Row → Option X) where
         → (of_release n v r ≡ true) × (release_stands r ≡ Some x)
     release_back r x e =
         let b = beside r (release_number m v) x e in
-        let a = release_of r (release_number m v) b.release in
-        let key = one_release a.month a.revision m v a.low a.high low high a.is in
-        let same : a.named.number ≡ n = same_month a.named.number n m (a.named.is ∙ ap Some key.0) is in (
-          and_from _ _ (equal_number (column r 1) n (a.named.column ∙ ap (λ k. Int (pos k)) same))
-              (equal_number (column r 2) v (a.column ∙ ap (λ k. Int (pos k)) key.1)),
-          ap (λ o. and_then o (λ _. from r)) b.release ∙ b.row,
-        )
+        (release_named n m v is low high r b.release, ap (λ o. and_then o (λ _. from r)) b.release ∙ b.row)

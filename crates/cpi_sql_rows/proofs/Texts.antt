@@ -5,21 +5,18 @@ use Rattle.sqlite.specs.Listing.{understood, reads_listing}
 use Rattle.sqlite_tied.specs.Compute.{everything}
 use Rattle.sqlite.proofs.Callers.{IsPlain, command_of}
 use Rattle.cpi_sql_rows.specs.Tables.{office_schema}
-use Rattle.cpi_sql_rows.specs.Texts.{put_version_text, put_version_command, bearers_text, bearers_command}
-use Rattle.cpi_sql_rows.specs.Texts.{put_collector_text, put_collector_command, outlets_text, outlets_command}
-use Rattle.cpi_sql_rows.specs.Texts.{put_outlet_text, put_outlet_command, items_text, items_command, put_item_text}
-use Rattle.cpi_sql_rows.specs.Texts.{put_item_command, calendar_text, calendar_command, put_calendar_text}
+use Rattle.cpi_sql_rows.specs.Texts.{put_version_text, put_version_command}
+use Rattle.cpi_sql_rows.specs.Texts.{put_collector_text, put_collector_command}
+use Rattle.cpi_sql_rows.specs.Texts.{put_outlet_text, put_outlet_command, put_item_text}
+use Rattle.cpi_sql_rows.specs.Texts.{put_item_command, put_calendar_text}
 use Rattle.cpi_sql_rows.specs.Texts.{put_calendar_command}
-use Rattle.cpi_sql_rows.specs.Texts.{all_assignments_text, all_assignments_command}
 use Rattle.cpi_sql_rows.specs.Texts.{put_assignment_text, put_assignment_command, replace_given_text}
-use Rattle.cpi_sql_rows.specs.Texts.{replace_given_command, all_quotes_text, all_quotes_command}
-use Rattle.cpi_sql_rows.specs.Texts.{put_quote_text, put_quote_command, nodes_text, nodes_command, places_text}
-use Rattle.cpi_sql_rows.specs.Texts.{places_command, add_node_text, add_node_command, add_place_text}
+use Rattle.cpi_sql_rows.specs.Texts.{replace_given_command}
+use Rattle.cpi_sql_rows.specs.Texts.{put_quote_text, put_quote_command}
+use Rattle.cpi_sql_rows.specs.Texts.{add_node_text, add_node_command, add_place_text}
 use Rattle.cpi_sql_rows.specs.Texts.{add_place_command, drop_nodes_text, drop_nodes_command, drop_places_text}
-use Rattle.cpi_sql_rows.specs.Texts.{drop_places_command, references_text, references_command, add_reference_text}
+use Rattle.cpi_sql_rows.specs.Texts.{drop_places_command, add_reference_text}
 use Rattle.cpi_sql_rows.specs.Texts.{add_reference_command, drop_references_text, drop_references_command}
-use Rattle.cpi_sql_rows.specs.Texts.{headers_text, headers_command, frozen_text, frozen_command, carried_text}
-use Rattle.cpi_sql_rows.specs.Texts.{carried_command, levels_text, levels_command}
 use Rattle.cpi_sql_rows.specs.Texts.{add_header_text, add_header_command, add_frozen_text, add_frozen_command}
 use Rattle.cpi_sql_rows.specs.Texts.{add_carried_text, add_carried_command, add_level_text, add_level_command}
 use Rattle.cpi_sql_rows.specs.Texts.{drop_frozen_text, drop_frozen_command, drop_carried_text, drop_carried_command}
@@ -33,30 +30,6 @@ Asks text command = (command_of (understood office_schema text) ≡ command)
 -- the text is a change that means this
 abbrev pub Makes : List ℕ → Command → Type 0
 Makes text command = (command_of (understood office_schema text) ≡ command) × IsPlain (understood office_schema text)
-
-pub bearers_is : Asks bearers_text bearers_command
-unfolding understood everything
-bearers_is = (refl, refl, (refl, refl))
-
-pub outlets_is : Asks outlets_text outlets_command
-unfolding understood everything
-outlets_is = (refl, refl, (refl, refl))
-
-pub items_is : Asks items_text items_command
-unfolding understood everything
-items_is = (refl, refl, (refl, refl))
-
-pub calendar_is : Asks calendar_text calendar_command
-unfolding understood everything
-calendar_is = (refl, refl, (refl, refl))
-
-pub all_assignments_is : Asks all_assignments_text all_assignments_command
-unfolding understood everything
-all_assignments_is = (refl, refl, (refl, refl))
-
-pub all_quotes_is : Asks all_quotes_text all_quotes_command
-unfolding understood everything
-all_quotes_is = (refl, refl, (refl, refl))
 
 pub put_collector_is : Makes put_collector_text put_collector_command
 unfolding understood everything
@@ -86,14 +59,6 @@ pub put_quote_is : Makes put_quote_text put_quote_command
 unfolding understood everything
 put_quote_is = (refl, (refl, refl))
 
-pub nodes_is : Asks nodes_text nodes_command
-unfolding understood everything
-nodes_is = (refl, refl, (refl, refl))
-
-pub places_is : Asks places_text places_command
-unfolding understood everything
-places_is = (refl, refl, (refl, refl))
-
 pub add_node_is : Makes add_node_text add_node_command
 unfolding understood everything
 add_node_is = (refl, (refl, refl))
@@ -115,22 +80,6 @@ unfolding understood everything
 put_version_is = (refl, (refl, refl))
 
 -- ---- releases
-
-pub headers_is : Asks headers_text headers_command
-unfolding understood everything
-headers_is = (refl, refl, (refl, refl))
-
-pub frozen_is : Asks frozen_text frozen_command
-unfolding understood everything
-frozen_is = (refl, refl, (refl, refl))
-
-pub carried_is : Asks carried_text carried_command
-unfolding understood everything
-carried_is = (refl, refl, (refl, refl))
-
-pub levels_is : Asks levels_text levels_command
-unfolding understood everything
-levels_is = (refl, refl, (refl, refl))
 
 pub add_header_is : Makes add_header_text add_header_command
 unfolding understood everything
@@ -159,10 +108,6 @@ drop_carried_is = (refl, (refl, refl))
 pub drop_level_is : Makes drop_level_text drop_level_command
 unfolding understood everything
 drop_level_is = (refl, (refl, refl))
-
-pub references_is : Asks references_text references_command
-unfolding understood everything
-references_is = (refl, refl, (refl, refl))
 
 pub add_reference_is : Makes add_reference_text add_reference_command
 unfolding understood everything

@@ -17,6 +17,7 @@ use Rattle.cpi_sql_rows.specs.Lists.{collector_in, outlet_in, item_in, calendar_
 use Rattle.cpi_sql_rows.specs.FirstSchema.{first_office_in}
 use Rattle.cpi_sql_rows.specs.Shelf.{HasRowids, IsWhole}
 
+-- a rowid, and not NULL
 abbrev pub rowid_from : Value → Option Rowid
 rowid_from (Int n) = Some (record { number = n })
 rowid_from Null = None
@@ -41,11 +42,13 @@ pub record HavePlanRowids (trees : Trees) : Type 0 where
   pub places : HasRowids (trees 8)
   pub calendar : HasRowids (trees 10)
 
+-- the tables of the survey that have rowids of their own
 pub record HaveSurveyRowids (trees : Trees) : Type 0 where
   pub assignments : HasRowids (trees 22)
   pub quotes : HasRowids (trees 24)
   pub references : HasRowids (trees 34)
 
+-- the tables of the releases
 pub record HaveReleaseRowids (trees : Trees) : Type 0 where
   pub headers : HasRowids (trees 26)
   pub frozen : HasRowids (trees 28)
@@ -57,16 +60,19 @@ pub record HaveFirstSurveyRowids (trees : Trees) : Type 0 where
   pub assignments : HasRowids (trees 11)
   pub quotes : HasRowids (trees 13)
 
+-- the tables of the releases of schema 1
 pub record HaveFirstReleaseRowids (trees : Trees) : Type 0 where
   pub headers : HasRowids (trees 15)
   pub frozen : HasRowids (trees 16)
   pub carried : HasRowids (trees 18)
   pub levels : HasRowids (trees 20)
 
+-- the tables of schema 1
 pub record HaveFirstRowids (trees : Trees) : Type 0 where
   pub survey : HaveFirstSurveyRowids trees
   pub releases : HaveFirstReleaseRowids trees
 
+-- the tables of schema 2
 pub record HaveRowids (trees : Trees) : Type 0 where
   pub plans : HavePlanRowids trees
   pub survey : HaveSurveyRowids trees
@@ -110,9 +116,11 @@ IsOpened old new =
 abbrev pub IsSettled : State → Type 0
 IsSettled s = (db : Trees) → s.may_leave db → db ≡ s.now.trees
 
+-- the schema is schema 1
 abbrev pub IsFirst : Schema → Type 0
 IsFirst schema = schema ≡ first_schema
 
+-- the schema is schema 2
 abbrev pub IsSecond : Schema → Type 0
 IsSecond schema = schema ≡ office_schema
 

@@ -32,11 +32,13 @@ frozen_copy r =
     column r 0 ∷ column r 1 ∷ Int (pos 1) ∷ column r 2 ∷ column r 3 ∷ column r 4 ∷ column r 5 ∷ column r 6
     ∷ column r 7 ∷ []
 
+-- a carried price as it is moved
 abbrev pub carried_copy : Row → Row
 carried_copy r =
     column r 0 ∷ column r 1 ∷ Int (pos 1) ∷ column r 2 ∷ column r 3 ∷ column r 4 ∷ column r 5 ∷ column r 6
     ∷ column r 7 ∷ column r 8 ∷ column r 9 ∷ column r 10 ∷ []
 
+-- a row of a table as it is moved
 abbrev pub level_copy : Row → Row
 level_copy r =
     column r 0 ∷ column r 1 ∷ Int (pos 1) ∷ column r 2 ∷ column r 3 ∷ column r 4 ∷ column r 5 ∷ column r 6
@@ -44,6 +46,7 @@ level_copy r =
 
 -- ---- lists
 
+-- the releases of schema 1
 unfoldable pub first_releases_in : Trees → List Release
 first_releases_in trees =
     map (release_from (listed (held_cmp nat_cmp) (held_key frozen_serial) (λ r. frozen_in (frozen_copy r)) (trees 16))

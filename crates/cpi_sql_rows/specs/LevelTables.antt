@@ -13,6 +13,7 @@ pub record ReleaseLevels : Type 0 where
   pub revision : ℕ
   pub levels : List Level
 
+-- the month and the revision of a table
 abbrev pub table_key : ReleaseLevels → ReleaseKey
 table_key t = (t.month, t.revision)
 

@@ -2,11 +2,14 @@ pub mod Tables
 pub mod Lists
 pub mod FirstSchema
 pub mod Texts
+pub mod Asked
 pub mod Read
 pub mod Shelf
 pub mod Numbered
 pub mod Making
 pub mod Steps
 pub mod Finding
+pub mod WholeTables
+pub mod HeldTables
 pub mod LevelTables
 pub mod ReleaseRows

@@ -46,6 +46,7 @@ use Rattle.cpi_sql_rows.specs.declared.release_rows.Header.{Header}
 
 -- ---- values
 
+-- a whole number, not below 0
 abbrev pub number_in : Value → Option ℕ
 number_in (Int (pos n)) = Some n
 number_in (Int (negsuc n)) = None
@@ -54,6 +55,7 @@ number_in (Real x) = None
 number_in (Text t) = None
 number_in (Blob b) = None
 
+-- a text
 abbrev pub text_in : Value → Option (List ℕ)
 text_in (Text t) = Some t
 text_in (Int n) = None
@@ -69,6 +71,7 @@ whole_or_none (Real x) = None
 whole_or_none (Text t) = None
 whole_or_none (Blob b) = None
 
+-- the second, where the first is there
 abbrev pub and_then : {A B : Type 0} → Option A → (A → Option B) → Option B
 and_then None f = None
 and_then (Some a) f = f a
@@ -77,9 +80,11 @@ and_then (Some a) f = f a
 abbrev pub within : ℕ → ℕ → ℕ → Option ℕ
 within low high n = if nat_le low n && nat_le n high then Some n else None
 
+-- a number within limits
 abbrev pub ranged : ℕ → ℕ → Value → Option ℕ
 ranged low high v = and_then (number_in v) (within low high)
 
+-- a month that was made
 abbrev pub month_out : Result ℕ MonthFault → Option ℕ
 month_out (Ok m) = Some m
 month_out (Err e) = None
@@ -88,34 +93,43 @@ month_out (Err e) = None
 abbrev pub month_at : ℕ → Option ℕ
 month_at n = month_out (month_in (n / 100) (n % 100))
 
+-- a month, written as year * 100 + month
 abbrev pub month_from : Value → Option ℕ
 month_from v = and_then (number_in v) month_at
 
+-- a text that is a name
 abbrev pub name_of : List ℕ → Option (List ℕ)
 name_of t = if is_name t then Some t else None
 
+-- a name
 abbrev pub name_from : Value → Option (List ℕ)
 name_from v = and_then (text_in v) name_of
 
+-- the code of an item
 abbrev pub item_from : Value → Option ℕ
 item_from v = and_then (text_in v) item_code_of
 
 -- ---- rows
 
+-- a collector, of number and key
 abbrev pub bearer_from : Value → Value → Option Bearer
 bearer_from number key = and_then (ranged 1 9999 number)
     (λ n. and_then (and_then (text_in key) key_of) (λ k. Some (record { number = n; key = k })))
 
+-- the collector of a row
 abbrev pub collector_in : Row → Option Bearer
 collector_in r = bearer_from (column r 0) (column r 2)
 
+-- an outlet, of number and name
 abbrev pub outlet_from : Value → Value → Option Outlet
 outlet_from number name = and_then (ranged 1 999999 number)
     (λ n. and_then (name_from name) (λ t. Some (record { number = n; name = t })))
 
+-- the outlet of a row
 abbrev pub outlet_in : Row → Option Outlet
 outlet_in r = outlet_from (column r 0) (column r 2)
 
+-- an item, of code, text, unit and tolerances
 abbrev pub item_of : Value → Value → Value → Value → Value → Option Item
 item_of code text unit low high =
     and_then (item_from code) (λ c. and_then (name_from text) (λ t. and_then (name_from unit) (λ u.
@@ -123,6 +137,7 @@ item_of code text unit low high =
     (λ l. and_then (ranged 1000 10000 high)
     (λ h. Some (record { code = c; text = t; unit = u; low = l; high = h }))))))
 
+-- the item of a row
 abbrev pub item_in : Row → Option Item
 item_in r = item_of (column r 1) (column r 2) (column r 3) (column r 4) (column r 5)
 
@@ -131,12 +146,14 @@ abbrev pub in_turn : ℕ → ℕ → ℕ → ℕ → Option CalendarPart
 in_turn m o c p = if nat_lt o c
     && nat_le c p then Some (record { month = m; opens = o; closes = c; publishes = p }) else None
 
+-- a row of the calendar, of month and moments
 abbrev pub calendar_from : Value → Value → Value → Value → Option CalendarPart
 calendar_from month opens closes publishes =
     and_then (month_from month)
     (λ m. and_then (ranged 0 9999999999 opens) (λ o. and_then (ranged 0 9999999999 closes) (λ c.
     and_then (ranged 0 9999999999 publishes) (λ p. in_turn m o c p))))
 
+-- the calendar row of a row
 abbrev pub calendar_in : Row → Option CalendarPart
 calendar_in r = calendar_from (column r 0) (column r 2) (column r 3) (column r 4)
 
@@ -148,10 +165,12 @@ price_or_none (Real x) = None
 price_or_none (Text t) = None
 price_or_none (Blob b) = None
 
+-- a series, of collector and slot
 abbrev pub series_from : Value → Value → Option SeriesId
 series_from collector slot = and_then (ranged 1 9999 collector)
     (λ c. and_then (ranged 1 400 slot) (λ s. Some (record { collector = c; slot = s })))
 
+-- an assignment, of its columns
 abbrev pub assignment_from : Value → Value → Value → Value → Value → Value → Option Assignment
 assignment_from slot outlet item first last copied =
     and_then (ranged 1 400 slot) (λ s. and_then (ranged 1 999999 outlet) (λ o. and_then (item_from item) (λ i.
@@ -164,6 +183,7 @@ given_from number slot outlet item first last series_collector series_slot copie
     and_then (ranged 1 9999 number) (λ n. and_then (assignment_from slot outlet item first last copied) (λ a.
     and_then (series_from series_collector series_slot) (λ s. Some (n, record { assignment = a; series = s }))))
 
+-- what a row gives a slot, beside the number of its collector
 abbrev pub assignment_in : Row → Option (ℕ × Given)
 assignment_in r = given_from (column r 1) (column r 2) (column r 3) (column r 4) (column r 5)
     (column r 6) (column r 7) (column r 8) (column r 9)
@@ -189,9 +209,11 @@ mark_word (Missing Closed) = codes "closed"
 mark_word (Missing Gone) = codes "gone"
 mark_word (Missing Refused) = codes "refused"
 
+-- a mark, of word and number
 abbrev pub mark_in : Value → Value → Option Mark
 mark_in mark value = and_then (text_in mark) (λ t. and_then (number_in value) (λ v. mark_from t v))
 
+-- a quote, of its columns
 abbrev pub quote_from : Value → Value → Value → Value → Value → Option QuoteRow
 quote_from slot month mark value receipt =
     and_then (ranged 1 400 slot) (λ s. and_then (month_from month) (λ m. and_then (mark_in mark value) (λ k.
@@ -202,16 +224,19 @@ abbrev pub shown_quote : Row → Option (ℕ × QuoteRow)
 shown_quote x = and_then (ranged 1 9999 (column x 0))
     (λ c. and_then (quote_from (column x 1) (column x 2) (column x 3) (column x 4) (column x 5)) (λ q. Some (c, q)))
 
+-- what an answer shows of an assignment
 abbrev pub shown_given : Row → Option (ℕ × Given)
 shown_given x = given_from (column x 0) (column x 1) (column x 2) (column x 3) (column x 4) (column x 5)
     (column x 6) (column x 7) (column x 8)
 
+-- the quote of a row, beside the number of its collector
 abbrev pub quote_in : Row → Option (ℕ × QuoteRow)
 quote_in r = and_then (ranged 1 9999 (column r 1))
     (λ c. and_then (quote_from (column r 2) (column r 3) (column r 4) (column r 5) (column r 6)) (λ q. Some (c, q)))
 
 -- ---- lists
 
+-- the row is put, where it stands for something
 abbrev pub put_entry : {X K : Type 0} → (K → K → Ordering) → (X → K) → Option X → List X → List X
 put_entry cmp key None xs = xs
 put_entry cmp key (Some x) xs = put cmp key x xs
@@ -221,34 +246,43 @@ abbrev pub listed : {X K : Type 0} → (K → K → Ordering) → (X → K) → 
 listed cmp key entry [] = []
 listed cmp key entry (r ∷ rows) = put_entry cmp key (entry r) (listed cmp key entry rows)
 
+-- the collectors of a table
 abbrev pub collectors_in : List Row → List Bearer
 collectors_in rows = listed nat_cmp (λ b. b.number) collector_in rows
 
+-- the outlets of a table
 abbrev pub outlets_in : List Row → List Outlet
 outlets_in rows = listed nat_cmp (λ u. u.number) outlet_in rows
 
+-- the items of a table
 abbrev pub items_in : List Row → List Item
 items_in rows = listed nat_cmp (λ i. i.code) item_in rows
 
+-- the calendar of a table
 abbrev pub calendar_rows_in : List Row → List CalendarPart
 calendar_rows_in rows = listed nat_cmp (λ r. r.month) calendar_in rows
 
+-- what a table gives all slots
 abbrev pub assignments_in : List Row → List (ℕ × Given)
 assignments_in rows = listed (held_cmp nat_cmp) (held_key (λ g. g.assignment.slot)) assignment_in rows
 
+-- the quotes of a table
 abbrev pub quotes_in : List Row → List (ℕ × QuoteRow)
 quotes_in rows = listed (held_cmp quote_cmp) (held_key quote_key) quote_in rows
 
 -- ---- plans
 
+-- a code
 abbrev pub code_from : Value → Option Code
 code_from v = and_then (text_in v) code_of
 
+-- a node, of code, title and weight
 abbrev pub node_from : Value → Value → Value → Option Node
 node_from code title weight = and_then (code_from code)
     (λ c. and_then (name_from title)
     (λ t. and_then (number_in weight) (λ w. Some (record { code = c; title = t; weight = w }))))
 
+-- the place of an item, of item and aggregate
 abbrev pub place_from : Value → Value → Option Place
 place_from item code = and_then (item_from item)
     (λ i. and_then (code_from code) (λ c. Some (record { item = i; aggregate = c })))
@@ -257,13 +291,16 @@ place_from item code = and_then (item_from item)
 abbrev pub shown_node : Row → Option Node
 shown_node x = and_then (ranged 2000 2199 (column x 0)) (λ _. node_from (column x 1) (column x 2) (column x 3))
 
+-- what an answer shows of a place
 abbrev pub shown_place : Row → Option Place
 shown_place x = and_then (ranged 2000 2199 (column x 0)) (λ _. place_from (column x 1) (column x 2))
 
+-- the node of a row, beside its year
 abbrev pub node_in : Row → Option (ℕ × Node)
 node_in r = and_then (ranged 2000 2199 (column r 1)) (λ y. and_then (node_from (column r 2) (column r 3) (column r 4))
     (λ n. Some (y, n)))
 
+-- the place of a row, beside its year
 abbrev pub place_in : Row → Option (ℕ × Place)
 place_in r = and_then (ranged 2000 2199 (column r 1))
     (λ y. and_then (place_from (column r 2) (column r 3)) (λ p. Some (y, p)))
@@ -276,9 +313,21 @@ nodes_in rows = listed (held_cmp code_cmp) (held_key (λ n. n.code)) node_in row
 abbrev pub places_in : List Row → List (ℕ × Place)
 places_in rows = listed (held_cmp nat_cmp) (held_key (λ p. p.item)) place_in rows
 
+-- a reference month
 abbrev pub reference_from : Value → Option ReferenceMonth
 reference_from month = and_then (month_from month) (λ m. Some (record { month = m }))
 
+-- a node, a place and a reference month, as they stand in a row
+abbrev pub node_at : Row → Option Node
+node_at r = node_from (column r 2) (column r 3) (column r 4)
+
+abbrev pub place_at : Row → Option Place
+place_at r = place_from (column r 2) (column r 3)
+
+abbrev pub reference_at : Row → Option ReferenceMonth
+reference_at r = reference_from (column r 2)
+
+-- what an answer shows of a reference month
 abbrev pub shown_reference : Row → Option ReferenceMonth
 shown_reference x = and_then (ranged 2000 2199 (column x 0)) (λ _. reference_from (column x 1))
 
@@ -306,6 +355,7 @@ abbrev pub numbers : ℕ → ℕ → List ℕ
 numbers first zero = []
 numbers first (suc n) = first ∷ numbers (first + 1) n
 
+-- the plan, where it is one
 abbrev pub if_whole : Plan → Option Plan
 if_whole p = if is_whole p then Some p else None
 
@@ -328,6 +378,7 @@ plans_in trees = plans_of (years 200) (nodes_in (trees 6)) (places_in (trees 8))
 
 -- ---- releases
 
+-- 0 or 1, which are no and yes
 abbrev pub flag_in : Value → Option Bool
 flag_in (Int (pos zero)) = Some false
 flag_in (Int (pos (suc zero))) = Some true
@@ -338,6 +389,7 @@ flag_in (Real x) = None
 flag_in (Text t) = None
 flag_in (Blob b) = None
 
+-- a change, in tenths of a percent
 abbrev pub change_in : Value → Option ℤ
 change_in (Int z) = Some z
 change_in Null = None
@@ -355,12 +407,15 @@ abbrev pub codes_of : List ℕ → Option (List Code)
 codes_of [] = Some []
 codes_of (b ∷ text) = each_of code_of (slice_split (λ x. x == 32) (b ∷ text))
 
+-- codes with a space between each two
 abbrev pub codes_from : Value → Option (List Code)
 codes_from v = and_then (text_in v) codes_of
 
+-- a revision
 abbrev pub revision_from : Value → Option ℕ
 revision_from v = ranged 1 9 v
 
+-- a header, of its columns
 abbrev pub header_from : Value → Value → Value → Value → Value → Option Header
 header_from month revision frozen_at publishes carry =
     and_then (month_from month) (λ m. and_then (revision_from revision) (λ v.
@@ -368,6 +423,7 @@ header_from month revision frozen_at publishes carry =
     and_then (codes_from carry) (λ c.
     Some (record { month = m; revision = v; frozen_at = f; publishes = p; carry = c }))))))
 
+-- the header of a row
 abbrev pub header_in : Row → Option Header
 header_in r = header_from (column r 1) (column r 2) (column r 3) (column r 4) (column r 5)
 
@@ -379,10 +435,12 @@ header_key h = (h.month, h.revision)
 abbrev pub release_number : ℕ → ℕ → ℕ
 release_number month revision = 10 * month + revision
 
+-- the number of a release, of month and revision
 abbrev pub release_from_key : Value → Value → Option ℕ
 release_from_key month revision =
     and_then (month_from month) (λ m. and_then (revision_from revision) (λ v. Some (release_number m v)))
 
+-- a frozen quote, of its columns
 abbrev pub frozen_from : Value → Value → Value → Value → Value → Value → Option Frozen
 frozen_from number slot item last mark value =
     and_then (ranged 1 9999 number) (λ n. and_then (ranged 1 400 slot) (λ s. and_then (item_from item) (λ i.
@@ -401,11 +459,13 @@ pub record Priced : Type 0 where
   pub knum : ℕ
   pub kden : ℕ
 
+-- a price as a fraction: ticks, and the factor of a replacement
 abbrev pub priced_from : Value → Value → Value → Option Priced
 priced_from ticks knum kden =
     and_then (ranged 1 1000000000000000 ticks) (λ t. and_then (ranged 1 1000000000000000 knum) (λ n.
     and_then (ranged 1 100000000 kden) (λ d. Some (record { ticks = t; knum = n; kden = d }))))
 
+-- a carried price, of its columns
 abbrev pub carried_from : Value → Value → Value → Value → Value → Value → Value → Value → Value → Option Carried
 carried_from number slot item last ticks knum kden observed imputed =
     and_then (ranged 1 9999 number) (λ n. and_then (ranged 1 400 slot) (λ s. and_then (item_from item) (λ i.
@@ -421,11 +481,13 @@ carried_from number slot item last ticks knum kden observed imputed =
       imputed = u;
     }))))))))
 
+-- the carried price of a row, beside the number of its release
 abbrev pub carried_in : Row → Option (ℕ × Carried)
 carried_in r = and_then (release_from_key (column r 1) (column r 2)) (λ n.
     and_then (carried_from (column r 3) (column r 4) (column r 5) (column r 6) (column r 7) (column r 8) (column r 9)
     (column r 10) (column r 11)) (λ c. Some (n, c)))
 
+-- a row of a table, of its columns
 abbrev pub level_from : Value → Value → Value → Value → Value → Value → Value → Value → Option Level
 level_from code title weight within chained month_change year_change imputed =
     and_then (code_from code) (λ c. and_then (name_from title) (λ t.
@@ -443,11 +505,13 @@ level_from code title weight within chained month_change year_change imputed =
       imputed = u;
     })))))))))
 
+-- the row of a printed table, beside the number of its release
 abbrev pub level_in : Row → Option (ℕ × Level)
 level_in r = and_then (release_from_key (column r 1) (column r 2)) (λ n.
     and_then (level_from (column r 3) (column r 4) (column r 5) (column r 6) (column r 7) (column r 8) (column r 9)
     (column r 10)) (λ l. Some (n, l)))
 
+-- the headers of a table
 abbrev pub headers_in : List Row → List Header
 headers_in rows = listed release_cmp header_key header_in rows
 
@@ -455,6 +519,7 @@ headers_in rows = listed release_cmp header_key header_in rows
 abbrev pub frozens_in : List Row → List (ℕ × Frozen)
 frozens_in rows = listed (held_cmp nat_cmp) (held_key frozen_serial) frozen_in rows
 
+-- the carried prices of a table
 abbrev pub carrieds_in : List Row → List (ℕ × Carried)
 carrieds_in rows = listed (held_cmp nat_cmp) (held_key carried_serial) carried_in rows
 
@@ -475,10 +540,12 @@ release_from frozen carried levels h = record {
   levels = held_by (release_number h.month h.revision) levels;
 }
 
+-- the releases of all tables
 unfoldable pub releases_in : Trees → List Release
 releases_in trees =
     map (release_from (frozens_in (trees 28)) (carrieds_in (trees 30)) (levels_in (trees 32))) (headers_in (trees 26))
 
+-- the office of all tables
 abbrev pub office_in : Trees → Office
 office_in trees = record {
   items = items_in (trees 4);

@@ -10,6 +10,7 @@ use Rattle.sqlite_trees.specs.declared.store.Store.{Ghosts}
 abbrev pub IsVersion : ℕ → List Row → Type 0
 IsVersion n rows = (row : Row) × (rows ≡ row ∷ []) × (column row 0 ≡ Int (pos n))
 
+-- reads all rows of `version`
 abbrev pub version_text : List ℕ
 version_text = codes "SELECT number FROM version"
 

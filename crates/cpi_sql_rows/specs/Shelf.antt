@@ -1,11 +1,11 @@
 -- What contracts see of a book over a database, and what it keeps true.
-use Rattle.std.specs.Prelude.{◌≡◌, ℕ, Bool, false, List, [], Option, Some, IsSome, IsTrue, refl}
+use Rattle.std.specs.Prelude.{◌≡◌, ℕ, Bool, false, List, [], Option, Some, IsSome, IsTrue, Result, OnOk, refl}
 use Rattle.std.specs.Coded.{Coded, code_by, coded×, coded_ℕ, coded_bool}
 use Rattle.std.specs.Ordering.{nat_cmp, is_eq}
 use Rattle.std.specs.declared.cmp.Ordering.{Ordering}
 use Rattle.std.specs.declared.cmp.Ordering.TheVariants.{Equal}
 use Rattle.sqlite.specs.declared.types.Value.{Value}
-use Rattle.sqlite.specs.Order.{Row, value_cmp}
+use Rattle.sqlite.specs.Order.{Row, column, value_cmp}
 use Rattle.sqlite.specs.Tree.{Trees, rowid}
 use Rattle.sqlite_trees.specs.declared.store.Store.{Ghosts}
 use Rattle.sqlite_trees.specs.View.{is_int}
@@ -24,21 +24,39 @@ use Rattle.cpi_codes.specs.CodeOrder.{code_cmp}
 use Rattle.cpi_index.specs.Series.{frozen_serial, carried_serial}
 use Rattle.cpi_sql_rows.specs.Tables.{office_schema}
 use Rattle.cpi_sql_rows.specs.Lists.{office_in, collector_in, outlet_in, item_in, calendar_in, assignment_in}
-use Rattle.cpi_sql_rows.specs.Lists.{quote_in, node_in, place_in, reference_row, header_in, header_key, frozen_in, carried_in, level_in}
-use Rattle.cpi_sql_rows.specs.Lists.{headers_in}
+use Rattle.cpi_sql_rows.specs.Lists.{quote_in, node_in, place_in, reference_row, header_in, header_key, frozen_in}
+use Rattle.cpi_sql_rows.specs.Lists.{carried_in, level_in}
+use Rattle.cpi_sql_rows.specs.Lists.{headers_in, release_from_key}
 use Rattle.cpi_sql_rows.specs.LevelTables.{ReleaseLevels, AreTablesOf}
 use Rattle.cpi_sql_rows.specs.declared.release_rows.Header.{Header}
 
+-- what contracts see of a book over a database
 pub record Shelf (S : Type 0) : Type 0 where
   pub held : Held S
   -- whether the survey was read, which is kept from then on
   pub is_read : Bool
+  -- whether the headers of the releases were read, which are kept until the next release
+  pub has_headers : Bool
+  -- whether the samples of a month are kept
+  pub has_samples : Bool
+  -- how many tables of earlier releases are kept
+  pub tables : ℕ
   pub failures : ℕ
 
+-- its code
 abbrev pub shelf_code : {S : Type 0} → Coded S → Coded (Shelf S)
-shelf_code {S} store = code_by (Held S × (Bool × ℕ)) (coded× (held_code store) (coded× coded_bool coded_ℕ))
-    (λ b. (b.held, (b.is_read, b.failures)))
-    (λ p. record { held = p.0; is_read = p.1.0; failures = p.1.1 }) (λ _. refl)
+shelf_code {S} store = code_by (Held S × (Bool × (Bool × (Bool × (ℕ × ℕ)))))
+    (coded× (held_code store) (coded× coded_bool (coded× coded_bool (coded× coded_bool (coded× coded_ℕ coded_ℕ)))))
+    (λ b. (b.held, (b.is_read, (b.has_headers, (b.has_samples, (b.tables, b.failures))))))
+    (λ p. record {
+      held = p.0;
+      is_read = p.1.0;
+      has_headers = p.1.1.0;
+      has_samples = p.1.1.1.0;
+      tables = p.1.1.1.1.0;
+      failures = p.1.1.1.1.1;
+    })
+    (λ _. refl)
 
 -- as SQL compares
 abbrev pub equals : Value → Value → Bool
@@ -57,6 +75,14 @@ IsKeyed {X} cmp key entry rows = (r s : Row) (x y : X) → Has rows r → Has ro
 -- each row stands for something: the types take it
 unfoldable pub AllStand : {X : Type 0} → (Row → Option X) → List Row → Type 0
 AllStand entry rows = (r : Row) → Has rows r → IsSome (entry r)
+
+-- each row of the holder with that number stands for something; its number is what the row says
+unfoldable pub AllStandFor : {X : Type 0} → (Row → Option ℕ) → (Row → Option X) → ℕ → List Row → Type 0
+AllStandFor holder entry number rows = (r : Row) → Has rows r → holder r ≡ Some number → IsSome (entry r)
+
+-- the same of a release
+abbrev pub AllStandOf : {X : Type 0} → (Row → Option X) → ℕ → List Row → Type 0
+AllStandOf entry number rows = AllStandFor (λ r. release_from_key (column r 1) (column r 2)) entry number rows
 
 -- the types take each assignment and each quote
 pub record AreTaken (trees : Trees) : Type 0 where
@@ -124,6 +150,15 @@ pub record IsLook (old new : State) : Type 0 where
 abbrev pub StaysOpen : State → State → Type 0
 StaysOpen old new = HasCleanDisk new → IsTrue old.is_open → IsTrue new.is_open
 
+-- what a look leaves, and what is said of the connection
+pub record Looked (old new : State) (Open : Type 0) : Type 0 where
+  pub still : IsLook old new
+  pub stays : Open
+
+-- what a call leaves that looks at the tables: where it is answered, the connection stays open
+abbrev pub Looks : {A E : Type 0} → State → State → Result A E → Type 0
+Looks old new result = Looked old new (OnOk result (StaysOpen old new))
+
 -- what the change makes of the office
 pub record IsDone (change : Change) (old new : State) : Type 0 where
   pub tables : HasTables new
@@ -181,5 +216,6 @@ office_state s failures = record {
   may_leave = λ office. (db : Trees) × s.may_leave db × (office ≡ office_in db);
 }
 
+-- the same of a book
 abbrev pub book_state : {S : Type 0} → Ghosts S → Shelf S → BookState Office
 book_state store b = office_state (state store b.held) b.failures

@@ -47,6 +47,7 @@ rowid_column name = record {
   collation = Binary;
 }
 
+-- a table with these columns, keys and foreign keys, and nothing else
 abbrev pub plain_table : List ℕ → ℕ → List Column → Option ℕ → List ℕ → List (List ℕ) → List Order → List Reference
     → Table
 plain_table name tree columns key primary uniques orders references = record {
@@ -64,6 +65,7 @@ plain_table name tree columns key primary uniques orders references = record {
   is_counted = false;
 }
 
+-- a foreign key to a table
 abbrev pub refers : List ℕ → List ℕ → List (List ℕ) → Reference
 refers columns parent parent_columns = record {
   columns = columns;
@@ -74,41 +76,49 @@ refers columns parent parent_columns = record {
   is_deferred = false;
 }
 
+-- the number of the schema
 abbrev pub version : Table
 version = plain_table (codes "version") 0 (rowid_column (codes "number") ∷ []) (Some 0) (0 ∷ []) [] [] []
 
+-- collectors, by number
 abbrev pub collector : Table
 collector = plain_table (codes "collector") 1 (rowid_column (codes "number") ∷ required (codes "key") Text ∷ [])
     (Some 0) (0 ∷ []) ((2 ∷ []) ∷ []) (plain ∷ []) []
 
+-- outlets, by number
 abbrev pub outlet : Table
 outlet = plain_table (codes "outlet") 3 (rowid_column (codes "number") ∷ required (codes "name") Text ∷ []) (Some 0)
     (0 ∷ []) [] [] []
 
+-- items, by code
 abbrev pub item : Table
 item = plain_table (codes "item") 4
     (required (codes "code") Text ∷ required (codes "text") Text ∷ required (codes "unit") Text
     ∷ required (codes "low") Integer ∷ required (codes "high") Integer ∷ [])
     None (1 ∷ []) ((1 ∷ []) ∷ []) (plain ∷ []) []
 
+-- the nodes of all plans, by year and code
 abbrev pub node : Table
 node = plain_table (codes "node") 6
     (required (codes "year") Integer ∷ required (codes "code") Text ∷ required (codes "title") Text
     ∷ required (codes "weight") Integer ∷ [])
     None (1 ∷ 2 ∷ []) ((1 ∷ 2 ∷ []) ∷ []) (plain ∷ []) []
 
+-- the places of all plans, by year and item
 abbrev pub plan_item : Table
 plan_item = plain_table (codes "plan_item") 8
     (required (codes "year") Integer ∷ required (codes "item") Text ∷ required (codes "code") Text ∷ [])
     None (1 ∷ 2 ∷ []) ((1 ∷ 2 ∷ []) ∷ []) (plain ∷ [])
     (refers (2 ∷ []) (codes "item") (codes "code" ∷ []) ∷ [])
 
+-- the calendar, by month
 abbrev pub calendar : Table
 calendar = plain_table (codes "calendar") 10
     (rowid_column (codes "month") ∷ required (codes "opens") Integer ∷ required (codes "closes") Integer
     ∷ required (codes "publishes") Integer ∷ [])
     (Some 0) (0 ∷ []) [] [] []
 
+-- assignments of schema 1
 abbrev pub assignment : Table
 assignment = plain_table (codes "assignment") 11
     (required (codes "collector") Integer ∷ required (codes "slot") Integer ∷ required (codes "outlet") Integer
@@ -119,6 +129,7 @@ assignment = plain_table (codes "assignment") 11
     ∷ refers (3 ∷ []) (codes "outlet") (codes "number" ∷ []) ∷ refers (4 ∷ []) (codes "item") (codes "code" ∷ [])
     ∷ [])
 
+-- quotes of schema 1
 abbrev pub quote : Table
 quote = plain_table (codes "quote") 13
     (required (codes "collector") Integer ∷ required (codes "slot") Integer ∷ required (codes "month") Integer
@@ -127,6 +138,7 @@ quote = plain_table (codes "quote") 13
     None (1 ∷ 2 ∷ 3 ∷ []) ((1 ∷ 2 ∷ 3 ∷ []) ∷ []) (plain ∷ [])
     (refers (1 ∷ 2 ∷ []) (codes "assignment") (codes "collector" ∷ codes "slot" ∷ []) ∷ [])
 
+-- headers of schema 1
 abbrev pub release : Table
 release = plain_table (codes "release") 15
     (rowid_column (codes "month") ∷ required (codes "frozen_at") Integer ∷ required (codes "publishes") Integer
@@ -137,6 +149,7 @@ release = plain_table (codes "release") 15
 abbrev pub of_release : List Reference
 of_release = refers (1 ∷ []) (codes "release") (codes "month" ∷ []) ∷ []
 
+-- frozen quotes of schema 1
 abbrev pub frozen : Table
 frozen = plain_table (codes "frozen") 16
     (required (codes "month") Integer ∷ required (codes "collector") Integer ∷ required (codes "slot") Integer
@@ -144,6 +157,7 @@ frozen = plain_table (codes "frozen") 16
     ∷ required (codes "last_month") Integer ∷ required (codes "mark") Text ∷ required (codes "value") Integer ∷ [])
     None (1 ∷ 2 ∷ 3 ∷ []) ((1 ∷ 2 ∷ 3 ∷ []) ∷ []) (plain ∷ []) of_release
 
+-- carried prices of schema 1
 abbrev pub carried : Table
 carried = plain_table (codes "carried") 18
     (required (codes "month") Integer ∷ required (codes "collector") Integer ∷ required (codes "slot") Integer
@@ -153,6 +167,7 @@ carried = plain_table (codes "carried") 18
     ∷ required (codes "observed") Integer ∷ required (codes "imputed") Integer ∷ [])
     None (1 ∷ 2 ∷ 3 ∷ []) ((1 ∷ 2 ∷ 3 ∷ []) ∷ []) (plain ∷ []) of_release
 
+-- rows of tables of schema 1
 abbrev pub level : Table
 level = plain_table (codes "level") 20
     (required (codes "month") Integer ∷ required (codes "code") Text ∷ required (codes "title") Text
@@ -176,6 +191,7 @@ assignment_2 = plain_table (codes "assignment_2") 22
     ∷ refers (3 ∷ []) (codes "outlet") (codes "number" ∷ []) ∷ refers (4 ∷ []) (codes "item") (codes "code" ∷ [])
     ∷ [])
 
+-- quotes, by collector, slot and month
 abbrev pub quote_2 : Table
 quote_2 = plain_table (codes "quote_2") 24
     (required (codes "collector") Integer ∷ required (codes "slot") Integer ∷ required (codes "month") Integer
@@ -184,6 +200,7 @@ quote_2 = plain_table (codes "quote_2") 24
     None (1 ∷ 2 ∷ 3 ∷ []) ((1 ∷ 2 ∷ 3 ∷ []) ∷ []) (plain ∷ [])
     (refers (1 ∷ 2 ∷ []) (codes "assignment_2") (codes "collector" ∷ codes "slot" ∷ []) ∷ [])
 
+-- headers, by month and revision
 abbrev pub release_2 : Table
 release_2 = plain_table (codes "release_2") 26
     (required (codes "month") Integer ∷ required (codes "revision") Integer ∷ required (codes "frozen_at") Integer
@@ -195,6 +212,7 @@ release_2 = plain_table (codes "release_2") 26
 abbrev pub of_revision : List Reference
 of_revision = refers (1 ∷ 2 ∷ []) (codes "release_2") (codes "month" ∷ codes "revision" ∷ []) ∷ []
 
+-- frozen quotes, by release and series
 abbrev pub frozen_2 : Table
 frozen_2 = plain_table (codes "frozen_2") 28
     (required (codes "month") Integer ∷ required (codes "revision") Integer ∷ required (codes "collector") Integer
@@ -202,6 +220,7 @@ frozen_2 = plain_table (codes "frozen_2") 28
     ∷ required (codes "last_month") Integer ∷ required (codes "mark") Text ∷ required (codes "value") Integer ∷ [])
     None (1 ∷ 2 ∷ 3 ∷ 4 ∷ []) ((1 ∷ 2 ∷ 3 ∷ 4 ∷ []) ∷ []) (plain ∷ []) of_revision
 
+-- carried prices, by release and series
 abbrev pub carried_2 : Table
 carried_2 = plain_table (codes "carried_2") 30
     (required (codes "month") Integer ∷ required (codes "revision") Integer ∷ required (codes "collector") Integer
@@ -211,6 +230,7 @@ carried_2 = plain_table (codes "carried_2") 30
     ∷ required (codes "observed") Integer ∷ required (codes "imputed") Integer ∷ [])
     None (1 ∷ 2 ∷ 3 ∷ 4 ∷ []) ((1 ∷ 2 ∷ 3 ∷ 4 ∷ []) ∷ []) (plain ∷ []) of_revision
 
+-- rows of tables, by release and code
 abbrev pub level_2 : Table
 level_2 = plain_table (codes "level_2") 32
     (required (codes "month") Integer ∷ required (codes "revision") Integer ∷ required (codes "code") Text
@@ -226,11 +246,13 @@ plan_ref = plain_table (codes "plan_ref") 34 (rowid_column (codes "year") ∷ re
 
 -- ---- the two schemas
 
+-- the tables of schema 1
 abbrev pub first_tables : List Table
 first_tables =
     version ∷ collector ∷ outlet ∷ item ∷ node ∷ plan_item ∷ calendar ∷ assignment ∷ quote
     ∷ release ∷ frozen ∷ carried ∷ level ∷ []
 
+-- their indexes
 abbrev pub first_indexes : List Index
 first_indexes =
     automatics collector 0 2 collector.uniques ++ automatics item 0 5 item.uniques ++ automatics node 0 7 node.uniques

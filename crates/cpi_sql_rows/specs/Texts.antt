@@ -32,14 +32,17 @@ whole_query tree terms project order =
 abbrev pub is_first : ℕ → List Term
 is_first place = op2 (Compare Eq Binary) (col 1 place) (col 0 0) ∷ []
 
+-- rows in the order of these columns
 abbrev pub by_columns : List ℕ → List (Term × Key)
 by_columns [] = []
 by_columns (c ∷ cs) = (col 1 c, ascending Binary) ∷ by_columns cs
 
+-- these columns
 abbrev pub columns : List ℕ → List Term
 columns [] = []
 columns (c ∷ cs) = col 1 c ∷ columns cs
 
+-- a query of one table
 abbrev pub select : ℕ → List Term → List ℕ → List ℕ → List (List ℕ) → Command
 select tree terms shown order names = Select (record {
   lets = [];
@@ -48,20 +51,21 @@ select tree terms shown order names = Select (record {
 
 -- ---- the number of the schema
 
+-- puts the number of the schema
 abbrev pub put_version_text : List ℕ
 put_version_text = codes "INSERT INTO version (number) VALUES (2)"
 
+-- what it means
 abbrev pub put_version_command : Command
 put_version_command = Insert 0 (Values (lit (Int (pos 2)) ∷ lit Null ∷ []) 2)
 
 -- ---- collectors
 
+-- reads all collectors
 abbrev pub bearers_text : List ℕ
 bearers_text = codes "SELECT number, key FROM collector ORDER BY number"
 
-abbrev pub bearers_command : Command
-bearers_command = select 1 [] (0 ∷ 2 ∷ []) (0 ∷ []) (codes "number" ∷ codes "key" ∷ [])
-
+-- adds a collector
 abbrev pub put_collector_text : List ℕ
 put_collector_text = codes "INSERT INTO collector (number, key) VALUES (?1, ?2)"
 
@@ -69,51 +73,50 @@ put_collector_text = codes "INSERT INTO collector (number, key) VALUES (?1, ?2)"
 abbrev pub given_pair : List Term
 given_pair = col 0 0 ∷ lit Null ∷ col 0 1 ∷ []
 
+-- what it means
 abbrev pub put_collector_command : Command
 put_collector_command = Insert 1 (Values given_pair 3)
 
 -- ---- outlets
 
+-- reads all outlets
 abbrev pub outlets_text : List ℕ
 outlets_text = codes "SELECT number, name FROM outlet ORDER BY number"
 
-abbrev pub outlets_command : Command
-outlets_command = select 3 [] (0 ∷ 2 ∷ []) (0 ∷ []) (codes "number" ∷ codes "name" ∷ [])
-
+-- adds an outlet
 abbrev pub put_outlet_text : List ℕ
 put_outlet_text = codes "INSERT INTO outlet (number, name) VALUES (?1, ?2)"
 
+-- what it means
 abbrev pub put_outlet_command : Command
 put_outlet_command = Insert 2 (Values given_pair 3)
 
 -- ---- items
 
+-- reads all items
 abbrev pub items_text : List ℕ
 items_text = codes "SELECT code, text, unit, low, high FROM item ORDER BY code"
 
-abbrev pub items_command : Command
-items_command = select 4 [] (1 ∷ 2 ∷ 3 ∷ 4 ∷ 5 ∷ []) (1 ∷ []) (codes "code" ∷ codes "text" ∷ codes "unit"
-    ∷ codes "low" ∷ codes "high" ∷ [])
-
+-- adds an item
 abbrev pub put_item_text : List ℕ
 put_item_text = codes "INSERT INTO item (code, text, unit, low, high) VALUES (?1, ?2, ?3, ?4, ?5)"
 
+-- what it means
 abbrev pub put_item_command : Command
 put_item_command = Insert 3 (Values (lit Null ∷ col 0 0 ∷ col 0 1 ∷ col 0 2 ∷ col 0 3 ∷ col 0 4 ∷ []) 6)
 
 -- ---- calendar
 
+-- reads the calendar
 abbrev pub calendar_text : List ℕ
 calendar_text = codes "SELECT month, opens, closes, publishes FROM calendar ORDER BY month"
 
-abbrev pub calendar_command : Command
-calendar_command = select 10 [] (0 ∷ 2 ∷ 3 ∷ 4 ∷ []) (0 ∷ []) (codes "month" ∷ codes "opens" ∷ codes "closes"
-    ∷ codes "publishes" ∷ [])
-
+-- puts a row of the calendar
 abbrev pub put_calendar_text : List ℕ
 put_calendar_text = codes
     "INSERT INTO calendar (month, opens, closes, publishes) VALUES (?1, ?2, ?3, ?4) ON CONFLICT (month) DO UPDATE SET opens = excluded.opens, closes = excluded.closes, publishes = excluded.publishes"
 
+-- what is written, of the parameters
 abbrev pub given_calendar : List Term
 given_calendar = col 0 0 ∷ lit Null ∷ col 0 1 ∷ col 0 2 ∷ col 0 3 ∷ []
 
@@ -122,6 +125,7 @@ abbrev pub update_calendar : Query
 update_calendar = whole_query 10 (op2 (Compare Eq Binary) (col 1 0) (col 0 4) ∷ []) (col 1 0 ∷ col 1 0 ∷ lit Null
     ∷ col 0 7 ∷ col 0 8 ∷ col 0 9 ∷ []) []
 
+-- what it means
 abbrev pub put_calendar_command : Command
 put_calendar_command = InsertOr 6 Abort (Values given_calendar 5) (record {
   target = Some (0 ∷ []);
@@ -130,26 +134,26 @@ put_calendar_command = InsertOr 6 Abort (Values given_calendar 5) (record {
 
 -- ---- assignments
 
+-- reads all assignments
 abbrev pub all_assignments_text : List ℕ
 all_assignments_text = codes
     "SELECT collector, slot, outlet, item, first_month, last_month, series_collector, series_slot, copied FROM assignment_2 ORDER BY collector, slot"
 
-abbrev pub all_assignments_command : Command
-all_assignments_command = select 22 [] (1 ∷ 2 ∷ 3 ∷ 4 ∷ 5 ∷ 6 ∷ 7 ∷ 8 ∷ 9 ∷ []) (1 ∷ 2 ∷ [])
-    (codes "collector" ∷ codes "slot" ∷ codes "outlet" ∷ codes "item" ∷ codes "first_month" ∷ codes "last_month"
-    ∷ codes "series_collector" ∷ codes "series_slot" ∷ codes "copied" ∷ [])
-
+-- adds an assignment
 abbrev pub put_assignment_text : List ℕ
 put_assignment_text = codes
     "INSERT INTO assignment_2 (collector, slot, outlet, item, first_month, last_month, series_collector, series_slot, copied) VALUES (?1, ?2, ?3, ?4, ?5, ?6, ?7, ?8, ?9)"
 
+-- what is written, of the parameters
 abbrev pub given_assignment : List Term
 given_assignment =
     lit Null ∷ col 0 0 ∷ col 0 1 ∷ col 0 2 ∷ col 0 3 ∷ col 0 4 ∷ col 0 5 ∷ col 0 6 ∷ col 0 7 ∷ col 0 8 ∷ []
 
+-- what it means
 abbrev pub put_assignment_command : Command
 put_assignment_command = Insert 13 (Values given_assignment 10)
 
+-- puts an assignment in place of the one that stands
 abbrev pub replace_given_text : List ℕ
 replace_given_text = codes
     "INSERT INTO assignment_2 (collector, slot, outlet, item, first_month, last_month, series_collector, series_slot, copied) VALUES (?1, ?2, ?3, ?4, ?5, ?6, ?7, ?8, ?9) ON CONFLICT (collector, slot) DO UPDATE SET collector = excluded.collector, slot = excluded.slot, outlet = excluded.outlet, item = excluded.item, first_month = excluded.first_month, last_month = excluded.last_month, series_collector = excluded.series_collector, series_slot = excluded.series_slot, copied = excluded.copied"
@@ -159,6 +163,7 @@ abbrev pub update_given : Query
 update_given = whole_query 22 (op2 (Compare Eq Binary) (col 1 0) (col 0 9) ∷ []) (col 1 0 ∷ col 1 0 ∷ col 0 11
     ∷ col 0 12 ∷ col 0 13 ∷ col 0 14 ∷ col 0 15 ∷ col 0 16 ∷ col 0 17 ∷ col 0 18 ∷ col 0 19 ∷ []) []
 
+-- what it means
 abbrev pub replace_given_command : Command
 replace_given_command = InsertOr 13 Abort (Values given_assignment 10) (record {
   target = Some (1 ∷ 2 ∷ []);
@@ -167,17 +172,16 @@ replace_given_command = InsertOr 13 Abort (Values given_assignment 10) (record {
 
 -- ---- quotes
 
+-- reads all quotes
 abbrev pub all_quotes_text : List ℕ
 all_quotes_text = codes "SELECT collector, slot, month, mark, value, receipt FROM quote_2"
 
-abbrev pub all_quotes_command : Command
-all_quotes_command = select 24 [] (1 ∷ 2 ∷ 3 ∷ 4 ∷ 5 ∷ 6 ∷ []) []
-    (codes "collector" ∷ codes "slot" ∷ codes "month" ∷ codes "mark" ∷ codes "value" ∷ codes "receipt" ∷ [])
-
+-- puts a quote
 abbrev pub put_quote_text : List ℕ
 put_quote_text = codes
     "INSERT INTO quote_2 (collector, slot, month, mark, value, receipt) VALUES (?1, ?2, ?3, ?4, ?5, ?6) ON CONFLICT (collector, slot, month) DO UPDATE SET collector = excluded.collector, slot = excluded.slot, month = excluded.month, mark = excluded.mark, value = excluded.value, receipt = excluded.receipt"
 
+-- what is written, of the parameters
 abbrev pub given_quote : List Term
 given_quote = lit Null ∷ col 0 0 ∷ col 0 1 ∷ col 0 2 ∷ col 0 3 ∷ col 0 4 ∷ col 0 5 ∷ []
 
@@ -186,6 +190,7 @@ abbrev pub update_quote : Query
 update_quote = whole_query 24 (op2 (Compare Eq Binary) (col 1 0) (col 0 6) ∷ []) (col 1 0 ∷ col 1 0 ∷ col 0 8
     ∷ col 0 9 ∷ col 0 10 ∷ col 0 11 ∷ col 0 12 ∷ col 0 13 ∷ []) []
 
+-- what it means
 abbrev pub put_quote_command : Command
 put_quote_command = InsertOr 14 Abort (Values given_quote 7) (record {
   target = Some (1 ∷ 2 ∷ 3 ∷ []);
@@ -194,58 +199,63 @@ put_quote_command = InsertOr 14 Abort (Values given_quote 7) (record {
 
 -- ---- plans
 
+-- reads the nodes of a year
 abbrev pub nodes_text : List ℕ
 nodes_text = codes "SELECT year, code, title, weight FROM node WHERE year = ?1 ORDER BY year, code"
 
-abbrev pub nodes_command : Command
-nodes_command = select 6 (is_first 1) (1 ∷ 2 ∷ 3 ∷ 4 ∷ []) (1 ∷ 2 ∷ []) (codes "year" ∷ codes "code" ∷ codes "title"
-    ∷ codes "weight" ∷ [])
-
+-- reads the places of a year
 abbrev pub places_text : List ℕ
 places_text = codes "SELECT year, item, code FROM plan_item WHERE year = ?1 ORDER BY year, item"
 
-abbrev pub places_command : Command
-places_command = select 8 (is_first 1) (1 ∷ 2 ∷ 3 ∷ []) (1 ∷ 2 ∷ []) (codes "year" ∷ codes "item" ∷ codes "code" ∷ [])
-
+-- adds a node
 abbrev pub add_node_text : List ℕ
 add_node_text = codes "INSERT INTO node (year, code, title, weight) VALUES (?1, ?2, ?3, ?4)"
 
+-- what it means
 abbrev pub add_node_command : Command
 add_node_command = Insert 4 (Values (lit Null ∷ col 0 0 ∷ col 0 1 ∷ col 0 2 ∷ col 0 3 ∷ []) 5)
 
+-- adds a place
 abbrev pub add_place_text : List ℕ
 add_place_text = codes "INSERT INTO plan_item (year, item, code) VALUES (?1, ?2, ?3)"
 
+-- what it means
 abbrev pub add_place_command : Command
 add_place_command = Insert 5 (Values (lit Null ∷ col 0 0 ∷ col 0 1 ∷ col 0 2 ∷ []) 4)
 
+-- reads the reference month of a year
 abbrev pub references_text : List ℕ
 references_text = codes "SELECT year, month FROM plan_ref WHERE year = ?1 ORDER BY year, month"
 
-abbrev pub references_command : Command
-references_command = select 34 (is_first 0) (0 ∷ 2 ∷ []) (0 ∷ 2 ∷ []) (codes "year" ∷ codes "month" ∷ [])
-
+-- adds a reference month
 abbrev pub add_reference_text : List ℕ
 add_reference_text = codes "INSERT INTO plan_ref (year, month) VALUES (?1, ?2)"
 
+-- what it means
 abbrev pub add_reference_command : Command
 add_reference_command = Insert 19 (Values given_pair 3)
 
+-- drops the reference month of a year
 abbrev pub drop_references_text : List ℕ
 drop_references_text = codes "DELETE FROM plan_ref WHERE year = ?1"
 
+-- what it means
 abbrev pub drop_references_command : Command
 drop_references_command = Delete 19 (record { lets = []; body = whole_query 34 (is_first 0) (col 1 0 ∷ []) [] })
 
+-- drops the nodes of a year
 abbrev pub drop_nodes_text : List ℕ
 drop_nodes_text = codes "DELETE FROM node WHERE year = ?1"
 
+-- what it means
 abbrev pub drop_nodes_command : Command
 drop_nodes_command = Delete 4 (record { lets = []; body = whole_query 6 (is_first 1) (col 1 0 ∷ []) [] })
 
+-- drops the places of a year
 abbrev pub drop_places_text : List ℕ
 drop_places_text = codes "DELETE FROM plan_item WHERE year = ?1"
 
+-- what it means
 abbrev pub drop_places_command : Command
 drop_places_command = Delete 5 (record { lets = []; body = whole_query 8 (is_first 1) (col 1 0 ∷ []) [] })
 
@@ -255,102 +265,105 @@ drop_places_command = Delete 5 (record { lets = []; body = whole_query 8 (is_fir
 abbrev pub is_release : List Term
 is_release = op2 (Compare Eq Binary) (col 1 1) (col 0 0) ∷ op2 (Compare Eq Binary) (col 1 2) (col 0 1) ∷ []
 
+-- reads all headers
 abbrev pub headers_text : List ℕ
 headers_text = codes "SELECT month, revision, frozen_at, publishes, carry FROM release_2 ORDER BY month, revision"
 
-abbrev pub headers_command : Command
-headers_command = select 26 [] (1 ∷ 2 ∷ 3 ∷ 4 ∷ 5 ∷ []) (1 ∷ 2 ∷ [])
-    (codes "month" ∷ codes "revision" ∷ codes "frozen_at" ∷ codes "publishes" ∷ codes "carry" ∷ [])
-
+-- reads the frozen quotes of a release
 abbrev pub frozen_text : List ℕ
 frozen_text =
     codes "SELECT month, revision, collector, slot, item, last_month, mark, value FROM frozen_2 WHERE month = ?1 AND revision = ?2 ORDER BY month, revision, collector, slot"
 
-abbrev pub frozen_command : Command
-frozen_command = select 28 is_release (1 ∷ 2 ∷ 3 ∷ 4 ∷ 5 ∷ 6 ∷ 7 ∷ 8 ∷ []) (1 ∷ 2 ∷ 3 ∷ 4 ∷ [])
-    (codes "month" ∷ codes "revision" ∷ codes "collector" ∷ codes "slot" ∷ codes "item" ∷ codes "last_month"
-    ∷ codes "mark" ∷ codes "value" ∷ [])
-
+-- reads the carried prices of a release
 abbrev pub carried_text : List ℕ
 carried_text =
     codes "SELECT month, revision, collector, slot, item, last_month, ticks, knum, kden, observed, imputed FROM carried_2 WHERE month = ?1 AND revision = ?2 ORDER BY month, revision, collector, slot"
 
-abbrev pub carried_command : Command
-carried_command = select 30 is_release (1 ∷ 2 ∷ 3 ∷ 4 ∷ 5 ∷ 6 ∷ 7 ∷ 8 ∷ 9 ∷ 10 ∷ 11 ∷ []) (1 ∷ 2 ∷ 3 ∷ 4 ∷ [])
-    (codes "month" ∷ codes "revision" ∷ codes "collector" ∷ codes "slot" ∷ codes "item" ∷ codes "last_month"
-    ∷ codes "ticks" ∷ codes "knum" ∷ codes "kden" ∷ codes "observed" ∷ codes "imputed" ∷ [])
-
+-- reads the table of a release
 abbrev pub levels_text : List ℕ
 levels_text =
     codes "SELECT month, revision, code, title, weight, within, chained, month_change, year_change, imputed FROM level_2 WHERE month = ?1 AND revision = ?2 ORDER BY month, revision, code"
 
-abbrev pub levels_command : Command
-levels_command = select 32 is_release (1 ∷ 2 ∷ 3 ∷ 4 ∷ 5 ∷ 6 ∷ 7 ∷ 8 ∷ 9 ∷ 10 ∷ []) (1 ∷ 2 ∷ 3 ∷ [])
-    (codes "month" ∷ codes "revision" ∷ codes "code" ∷ codes "title" ∷ codes "weight" ∷ codes "within"
-    ∷ codes "chained" ∷ codes "month_change" ∷ codes "year_change" ∷ codes "imputed" ∷ [])
-
+-- adds a header
 abbrev pub add_header_text : List ℕ
 add_header_text =
     codes "INSERT INTO release_2 (month, revision, frozen_at, publishes, carry) VALUES (?1, ?2, ?3, ?4, ?5)"
 
+-- what is written, of the parameters
 abbrev pub add_header_terms : List Term
 add_header_terms =
     lit Null ∷ col 0 0 ∷ col 0 1 ∷ col 0 2 ∷ col 0 3 ∷ col 0 4 ∷ []
 
+-- what it means
 abbrev pub add_header_command : Command
 add_header_command = Insert 15 (Values add_header_terms 6)
 
+-- adds a frozen quote
 abbrev pub add_frozen_text : List ℕ
 add_frozen_text =
     codes "INSERT INTO frozen_2 (month, revision, collector, slot, item, last_month, mark, value) VALUES (?1, ?2, ?3, ?4, ?5, ?6, ?7, ?8)"
 
+-- what is written, of the parameters
 abbrev pub add_frozen_terms : List Term
 add_frozen_terms =
     lit Null ∷ col 0 0 ∷ col 0 1 ∷ col 0 2 ∷ col 0 3 ∷ col 0 4 ∷ col 0 5 ∷ col 0 6 ∷ col 0 7 ∷ []
 
+-- what it means
 abbrev pub add_frozen_command : Command
 add_frozen_command = Insert 16 (Values add_frozen_terms 9)
 
+-- adds a carried price
 abbrev pub add_carried_text : List ℕ
 add_carried_text =
     codes "INSERT INTO carried_2 (month, revision, collector, slot, item, last_month, ticks, knum, kden, observed, imputed) VALUES (?1, ?2, ?3, ?4, ?5, ?6, ?7, ?8, ?9, ?10, ?11)"
 
+-- what is written, of the parameters
 abbrev pub add_carried_terms : List Term
 add_carried_terms =
     lit Null ∷ col 0 0 ∷ col 0 1 ∷ col 0 2 ∷ col 0 3 ∷ col 0 4 ∷ col 0 5 ∷ col 0 6 ∷ col 0 7 ∷ col 0 8 ∷ col 0 9
     ∷ col 0 10 ∷ []
 
+-- what it means
 abbrev pub add_carried_command : Command
 add_carried_command = Insert 17 (Values add_carried_terms 12)
 
+-- adds a row of a table
 abbrev pub add_level_text : List ℕ
 add_level_text =
     codes "INSERT INTO level_2 (month, revision, code, title, weight, within, chained, month_change, year_change, imputed) VALUES (?1, ?2, ?3, ?4, ?5, ?6, ?7, ?8, ?9, ?10)"
 
+-- what is written, of the parameters
 abbrev pub add_level_terms : List Term
 add_level_terms =
     lit Null ∷ col 0 0 ∷ col 0 1 ∷ col 0 2 ∷ col 0 3 ∷ col 0 4 ∷ col 0 5 ∷ col 0 6 ∷ col 0 7 ∷ col 0 8 ∷ col 0 9 ∷ []
 
+-- what it means
 abbrev pub add_level_command : Command
 add_level_command = Insert 18 (Values add_level_terms 11)
 
+-- drops the frozen quotes of a release
 abbrev pub drop_frozen_text : List ℕ
 drop_frozen_text = codes "DELETE FROM frozen_2 WHERE month = ?1 AND revision = ?2"
 
+-- what it means
 abbrev pub drop_frozen_command : Command
 drop_frozen_command =
     Delete 16 (record { lets = []; body = whole_query 28 is_release (col 1 0 ∷ []) [] })
 
+-- drops the carried prices of a release
 abbrev pub drop_carried_text : List ℕ
 drop_carried_text = codes "DELETE FROM carried_2 WHERE month = ?1 AND revision = ?2"
 
+-- what it means
 abbrev pub drop_carried_command : Command
 drop_carried_command =
     Delete 17 (record { lets = []; body = whole_query 30 is_release (col 1 0 ∷ []) [] })
 
+-- drops the table of a release
 abbrev pub drop_level_text : List ℕ
 drop_level_text = codes "DELETE FROM level_2 WHERE month = ?1 AND revision = ?2"
 
+-- what it means
 abbrev pub drop_level_command : Command
 drop_level_command =
     Delete 18 (record { lets = []; body = whole_query 32 is_release (col 1 0 ∷ []) [] })

@@ -1,16 +1,16 @@
 //! What all collectors have, each row beside the number of its collector, read whole from its table.
-ghost use Rattle.std.specs.Prelude.{◌≡◌, IfOk, IsPermutation, IsTrue, OnOk};
-ghost use Rattle.std.specs.Ordering.{nat_cmp};
+ghost use Rattle.std.specs.Prelude.{◌≡◌, IfOk, IsPermutation, OnOk};
 ghost use Rattle.sqlite.specs.Held.{state};
-ghost use Rattle.sqlite.specs.State.{HasCleanDisk, Survives};
 ghost use Rattle.cpi_rows.specs.Held.{held_cmp, held_key};
 ghost use Rattle.cpi_rows.specs.Keyed.{IsInOrder};
 ghost use Rattle.cpi_survey.specs.Quote.{quote_cmp, quote_key};
-ghost use Rattle.cpi_sql_rows.specs.Lists.{assignment_in, assignments_in, quote_in, quotes_in};
-ghost use Rattle.cpi_sql_rows.specs.Shelf.{AllStand, HasTables, IsCleanBook, IsKept};
+ghost use Rattle.cpi_sql_rows.specs.Lists.{quote_in, quotes_in};
+ghost use Rattle.cpi_sql_rows.specs.Shelf.{AllStand, HasTables, IsCleanBook, Looks};
+ghost use Rattle.cpi_sql_rows.specs.Tables.{quote_2};
 
 use crate::rows::{read_assignment, read_collector, read_mark, read_month, read_series, read_slot};
-use crate::stored::{Stored, Unread, gather, in_order, list};
+use crate::stored::{Stored, Unread, gather, in_order};
+use crate::table::Table;
 use cpi_store::{Given, HeldGiven, HeldQuote};
 use cpi_survey::Quote;
 use sqlite::{Alter, Connection, Row};
@@ -55,28 +55,21 @@ impl Stored for HeldQuote {
     }
 }
 
-const ASSIGNMENTS: &str =
-    "SELECT collector, slot, outlet, item, first_month, last_month, series_collector, series_slot, copied \
-     FROM assignment_2 ORDER BY collector, slot";
+impl Table for HeldGiven {
+    ghost use Rattle.std.specs.Prelude.{refl};
+    ghost use Rattle.cpi_sql_rows.specs.Finding.{IsSecond};
+    ghost use Rattle.cpi_sql_rows.specs.WholeTables.{all_assignments_table};
 
-/// What all slots were given, by collector and slot.
-pub fn all_given<S: Alter>(
-    conn: &mut Connection<S>,
-    alloc: Global,
-) -> Result<Vec<HeldGiven>, Unread>
-    ensures clean { IsCleanBook (state S.Store conn.new) → IsCleanBook (state S.Store conn.old) }
-    ensures kept { IsCleanBook (state S.Store conn.new) → HasTables (state S.Store conn.old)
-        → IsKept (state S.Store conn.old) (state S.Store conn.new) }
-    ensures read { IsCleanBook (state S.Store conn.new) → HasTables (state S.Store conn.old)
-        → IfOk result (λ xs. xs.items ≡ assignments_in ((state S.Store conn.old).now.trees 22)) }
-    ensures order { IfOk result (λ xs. IsInOrder (held_cmp nat_cmp) (held_key (λ g. g.assignment.slot)) xs.items) }
-    ensures stand { IsCleanBook (state S.Store conn.new) → HasTables (state S.Store conn.old)
-        → OnOk result (AllStand assignment_in ((state S.Store conn.old).now.trees 22)) }
-    ensures open { HasCleanDisk (state S.Store conn.new) → OnOk result (IsTrue (state S.Store conn.new).is_open) }
-    ensures crash { Survives (state S.Store conn.old) (state S.Store conn.new)
-        (λ _. HasTables (state S.Store conn.old) → ⊥) }
-{
-    list(conn, alloc, ASSIGNMENTS, &[])
+    ghost is_in = { IsSecond };
+
+    ghost table = { all_assignments_table };
+
+    ghost same = { λ _. refl };
+
+    fn text() -> &'static str {
+        "SELECT collector, slot, outlet, item, first_month, last_month, series_collector, series_slot, copied \
+         FROM assignment_2 ORDER BY collector, slot"
+    }
 }
 
 const QUOTES: &str = "SELECT collector, slot, month, mark, value, receipt FROM quote_2";
@@ -97,17 +90,12 @@ pub fn all_quotes<S: Alter>(
     conn: &mut Connection<S>,
     alloc: Global,
 ) -> Result<Vec<HeldQuote>, Unread>
-    ensures clean { IsCleanBook (state S.Store conn.new) → IsCleanBook (state S.Store conn.old) }
-    ensures kept { IsCleanBook (state S.Store conn.new) → HasTables (state S.Store conn.old)
-        → IsKept (state S.Store conn.old) (state S.Store conn.new) }
-    ensures read { IsCleanBook (state S.Store conn.new) → HasTables (state S.Store conn.old)
-        → IfOk result (λ xs. xs.items ≡ quotes_in ((state S.Store conn.old).now.trees 24)) }
+    ensures look { Looks (state S.Store conn.old) (state S.Store conn.new) result }
+    ensures read { IsCleanBook (state S.Store conn.new) → HasTables (state S.Store conn.old) →
+        IfOk result (λ xs. xs.items ≡ quotes_in ((state S.Store conn.old).now.trees quote_2.tree)) }
     ensures order { IfOk result (λ xs. IsInOrder (held_cmp quote_cmp) (held_key quote_key) xs.items) }
-    ensures stand { IsCleanBook (state S.Store conn.new) → HasTables (state S.Store conn.old)
-        → OnOk result (AllStand quote_in ((state S.Store conn.old).now.trees 24)) }
-    ensures open { HasCleanDisk (state S.Store conn.new) → OnOk result (IsTrue (state S.Store conn.new).is_open) }
-    ensures crash { Survives (state S.Store conn.old) (state S.Store conn.new)
-        (λ _. HasTables (state S.Store conn.old) → ⊥) }
+    ensures stand { IsCleanBook (state S.Store conn.new) → HasTables (state S.Store conn.old) →
+        OnOk result (AllStand quote_in ((state S.Store conn.old).now.trees quote_2.tree)) }
 {
     let read = gather(conn, alloc, QUOTES, &[])?;
     in_place(read)

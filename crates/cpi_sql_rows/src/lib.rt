@@ -10,6 +10,7 @@ mod release_rows;
 mod rowids;
 mod rows;
 mod stored;
+mod table;
 mod tables;
 
 pub use ask::{run, settle};
@@ -17,10 +18,11 @@ pub use columns::{
     code_text, collector_number, high_number, item_text, key_text, low_number, mark_text,
     mark_value, moment_value, month_number, name_text, outlet_number, slot_number,
 };
-pub use held_rows::{all_given, all_quotes};
+pub use held_rows::all_quotes;
 pub use lookup::by_key;
 pub use reference_months::ReferenceMonth;
 pub use release_rows::Header;
 pub use rowids::scan;
 pub use stored::{Stored, Unread, list};
+pub use table::{Table, read_all};
 pub use tables::{bearers, calendar, items, outlets};

@@ -10,7 +10,7 @@ ghost use Rattle.cpi_sql_rows.specs.Lists.{frozen_from, carried_from, level_from
 
 use crate::rows::{
     code_of, read_code, read_collector, read_item_code, read_mark, read_moment, read_month,
-    read_name, read_slot,
+    read_name, read_slot, text_at,
 };
 use crate::stored::Stored;
 use cpi_codes::{Code, Moment, Month, SeriesId};
@@ -82,8 +82,7 @@ fn codes_of(alloc: Global, text: &[u8]) -> Option<Vec<Code>>
 fn read_codes(alloc: Global, row: &Row, at: usize) -> Option<Rows<Code>>
     ensures { IfSome result (λ codes. codes_from (column row.now at) ≡ Some codes) }
 {
-    let text: String = row.get(at).ok()?;
-    Some(Rows::of(codes_of(alloc, text.as_bytes())?))
+    Some(Rows::of(codes_of(alloc, text_at(row, at)?)?))
 }
 
 fn read_revision(row: &Row, at: usize) -> Option<Revision>

@@ -1,9 +1,9 @@
 //! The rows of the tables, as an answer shows them.
-ghost use Rattle.std.specs.Prelude.{◌≡◌, IfSome, IfOk};
+ghost use Rattle.std.specs.Prelude.{◌≡◌, IfSome, IfOk, Some};
 ghost use Rattle.sqlite.specs.Order.{column};
 ghost use Rattle.cpi_codes.specs.CodeOf.{code_of as spelled};
 ghost use Rattle.cpi_sql_rows.specs.Lists.{code_from, month_at, mark_from, mark_in, month_from, name_from};
-ghost use Rattle.cpi_sql_rows.specs.Lists.{assignment_from, item_from, price_or_none, ranged, series_from};
+ghost use Rattle.cpi_sql_rows.specs.Lists.{assignment_from, item_from, price_or_none, ranged, series_from, text_in};
 
 use crate::reference_months::ReferenceMonth;
 use crate::stored::Stored;
@@ -14,7 +14,19 @@ use cpi_plan::{CalendarRow, HighTolerance, Item, LowTolerance, Node, Place};
 use cpi_store::{Bearer, Outlet};
 use cpi_survey::{Assignment, Mark, Quote, Reason};
 use sqlite::Row;
+use sqlite_value::value::ValueRef;
 use std::alloc::Global;
+use std::str;
+
+/// The text that stands there, lent.
+pub fn text_at(row: &Row, at: usize) -> Option<&[u8]>
+    ensures { IfSome result (λ t. text_in (column row.now at) ≡ Some t.now) }
+{
+    match row.get_ref(at).ok()? {
+        ValueRef::Text(text) => Some(text),
+        _ => None,
+    }
+}
 
 fn month_of(number: u32) -> Option<Month>
     ensures { IfSome result (λ m. month_at number ≡ Some m) }
@@ -40,15 +52,13 @@ pub fn read_moment(row: &Row, at: usize) -> Option<Moment>
 pub fn read_name(alloc: Global, row: &Row, at: usize) -> Option<Name>
     ensures { IfSome result (λ n. name_from (column row.now at) ≡ Some n) }
 {
-    let text: String = row.get(at).ok()?;
-    Name::new(alloc, text.as_bytes()).ok()
+    Name::new(alloc, text_at(row, at)?).ok()
 }
 
 pub fn read_item_code(row: &Row, at: usize) -> Option<ItemCode>
     ensures { IfSome result (λ c. item_from (column row.now at) ≡ Some c) }
 {
-    let text: String = row.get(at).ok()?;
-    ItemCode::parse(text.as_bytes())
+    ItemCode::parse(text_at(row, at)?)
 }
 
 pub fn read_collector(row: &Row, at: usize) -> Option<CollectorId>
@@ -94,11 +104,8 @@ impl Stored for Bearer {
 
     fn read(alloc: Global, row: &Row) -> Option<Bearer> {
         let number = read_collector(row, 0)?;
-        let key: String = row.get(1).ok()?;
-        Some(Bearer {
-            number,
-            key: Key::parse(key.as_bytes())?,
-        })
+        let key = Key::parse(text_at(row, 1)?)?;
+        Some(Bearer { number, key })
     }
 }
 
@@ -193,9 +200,9 @@ pub fn read_assignment(row: &Row) -> Option<Assignment>
 pub fn read_mark(row: &Row, mark: usize, value: usize) -> Option<Mark>
     ensures { IfSome result (λ m. mark_in (column row.now mark) (column row.now value) ≡ Some m) }
 {
-    let text: String = row.get(mark).ok()?;
+    let word = str::from_utf8(text_at(row, mark)?).ok()?;
     let value: u32 = row.get(value).ok()?;
-    mark_of(text.as_str(), value)
+    mark_of(word, value)
 }
 
 pub fn code_of(text: &[u8]) -> Option<Code>
@@ -207,8 +214,7 @@ pub fn code_of(text: &[u8]) -> Option<Code>
 pub fn read_code(row: &Row, at: usize) -> Option<Code>
     ensures { IfSome result (λ c. code_from (column row.now at) ≡ Some c) }
 {
-    let text: String = row.get(at).ok()?;
-    code_of(text.as_bytes())
+    code_of(text_at(row, at)?)
 }
 
 fn read_year(row: &Row, at: usize) -> Option<u32>

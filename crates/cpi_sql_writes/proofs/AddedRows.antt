@@ -1,70 +1,104 @@
--- The rows of a year dropped, and rows added one by one, replace them.
-use Rattle.std.proofs.Common.{◌≡◌, inl, inr, ℕ, pos, List, [], ◌∷◌, ◌++◌, true, false}
-use Rattle.std.proofs.Common.{Some, Option, refl, sym, ap, subst, ◌∙◌}
+-- Rows added to those of a holder one by one, and rows dropped before.
+use Rattle.std.proofs.Common.{◌≡◌, inl, inr, ℕ, List, [], ◌∷◌, ◌++◌, Bool, true, false, Some, Option}
+use Rattle.std.proofs.Common.{Result, refl, sym, ap, subst, ◌∙◌, ◌+◌, ◌<◌, length, take, get_or}
 use Rattle.std.proofs.lemmas.Bool.{cases_Bool}
+use Rattle.std.proofs.lemmas.List.{take_more}
 use Rattle.std.specs.declared.cmp.Ordering.{Ordering}
 use Rattle.std.specs.Cmp.{IsTotalOrder}
-use Rattle.sqlite.specs.declared.types.Value.TheVariants.{Int}
-use Rattle.sqlite.specs.Order.{Row, column}
-use Rattle.sqlite.specs.Tree.{put_row}
+use Rattle.sqlite.specs.Order.{Row}
+use Rattle.sqlite.specs.Tree.{Trees, put_row}
+use Rattle.sqlite.specs.State.{State}
 use Rattle.sqlite_rules.specs.Lists.{Has}
 use Rattle.sqlite_rules.proofs.ListLemmas.{has_left, has_right, has_either}
 use Rattle.sqlite_rules.proofs.TableLemmas.{has_put as has_put_row, put_has as put_row_has}
-use Rattle.cpi_sql_rows.specs.Lists.{ranged}
-pub use Rattle.cpi_sql_rows.specs.Steps.{HasDropped, AddsRows, entry}
-use Rattle.cpi_sql_rows.specs.Shelf.{equals}
-use Rattle.cpi_sql_rows.proofs.Lists.{bound_is, ranged_is, same_number, equal_number}
+use Rattle.cpi_sql_rows.specs.Steps.{IsStep, SameBut}
+use Rattle.cpi_sql_writes.specs.Within.{Adds, AddsTo, Changes, Drops, Inside, IsReady, Replaces, Within}
 use Rattle.cpi_sql_writes.proofs.Replaced.{ReplacesRows}
+use Rattle.cpi_sql_writes.proofs.Withins.{inside_here, inside_then, on_given, on_then}
 
-pair_is : {X : Type 0} {p q : X} → ◌≡◌ {A = Option X} (Some p) (Some q) → p ≡ q
-pair_is e = cc
+some_is : {X : Type 0} {p q : X} → ◌≡◌ {A = Option X} (Some p) (Some q) → p ≡ q
+some_is e = cc
 
 true_false : true ≡ false → ⊥
 true_false e = cc
 
--- rows that have the number of their holder in one column
-module _ {X : Type 0} (place low high : ℕ) (from : Row → Option X) where
-  numbered : (r : Row) (n : ℕ) (x : X) → entry place low high from r ≡ Some (n, x) → column r place ≡ Int (pos n)
-  numbered r n x e =
-      let one = bound_is (ranged low high (column r place)) _ _ e in
-      let two = bound_is (from r) _ _ one.2 in
-      let pair : ◌≡◌ {A = ℕ × X} (one.0, two.0) (n, x) = pair_is two.2 in
-      ranged_is low high (column r place) one.0 one.1 ∙ ap (λ (p : ℕ × X). Int (pos p.0)) pair
+pub same_then : (tree : ℕ) (a b c : Trees) → SameBut tree a b → SameBut tree b c → SameBut tree a c
+same_then tree a b c p q = record {
+  collectors = λ apart. q.collectors apart ∙ p.collectors apart;
+  outlets = λ apart. q.outlets apart ∙ p.outlets apart;
+  items = λ apart. q.items apart ∙ p.items apart;
+  nodes = λ apart. q.nodes apart ∙ p.nodes apart;
+  places = λ apart. q.places apart ∙ p.places apart;
+  calendar = λ apart. q.calendar apart ∙ p.calendar apart;
+  assignments = λ apart. q.assignments apart ∙ p.assignments apart;
+  quotes = λ apart. q.quotes apart ∙ p.quotes apart;
+  releases = λ apart. q.releases apart ∙ p.releases apart;
+  frozen = λ apart. q.frozen apart ∙ p.frozen apart;
+  carried = λ apart. q.carried apart ∙ p.carried apart;
+  levels = λ apart. q.levels apart ∙ p.levels apart;
+  references = λ apart. q.references apart ∙ p.references apart;
+}
 
-  pub added_none : (year : ℕ) (mid : List Row) → AddsRows place low high from year [] mid mid
-  added_none year mid = record { others = λ r h. inl h; kept = λ r h. h; there = λ x h. absurd h }
+same_here : (tree : ℕ) (a : Trees) → SameBut tree a a
+same_here tree a = record {
+  collectors = λ _. refl;
+  outlets = λ _. refl;
+  items = λ _. refl;
+  nodes = λ _. refl;
+  places = λ _. refl;
+  calendar = λ _. refl;
+  assignments = λ _. refl;
+  quotes = λ _. refl;
+  releases = λ _. refl;
+  frozen = λ _. refl;
+  carried = λ _. refl;
+  levels = λ _. refl;
+  references = λ _. refl;
+}
 
-  -- one row more
-  pub added_more : (year : ℕ) (xs : List X) (x : X) (row : Row) (mid now new : List Row)
-      → entry place low high from row ≡ Some (year, x) → AddsRows place low high from year xs mid now
-      → new ≡ put_row row now → ((r : Row) → Has now r → Has new r) → AddsRows place low high from year (xs ++ x ∷ []) mid new
-  added_more year xs x row mid now new is adds rows keeps = record {
-    others = λ r h. elim (put_row_has row now r (subst (λ l. Has l r) rows h)) [
-      | inl same ↦ inr (x, has_right xs (x ∷ []) x (inl refl), ap (entry place low high from) same ∙ is)
-      | inr was ↦ elim (adds.others r was) [
-        | inl old ↦ inl old
-        | inr it ↦ inr (it.0, has_left xs (x ∷ []) it.0 it.1, it.2)
-      ]
+-- a step leaves the table ready for the next
+pub step_ready : (tree : ℕ) (Rows : List Row → List Row → Type 0) (a b : State) → IsStep tree Rows a b → IsReady tree b
+step_ready tree Rows a b p = record { schema = p.schema; rowids = p.rowids }
+
+-- two steps on the rows of one table
+pub step_then : (tree : ℕ) (P Q R : List Row → List Row → Type 0)
+    → ((a b c : List Row) → P a b → Q b c → R a c)
+    → (a b c : State) → IsStep tree P a b → IsStep tree Q b c → IsStep tree R a c
+step_then tree P Q R f a b c p q = record {
+  inside = q.inside;
+  schema = q.schema;
+  rows = f (a.now.trees tree) (b.now.trees tree) (c.now.trees tree) p.rows q.rows;
+  rowids = q.rowids;
+  others = same_then tree a.now.trees b.now.trees c.now.trees p.others q.others;
+}
+
+module _ {X : Type 0} (entry : Row → Option (ℕ × X)) where
+  added_none : (number : ℕ) (mid : List Row) → Adds entry number [] mid mid
+  added_none number mid = record { others = λ r h. inl h; kept = λ r h. h; there = λ x h. absurd h }
+
+  pub added_one : (number : ℕ) (x : X) (row : Row) (mid new : List Row) → entry row ≡ Some (number, x)
+      → new ≡ put_row row mid → ((r : Row) → Has mid r → Has new r) → Adds entry number (x ∷ []) mid new
+  added_one number x row mid new is rows keeps = record {
+    others = λ r h. elim (put_row_has row mid r (subst (λ l. Has l r) rows h)) [
+      | inl same ↦ inr (x, inl refl, ap entry same ∙ is)
+      | inr was ↦ inl was
     ];
-    kept = λ r h. keeps r (adds.kept r h);
-    there = λ y h. elim (has_either xs (x ∷ []) y h) [
-      | inl front ↦ let it = adds.there y front in (it.0, keeps it.0 it.1, it.2)
-      | inr last ↦ elim last [
-        | inl same ↦ (
-          row,
-          subst (λ l. Has l row) (sym rows) (has_put_row row now),
-          is
-              ∙ ap (λ z. Some (year, z)) (sym same),
-        )
-        | inr none ↦ absurd none
-      ]
+    kept = keeps;
+    there = λ y h. elim h [
+      | inl same ↦ (
+        row,
+        subst (λ l. Has l row) (sym rows) (has_put_row row mid),
+        is
+            ∙ ap (λ z. Some (number, z)) (sym same),
+      )
+      | inr none ↦ absurd none
     ];
   }
 
   -- rows added after others
-  pub added_then : (year : ℕ) (xs ys : List X) (a b c : List Row) → AddsRows place low high from year xs a b
-      → AddsRows place low high from year ys b c → AddsRows place low high from year (xs ++ ys) a c
-  added_then year xs ys a b c p q = record {
+  added_then : (number : ℕ) (xs ys : List X) (a b c : List Row) → Adds entry number xs a b → Adds entry number ys b c
+      → Adds entry number (xs ++ ys) a c
+  added_then number xs ys a b c p q = record {
     others = λ r h. elim (q.others r h) [
       | inl was ↦ elim (p.others r was) [
         | inl old ↦ inl old
@@ -79,29 +113,69 @@ module _ {X : Type 0} (place low high : ℕ) (from : Row → Option X) where
     ];
   }
 
-  module _ {K : Type 0} {R : K → K → Ordering} (o : IsTotalOrder R) (key : X → K) where
-    -- so they replace those of the year
-    pub replaced_by : (year : ℕ) (xs : List X) (old mid new : List Row) → HasDropped place year old mid
-        → AddsRows place low high from year xs mid new → ReplacesRows o key (entry place low high from) year xs old new
-    replaced_by year xs old mid new dropped adds = record {
-      others = λ r n x h e. elim (adds.others r h) [
-        | inl was ↦
-            let it = (dropped r).0 was in
-            inr (
-              (λ same. true_false (sym (equal_number (column r place) year (numbered r n x e
-                  ∙ ap (λ k. Int (pos k)) same)) ∙ it.1)),
-              it.0,
-            )
-        | inr it ↦
-            let pair : ◌≡◌ {A = ℕ × X} (n, x) (year, it.0) = pair_is (sym e ∙ it.2) in
-            inl (ap (λ (p : ℕ × X). p.0) pair, subst (Has xs) (sym (ap (λ (p : ℕ × X). p.1) pair)) it.1)
-      ];
-      kept = λ r n x h e apart. adds.kept r ((dropped r).1 (
-        h,
-        elim (cases_Bool (equals (column r place) (Int (pos year)))) [
-          | inl hit ↦ absurd (apart (same_number (column r place) n year (numbered r n x e) hit))
-          | inr miss ↦ miss
-        ],
-      ));
-      there = adds.there;
-    }
+  module _ (tree : ℕ) (GoesBy : ℕ → Type 0) where
+    abbrev Lists : List X → State → State → Type 0
+    Lists xs = Changes tree (AddsTo entry GoesBy xs)
+
+    -- before the first row of a list
+    pub list_begun : (a : State) → Inside a a (Lists [] a a)
+    list_begun a = inside_here a (λ inside ready. record {
+      inside = inside;
+      schema = ready.schema;
+      rows = λ number is. added_none number (a.now.trees tree);
+      rowids = ready.rowids;
+      others = same_here tree a.now.trees;
+    })
+
+    -- one row more of a list
+    pub list_more : (xs : List X) (i : ℕ) (x : X) (a b c : State) → i < length xs → x ≡ get_or xs i x
+        → Inside a b (Lists (take i xs) a b) → Inside b c (Lists (x ∷ []) b c)
+        → Inside a c (Lists (take (i + 1) xs) a c)
+    list_more xs i x a b c low is p q = inside_then a b c p q (λ mid clean inside ready.
+        let first = p.step mid inside ready in
+        let next = q.step clean first.inside (step_ready tree _ a b first) in
+        subst (λ ys. IsStep tree (AddsTo entry GoesBy ys) a c) (sym (take_more xs i x low
+        ∙ ap (λ y. take i xs ++ y ∷ []) (sym is)))
+        (step_then tree (AddsTo entry GoesBy (take i xs)) (AddsTo entry GoesBy (x ∷ []))
+        (AddsTo entry GoesBy (take i xs ++ x ∷ []))
+        (λ d e f one two number named.
+        added_then number (take i xs) (x ∷ []) d e f (one number named) (two number named))
+        a b c first next))
+
+    -- the holder's rows dropped, and then a list added
+    pub list_replaces : {A E : Type 0} (is_of : Row → Bool) (xs : List X) (a b c : State) (r : Result A E)
+        → Inside a b (Changes tree (Drops is_of) a b) → Within b c r (Lists xs)
+        → Within a c r (Changes tree (Replaces entry is_of GoesBy xs))
+    list_replaces is_of xs a b c r p q = inside_then a b c p q (λ mid clean inside. on_given r _ _ (λ ready.
+        let dropped = p.step mid inside ready in
+        on_then r _ _ (q.step clean dropped.inside) (λ lists.
+        step_then tree (Drops is_of) (AddsTo entry GoesBy xs) (Replaces entry is_of GoesBy xs)
+        (λ d e f one two. (e, one, two)) a b c dropped (lists (step_ready tree (Drops is_of) a b dropped)))))
+
+  -- The rows of the holder are those with its number, so the list takes their place.
+  module _ {K : Type 0} {R : K → K → Ordering} (o : IsTotalOrder R) (key : X → K) (is_of : Row → Bool)
+      (GoesBy : ℕ → Type 0) (number : ℕ) (named : GoesBy number)
+      (only : (r : Row) (n : ℕ) (x : X) → entry r ≡ Some (n, x) → is_of r ≡ true → n ≡ number)
+      (each : (r : Row) (x : X) → entry r ≡ Some (number, x) → is_of r ≡ true) where
+    pub list_replaced : (xs : List X) (old new : List Row) → Replaces entry is_of GoesBy xs old new
+        → ReplacesRows o key entry number xs old new
+    list_replaced xs old new p =
+        let adds = p.2 number named in
+        record {
+          others = λ r n x h e. elim (adds.others r h) [
+            | inl was ↦
+                let it = (p.1 r).0 was in
+                inr (λ same. true_false (sym (each r x (e ∙ ap (λ k. Some (k, x)) same)) ∙ it.1), it.0)
+            | inr it ↦
+                let pair : ◌≡◌ {A = ℕ × X} (n, x) (number, it.0) = some_is (sym e ∙ it.2) in
+                inl (ap (λ (q : ℕ × X). q.0) pair, subst (Has xs) (sym (ap (λ (q : ℕ × X). q.1) pair)) it.1)
+          ];
+          kept = λ r n x h e apart. adds.kept r ((p.1 r).1 (
+            h,
+            elim (cases_Bool (is_of r)) [
+              | inl hit ↦ absurd (apart (only r n x e hit))
+              | inr miss ↦ miss
+            ],
+          ));
+          there = adds.there;
+        }

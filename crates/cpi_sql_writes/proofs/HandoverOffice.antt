@@ -11,16 +11,14 @@ use Rattle.std.proofs.lemmas.Bool.Decides.{eqb_tells}
 use Rattle.std.proofs.lemmas.Cmp.{nat_cmp_total, ranked}
 use Rattle.sqlite_rules.specs.Lists.{Has}
 use Rattle.sqlite_rules.proofs.ProbeLemmas.{has_mapped, mapped_has}
-use Rattle.sqlite.specs.Effect.{Database}
-use Rattle.sqlite.specs.State.{State, HasCleanDisk, Survives}
-use Rattle.sqlite.proofs.StateLemmas.{survives_then}
+use Rattle.sqlite.specs.State.{State}
 use Rattle.cpi_rows.specs.Keyed.{IsInOrder, at}
 use Rattle.cpi_rows.specs.Held.{held_by, held_cmp, held_key}
 use Rattle.cpi_rows.proofs.Found.{at_key}
 use Rattle.cpi_rows.proofs.Places.{put_in_order}
 use Rattle.cpi_store.specs.declared.given.Given.{Given}
-use Rattle.cpi_store.specs.declared.handover.Handover.{Handover}
-use Rattle.cpi_store.specs.Office.{changed, HandsOver, put_given, given_until, row_until, end_given, given_over}
+use Rattle.cpi_store.specs.declared.series_move.SeriesMove.{SeriesMove}
+use Rattle.cpi_store.specs.Office.{HandsOver, put_given, given_until, row_until, end_given, given_over}
 use Rattle.cpi_store.specs.Office.{hand_over}
 use Rattle.cpi_sql_rows.specs.Lists.{office_in, assignments_in, assignment_in}
 use Rattle.cpi_sql_writes.specs.GivenColumns.{CanHandOver, IsFree, PutsGiven}
@@ -29,9 +27,8 @@ use Rattle.cpi_sql_rows.specs.Steps.{IsStep, SameBut, outside}
 use Rattle.cpi_sql_rows.proofs.Listed.{same_in_order, listed_in_order, has_put, put_has, put_keeps}
 use Rattle.cpi_sql_rows.proofs.Lists.{held_total, held_has}
 use Rattle.cpi_sql_writes.proofs.AddPremises.{slot_apart}
-use Rattle.cpi_sql_writes.proofs.PlanOffice.{tables_begun}
 use Rattle.cpi_sql_rows.proofs.QuoteOffice.{first_tied, second_tied}
-use Rattle.cpi_sql_writes.proofs.PlanSteps.{others_then}
+use Rattle.cpi_sql_writes.proofs.AddedRows.{same_then}
 use Rattle.cpi_sql_writes.proofs.Replaced.{one_of}
 use Rattle.cpi_sql_rows.proofs.Unchanged.{same_plans, releases_after, same_releases, releases_kept}
 
@@ -53,7 +50,8 @@ either : (n slot last : ℕ) (r : ℕ × Given)
 either n slot last r = by (eqb_tells r.0 n) (eqb_tells (slot_of r.1) slot)
   where
     by : ((eqb r.0 n ≡ true) × (r.0 ≡ n)) ⊎ ((eqb r.0 n ≡ false) × (r.0 ≢ n))
-        → ((eqb (slot_of r.1) slot ≡ true) × (slot_of r.1 ≡ slot)) ⊎ ((eqb (slot_of r.1) slot ≡ false) × (slot_of r.1 ≢ slot))
+        → ((eqb (slot_of r.1) slot ≡ true) × (slot_of r.1 ≡ slot))
+        ⊎ ((eqb (slot_of r.1) slot ≡ false) × (slot_of r.1 ≢ slot))
         → ((r.0 ≡ n) × (slot_of r.1 ≡ slot) × (row_until n slot last r ≡ (r.0, given_until last r.1)))
         ⊎ (((r.0 ≡ n) × (slot_of r.1 ≡ slot) → ⊥) × (row_until n slot last r ≡ r))
     by (inl a) (inl b) = inl (a.1, b.1, rw (a.0, b.0) refl)
@@ -121,7 +119,8 @@ module _ (n : ℕ) (g : Given) (rows : List (ℕ × Given)) (sorted : AreInOrder
   one r h mine slot = one_of (held_total nat_cmp_total) key rows r (n, it.found) sorted h it.has
       (rw (mine, slot, it.slot_is) (tied_itself (held_total nat_cmp_total) (n, slot_of g)))
 
-  apart : (r : ℕ × Given) → ((r.0 ≡ n) × (slot_of r.1 ≡ slot_of g) → ⊥) → held_cmp nat_cmp (key r) (n, slot_of g) ≢ Equal
+  apart : (r : ℕ × Given) → ((r.0 ≡ n) × (slot_of r.1 ≡ slot_of g) → ⊥) →
+      held_cmp nat_cmp (key r) (n, slot_of g) ≢ Equal
   apart r differ tie = differ (
     ranked r.0 n Equal (sym (first_tied _ _ tie)),
     ranked (slot_of r.1) (slot_of g) Equal (sym (second_tied _ _ tie)),
@@ -173,7 +172,7 @@ none_of n slot rows none = by (at slot_of slot (held_by n rows)) refl
     by (Some g) e = absurd (none g (held_has nat_cmp_total slot_of n g rows (row_has slot g (held_by n rows) e))
         (at_key slot_of slot g (held_by n rows) e))
 
-module _ (h : Handover) (rows : List (ℕ × Given)) (can : CanHandOver h rows) where
+module _ (h : SeriesMove) (rows : List (ℕ × Given)) (can : CanHandOver h rows) where
   -- no row has the new slot
   missing : (n slot : ℕ) (g : Given) → Has rows (n, g) → n ≡ h.taker.number → slot_of g ≡ slot
       → slot ≡ h.assigned.assignment.slot → ⊥
@@ -196,7 +195,7 @@ module _ (h : Handover) (rows : List (ℕ × Given)) (can : CanHandOver h rows) 
 
 -- ---- the two rows
 
-module _ (h : Handover) (a b c : State) (has : HasTables (outside a))
+module _ (h : SeriesMove) (a b c : State) (has : HasTables (outside a))
     (can : CanHandOver h (office_in a.now.trees).assignments)
     (one : IsStep 22 (PutsGiven h.former.number h.ended) a b)
     (two : IsStep 22 (PutsGiven h.taker.number (given_over h)) b c) where
@@ -214,7 +213,7 @@ module _ (h : Handover) (a b c : State) (has : HasTables (outside a))
       (listed_in_order (held_total nat_cmp_total) key assignment_in (a.now.trees 22)) can.stands))
 
   others : SameBut 22 a.now.trees c.now.trees
-  others = others_then 22 a.now.trees b.now.trees c.now.trees one.others two.others
+  others = same_then 22 a.now.trees b.now.trees c.now.trees one.others two.others
 
   pub handed_over : IsDone (HandsOver h) (outside a) (outside c)
   handed_over = record {
@@ -249,18 +248,3 @@ module _ (h : Handover) (a b c : State) (has : HasTables (outside a))
       rows_now,
     ) refl;
   }
-
--- what a crash may leave of it
-pub handover_survives : (h : Handover) (a begun b c : State) → begun.now ≡ a.now → Survives a b (λ _. ⊥)
-    → (HasCleanDisk b → HasTables (outside begun) → CanHandOver h (office_in begun.now.trees).assignments
-    → IsDone (HandsOver h) (outside begun) (outside b))
-    → Survives b c (λ db. db ≡ b.now.trees)
-    → Survives a c (λ db. HasTables a → CanHandOver h (office_in a.now.trees).assignments
-    → office_in db ≡ changed (HandsOver h) (office_in a.now.trees))
-handover_survives h a begun b c start one done two =
-    survives_then a b c _ _ _ (λ _ db no. absurd no)
-    (λ clean db is has can.
-    let disk : HasCleanDisk b = omega (arith, two.clean) in
-    let begins = λ (d : Database). CanHandOver h (office_in d.trees).assignments in
-    let put = done disk (tables_begun a begun start has) (subst begins (sym start) can) in
-    ap office_in is ∙ put.office ∙ ap (λ (d : Database). changed (HandsOver h) (office_in d.trees)) start) one two

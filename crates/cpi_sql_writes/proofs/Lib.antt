@@ -5,14 +5,15 @@ pub mod CalendarOffice
 pub mod Replaced
 pub mod PlanLists
 pub mod StoredPlans
+pub mod Withins
 pub mod AddedRows
-pub mod PlanChanges
+pub mod TableSteps
+pub mod Committed
 pub mod SlotRows
 pub mod SlotOffice
 pub mod PlanSteps
 pub mod PlanOffice
 pub mod HandoverOffice
-pub mod ReleaseChanges
 pub mod ReleaseSteps
 pub mod ReleaseColumns
 pub mod HeaderColumns

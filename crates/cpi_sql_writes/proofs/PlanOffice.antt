@@ -1,26 +1,26 @@
 -- The rows of a plan put in place of those of its year, as a change of the office.
-use Rattle.std.proofs.Common.{◌≡◌, ℕ, List, Option, false, arith, refl, sym, ap, subst, ◌∙◌}
+use Rattle.std.proofs.Common.{◌≡◌, ◌≤◌, ℕ, List, Option, arith, refl, sym, subst, ◌∙◌}
 use Rattle.std.proofs.lemmas.Cmp.{nat_cmp_total}
 use Rattle.sqlite.specs.Tree.{Trees}
-use Rattle.sqlite.specs.Effect.{Database}
 use Rattle.sqlite.specs.Order.{Row}
-use Rattle.sqlite.specs.State.{State, HasCleanDisk, Survives}
-use Rattle.sqlite.proofs.StateLemmas.{survives_then}
+use Rattle.sqlite.specs.State.{State}
 use Rattle.cpi_codes.specs.contracts.codes.CodeOrd.TheImpl.Laws.{total-law}
 use Rattle.cpi_plan.specs.Plan.{Plan, IsPlan}
 use Rattle.cpi_plan.specs.declared.plan_rows.Node.{Node}
 use Rattle.cpi_plan.specs.declared.plan_rows.Place.{Place}
-use Rattle.cpi_store.specs.Office.{Change, changed, PutsPlan}
-use Rattle.cpi_sql_rows.specs.Tables.{office_schema}
-use Rattle.cpi_sql_rows.specs.Lists.{office_in, node_in, place_in, reference_row, references_for}
+use Rattle.cpi_store.specs.Office.{PutsPlan}
+use Rattle.cpi_sql_rows.specs.Tables.{office_schema, node, plan_item, plan_ref}
+use Rattle.cpi_sql_rows.specs.Lists.{node_in, place_in, reference_row, references_for}
 use Rattle.cpi_sql_rows.specs.declared.reference_months.ReferenceMonth.{ReferenceMonth}
 use Rattle.cpi_sql_rows.specs.Shelf.{HasTables, HasRowids, IsDone}
-use Rattle.cpi_sql_rows.specs.Steps.{SameBut, HasDropped, IsStep, AddsNodes, AddsPlaces, AddsReferences, outside}
-use Rattle.cpi_sql_rows.proofs.Kept.{kept_tables}
+use Rattle.cpi_sql_rows.specs.Steps.{SameBut, IsStep, outside}
 use Rattle.cpi_sql_rows.proofs.Unchanged.{SameReleases, same_releases, releases_kept}
 use Rattle.cpi_sql_writes.proofs.Replaced.{ReplacesRows, replaced_keyed}
 use Rattle.cpi_sql_writes.proofs.StoredPlans.{plans_put, references_hold}
-use Rattle.cpi_sql_writes.proofs.PlanSteps.{others_then, nodes_replaced, places_replaced, references_replaced}
+use Rattle.cpi_sql_writes.specs.PlanSteps.{is_of_year, IsYearNumber}
+use Rattle.cpi_sql_writes.specs.Within.{Replaces}
+use Rattle.cpi_sql_rows.specs.Lists.{node_at, place_at, reference_at}
+use Rattle.cpi_sql_writes.proofs.PlanSteps.{year_replaced}
 
 -- the tables that tell nothing of plans are as they were
 record SameBeside (old new : Trees) : Type 0 where
@@ -107,106 +107,56 @@ module _ (p : Plan) (v : IsPlan p) (old new : State) (has : HasTables (outside o
     ) refl;
   }
 
--- nodes dropped and added, then places, and then the reference month
-module _ (p : Plan) (v : IsPlan p) (a b c d e f g : State) (has : HasTables (outside a))
-    (one : IsStep 6 (HasDropped 1 p.year) a b) (two : IsStep 6 (AddsNodes p.year p.nodes) b c)
-    (three : IsStep 8 (HasDropped 1 p.year) c d) (four : IsStep 8 (AddsPlaces p.year p.places) d e)
-    (five : IsStep 34 (HasDropped 0 p.year) e f)
-    (six : IsStep 34 (AddsReferences p.year (references_for p.reference)) f g) where
-  first : SameBut 6 a.now.trees c.now.trees
-  first = others_then 6 a.now.trees b.now.trees c.now.trees one.others two.others
+-- the rows of one table that take the place of a year's
+abbrev Puts : {X : Type 0} → ℕ → ℕ → (Row → Option (ℕ × X)) → ℕ → List X → State → State → Type 0
+Puts tree place entry year xs = IsStep tree (Replaces entry (is_of_year place year) (IsYearNumber year) xs)
 
-  second : SameBut 8 c.now.trees e.now.trees
-  second = others_then 8 c.now.trees d.now.trees e.now.trees three.others four.others
+-- nodes, then places, and then the reference month
+module _ (p : Plan) (v : IsPlan p) (low : 2000 ≤ p.year) (high : p.year ≤ 2199) (a b c d : State)
+    (has : HasTables (outside a)) (one : Puts node.tree 1 node_in p.year p.nodes a b)
+    (two : Puts plan_item.tree 1 place_in p.year p.places b c)
+    (three : Puts plan_ref.tree 0 reference_row p.year (references_for p.reference) c d) where
+  nodes_same : d.now.trees 6 ≡ b.now.trees 6
+  nodes_same = three.others.nodes (λ n. absurd (omega (arith, n))) ∙ two.others.nodes (λ n. absurd (omega (arith, n)))
 
-  late : SameBut 34 e.now.trees g.now.trees
-  late = others_then 34 e.now.trees f.now.trees g.now.trees five.others six.others
+  places_before : b.now.trees 8 ≡ a.now.trees 8
+  places_before = one.others.places (λ n. absurd (omega (arith, n)))
 
-  nodes_same : g.now.trees 6 ≡ c.now.trees 6
-  nodes_same = late.nodes (λ n. absurd (omega (arith, n))) ∙ second.nodes (λ n. absurd (omega (arith, n)))
+  places_after : d.now.trees 8 ≡ c.now.trees 8
+  places_after = three.others.places (λ n. absurd (omega (arith, n)))
 
-  places_before : c.now.trees 8 ≡ a.now.trees 8
-  places_before = first.places (λ n. absurd (omega (arith, n)))
+  references_before : c.now.trees 34 ≡ a.now.trees 34
+  references_before = two.others.references (λ n. absurd (omega (arith, n)))
+      ∙ one.others.references (λ n. absurd (omega (arith, n)))
 
-  places_after : g.now.trees 8 ≡ e.now.trees 8
-  places_after = late.places (λ n. absurd (omega (arith, n)))
-
-  references_before : e.now.trees 34 ≡ a.now.trees 34
-  references_before = second.references (λ n. absurd (omega (arith, n))) ∙ first.references (λ n. absurd (omega (arith, n)))
-
-  all_nodes : ReplacesRows total-law (λ (n : Node). n.code) node_in p.year p.nodes (a.now.trees 6) (g.now.trees 6)
-  all_nodes =
-      subst (ReplacesRows total-law (λ (n : Node). n.code) node_in p.year p.nodes (a.now.trees 6))
-      (sym nodes_same) (nodes_replaced p.year p.nodes a b c one two)
+  all_nodes : ReplacesRows total-law (λ (n : Node). n.code) node_in p.year p.nodes (a.now.trees 6) (d.now.trees 6)
+  all_nodes = year_replaced total-law (λ (n : Node). n.code) 1 node_at p.year low high p.nodes (a.now.trees 6)
+      (d.now.trees 6) (rw nodes_same one.rows)
 
   all_places : ReplacesRows nat_cmp_total (λ (q : Place). q.item) place_in p.year p.places (a.now.trees 8)
-      (g.now.trees 8)
-  all_places =
-      subst (ReplacesRows nat_cmp_total (λ (q : Place). q.item) place_in p.year p.places (a.now.trees 8))
-      (sym places_after)
-      (subst (λ (rows : List Row). ReplacesRows nat_cmp_total (λ (q : Place). q.item) place_in p.year p.places rows
-      (e.now.trees 8)) places_before (places_replaced p.year p.places c d e three four))
+      (d.now.trees 8)
+  all_places = year_replaced nat_cmp_total (λ (q : Place). q.item) 1 place_at p.year low high p.places (a.now.trees 8)
+      (d.now.trees 8) (rw (places_after, ← places_before) two.rows)
 
   all_references : ReplacesRows nat_cmp_total (λ (m : ReferenceMonth). m.month) reference_row p.year
-      (references_for p.reference) (a.now.trees 34) (g.now.trees 34)
-  all_references =
-      subst (λ (rows : List Row). ReplacesRows nat_cmp_total (λ (m : ReferenceMonth). m.month) reference_row p.year
-      (references_for p.reference) rows (g.now.trees 34)) references_before
-      (references_replaced p.year (references_for p.reference) e f g five six)
+      (references_for p.reference) (a.now.trees 34) (d.now.trees 34)
+  all_references = year_replaced nat_cmp_total (λ (m : ReferenceMonth). m.month) 0 reference_at p.year low high
+      (references_for p.reference) (a.now.trees 34) (d.now.trees 34) (rw (← references_before) three.rows)
 
-  steps_done : IsDone (PutsPlan p) (outside a) (outside g)
+  steps_done : IsDone (PutsPlan p) (outside a) (outside d)
   steps_done =
-      rows_put p v a g has six.schema all_nodes all_places all_references
-      (subst HasRowids (sym nodes_same) two.rowids) (subst HasRowids (sym places_after) four.rowids) six.rowids
-      (beside_kept a.now.trees c.now.trees e.now.trees g.now.trees first second late)
+      rows_put p v a d has three.schema all_nodes all_places all_references
+      (subst HasRowids (sym nodes_same) one.rowids) (subst HasRowids (sym places_after) two.rowids) three.rowids
+      (beside_kept a.now.trees b.now.trees c.now.trees d.now.trees one.others two.others three.others)
 
 -- so with lists that are those of the plan
 pub plan_done : (p : Plan) → IsPlan p → (year : ℕ) (nodes : List Node) (places : List Place) (reference : Option ℕ)
-    → year ≡ p.year
+    → year ≡ p.year → (2000 ≤ year) × (year ≤ 2199)
     → nodes ≡ p.nodes → places ≡ p.places → reference ≡ p.reference
-    → (a b c d e f g : State) → HasTables (outside a) → IsStep 6 (HasDropped 1 year) a b
-    → IsStep 6 (AddsNodes year nodes) b c
-    → IsStep 8 (HasDropped 1 year) c d → IsStep 8 (AddsPlaces year places) d e
-    → IsStep 34 (HasDropped 0 year) e f → IsStep 34 (AddsReferences year (references_for reference)) f g
-    → IsDone (PutsPlan p) (outside a) (outside g)
-plan_done p v year nodes places reference at_year at_nodes at_places at_reference a b c d e f g has one two three four
-    five six =
-    steps_done p v a b c d e f g has
-    (subst (λ y. IsStep 6 (HasDropped 1 y) a b) at_year one)
-    (subst (λ xs. IsStep 6 (AddsNodes p.year xs) b c) at_nodes
-    (subst (λ y. IsStep 6 (AddsNodes y nodes) b c) at_year two))
-    (subst (λ y. IsStep 8 (HasDropped 1 y) c d) at_year three)
-    (subst (λ xs. IsStep 8 (AddsPlaces p.year xs) d e) at_places
-    (subst (λ y. IsStep 8 (AddsPlaces y places) d e) at_year four))
-    (subst (λ y. IsStep 34 (HasDropped 0 y) e f) at_year five)
-    (subst (λ o. IsStep 34 (AddsReferences p.year (references_for o)) f g) at_reference
-    (subst (λ y. IsStep 34 (AddsReferences y (references_for reference)) f g) at_year six))
-
--- ---- the end of the transaction
-
-pub tables_begun : (a b : State) → b.now ≡ a.now → HasTables a → HasTables (outside b)
-tables_begun a b same has = kept_tables a (outside b) (record { now = same; alone = refl }) has
-
-pub done_ended : (change : Change) (a begun b c : State) → begun.now ≡ a.now → c.now ≡ b.now → c.in_transaction ≡ false
-    → IsDone change (outside begun) (outside b) → IsDone change a c
-done_ended change a begun b c start end alone done = record {
-  tables = kept_tables (outside b) c (record { now = end; alone = alone }) done.tables;
-  office = ap (λ (d : Database). office_in d.trees) end ∙ done.office
-      ∙ ap (λ (d : Database). changed change (office_in d.trees)) start;
-}
-
--- what a crash may leave of it
-pub plan_survives : (change : Change) (a begun b c : State) → begun.now ≡ a.now → Survives a b (λ _. ⊥)
-    → (HasCleanDisk b → HasTables (outside begun) → IsDone change (outside begun) (outside b))
-    → Survives b c (λ db. db ≡ b.now.trees)
-    → Survives a c (λ db. HasTables a → office_in db ≡ changed change (office_in a.now.trees))
-plan_survives change a begun b c start one done two =
-    survives_then a b c _ _ _ (λ _ db no. absurd no)
-    (λ clean db is has.
-    let disk : HasCleanDisk b = omega (arith, two.clean) in
-    let put = done disk (tables_begun a begun start has) in
-    ap office_in is ∙ put.office ∙ ap (λ (d : Database). changed change (office_in d.trees)) start) one two
-
-pub unput_survives : (change : Change) (a b c : State) → Survives a b (λ _. ⊥) → Survives b c (λ _. ⊥)
-    → Survives a c (λ db. HasTables a → office_in db ≡ changed change (office_in a.now.trees))
-unput_survives change a b c one two = survives_then a b c _ _ _ (λ _ db no. absurd no) (λ _ db no. absurd no) one two
+    → (a b c d : State) → HasTables (outside a) → Puts node.tree 1 node_in year nodes a b
+    → Puts plan_item.tree 1 place_in year places b c
+    → Puts plan_ref.tree 0 reference_row year (references_for reference) c d
+    → IsDone (PutsPlan p) (outside a) (outside d)
+plan_done p v year nodes places reference at_year range at_nodes at_places at_reference a b c d has one two three =
+    steps_done p v (rw at_year at range.0) (rw at_year at range.1) a b c d has (rw (at_year, at_nodes) at one)
+    (rw (at_year, at_places) at two) (rw (at_year, at_reference) at three)

@@ -1,10 +1,7 @@
 -- The columns that stand for a row of a release.
-use Rattle.std.proofs.Common.{◌≡◌, ℕ, ℤ, pos, List, [], ◌∷◌, Some, None, Option, Result, Ok, Err}
-use Rattle.std.proofs.Common.{OnOk, refl, sym}
+use Rattle.std.proofs.Common.{◌≡◌, ℕ, ℤ, pos, List, [], ◌∷◌, Some, None, Option, refl}
 use Rattle.sqlite.specs.declared.types.Value.TheVariants.{Null, Int, Text}
 use Rattle.cpi_codes.specs.CodeOf.{code_of}
-use Rattle.cpi_codes.specs.CodeText.{text}
-use Rattle.cpi_codes.specs.declared.codes.Code.{Code}
 use Rattle.cpi_codes.specs.ItemCode.{item_code_of}
 use Rattle.cpi_index.specs.Frozen.{Frozen}
 use Rattle.cpi_index.specs.Carried.{Carried}
@@ -14,10 +11,6 @@ use Rattle.cpi_sql_rows.specs.Lists.{ranged, month_at, mark_from, mark_word, fla
 use Rattle.cpi_sql_rows.specs.Lists.{level_in}
 use Rattle.cpi_sql_rows.specs.Lists.{whole_or_none, release_from_key, release_number, revision_from}
 use Rattle.cpi_sql_rows.specs.ReleaseRows.{annual}
-
-pub on_then : {A E : Type 0} (r : Result A E) (P Q : Type 0) → OnOk r P → (P → Q) → OnOk r Q
-on_then (Ok a) P Q h f = f h
-on_then (Err e) P Q h f = tt
 
 pub frozen_mark : (k : List ℕ) (v : ℕ) (a b m : Mark) → k ≡ mark_word a → mark_from (mark_word b) v ≡ Some b → a ≡ m
     → b ≡ m

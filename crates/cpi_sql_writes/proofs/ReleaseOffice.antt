@@ -5,9 +5,7 @@ use Rattle.std.specs.declared.cmp.Ordering.TheVariants.{Equal}
 use Rattle.std.proofs.lemmas.Cmp.{nat_cmp_total}
 use Rattle.sqlite.specs.Order.{Row, column}
 use Rattle.sqlite.specs.Tree.{Trees}
-use Rattle.sqlite.specs.Effect.{Database}
-use Rattle.sqlite.specs.State.{State, HasCleanDisk, Survives}
-use Rattle.sqlite.proofs.StateLemmas.{survives_then}
+use Rattle.sqlite.specs.State.{State}
 use Rattle.sqlite_rules.specs.Lists.{Has}
 use Rattle.cpi_codes.specs.contracts.codes.CodeOrd.TheImpl.Laws.{total-law}
 use Rattle.cpi_rows.specs.Keyed.{put, row_at}
@@ -17,22 +15,23 @@ use Rattle.cpi_index.specs.Series.{frozen_serial, carried_serial}
 use Rattle.cpi_release.specs.declared.level.Level.{Level}
 use Rattle.cpi_release.specs.declared.release.Release.{Release}
 use Rattle.cpi_release.specs.FrozenMonths.{release_cmp, release_key}
-use Rattle.cpi_store.specs.Office.{changed, Freezes}
-use Rattle.cpi_store.proofs.Published.{release_total}
+use Rattle.cpi_store.specs.Office.{Freezes}
+use Rattle.cpi_store.proofs.Released.{release_total}
 use Rattle.cpi_sql_rows.specs.declared.release_rows.Header.{Header}
 use Rattle.cpi_sql_rows.specs.Lists.{header_in, frozen_in, carried_in, level_in, headers_in, frozens_in, carrieds_in}
 use Rattle.cpi_sql_rows.specs.Lists.{levels_in}
-use Rattle.cpi_sql_rows.specs.Lists.{month_at, office_in, release_from, releases_in, header_key, ranged, month_from}
+use Rattle.cpi_sql_rows.specs.Lists.{month_at, release_from, releases_in, header_key, ranged, month_from}
 use Rattle.cpi_sql_rows.specs.Lists.{codes_from, revision_from, release_number}
 use Rattle.cpi_sql_rows.specs.ReleaseRows.{frozen_after, carried_after, level_after}
-use Rattle.cpi_sql_writes.specs.ReleaseSteps.{header_of, AddsHeader, FitsTables, IsHeaderStep, IsWritten, Replaces, SameBeside}
+use Rattle.cpi_sql_writes.specs.ReleaseSteps.{header_of, AddsHeader, FitsTables, IsHeaderStep, IsWritten}
+use Rattle.cpi_sql_writes.specs.ReleaseSteps.{ReplacesList, SameBeside}
+use Rattle.cpi_sql_rows.specs.Tables.{frozen_2, carried_2, level_2}
 use Rattle.cpi_sql_rows.specs.Shelf.{HasReleases, HasRowids, HasTables, IsDone}
 use Rattle.cpi_sql_rows.specs.Steps.{IsStep, outside}
 use Rattle.cpi_sql_rows.proofs.Inserting.{inserted, none_apart}
 use Rattle.cpi_sql_rows.proofs.Listed.{PutsRow, listed_put, listed_stands, still_keyed}
 use Rattle.cpi_sql_rows.proofs.Lists.{bound_is}
 use Rattle.cpi_sql_writes.proofs.MappedPut.{has_map, map_put}
-use Rattle.cpi_sql_writes.proofs.PlanOffice.{tables_begun}
 use Rattle.cpi_sql_rows.proofs.ReleaseRows.{one_release, within_limits}
 use Rattle.cpi_sql_writes.proofs.ReleaseReplaced.{release_replaced}
 use Rattle.cpi_sql_writes.proofs.Replaced.{ReplacesRows, replaced_keyed, replaced_here, replaced_there}
@@ -197,9 +196,9 @@ module _ (r : Release) (m v : ℕ) (is : month_at m ≡ Some r.month) (at_revisi
     (frozen : List Frozen) (carried : List Carried) (levels : List Level) (at_frozen : frozen ≡ r.frozen)
     (at_carried : carried ≡ r.carried) (at_levels : levels ≡ r.levels)
     (a b c d e : State) (one : IsHeaderStep (header_of r) a b)
-    (two : IsStep 28 (Replaces frozen_after m v (release_number r.month r.revision) frozen) b c)
-    (three : IsStep 30 (Replaces carried_after m v (release_number r.month r.revision) carried) c d)
-    (four : IsStep 32 (Replaces level_after m v (release_number r.month r.revision) levels) d e) where
+    (two : IsStep frozen_2.tree (ReplacesList frozen_after m v frozen) b c)
+    (three : IsStep carried_2.tree (ReplacesList carried_after m v carried) c d)
+    (four : IsStep level_2.tree (ReplacesList level_after m v levels) d e) where
   others_kept : SameBeside a.now.trees e.now.trees
   others_kept = record {
     collectors = four.others.collectors (λ n. absurd (omega (arith, n)))
@@ -254,29 +253,14 @@ module _ (r : Release) (m v : ℕ) (is : month_at m ≡ Some r.month) (at_revisi
       three.others.levels (λ n. absurd (omega (arith, n))) ∙ two.others.levels (λ n. absurd (omega (arith, n)))
       ∙ one.others.levels (λ n. absurd (omega (arith, n)))
 
-  -- of a list: what it was, and then what it is
-  abbrev Lists : {X : Type 0} → (Row → Option X) → ℕ → List X → List Row → List Row → Type 0
-  Lists from revision xs old new = Replaces from m revision (release_number r.month r.revision) xs old new
+  frozen_written : ReplacesList frozen_after m r.revision r.frozen (a.now.trees 28) (e.now.trees 28)
+  frozen_written = rw (← at_revision, ← at_frozen, frozen_left, ← frozen_begun) two.rows
 
-  frozen_written : Lists frozen_after r.revision r.frozen (a.now.trees 28) (e.now.trees 28)
-  frozen_written =
-      subst (λ k. Lists frozen_after k r.frozen (a.now.trees 28) (e.now.trees 28)) at_revision
-      (subst (λ xs. Lists frozen_after v xs (a.now.trees 28) (e.now.trees 28)) at_frozen
-      (subst (Lists frozen_after v frozen (a.now.trees 28)) (sym frozen_left)
-      (subst (λ rows. Lists frozen_after v frozen rows (c.now.trees 28)) frozen_begun two.rows)))
+  carried_written : ReplacesList carried_after m r.revision r.carried (a.now.trees 30) (e.now.trees 30)
+  carried_written = rw (← at_revision, ← at_carried, carried_left, ← carried_begun) three.rows
 
-  carried_written : Lists carried_after r.revision r.carried (a.now.trees 30) (e.now.trees 30)
-  carried_written =
-      subst (λ k. Lists carried_after k r.carried (a.now.trees 30) (e.now.trees 30)) at_revision
-      (subst (λ xs. Lists carried_after v xs (a.now.trees 30) (e.now.trees 30)) at_carried
-      (subst (Lists carried_after v carried (a.now.trees 30)) (sym carried_left)
-      (subst (λ rows. Lists carried_after v carried rows (d.now.trees 30)) carried_begun three.rows)))
-
-  levels_written : Lists level_after r.revision r.levels (a.now.trees 32) (e.now.trees 32)
-  levels_written =
-      subst (λ k. Lists level_after k r.levels (a.now.trees 32) (e.now.trees 32)) at_revision
-      (subst (λ xs. Lists level_after v xs (a.now.trees 32) (e.now.trees 32)) at_levels
-      (subst (λ rows. Lists level_after v levels rows (e.now.trees 32)) levels_begun four.rows))
+  levels_written : ReplacesList level_after m r.revision r.levels (a.now.trees 32) (e.now.trees 32)
+  levels_written = rw (← at_revision, ← at_levels, ← levels_begun) four.rows
 
   pub steps_written : IsWritten r a e
   steps_written = record {
@@ -292,28 +276,3 @@ module _ (r : Release) (m v : ℕ) (is : month_at m ≡ Some r.month) (at_revisi
     level_ids = four.rowids;
     others = others_kept;
   }
-
--- ---- the end of the transaction
-
--- what a crash may leave of it
-pub release_survives : (r : Release) (a begun b c : State) → begun.now ≡ a.now → Survives a b (λ _. ⊥)
-    → (HasCleanDisk b → HasTables (outside begun)
-    → row_at release_cmp release_key (r.month, r.revision) (releases_in begun.now.trees) ≡ None
-    → IsDone (Freezes r) (outside begun) (outside b))
-    → Survives b c (λ db. db ≡ b.now.trees)
-    → Survives a c (λ db. HasTables a → row_at release_cmp release_key (r.month, r.revision) (releases_in a.now.trees)
-    ≡ None
-    → office_in db ≡ changed (Freezes r) (office_in a.now.trees))
-release_survives r a begun b c start one done two =
-    survives_then a b c _ _ _ (λ _ db no. absurd no)
-    (λ clean db is has none.
-    let disk : HasCleanDisk b = omega (arith, two.clean) in
-    let begins = λ (d : Database). row_at release_cmp release_key (r.month, r.revision) (releases_in d.trees) ≡ None in
-    let put = done disk (tables_begun a begun start has) (subst begins (sym start) none) in
-    ap office_in is ∙ put.office ∙ ap (λ (d : Database). changed (Freezes r) (office_in d.trees)) start) one two
-
-pub unwritten_survives : (r : Release) (a b c : State) → Survives a b (λ _. ⊥) → Survives b c (λ _. ⊥)
-    → Survives a c (λ db. HasTables a → row_at release_cmp release_key (r.month, r.revision) (releases_in a.now.trees)
-    ≡ None
-    → office_in db ≡ changed (Freezes r) (office_in a.now.trees))
-unwritten_survives r a b c one two = survives_then a b c _ _ _ (λ _ db no. absurd no) (λ _ db no. absurd no) one two

@@ -1,6 +1,6 @@
 -- What a slot was given, put by one statement, as a change of the lists.
 use Rattle.std.proofs.Common.{◌≡◌, inl, inr, ℕ, pos, List, ◌∷◌, true, false, Some, None, Option, Ok}
-use Rattle.std.proofs.Common.{IsTrue, refl, sym, ap, subst, ◌∙◌, arith}
+use Rattle.std.proofs.Common.{Result, IsTrue, refl, sym, ap, subst, ◌∙◌, arith}
 use Rattle.std.specs.String.{string_bytes}
 use Rattle.std.specs.Ordering.{nat_cmp}
 use Rattle.std.specs.Cmp.{tied_itself}
@@ -17,7 +17,8 @@ use Rattle.sqlite.specs.Cast.{cast}
 use Rattle.sqlite.specs.Kind.TheVariants.{Integer}
 use Rattle.sqlite.specs.Effect.{Database}
 use Rattle.sqlite.specs.Listing.{understood}
-use Rattle.sqlite.specs.State.{State, Executes, Survives, CommitsBy}
+use Rattle.sqlite.specs.Does.{Tally, Does}
+use Rattle.sqlite.specs.State.{State, Executes, Survives, CommitsBy, mode_of}
 use Rattle.sqlite.proofs.StateLemmas.{survives_weaker}
 use Rattle.sqlite.proofs.Callers.{statement_of}
 use Rattle.cpi_rows.specs.Held.{held_cmp, held_key}
@@ -26,7 +27,7 @@ use Rattle.cpi_store.specs.declared.bearer.Bearer.{Bearer}
 use Rattle.cpi_store.specs.declared.given.Given.{Given}
 use Rattle.cpi_store.specs.Office.{changed, Assigns}
 use Rattle.cpi_store.specs.Series.{first_of_series}
-use Rattle.cpi_sql_rows.specs.Tables.{office_schema}
+use Rattle.cpi_sql_rows.specs.Tables.{office_schema, assignment_2}
 use Rattle.cpi_sql_rows.specs.Texts.{put_assignment_text, put_assignment_command, replace_given_text}
 use Rattle.cpi_sql_rows.specs.Texts.{replace_given_command}
 use Rattle.cpi_sql_rows.specs.Lists.{office_in, assignments_in, assignment_in}
@@ -41,7 +42,9 @@ use Rattle.cpi_sql_rows.proofs.Lists.{held_total, same_number, equal_number}
 use Rattle.cpi_sql_rows.proofs.Inserting.{inserted}
 use Rattle.cpi_sql_writes.proofs.AddPremises.{slot_apart}
 use Rattle.cpi_sql_rows.proofs.GivenRows.{slot_in}
-use Rattle.cpi_sql_writes.proofs.PlanChanges.{AddsApart}
+use Rattle.cpi_sql_writes.specs.Within.{Changes, IsReady, Ran, Within}
+use Rattle.cpi_sql_writes.proofs.TableSteps.{AddsOne}
+use Rattle.cpi_sql_writes.proofs.Withins.{within_as}
 use Rattle.cpi_sql_rows.proofs.QuoteOffice.{first_tied, second_tied}
 use Rattle.cpi_sql_rows.proofs.QuoteRows.{false_from}
 use Rattle.cpi_sql_writes.proofs.SlotRows.{PutsSlot, IsSlotPut, has_slot, given_added, given_replaced}
@@ -62,6 +65,18 @@ number_same a b e = cc
 
 abbrev key : ℕ × Given → ℕ × ℕ
 key = held_key (λ (g : Given). g.assignment.slot)
+
+-- the row is added
+abbrev Added : GivenColumns → Trees → Database → Type 0
+Added c db after = AddsOne assignment_2.tree (Int (next_rowid (db assignment_2.tree)) ∷ columns_of c) db after
+
+row_made : (c : GivenColumns) (limit : Option ℕ) (s : State) (db : Trees) (tally : Tally) (after : Database)
+    → Does limit (mode_of s) (columns_of c) (record { schema = office_schema; trees = db })
+    (statement_of put_assignment_text (understood office_schema put_assignment_text)) None put_assignment_command
+    (Ok (tally, after)) → Added c db after
+row_made c limit s db = given_added c.collector c.slot c.outlet (string_bytes c.item) c.first_month c.last_month
+    c.series_collector c.series_slot (copied_column c.copied) (copied_fits c.copied) limit s db
+    (statement_of put_assignment_text (understood office_schema put_assignment_text))
 
 module _ (n : ℕ) (g : Given) (c : GivenColumns) (is : given_of c ≡ Some (n, g)) where
   number_is : c.collector ≡ n
@@ -101,10 +116,9 @@ module _ (n : ℕ) (g : Given) (c : GivenColumns) (is : given_of c ≡ Some (n, 
         apart (rw (mine, slot) (tied_itself (held_total nat_cmp_total) (n, g.assignment.slot)))));
   }
 
-  module _ (old new : State) (count : ℕ) (schema : old.now.schema ≡ office_schema)
-      (inside : IsTrue old.in_transaction) (shaped : HasRowids (old.now.trees 22)) where
+  module _ (old new : State) (inside : IsTrue old.in_transaction) (ready : IsReady assignment_2.tree old) where
     -- the row over the one that stands
-    pub replace_ran : Executes replace_given_text (columns_of c) old new (Ok count) → IsStep 22 (PutsGiven n g) old new
+    replace_ran : Ran replace_given_text (columns_of c) old new → IsStep 22 (PutsGiven n g) old new
     replace_ran ran =
         let it = change_done replace_given_text replace_given_command replace_given_is (columns_of c)
         (λ o m t k w. w) (λ e. elim e [ inl commit ↦ absurd cc | inr release ↦ absurd (let f = release.1 in cc) ])
@@ -113,8 +127,8 @@ module _ (n : ℕ) (g : Given) (c : GivenColumns) (is : given_of c ≡ Some (n, 
         given_replaced c.collector c.slot c.outlet (string_bytes c.item) c.first_month c.last_month
         c.series_collector c.series_slot (copied_column c.copied) (copied_fits c.copied) limit s₀ db
         (statement_of replace_given_text (understood office_schema replace_given_text)) tally after shape d)
-        old new count schema ran in
-        let puts = it.0 shaped in
+        old new ran.0 ready.schema ran.1 in
+        let puts = it.0 ready.rowids in
         let row = slot_puts (old.now.trees 22) (new.now.trees 22) puts.rows in
         record {
           inside = it.1 ∙ inside;
@@ -130,34 +144,46 @@ module _ (n : ℕ) (g : Given) (c : GivenColumns) (is : given_of c ≡ Some (n, 
         }
 
     -- the row of a slot that is free
-    pub add_ran : IsFree n g.assignment.slot (assignments_in (old.now.trees 22))
-        → Executes put_assignment_text (columns_of c) old new (Ok count) → IsStep 22 (PutsGiven n g) old new
+    add_ran : IsFree n g.assignment.slot (assignments_in (old.now.trees 22))
+        → Ran put_assignment_text (columns_of c) old new → IsStep 22 (PutsGiven n g) old new
     add_ran free ran =
         let it = change_done put_assignment_text put_assignment_command put_assignment_is (columns_of c)
         (λ o m t k w. w) (λ e. elim e [ inl commit ↦ absurd cc | inr release ↦ absurd (let f = release.1 in cc) ])
-        (λ db after. AddsApart 22 (Int (next_rowid (db 22)) ∷ columns_of c) db after)
-        (λ limit s₀ db tally after d.
-        given_added c.collector c.slot c.outlet (string_bytes c.item) c.first_month c.last_month
-        c.series_collector c.series_slot (copied_column c.copied) (copied_fits c.copied) limit s₀ db
-        (statement_of put_assignment_text (understood office_schema put_assignment_text)) tally after d)
-        old new count schema ran in
+        (Added c) (row_made c) old new ran.0 ready.schema ran.1 in
         let row : IsKeyed (held_cmp nat_cmp) key assignment_in (old.now.trees 22)
         → PutsRow (held_total nat_cmp_total) key assignment_in (n, g) (old.now.trees 22) (new.now.trees 22) =
         λ keyed. inserted (held_total nat_cmp_total) key assignment_in (n, g) (old.now.trees 22)
-        (new.now.trees 22) (Int (next_rowid (old.now.trees 22)) ∷ columns_of c) is it.0.adds.rows it.0.adds.kept keyed
+        (new.now.trees 22) (Int (next_rowid (old.now.trees 22)) ∷ columns_of c) is it.0.rows it.0.kept keyed
         (slot_apart n g.assignment.slot (assignments_in (old.now.trees 22)) free) in
         record {
           inside = it.1 ∙ inside;
-          schema = it.0.adds.schema;
+          schema = it.0.schema;
           rows = λ keyed. (
             listed_put (held_total nat_cmp_total) key assignment_in (n, g) (old.now.trees 22) (new.now.trees 22)
                 keyed (row keyed),
             still_keyed (held_total nat_cmp_total) key assignment_in (n, g) (old.now.trees 22) (new.now.trees 22)
                 keyed (row keyed),
           );
-          rowids = it.0.rowids shaped;
-          others = it.0.adds.others;
+          rowids = it.0.rowids ready.rowids;
+          others = it.0.others;
         }
+
+module _ {A E : Type 0} (c : GivenColumns) (old new : State) (result : Result A E) where
+  pub given_puts : Within old new result (Ran replace_given_text (columns_of c))
+      → Within old new result (λ old new. (n : ℕ) (g : Given) → given_of c ≡ Some (n, g)
+      → Changes assignment_2.tree (PutsGiven n g) old new)
+  given_puts ran = within_as old new result (Ran replace_given_text (columns_of c)) (λ old new. (n : ℕ) (g : Given)
+      → given_of c ≡ Some (n, g) → Changes assignment_2.tree (PutsGiven n g) old new) ran
+      (λ inside run n g is ready. replace_ran n g c is old new inside ready run)
+
+  pub given_adds : Within old new result (Ran put_assignment_text (columns_of c))
+      → Within old new result (λ old new. (n : ℕ) (g : Given) → given_of c ≡ Some (n, g)
+      → IsFree n g.assignment.slot (assignments_in (old.now.trees assignment_2.tree))
+      → Changes assignment_2.tree (PutsGiven n g) old new)
+  given_adds ran = within_as old new result (Ran put_assignment_text (columns_of c)) (λ old new. (n : ℕ) (g : Given)
+      → given_of c ≡ Some (n, g) → IsFree n g.assignment.slot (assignments_in (old.now.trees assignment_2.tree))
+      → Changes assignment_2.tree (PutsGiven n g) old new) ran
+      (λ inside run n g is free ready. add_ran n g c is old new inside ready free run)
 
 -- ---- a new assignment, which names its own series
 
@@ -166,20 +192,17 @@ module _ (b : Bearer) (a : Assigned) (c : GivenColumns)
   abbrev given : ℕ × Given
   given = (b.number, first_of_series b.number a.assignment)
 
-  abbrev Added : Trees → Database → Type 0
-  Added db after = AddsApart 22 (Int (next_rowid (db 22)) ∷ columns_of c) db after
-
   module _ (old : State) (after : Database) (has : HasTables old)
       (free : IsFree b.number a.assignment.slot (office_in old.now.trees).assignments)
-      (made : Added old.now.trees after) where
+      (made : Added c old.now.trees after) where
     puts : PutsRow (held_total nat_cmp_total) key assignment_in given (old.now.trees 22) (after.trees 22)
     puts = inserted (held_total nat_cmp_total) key assignment_in given (old.now.trees 22) (after.trees 22)
-        (Int (next_rowid (old.now.trees 22)) ∷ columns_of c) is made.adds.rows made.adds.kept has.assignments
+        (Int (next_rowid (old.now.trees 22)) ∷ columns_of c) is made.rows made.kept has.assignments
         (slot_apart b.number a.assignment.slot (office_in old.now.trees).assignments free)
 
     assignment_office : office_in after.trees ≡ changed (Assigns b a) (office_in old.now.trees)
     assignment_office =
-        let others = made.adds.others in
+        let others = made.others in
         rw (
           others.collectors (λ e. absurd (omega (arith, e))),
           others.outlets (λ e. absurd (omega (arith, e))),
@@ -196,10 +219,10 @@ module _ (b : Bearer) (a : Assigned) (c : GivenColumns)
 
     assignment_done : (s : State) → s.now ≡ after → s.in_transaction ≡ false → IsDone (Assigns b a) old s
     assignment_done s now alone =
-        let others = made.adds.others in
+        let others = made.others in
         record {
           tables = rw now (record {
-            schema = made.adds.schema;
+            schema = made.schema;
             alone = alone;
             plans = same_plans old.now.trees after.trees (others.nodes (λ e. absurd (omega (arith, e))))
                 (others.places (λ e. absurd (omega (arith, e))))
@@ -226,10 +249,7 @@ module _ (b : Bearer) (a : Assigned) (c : GivenColumns)
   assignment_ran old new count has free ran =
       let it = change_done put_assignment_text put_assignment_command put_assignment_is (columns_of c)
       (λ o m t k w. w) (λ e. elim e [ inl commit ↦ absurd cc | inr release ↦ absurd (let f = release.1 in cc) ])
-      Added (λ limit s₀ db tally after d.
-      given_added c.collector c.slot c.outlet (string_bytes c.item) c.first_month c.last_month
-      c.series_collector c.series_slot (copied_column c.copied) (copied_fits c.copied) limit s₀ db
-      (statement_of put_assignment_text (understood office_schema put_assignment_text)) tally after d)
+      (Added c) (row_made c)
       old new count has.schema ran in
       assignment_done old new.now has free it.0 new refl (it.1 ∙ has.alone)
 
@@ -240,9 +260,6 @@ module _ (b : Bearer) (a : Assigned) (c : GivenColumns)
   assignment_survives old new ran = survives_weaker old new _ _ (λ _ db may has free.
       let it = change_commits put_assignment_text put_assignment_command put_assignment_is (columns_of c)
       (λ o m t k w. w) (λ e. elim e [ inl commit ↦ absurd cc | inr release ↦ absurd (let f = release.1 in cc) ])
-      Added (λ limit s₀ db tally after d.
-      given_added c.collector c.slot c.outlet (string_bytes c.item) c.first_month c.last_month
-      c.series_collector c.series_slot (copied_column c.copied) (copied_fits c.copied) limit s₀ db
-      (statement_of put_assignment_text (understood office_schema put_assignment_text)) tally after d)
+      (Added c) (row_made c)
       old db has.schema may in
       ap office_in it.2 ∙ assignment_office old it.0 has free it.1) ran

@@ -47,7 +47,7 @@ use Rattle.cpi_sql_rows.specs.Shelf.{equals, HasRowids}
 use Rattle.cpi_sql_rows.specs.Steps.{SameBut}
 use Rattle.cpi_sql_rows.proofs.Unchanged.{others_same}
 use Rattle.cpi_sql_rows.proofs.Lists.{equal_is}
-use Rattle.cpi_sql_writes.proofs.PlanChanges.{AddsApart}
+use Rattle.cpi_sql_writes.proofs.TableSteps.{AddsOne, row_added}
 use Rattle.cpi_sql_rows.proofs.Reading.{Members, members, equality, left_has, has_left}
 use Rattle.cpi_sql_rows.proofs.QuoteRows.{one_equal, same_int, false_from, not_true, differ_is, put_shaped, rowids_left}
 use Rattle.cpi_sql_rows.proofs.Writing as writing
@@ -138,30 +138,10 @@ module _ (c s o : ℕ) (i : List ℕ) (f l n t : ℕ) (k : Value) (fits : cast I
   pub given_added : (limit : Option ℕ) (s₀ : State) (db : Trees) (text : List ℕ) (tally : Tally) (after : Database)
       → Does limit (mode_of s₀) all (record { schema = office_schema; trees = db }) text None put_assignment_command
       (Ok (tally, after))
-      → AddsApart 22 (slot_row (Int (next_rowid (db 22)))) db after
-  given_added limit s₀ db text tally after does =
-      let done = went does in
-      let now = ap (λ (p : Tally × Database). p.1) (same_value (went (went done.2).2).2) in
-      let source = slot_row Null in
-      let it = assignment_2 in
-      let edit = edit_of db it [] Chosen 0 (source ∷ []) in
-      let applied = writing.insert_one limit (mode_of s₀).keys office_schema it.name it.tree it.columns it.key
-      it.primary it.uniques it.orders it.references all (Values given_assignment 10) source db done.0
-      (λ rows h. h.1) done.1 in
-      let at : (tree : ℕ) → after.trees tree ≡ done.0.trees tree = λ tree. ap (λ (d : Database). d.trees tree) now in
-      let is : edited db edit ≡ put_row (slot_row (Int (next_rowid (db 22)))) (db 22) =
-      ap (λ r. put_row r (db 22)) (new_is db) in
-      record {
-        adds = record {
-          schema = ap (λ (d : Database). d.schema) now;
-          rows = at 22 ∙ applied.rows ∙ is;
-          kept = λ r h. subst (λ l. Has l r) (sym (at 22 ∙ applied.rows))
-              (put_all_keeps edit.news (db 22) r applied.fresh h);
-          others = others_same 22 db done.0.trees after.trees at applied.tables;
-        };
-        rowids = λ h. subst HasRowids (sym (at 22 ∙ applied.rows))
-            (put_shaped edit.news (db 22) h applied.keyed applied.fresh);
-      }
+      → AddsOne assignment_2.tree (slot_row (Int (next_rowid (db assignment_2.tree)))) db after
+  given_added limit s₀ db text tally after = row_added assignment_2 13 refl (Values given_assignment 10) all
+      (slot_row Null) (slot_row (Int (next_rowid (db 22)))) limit s₀ db tally after (λ rows h. h.1)
+      (ap (λ r. put_row r (db 22)) (new_is db))
 
   -- ---- an upsert
 

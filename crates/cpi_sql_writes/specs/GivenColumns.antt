@@ -8,7 +8,7 @@ use Rattle.sqlite.specs.Order.{Row}
 use Rattle.cpi_rows.specs.Keyed.{at}
 use Rattle.cpi_rows.specs.Held.{held_by, held_cmp, held_key}
 use Rattle.cpi_store.specs.declared.given.Given.{Given}
-use Rattle.cpi_store.specs.declared.handover.Handover.{Handover}
+use Rattle.cpi_store.specs.declared.series_move.SeriesMove.{SeriesMove}
 use Rattle.cpi_store.specs.Office.{put_given, given_until}
 use Rattle.cpi_sql_rows.specs.Lists.{given_from, assignment_in, assignments_in}
 use Rattle.cpi_sql_rows.specs.Shelf.{IsKeyed}
@@ -43,7 +43,7 @@ abbrev pub IsFree : ℕ → ℕ → List (ℕ × Given) → Type 0
 IsFree number slot rows = at (λ g. g.assignment.slot) slot (held_by number rows) ≡ None
 
 -- the former slot was given what ends, but for its last month, and the new slot is free
-pub record CanHandOver (h : Handover) (rows : List (ℕ × Given)) : Type 0 where
+pub record CanHandOver (h : SeriesMove) (rows : List (ℕ × Given)) : Type 0 where
   pub stands : option_map (given_until h.ended.assignment.last_month)
       (at (λ g. g.assignment.slot) h.ended.assignment.slot (held_by h.former.number rows)) ≡ Some h.ended
   pub free : IsFree h.taker.number h.assigned.assignment.slot rows

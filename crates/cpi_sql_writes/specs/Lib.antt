@@ -1,2 +1,4 @@
 pub mod GivenColumns
 pub mod ReleaseSteps
+pub mod Within
+pub mod PlanSteps

@@ -1,5 +1,5 @@
 -- The steps of putting a release, on the rows of its tables.
-use Rattle.std.specs.Prelude.{◌≡◌, ◌⊎◌, ◌↔◌, ◌&&◌, ℕ, pos, false, List, Option, Some, IsTrue}
+use Rattle.std.specs.Prelude.{◌≡◌, ◌&&◌, ℕ, pos, Bool, List, Option, Some, None, IsTrue}
 use Rattle.std.specs.Ordering.{nat_cmp}
 use Rattle.sqlite.specs.declared.types.Value.TheVariants.{Int}
 use Rattle.sqlite.specs.Order.{Row, column}
@@ -7,36 +7,37 @@ use Rattle.sqlite.specs.Tree.{Trees, put_row}
 use Rattle.sqlite.specs.State.{State}
 use Rattle.sqlite_rules.specs.Lists.{Has}
 use Rattle.cpi_codes.specs.CodeOrder.{code_cmp}
-use Rattle.cpi_rows.specs.Keyed.{IsInOrder}
+use Rattle.cpi_rows.specs.Keyed.{IsInOrder, row_at}
 use Rattle.cpi_index.specs.Series.{frozen_serial, carried_serial}
 use Rattle.cpi_release.specs.declared.release.Release.{Release}
+use Rattle.cpi_release.specs.FrozenMonths.{release_cmp, release_key}
+use Rattle.cpi_store.specs.Office.{Office}
 use Rattle.cpi_sql_rows.specs.declared.release_rows.Header.{Header}
-use Rattle.cpi_sql_rows.specs.Tables.{office_schema}
-use Rattle.cpi_sql_rows.specs.Lists.{and_then, month_at, release_from_key, release_number, header_in}
+use Rattle.cpi_sql_rows.specs.Tables.{office_schema, collector, outlet, item, node, plan_item, calendar}
+use Rattle.cpi_sql_rows.specs.Tables.{assignment_2, quote_2, release_2, frozen_2, carried_2, level_2, plan_ref}
+use Rattle.cpi_sql_rows.specs.Lists.{and_then, month_at, release_from_key, revision_from, header_in}
 use Rattle.cpi_sql_rows.specs.ReleaseRows.{frozen_after, carried_after, level_after}
 use Rattle.cpi_sql_rows.specs.Shelf.{HasRowids, equals}
 use Rattle.cpi_sql_rows.specs.Steps.{SameBut}
+use Rattle.cpi_sql_writes.specs.Within.{Replaces}
 
--- what is left are the rows of other releases
-abbrev pub HasDroppedRelease : ℕ → ℕ → List Row → List Row → Type 0
-HasDroppedRelease month revision rows left = (r : Row) → Has left r
-    ↔ (Has rows r × ((equals (column r 1) (Int (pos month)) && equals (column r 2) (Int (pos revision))) ≡ false))
+-- whether a row is one of the release; its month is written as a column has it
+abbrev pub is_of_release : ℕ → ℕ → Row → Bool
+is_of_release month revision r = equals (column r 1) (Int (pos month)) && equals (column r 2) (Int (pos revision))
 
-module _ {X : Type 0} (from : Row → Option X) where
-  -- what a row stands for, beside the release that it begins with
-  abbrev pub beside_release : Row → Option (ℕ × X)
-  beside_release r = and_then (release_from_key (column r 1) (column r 2)) (λ n. and_then (from r) (λ x. Some (n, x)))
+-- the number of the release that these columns stand for
+abbrev pub IsReleaseNumber : ℕ → ℕ → ℕ → Type 0
+IsReleaseNumber month revision number = release_from_key (Int (pos month)) (Int (pos revision)) ≡ Some number
 
-  -- the rows that are there, and those of the list
-  pub record AddsRelease (number : ℕ) (xs : List X) (mid new : List Row) : Type 0 where
-    pub others : (r : Row) → Has new r → Has mid r ⊎ ((x : X) × Has xs x × (beside_release r ≡ Some (number, x)))
-    pub kept : (r : Row) → Has mid r → Has new r
-    pub there : (x : X) → Has xs x → (r : Row) × Has new r × (beside_release r ≡ Some (number, x))
+-- what a row stands for, beside the release that it begins with
+abbrev pub beside_release : {X : Type 0} → (Row → Option X) → Row → Option (ℕ × X)
+beside_release from r =
+    and_then (release_from_key (column r 1) (column r 2)) (λ n. and_then (from r) (λ x. Some (n, x)))
 
-  -- the rows of the release are dropped, and those of the list added; its month is written as a column has it
-  abbrev pub Replaces : ℕ → ℕ → ℕ → List X → List Row → List Row → Type 0
-  Replaces month revision number xs old new =
-      (mid : List Row) × HasDroppedRelease month revision old mid × AddsRelease number xs mid new
+-- the rows of the release are dropped, and those of the list added
+abbrev pub ReplacesList : {X : Type 0} → (Row → Option X) → ℕ → ℕ → List X → List Row → List Row → Type 0
+ReplacesList from month revision =
+    Replaces (beside_release from) (is_of_release month revision) (IsReleaseNumber month revision)
 
 -- the row of the header is added
 pub record AddsHeader (h : Header) (old new : List Row) : Type 0 where
@@ -45,15 +46,31 @@ pub record AddsHeader (h : Header) (old new : List Row) : Type 0 where
   pub rows : new ≡ put_row row old
   pub kept : (r : Row) → Has old r → Has new r
 
+-- the step that adds it
 pub record IsHeaderStep (h : Header) (old new : State) : Type 0 where
   pub inside : IsTrue new.in_transaction
   pub schema : new.now.schema ≡ office_schema
-  pub rows : AddsHeader h (old.now.trees 26) (new.now.trees 26)
-  pub others : SameBut 26 old.now.trees new.now.trees
+  pub rows : AddsHeader h (old.now.trees release_2.tree) (new.now.trees release_2.tree)
+  pub others : SameBut release_2.tree old.now.trees new.now.trees
+
+-- The header is added, where its columns are these.
+abbrev pub PutsHeader : ℕ → ℕ → Header → State → State → Type 0
+PutsHeader month revision h old new = old.now.schema ≡ office_schema → month_at month ≡ Some h.month
+    → revision_from (Int (pos revision)) ≡ Some h.revision → IsHeaderStep h old new
 
 -- what a release says beside its lists
 abbrev pub header_of : Release → Header
-header_of r = record { month = r.month; revision = r.revision; frozen_at = r.frozen_at; publishes = r.publishes; carry = r.carry }
+header_of r = record {
+  month = r.month;
+  revision = r.revision;
+  frozen_at = r.frozen_at;
+  publishes = r.publishes;
+  carry = r.carry;
+}
+
+-- no release of its month has its revision
+abbrev pub IsNew : Release → Office → Type 0
+IsNew r office = row_at release_cmp release_key (r.month, r.revision) office.releases ≡ None
 
 -- the tables can hold it: its lists rise by their keys, as reads give them
 pub record FitsTables (r : Release) : Type 0 where
@@ -63,29 +80,29 @@ pub record FitsTables (r : Release) : Type 0 where
 
 -- the tables that tell nothing of releases are as they were
 pub record SameBeside (old new : Trees) : Type 0 where
-  pub collectors : new 1 ≡ old 1
-  pub outlets : new 3 ≡ old 3
-  pub items : new 4 ≡ old 4
-  pub nodes : new 6 ≡ old 6
-  pub places : new 8 ≡ old 8
-  pub calendar : new 10 ≡ old 10
-  pub assignments : new 22 ≡ old 22
-  pub quotes : new 24 ≡ old 24
-  pub references : new 34 ≡ old 34
+  pub collectors : new collector.tree ≡ old collector.tree
+  pub outlets : new outlet.tree ≡ old outlet.tree
+  pub items : new item.tree ≡ old item.tree
+  pub nodes : new node.tree ≡ old node.tree
+  pub places : new plan_item.tree ≡ old plan_item.tree
+  pub calendar : new calendar.tree ≡ old calendar.tree
+  pub assignments : new assignment_2.tree ≡ old assignment_2.tree
+  pub quotes : new quote_2.tree ≡ old quote_2.tree
+  pub references : new plan_ref.tree ≡ old plan_ref.tree
 
 -- the rows of a release are written
 pub record IsWritten (r : Release) (old new : State) : Type 0 where
   pub schema : new.now.schema ≡ office_schema
   pub number : ℕ
   pub month : month_at number ≡ Some r.month
-  pub header : AddsHeader (header_of r) (old.now.trees 26) (new.now.trees 26)
-  pub frozen : Replaces frozen_after number r.revision (release_number r.month r.revision) r.frozen
-      (old.now.trees 28) (new.now.trees 28)
-  pub carried : Replaces carried_after number r.revision (release_number r.month r.revision) r.carried
-      (old.now.trees 30) (new.now.trees 30)
-  pub levels : Replaces level_after number r.revision (release_number r.month r.revision) r.levels
-      (old.now.trees 32) (new.now.trees 32)
-  pub frozen_ids : HasRowids (new.now.trees 28)
-  pub carried_ids : HasRowids (new.now.trees 30)
-  pub level_ids : HasRowids (new.now.trees 32)
+  pub header : AddsHeader (header_of r) (old.now.trees release_2.tree) (new.now.trees release_2.tree)
+  pub frozen : ReplacesList frozen_after number r.revision r.frozen
+      (old.now.trees frozen_2.tree) (new.now.trees frozen_2.tree)
+  pub carried : ReplacesList carried_after number r.revision r.carried
+      (old.now.trees carried_2.tree) (new.now.trees carried_2.tree)
+  pub levels : ReplacesList level_after number r.revision r.levels
+      (old.now.trees level_2.tree) (new.now.trees level_2.tree)
+  pub frozen_ids : HasRowids (new.now.trees frozen_2.tree)
+  pub carried_ids : HasRowids (new.now.trees carried_2.tree)
+  pub level_ids : HasRowids (new.now.trees level_2.tree)
   pub others : SameBeside old.now.trees new.now.trees

@@ -3,11 +3,13 @@
 
 mod given_columns;
 mod handovers;
+mod held_row;
+mod inside;
+mod one_change;
 mod plan_rows;
 mod plans;
 mod put_header;
-mod release_inserts;
-mod release_lists;
+mod release_rows;
 mod releases;
 mod writes;
 

@@ -4,12 +4,14 @@ ghost use Rattle.std.specs.String.{string_bytes};
 ghost use Rattle.sqlite.specs.declared.types.Value.TheVariants.{Int, Text};
 ghost use Rattle.sqlite.specs.Held.{state};
 ghost use Rattle.sqlite.specs.State.{HasCleanDisk, Survives};
+ghost use Rattle.sqlite.specs.Values.{bound};
 ghost use Rattle.cpi_rows.specs.Keyed.{at};
 ghost use Rattle.cpi_store.specs.Office.{changed, Registers, PutsOutlet, PutsItem, PutsCalendar, Assigns, Quotes};
 ghost use Rattle.cpi_rows.specs.Held.{held_by};
 ghost use Rattle.cpi_sql_rows.specs.Lists.{bearer_from, office_in, month_at};
 ghost use Rattle.cpi_sql_rows.specs.Lists.{calendar_from};
 ghost use Rattle.cpi_sql_rows.specs.Shelf.{IsCleanBook, IsKept, IsDone, HasTables};
+ghost use Rattle.cpi_sql_writes.specs.Within.{RunsAlone};
 
 use crate::given_columns::given_columns;
 use cpi_codes::SeriesId;
@@ -21,7 +23,20 @@ use cpi_sql_rows::{
 use cpi_store::{Bearer, Outlet};
 use cpi_survey::{Assigned, Quote};
 use sqlite::{Alter, Connection, params};
+use sqlite_value::value::ValueRef;
 use std::alloc::Global;
+
+// Runs the statement.
+fn put_row<S: Alter>(
+    conn: &mut Connection<S>,
+    text: &str,
+    params: &[ValueRef<'_>],
+) -> Result<(), Unread>
+    ensures { RunsAlone text.now (bound params.now) (state S.Store conn.old) (state S.Store conn.new) result }
+{
+    let _count = run(conn, text, params)?;
+    Ok(())
+}
 
 // The columns that stand for the bearer.
 fn bearer_columns(alloc: Global, bearer: Bearer) -> Result<(u32, String), Unread>
@@ -52,8 +67,7 @@ pub fn put_collector<S: Alter>(
         → office_in db ≡ changed (Registers bearer) (office_in (state S.Store conn.old).now.trees)) }
 {
     let columns = bearer_columns(alloc, bearer)?;
-    let _count = run(conn, PUT_COLLECTOR, params![columns.0, columns.1.as_str()])?;
-    Ok(())
+    put_row(conn, PUT_COLLECTOR, params![columns.0, columns.1.as_str()])
 }
 
 const PUT_OUTLET: &str = "INSERT INTO outlet (number, name) VALUES (?1, ?2)";
@@ -74,8 +88,7 @@ pub fn put_outlet<S: Alter>(conn: &mut Connection<S>, outlet: &Outlet) -> Result
 {
     let number = outlet_number(outlet.number);
     let name = name_text(&outlet.name);
-    let _count = run(conn, PUT_OUTLET, params![number, name])?;
-    Ok(())
+    put_row(conn, PUT_OUTLET, params![number, name])
 }
 
 const PUT_ITEM: &str = "INSERT INTO item (code, text, unit, low, high) VALUES (?1, ?2, ?3, ?4, ?5)";
@@ -103,12 +116,11 @@ pub fn put_item<S: Alter>(
     let unit = name_text(&item.unit);
     let low = low_number(item.low);
     let high = high_number(item.high);
-    let _count = run(
+    put_row(
         conn,
         PUT_ITEM,
         params![code.as_str(), text, unit, low, high],
-    )?;
-    Ok(())
+    )
 }
 
 const PUT_ASSIGNMENT: &str =
@@ -136,12 +148,10 @@ pub fn put_assignment<S: Alter>(
         (held_by bearer.number (office_in (state S.Store conn.old).now.trees).assignments) ≡ None
         → office_in db ≡ changed (Assigns bearer assigned.now) (office_in (state S.Store conn.old).now.trees)) }
 {
-    let series = SeriesId {
-        collector: bearer.number,
-        slot: assigned.assignment.slot,
-    };
-    let columns = given_columns(alloc, bearer.number, &assigned.assignment, series)?;
-    let _count = run(
+    let (collector, slot) = (bearer.number, assigned.assignment.slot);
+    let series = SeriesId { collector, slot };
+    let columns = given_columns(alloc, collector, &assigned.assignment, series)?;
+    put_row(
         conn,
         PUT_ASSIGNMENT,
         params![
@@ -155,8 +165,7 @@ pub fn put_assignment<S: Alter>(
             columns.series_slot,
             columns.copied
         ],
-    )?;
-    Ok(())
+    )
 }
 
 const PUT_QUOTE: &str =
@@ -186,12 +195,11 @@ pub fn put_quote<S: Alter>(
     let word = mark_text(quote.mark);
     let value = mark_value(quote.mark);
     let receipt = quote.receipt;
-    let _count = run(
+    put_row(
         conn,
         PUT_QUOTE,
         params![collector, slot, month, word, value, receipt],
-    )?;
-    Ok(())
+    )
 }
 
 // The month's number; what the row's columns are then stands for the row.
@@ -227,10 +235,9 @@ pub fn put_calendar<S: Alter>(conn: &mut Connection<S>, row: CalendarRow) -> Res
     let opens = moment_value(row.opens());
     let closes = moment_value(row.closes());
     let publishes = moment_value(row.publishes());
-    let _count = run(
+    put_row(
         conn,
         PUT_CALENDAR,
         params![month, &opens, &closes, &publishes],
-    )?;
-    Ok(())
+    )
 }

@@ -1,5 +1,6 @@
 -- The lists of all after a holder who has nothing was added.
-use Rattle.std.proofs.Common.{◌≡◌, ◌≢◌, ℕ, Bool, true, false, eqb, List, [], ◌∷◌, ◌++◌, map, Some, None, Option, refl, sym, ap, ◌∙◌, inl, inr}
+use Rattle.std.proofs.Common.{◌≡◌, ◌≢◌, ℕ, Bool, true, false, eqb, List, [], ◌∷◌, ◌++◌, map, Some, None, Option, refl}
+use Rattle.std.proofs.Common.{sym, ap, ◌∙◌, inl, inr}
 use Rattle.std.specs.Prelude.{cond, filter, ◌⊎◌, option_map}
 use Rattle.std.specs.Ordering.{nat_cmp, is_lt, is_gt, is_eq}
 use Rattle.std.specs.declared.cmp.Ordering.TheVariants.{Less}
@@ -17,7 +18,8 @@ use Rattle.cpi_store.specs.declared.holder.Holder.{Holder}
 use Rattle.cpi_store.specs.declared.taken_over.TakenOver.{TakenOver}
 use Rattle.cpi_release.specs.declared.release.Release.{Release}
 use Rattle.cpi_store.specs.Bearer.{bearer_of}
-use Rattle.cpi_store.specs.Holders.{collectors_of, collector_of_holder, all_assignments, all_quotes, assignments_of, quotes_of, named_by, ArePlaced, office_of}
+use Rattle.cpi_store.specs.Holders.{collectors_of, collector_of_holder, all_assignments, all_quotes, assignments_of}
+use Rattle.cpi_store.specs.Holders.{quotes_of, named_by, ArePlaced, office_of}
 use Rattle.cpi_store.specs.Office.{changed, Registers}
 use Rattle.cpi_survey.specs.Own.{OwnPart}
 use Rattle.cpi_survey.specs.Public.{PublicPart}
@@ -30,53 +32,68 @@ own_assignments h = h.own.assignments
 
 -- ---- who bears a key, after one was added
 
-pub bearer_new : (key : ℕ) (b : Bearer) (xs ys : List Bearer) → eqb b.key key ≡ true → bearer_of key (xs ++ ys) ≡ None → bearer_of key (xs ++ b ∷ ys) ≡ Some b
+pub bearer_new : (key : ℕ) (b : Bearer) (xs ys : List Bearer) → eqb b.key key ≡ true →
+    bearer_of key (xs ++ ys) ≡ None → bearer_of key (xs ++ b ∷ ys) ≡ Some b
 bearer_new key b [] ys e none = rw e refl
 bearer_new key b (x ∷ xs) ys e none = by (eqb x.key key) refl (bearer_new key b xs ys e)
   where
-    by : (s : Bool) → eqb x.key key ≡ s → (bearer_of key (xs ++ ys) ≡ None → bearer_of key (xs ++ b ∷ ys) ≡ Some b) → bearer_of key (x ∷ xs ++ b ∷ ys) ≡ Some b
+    by : (s : Bool) → eqb x.key key ≡ s → (bearer_of key (xs ++ ys) ≡ None → bearer_of key (xs ++ b ∷ ys) ≡ Some b) →
+        bearer_of key (x ∷ xs ++ b ∷ ys) ≡ Some b
     by true f rest = let no : Some x ≡ None = rw f at none in cc
     by false f rest = rw f (rest (rw f at none))
 
-pub bearer_passed : (key : ℕ) (b : Bearer) (xs ys : List Bearer) → eqb b.key key ≡ false → bearer_of key (xs ++ b ∷ ys) ≡ bearer_of key (xs ++ ys)
+pub bearer_passed : (key : ℕ) (b : Bearer) (xs ys : List Bearer) → eqb b.key key ≡ false →
+    bearer_of key (xs ++ b ∷ ys) ≡ bearer_of key (xs ++ ys)
 bearer_passed key b [] ys e = rw e refl
 bearer_passed key b (x ∷ xs) ys e = by (eqb x.key key) refl (bearer_passed key b xs ys e)
   where
-    by : (s : Bool) → eqb x.key key ≡ s → bearer_of key (xs ++ b ∷ ys) ≡ bearer_of key (xs ++ ys) → bearer_of key (x ∷ xs ++ b ∷ ys) ≡ bearer_of key (x ∷ xs ++ ys)
+    by : (s : Bool) → eqb x.key key ≡ s → bearer_of key (xs ++ b ∷ ys) ≡ bearer_of key (xs ++ ys) →
+        bearer_of key (x ∷ xs ++ b ∷ ys) ≡ bearer_of key (x ∷ xs ++ ys)
     by true f rest = rw f refl
     by false f rest = rw f rest
 
-module _ (b : Bearer) (bs : List Bearer) (sorted : IsInOrder nat_cmp number bs) (none : at number b.number bs ≡ None) where
-  abbrev all_others : filter (λ r. is_lt (nat_cmp r.number b.number)) bs ++ filter (λ r. is_gt (nat_cmp r.number b.number)) bs ≡ bs
+module _ (b : Bearer) (bs : List Bearer) (sorted : IsInOrder nat_cmp number bs)
+    (none : at number b.number bs ≡ None) where
+  abbrev all_others : filter (λ r. is_lt (nat_cmp r.number b.number)) bs
+      ++ filter (λ r. is_gt (nat_cmp r.number b.number)) bs ≡ bs
   all_others = parted nat_cmp_total number b.number bs sorted none
 
-  pub bearer-put_own : (key : ℕ) → eqb b.key key ≡ true → bearer_of key bs ≡ None → bearer_of key (put_by number b bs) ≡ Some b
+  pub bearer-put_own : (key : ℕ) → eqb b.key key ≡ true → bearer_of key bs ≡ None →
+      bearer_of key (put_by number b bs) ≡ Some b
   bearer-put_own key e free = bearer_new key b _ _ e (ap (bearer_of key) all_others ∙ free)
 
   pub bearer-put_other : (key : ℕ) → eqb b.key key ≡ false → bearer_of key (put_by number b bs) ≡ bearer_of key bs
   bearer-put_other key e = bearer_passed key b _ _ e ∙ ap (bearer_of key) all_others
 
   -- a map from key to bearer goes along
-  pub bearer_added : bearer_of b.key bs ≡ None → (key : ℕ) (before after : Option Bearer) → before ≡ bearer_of key bs → after ≡ cond (is_eq (nat_cmp b.key key)) (Some b) before → after ≡ bearer_of key (put_by number b bs)
+  pub bearer_added : bearer_of b.key bs ≡ None → (key : ℕ) (before after : Option Bearer) →
+      before ≡ bearer_of key bs → after ≡ cond (is_eq (nat_cmp b.key key)) (Some b) before →
+      after ≡ bearer_of key (put_by number b bs)
   bearer_added free key before after was is = by (eqb_tells b.key key)
     where
-      by : ((eqb b.key key ≡ true) × (b.key ≡ key)) ⊎ ((eqb b.key key ≡ false) × (b.key ≢ key)) → after ≡ bearer_of key (put_by number b bs)
+      by : ((eqb b.key key ≡ true) × (b.key ≡ key)) ⊎ ((eqb b.key key ≡ false) × (b.key ≢ key)) →
+          after ≡ bearer_of key (put_by number b bs)
       by (inl same) =
           let test : is_eq (nat_cmp b.key key) ≡ true = rw (← same.1) (ap is_eq (tied_itself nat_cmp_total b.key)) in
-          is ∙ ap (λ t. cond t (Some b) before) test ∙ sym (bearer-put_own key same.0 (ap (λ k. bearer_of k bs) (sym same.1) ∙ free))
-      by (inr apart) = is ∙ ap (λ t. cond t (Some b) before) (different b.key key apart.1) ∙ was ∙ sym (bearer-put_other key apart.0)
+          is ∙ ap (λ t. cond t (Some b) before) test ∙ sym
+          (bearer-put_own key same.0 (ap (λ k. bearer_of k bs) (sym same.1) ∙ free))
+      by (inr apart) = is ∙ ap (λ t. cond t (Some b) before) (different b.key key apart.1) ∙ was
+          ∙ sym (bearer-put_other key apart.0)
 
 -- ---- what the holders have, after one was added
 
-passed_over : {X Y : Type 0} (f : X → List Y) (h : X) (xs ys : List X) → f h ≡ [] → flat_map f (xs ++ h ∷ ys) ≡ flat_map f (xs ++ ys)
+passed_over : {X Y : Type 0} (f : X → List Y) (h : X) (xs ys : List X) → f h ≡ [] →
+    flat_map f (xs ++ h ∷ ys) ≡ flat_map f (xs ++ ys)
 passed_over f h [] ys none = ap (λ vs. vs ++ flat_map f ys) none
 passed_over f h (x ∷ xs) ys none = ap (λ vs. f x ++ vs) (passed_over f h xs ys none)
 
-all_more : {X Y : Type 0} (P : Y → Type 0) (f : X → Y) (h : X) (xs ys : List X) → P (f h) → AllByRecursion P (map f (xs ++ ys)) → AllByRecursion P (map f (xs ++ h ∷ ys))
+all_more : {X Y : Type 0} (P : Y → Type 0) (f : X → Y) (h : X) (xs ys : List X) → P (f h) →
+    AllByRecursion P (map f (xs ++ ys)) → AllByRecursion P (map f (xs ++ h ∷ ys))
 all_more P f h [] ys here all = (here, all)
 all_more P f h (x ∷ xs) ys here all = (all.0, all_more P f h xs ys here all.1)
 
-fixed_more : {X Y : Type 0} (g : Y → Y) (f : X → Y) (h : X) (xs ys : List X) → g (f h) ≡ f h → map g (map f (xs ++ ys)) ≡ map f (xs ++ ys) → map g (map f (xs ++ h ∷ ys)) ≡ map f (xs ++ h ∷ ys)
+fixed_more : {X Y : Type 0} (g : Y → Y) (f : X → Y) (h : X) (xs ys : List X) → g (f h) ≡ f h →
+    map g (map f (xs ++ ys)) ≡ map f (xs ++ ys) → map g (map f (xs ++ h ∷ ys)) ≡ map f (xs ++ h ∷ ys)
 fixed_more g f h [] ys here all = ap (λ y. y ∷ map g (map f ys)) here ∙ ap (λ zs. f h ∷ zs) all
 fixed_more g f h (x ∷ xs) ys here all =
     let first : g (f x) ≡ f x = cc in
@@ -84,24 +101,30 @@ fixed_more g f h (x ∷ xs) ys here all =
     ap (λ y. y ∷ map g (map f (xs ++ h ∷ ys))) first ∙ ap (λ zs. f x ∷ zs) (fixed_more g f h xs ys here rest)
 
 -- a number that no collector has, no holder has
-pub no_holder : (n : ℕ) (hs : List Holder) → at number n (collectors_of hs) ≡ None → at (λ (h : Holder). h.number) n hs ≡ None
+pub no_holder : (n : ℕ) (hs : List Holder) → at number n (collectors_of hs) ≡ None →
+    at (λ (h : Holder). h.number) n hs ≡ None
 no_holder n hs none = by (at (λ (h : Holder). h.number) n hs) refl (sym (at-map collector_of_holder number n hs) ∙ none)
   where
-    by : (w : Option Holder) → at (λ (h : Holder). h.number) n hs ≡ w → option_map collector_of_holder (at (λ (h : Holder). h.number) n hs) ≡ None → at (λ (h : Holder). h.number) n hs ≡ None
+    by : (w : Option Holder) → at (λ (h : Holder). h.number) n hs ≡ w →
+        option_map collector_of_holder (at (λ (h : Holder). h.number) n hs) ≡ None →
+        at (λ (h : Holder). h.number) n hs ≡ None
     by None e f = e
     by (Some h) e f = let no : Some (collector_of_holder h) ≡ None = rw e at f in cc
 
-all_above : (n : ℕ) (hs : List Holder) → AllByRecursion (λ h. nat_cmp n h.number ≡ Less) hs → AllByRecursion (λ b. nat_cmp n b.number ≡ Less) (collectors_of hs)
+all_above : (n : ℕ) (hs : List Holder) → AllByRecursion (λ h. nat_cmp n h.number ≡ Less) hs →
+    AllByRecursion (λ b. nat_cmp n b.number ≡ Less) (collectors_of hs)
 all_above n [] all = tt
 all_above n (h ∷ hs) all = (all.0, all_above n hs all.1)
 
 -- the collectors are in the order of the holders
-pub collectors_in_order : (hs : List Holder) → IsInOrder nat_cmp (λ h. h.number) hs → IsInOrder nat_cmp number (collectors_of hs)
+pub collectors_in_order : (hs : List Holder) → IsInOrder nat_cmp (λ h. h.number) hs →
+    IsInOrder nat_cmp number (collectors_of hs)
 unfolding IsStrictlySortedBy
 collectors_in_order [] sorted = tt
 collectors_in_order (h ∷ hs) sorted = (all_above h.number hs sorted.0, collectors_in_order hs sorted.1)
 
-module _ (h : Holder) (hs : List Holder) (sorted : IsInOrder nat_cmp (λ h. h.number) hs) (none : at (λ (h : Holder). h.number) h.number hs ≡ None) where
+module _ (h : Holder) (hs : List Holder) (sorted : IsInOrder nat_cmp (λ h. h.number) hs)
+    (none : at (λ (h : Holder). h.number) h.number hs ≡ None) where
   abbrev after : List Holder
   after = put_by (λ (h : Holder). h.number) h hs
 
@@ -120,17 +143,27 @@ module _ (h : Holder) (hs : List Holder) (sorted : IsInOrder nat_cmp (λ h. h.nu
   module _ (no_assignments : h.own.assignments ≡ []) where
     pub assignments_added : all_assignments after ≡ all_assignments hs
     assignments_added =
-        passed_over (λ (g : Holder). map (λ x. (g.number, x)) (assignments_of g)) h below above (ap (λ ws. map (λ x. (h.number, x)) (map (λ a. a.assignment) ws)) no_assignments)
+        passed_over (λ (g : Holder). map (λ x. (g.number, x)) (assignments_of g)) h below above
+        (ap (λ ws. map (λ x. (h.number, x)) (map (λ a. a.assignment) ws)) no_assignments)
         ∙ ap all_assignments others
 
-    pub placed_added : (us : List Outlet) → ArePlaced us (map own_assignments hs) → ArePlaced us (map own_assignments after)
+    pub placed_added : (us : List Outlet) → ArePlaced us (map own_assignments hs) →
+        ArePlaced us (map own_assignments after)
     placed_added us all = all_more _ own_assignments h below above (rw no_assignments tt) (rw others all)
 
-    pub names_added : (us : List Outlet) → named_by us (map own_assignments hs) ≡ map own_assignments hs → named_by us (map own_assignments after) ≡ map own_assignments after
+    pub names_added : (us : List Outlet) → named_by us (map own_assignments hs) ≡ map own_assignments hs →
+        named_by us (map own_assignments after) ≡ map own_assignments after
     names_added us all = fixed_more _ own_assignments h below above (rw no_assignments refl) (rw others all)
 
   pub quotes_added : h.own.quotes ≡ [] → all_quotes after ≡ all_quotes hs
-  quotes_added no_quotes = passed_over (λ (g : Holder). map (λ x. (g.number, x)) (quotes_of g)) h below above (ap (λ ws. map (λ x. (h.number, x)) ws) no_quotes) ∙ ap all_quotes others
+  quotes_added no_quotes = passed_over (λ (g : Holder). map (λ x. (g.number, x)) (quotes_of g)) h below above
+      (ap (λ ws. map (λ x. (h.number, x)) ws) no_quotes) ∙ ap all_quotes others
 
-  pub office_added : h.own ≡ record { assignments = []; quotes = [] } → (public : PublicPart) (us : List Outlet) (rs : List Release) (taken : List TakenOver) → office_of public us rs taken after ≡ changed (Registers (collector_of_holder h)) (office_of public us rs taken hs)
-  office_added nothing public us rs taken = rw (collectors_added, assignments_added (ap (λ (o : OwnPart). o.assignments) nothing), quotes_added (ap (λ (o : OwnPart). o.quotes) nothing)) refl
+  pub office_added : h.own ≡ record { assignments = []; quotes = [] } →
+      (public : PublicPart) (us : List Outlet) (rs : List Release) (taken : List TakenOver) →
+      office_of public us rs taken after ≡ changed (Registers (collector_of_holder h)) (office_of public us rs taken hs)
+  office_added nothing public us rs taken = rw (
+    collectors_added,
+    assignments_added (ap (λ (o : OwnPart). o.assignments) nothing),
+    quotes_added (ap (λ (o : OwnPart). o.quotes) nothing),
+  ) refl

@@ -1,5 +1,6 @@
 -- The assignments of all holders after one was put among those of one holder.
-use Rattle.std.proofs.Common.{◌≡◌, ℕ, zero, suc, Bool, true, false, List, [], ◌∷◌, ◌++◌, map, get_or, set, refl, sym, ap, ◌∙◌}
+use Rattle.std.proofs.Common.{◌≡◌, ℕ, zero, suc, Bool, true, false, List, [], ◌∷◌, ◌++◌, map, get_or, set, refl, sym}
+use Rattle.std.proofs.Common.{ap, ◌∙◌}
 use Rattle.std.specs.Prelude.{filter, Result, Ok, Err, OnOk, OnErr}
 use Rattle.std.specs.Ordering.{nat_cmp}
 use Rattle.std.specs.List.{AllByRecursion}
@@ -15,7 +16,8 @@ use Rattle.cpi_store.specs.Holders.{named_by, HasOutlet, ArePlaced}
 abbrev slot : Assigned → ℕ
 slot a = a.assignment.slot
 
-pub all_filtered : {X : Type 0} (P : X → Type 0) (p : X → Bool) (xs : List X) → AllByRecursion P xs → AllByRecursion P (filter p xs)
+pub all_filtered : {X : Type 0} (P : X → Type 0) (p : X → Bool) (xs : List X) → AllByRecursion P xs →
+    AllByRecursion P (filter p xs)
 all_filtered P p [] all = tt
 all_filtered P p (x ∷ xs) all = by (p x) refl (all_filtered P p xs all.1)
   where
@@ -23,17 +25,21 @@ all_filtered P p (x ∷ xs) all = by (p x) refl (all_filtered P p xs all.1)
     by true e rest = rw e (all.0, rest)
     by false e rest = rw e rest
 
-pub all_joined : {X : Type 0} (P : X → Type 0) (xs ys : List X) → AllByRecursion P xs → AllByRecursion P ys → AllByRecursion P (xs ++ ys)
+pub all_joined : {X : Type 0} (P : X → Type 0) (xs ys : List X) → AllByRecursion P xs → AllByRecursion P ys →
+    AllByRecursion P (xs ++ ys)
 all_joined P [] ys front back = back
 all_joined P (x ∷ xs) ys front back = (front.0, all_joined P xs ys front.1 back)
 
-pub all_set : {X Y : Type 0} (P : Y → Type 0) (f : X → Y) (xs : List X) (i : ℕ) (y d : X) → (P (f (get_or xs i d)) → P (f y)) → AllByRecursion P (map f xs) → AllByRecursion P (map f (set xs i y))
+pub all_set : {X Y : Type 0} (P : Y → Type 0) (f : X → Y) (xs : List X) (i : ℕ) (y d : X) →
+    (P (f (get_or xs i d)) → P (f y)) → AllByRecursion P (map f xs) → AllByRecursion P (map f (set xs i y))
 all_set P f [] i y d then all = tt
 all_set P f (x ∷ xs) zero y d then all = (then all.0, all.1)
 all_set P f (x ∷ xs) (suc i) y d then all = (all.0, all_set P f xs i y d then all.1)
 
 -- a map that changes no row of a list, changes none after one was replaced by another that it doesn't change
-pub fixed_set : {X Y : Type 0} (g : Y → Y) (f : X → Y) (xs : List X) (i : ℕ) (y d : X) → (g (f (get_or xs i d)) ≡ f (get_or xs i d) → g (f y) ≡ f y) → map g (map f xs) ≡ map f xs → map g (map f (set xs i y)) ≡ map f (set xs i y)
+pub fixed_set : {X Y : Type 0} (g : Y → Y) (f : X → Y) (xs : List X) (i : ℕ) (y d : X) →
+    (g (f (get_or xs i d)) ≡ f (get_or xs i d) → g (f y) ≡ f y) → map g (map f xs) ≡ map f xs →
+    map g (map f (set xs i y)) ≡ map f (set xs i y)
 fixed_set g f [] i y d then fixed = refl
 fixed_set g f (x ∷ xs) zero y d then fixed =
     let here : g (f x) ≡ f x = cc in
@@ -49,28 +55,35 @@ pub either : {T E A B G : Type 0} (result : Result T E) → OnOk result A → On
 either (Ok t) ok err f g = f ok
 either (Err e) ok err f g = g err
 
-module _ (us : List Outlet) (a : Assigned) (hs : List Holder) (i : ℕ) (h after : Holder) (found : h ≡ get_or hs i h) where
+module _ (us : List Outlet) (a : Assigned) (hs : List Holder) (i : ℕ) (h after : Holder)
+    (found : h ≡ get_or hs i h) where
   abbrev own : Holder → List Assigned
   own g = g.own.assignments
 
-  pub placed_put : after.own.assignments ≡ put nat_cmp slot a h.own.assignments → HasOutlet us a → ArePlaced us (map own hs) → ArePlaced us (map own (set hs i after))
+  pub placed_put : after.own.assignments ≡ put nat_cmp slot a h.own.assignments → HasOutlet us a →
+      ArePlaced us (map own hs) → ArePlaced us (map own (set hs i after))
   placed_put e has all = all_set (AllByRecursion (HasOutlet us)) own hs i after h
-      (λ old. rw (e, found) (all_joined (HasOutlet us) _ _ (all_filtered (HasOutlet us) _ _ old) (has, all_filtered (HasOutlet us) _ _ old))) all
+      (λ old. rw (e, found) (all_joined (HasOutlet us) _ _ (all_filtered (HasOutlet us) _ _ old)
+      (has, all_filtered (HasOutlet us) _ _ old))) all
 
-  pub placed_same : after.own.assignments ≡ h.own.assignments → ArePlaced us (map own hs) → ArePlaced us (map own (set hs i after))
+  pub placed_same : after.own.assignments ≡ h.own.assignments → ArePlaced us (map own hs) →
+      ArePlaced us (map own (set hs i after))
   placed_same e all = all_set (AllByRecursion (HasOutlet us)) own hs i after h (λ old. rw (e, found) old) all
 
-  pub names_put : after.own.assignments ≡ put nat_cmp slot a h.own.assignments → a ≡ with_name us a.assignment → named_by us (map own hs) ≡ map own hs → named_by us (map own (set hs i after)) ≡ map own (set hs i after)
+  pub names_put : after.own.assignments ≡ put nat_cmp slot a h.own.assignments → a ≡ with_name us a.assignment →
+      named_by us (map own hs) ≡ map own hs → named_by us (map own (set hs i after)) ≡ map own (set hs i after)
   names_put e named all = fixed_set (λ own. map (with_name us) (map (λ x. x.assignment) own)) own hs i after h
       (λ old.
       let before : map (with_name us) (map (λ x. x.assignment) h.own.assignments) ≡ h.own.assignments = rw found old in
       ap (λ xs. map (with_name us) (map (λ (x : Assigned). x.assignment) xs)) e
-      ∙ ap (map (with_name us)) (map-put nat_cmp (λ (x : Assignment). x.slot) (λ (x : Assigned). x.assignment) a h.own.assignments)
+      ∙ ap (map (with_name us)) (map-put nat_cmp (λ (x : Assignment). x.slot)
+      (λ (x : Assigned). x.assignment) a h.own.assignments)
       ∙ map-put nat_cmp slot (with_name us) a.assignment (map (λ x. x.assignment) h.own.assignments)
       ∙ ap (λ x. put nat_cmp slot x (map (with_name us) (map (λ x. x.assignment) h.own.assignments))) (sym named)
       ∙ ap (put nat_cmp slot a) before ∙ sym e) all
 
-  pub names_same : after.own.assignments ≡ h.own.assignments → named_by us (map own hs) ≡ map own hs → named_by us (map own (set hs i after)) ≡ map own (set hs i after)
+  pub names_same : after.own.assignments ≡ h.own.assignments → named_by us (map own hs) ≡ map own hs →
+      named_by us (map own (set hs i after)) ≡ map own (set hs i after)
   names_same e all = fixed_set (λ own. map (with_name us) (map (λ x. x.assignment) own)) own hs i after h
       (λ old.
       let same : after.own.assignments ≡ (get_or hs i h).own.assignments = e ∙ ap own found in

@@ -1,5 +1,6 @@
 -- Which slots of which collectors were given, among the rows of all, and what is put among them.
-use Rattle.std.proofs.Common.{◌≡◌, ◌≢◌, ℕ, Bool, true, false, eqb, List, [], ◌∷◌, map, None, refl, sym, ap, ◌∙◌, inl, inr}
+use Rattle.std.proofs.Common.{◌≡◌, ◌≢◌, ℕ, Bool, true, false, eqb, List, [], ◌∷◌, map, None, refl, sym, ap, ◌∙◌, inl}
+use Rattle.std.proofs.Common.{inr}
 use Rattle.std.specs.Prelude.{◌&&◌, ◌||◌, ◌==◌, ◌⊎◌, filter, is_some}
 use Rattle.std.specs.declared.cmp.Ordering.{Ordering}
 use Rattle.std.specs.declared.cmp.Ordering.TheVariants.{Less, Equal, Greater}
@@ -17,11 +18,13 @@ use Rattle.cpi_store.specs.declared.taken_over.TakenOver.{TakenOver}
 use Rattle.cpi_store.specs.Holders.{IsGiven}
 
 pub held_cmp_total : IsTotalOrder (held_cmp nat_cmp)
-held_cmp_total = then_total (by_key_total nat_cmp_total (λ (k : ℕ × ℕ). k.0)) (by_key_total nat_cmp_total (λ (k : ℕ × ℕ). k.1))
+held_cmp_total = then_total (by_key_total nat_cmp_total (λ (k : ℕ × ℕ). k.0))
+    (by_key_total nat_cmp_total (λ (k : ℕ × ℕ). k.1))
 
 -- two slots are level where they are one
 pub level_slots : (c s n k : ℕ) → is_eq (held_cmp nat_cmp (c, s) (n, k)) ≡ (c == n && s == k)
-level_slots c s n k = sym (tied_then (nat_cmp c n) (nat_cmp s k)) ∙ ap (λ b. b && is_eq (nat_cmp s k)) (unsigned_tied c n) ∙ ap (λ b. c == n && b) (unsigned_tied s k)
+level_slots c s n k = sym (tied_then (nat_cmp c n) (nat_cmp s k))
+    ∙ ap (λ b. b && is_eq (nat_cmp s k)) (unsigned_tied c n) ∙ ap (λ b. c == n && b) (unsigned_tied s k)
 
 -- whether the row is of the collector's slot
 abbrev pub is_of : ℕ → ℕ → ℕ × Assignment → Bool
@@ -31,20 +34,25 @@ abbrev slot_of : Assignment → ℕ
 slot_of a = a.slot
 
 -- a slot is found among its collector's where a row is of it
-pub has_slot : (c slot : ℕ) (rows : List (ℕ × Assignment)) → is_some (at (λ a. a.slot) slot (held_by c rows)) ≡ list_any (is_of c slot) rows
+pub has_slot : (c slot : ℕ) (rows : List (ℕ × Assignment)) →
+    is_some (at (λ a. a.slot) slot (held_by c rows)) ≡ list_any (is_of c slot) rows
 has_slot c slot [] = refl
 has_slot c slot (r ∷ rows) = by (eqb_tells r.0 c) (has_slot c slot rows)
   where
-    here : (b : Bool) → is_eq (nat_cmp r.1.slot slot) ≡ b → is_some (at slot_of slot (held_by c rows)) ≡ list_any (is_of c slot) rows → is_some (at slot_of slot (r.1 ∷ held_by c rows)) ≡ (b || list_any (is_of c slot) rows)
+    here : (b : Bool) → is_eq (nat_cmp r.1.slot slot) ≡ b → is_some (at slot_of slot (held_by c rows)) ≡ list_any
+        (is_of c slot) rows → is_some (at slot_of slot (r.1 ∷ held_by c rows)) ≡ (b || list_any (is_of c slot) rows)
     here true e rest = rw e refl
     here false e rest = rw e rest
 
-    by : ((eqb r.0 c ≡ true) × (r.0 ≡ c)) ⊎ ((eqb r.0 c ≡ false) × (r.0 ≢ c)) → is_some (at slot_of slot (held_by c rows)) ≡ list_any (is_of c slot) rows → is_some (at slot_of slot (held_by c (r ∷ rows))) ≡ list_any (is_of c slot) (r ∷ rows)
+    by : ((eqb r.0 c ≡ true) × (r.0 ≡ c)) ⊎ ((eqb r.0 c ≡ false) × (r.0 ≢ c)) →
+        is_some (at slot_of slot (held_by c rows)) ≡ list_any (is_of c slot) rows →
+        is_some (at slot_of slot (held_by c (r ∷ rows))) ≡ list_any (is_of c slot) (r ∷ rows)
     by (inl same) rest = rw same.0 (here (eqb r.1.slot slot) (unsigned_tied r.1.slot slot) rest)
     by (inr apart) rest = rw apart.0 rest
 
 -- a slot that isn't found has no row
-pub free_slot : (c slot : ℕ) (rows : List (ℕ × Assignment)) → at (λ a. a.slot) slot (held_by c rows) ≡ None → list_any (is_of c slot) rows ≡ false
+pub free_slot : (c slot : ℕ) (rows : List (ℕ × Assignment)) → at (λ a. a.slot) slot (held_by c rows) ≡ None →
+    list_any (is_of c slot) rows ≡ false
 free_slot c slot rows none = sym (has_slot c slot rows) ∙ ap is_some none
 
 -- ---- tests over rows that were put, or mapped
@@ -60,7 +68,8 @@ or_second : (a b : Bool) → b ≡ true → (a || b) ≡ true
 or_second true b h = refl
 or_second false b h = h
 
-pub any-map : {X Y : Type 0} (f : X → Y) (p : Y → Bool) (q : X → Bool) → ((x : X) → p (f x) ≡ q x) → (xs : List X) → list_any p (map f xs) ≡ list_any q xs
+pub any-map : {X Y : Type 0} (f : X → Y) (p : Y → Bool) (q : X → Bool) → ((x : X) → p (f x) ≡ q x) → (xs : List X) →
+    list_any p (map f xs) ≡ list_any q xs
 any-map f p q same [] = refl
 any-map f p q same (x ∷ xs) = ap (λ b. b || list_any p (map f xs)) (same x) ∙ ap (λ b. q x || b) (any-map f p q same xs)
 
@@ -72,9 +81,11 @@ module _ {X K : Type 0} (R : K → K → Ordering) (key : X → K) (p : X → Bo
   above rows = filter (λ r. is_gt (R (key r) (key row))) rows
 
   -- what passes a test is kept, or replaced by the row, which passes too
-  kept_or_replaced : (rows : List X) → ((x : X) → R (key x) (key row) ≡ Equal → p x ≡ true → p row ≡ true) → list_any p rows ≡ true → (list_any p (below rows) ≡ true) ⊎ (list_any p (row ∷ above rows) ≡ true)
+  kept_or_replaced : (rows : List X) → ((x : X) → R (key x) (key row) ≡ Equal → p x ≡ true → p row ≡ true) →
+      list_any p rows ≡ true → (list_any p (below rows) ≡ true) ⊎ (list_any p (row ∷ above rows) ≡ true)
   kept_or_replaced [] alike h = let no : false ≡ true = h in cc
-  kept_or_replaced (x ∷ xs) alike h = by (R (key x) (key row)) refl (or_either (p x) (list_any p xs) h) (kept_or_replaced xs alike)
+  kept_or_replaced (x ∷ xs) alike h = by (R (key x) (key row)) refl (or_either (p x) (list_any p xs) h)
+      (kept_or_replaced xs alike)
     where
       Either : List X → Type 0
       Either rows = (list_any p (below rows) ≡ true) ⊎ (list_any p (row ∷ above rows) ≡ true)
@@ -95,47 +106,64 @@ module _ {X K : Type 0} (R : K → K → Ordering) (key : X → K) (p : X → Bo
           by_row (inl r) = or_first (p row) (p x || list_any p (above xs)) r
           by_row (inr a) = or_second (p row) (p x || list_any p (above xs)) (or_second (p x) (list_any p (above xs)) a)
 
-      by : (s : Ordering) → R (key x) (key row) ≡ s → (p x ≡ true) ⊎ (list_any p xs ≡ true) → (list_any p xs ≡ true → Either xs) → Either (x ∷ xs)
+      by : (s : Ordering) → R (key x) (key row) ≡ s → (p x ≡ true) ⊎ (list_any p xs ≡ true) →
+          (list_any p xs ≡ true → Either xs) → Either (x ∷ xs)
       by Less e (inl here) rest = inl (rw (ap is_lt e) (or_first (p x) (list_any p (below xs)) here))
       by Less e (inr later) rest = lower (rest later) (ap is_lt e) (ap is_gt e)
       by Equal e (inl here) rest = inr (rw (ap is_gt e) (or_first (p row) (list_any p (above xs)) (alike x e here)))
       by Equal e (inr later) rest = level (rest later) (ap is_lt e) (ap is_gt e)
-      by Greater e (inl here) rest = inr (rw (ap is_gt e) (or_second (p row) (p x || list_any p (above xs)) (or_first (p x) (list_any p (above xs)) here)))
+      by Greater e (inl here) rest = inr (rw (ap is_gt e)
+          (or_second (p row) (p x || list_any p (above xs)) (or_first (p x) (list_any p (above xs)) here)))
       by Greater e (inr later) rest = higher (rest later) (ap is_lt e) (ap is_gt e)
 
-  pub any-put : (rows : List X) → ((x : X) → R (key x) (key row) ≡ Equal → p x ≡ true → p row ≡ true) → list_any p rows ≡ true → list_any p (put R key row rows) ≡ true
+  pub any-put : (rows : List X) → ((x : X) → R (key x) (key row) ≡ Equal → p x ≡ true → p row ≡ true) →
+      list_any p rows ≡ true → list_any p (put R key row rows) ≡ true
   any-put rows alike h = list_any-append p (below rows) (row ∷ above rows) ∙ by (kept_or_replaced rows alike h)
     where
-      by : (list_any p (below rows) ≡ true) ⊎ (list_any p (row ∷ above rows) ≡ true) → (list_any p (below rows) || list_any p (row ∷ above rows)) ≡ true
+      by : (list_any p (below rows) ≡ true) ⊎ (list_any p (row ∷ above rows) ≡ true) →
+          (list_any p (below rows) || list_any p (row ∷ above rows)) ≡ true
       by (inl l) = or_first (list_any p (below rows)) (list_any p (row ∷ above rows)) l
       by (inr g) = or_second (list_any p (below rows)) (list_any p (row ∷ above rows)) g
 
   pub any-put_own : (rows : List X) → p row ≡ true → list_any p (put R key row rows) ≡ true
-  any-put_own rows h = list_any-append p (below rows) (row ∷ above rows) ∙ or_second (list_any p (below rows)) (list_any p (row ∷ above rows)) (or_first (p row) (list_any p (above rows)) h)
+  any-put_own rows h = list_any-append p (below rows) (row ∷ above rows)
+      ∙ or_second (list_any p (below rows)) (list_any p (row ∷ above rows))
+      (or_first (p row) (list_any p (above rows)) h)
 
 -- ---- the slots that took a series over were given
 
 -- a slot that is among the rows stays among those after an assignment was put
-pub slot_stays : (c slot n : ℕ) (a : Assignment) (rows : List (ℕ × Assignment)) → list_any (is_of c slot) rows ≡ true → list_any (is_of c slot) (put (held_cmp nat_cmp) (held_key (λ a. a.slot)) (n, a) rows) ≡ true
+pub slot_stays : (c slot n : ℕ) (a : Assignment) (rows : List (ℕ × Assignment)) →
+    list_any (is_of c slot) rows ≡ true → list_any (is_of c slot)
+    (put (held_cmp nat_cmp) (held_key (λ a. a.slot)) (n, a) rows) ≡ true
 slot_stays c slot n a rows h = any-put (held_cmp nat_cmp) (held_key slot_of) (is_of c slot) (n, a) rows alike h
   where
-    alike : (x : ℕ × Assignment) → held_cmp nat_cmp (x.0, x.1.slot) (n, a.slot) ≡ Equal → is_of c slot x ≡ true → is_of c slot (n, a) ≡ true
+    alike : (x : ℕ × Assignment) → held_cmp nat_cmp (x.0, x.1.slot) (n, a.slot) ≡ Equal → is_of c slot x ≡ true →
+        is_of c slot (n, a) ≡ true
     alike x e h =
-        sym (level_slots n a.slot c slot) ∙ ap is_eq (sym (held_cmp_total.congr (x.0, x.1.slot) (n, a.slot) (c, slot) e)) ∙ level_slots x.0 x.1.slot c slot ∙ h
+        sym (level_slots n a.slot c slot) ∙ ap is_eq (sym
+        (held_cmp_total.congr (x.0, x.1.slot) (n, a.slot) (c, slot) e)) ∙ level_slots x.0 x.1.slot c slot ∙ h
 
 -- what every slot that was given keeps, those that took over keep
-pub given_after : (rows after : List (ℕ × Assignment)) → ((c slot : ℕ) → list_any (is_of c slot) rows ≡ true → list_any (is_of c slot) after ≡ true) → (taken : List TakenOver) → AllByRecursion (IsGiven rows) taken → AllByRecursion (IsGiven after) taken
+pub given_after : (rows after : List (ℕ × Assignment)) →
+    ((c slot : ℕ) → list_any (is_of c slot) rows ≡ true → list_any (is_of c slot) after ≡ true) →
+    (taken : List TakenOver) → AllByRecursion (IsGiven rows) taken → AllByRecursion (IsGiven after) taken
 given_after rows after keeps [] all = tt
-given_after rows after keeps (t ∷ taken) all =
-    (has_slot t.collector t.slot after ∙ keeps t.collector t.slot (sym (has_slot t.collector t.slot rows) ∙ all.0), given_after rows after keeps taken all.1)
+given_after rows after keeps (t ∷ taken) all = (
+  has_slot t.collector t.slot after ∙ keeps t.collector t.slot (sym (has_slot t.collector t.slot rows) ∙ all.0),
+  given_after rows after keeps taken all.1,
+)
 
 abbrev pub taken_key : TakenOver → ℕ × ℕ
 taken_key t = (t.collector, t.slot)
 
 -- a slot that wasn't given took no series over
-pub none_taken : (c slot : ℕ) (rows : List (ℕ × Assignment)) → at (λ a. a.slot) slot (held_by c rows) ≡ None → (taken : List TakenOver) → AllByRecursion (IsGiven rows) taken → row_at (held_cmp nat_cmp) taken_key (c, slot) taken ≡ None
+pub none_taken : (c slot : ℕ) (rows : List (ℕ × Assignment)) → at (λ a. a.slot) slot (held_by c rows) ≡ None →
+    (taken : List TakenOver) → AllByRecursion (IsGiven rows) taken →
+    row_at (held_cmp nat_cmp) taken_key (c, slot) taken ≡ None
 none_taken c slot rows none [] all = refl
-none_taken c slot rows none (t ∷ taken) all = by (is_eq (held_cmp nat_cmp (t.collector, t.slot) (c, slot))) refl (none_taken c slot rows none taken all.1)
+none_taken c slot rows none (t ∷ taken) all = by (is_eq (held_cmp nat_cmp (t.collector, t.slot) (c, slot))) refl
+    (none_taken c slot rows none taken all.1)
   where
     collectors : (a b : Bool) → (a && b) ≡ true → a ≡ true
     collectors true b h = refl
@@ -152,7 +180,9 @@ none_taken c slot rows none (t ∷ taken) all = by (is_eq (held_cmp nat_cmp (t.c
         by (inl same) = same.1
         by (inr apart) = let no : true ≡ false = sym h ∙ apart.0 in cc
 
-    by : (b : Bool) → is_eq (held_cmp nat_cmp (t.collector, t.slot) (c, slot)) ≡ b → row_at (held_cmp nat_cmp) taken_key (c, slot) taken ≡ None → row_at (held_cmp nat_cmp) taken_key (c, slot) (t ∷ taken) ≡ None
+    by : (b : Bool) → is_eq (held_cmp nat_cmp (t.collector, t.slot) (c, slot)) ≡ b →
+        row_at (held_cmp nat_cmp) taken_key (c, slot) taken ≡ None →
+        row_at (held_cmp nat_cmp) taken_key (c, slot) (t ∷ taken) ≡ None
     by true e rest =
         let both : (eqb t.collector c && eqb t.slot slot) ≡ true = sym (level_slots t.collector t.slot c slot) ∙ e in
         let collector : t.collector ≡ c = is t.collector c (collectors (eqb t.collector c) (eqb t.slot slot) both) in

@@ -12,16 +12,19 @@ pub same_series-own : (s : SeriesId) → same_series s s ≡ true
 same_series-own s = rw (eq-eqb s.collector s.collector refl, eq-eqb s.slot s.slot refl) refl
 
 -- of more assignments, the later one of both
-pub last_of_series-append : (s : SeriesId) (xs ys : List (ℕ × Given)) → last_of_series s (xs ++ ys) ≡ max (last_of_series s xs) (last_of_series s ys)
+pub last_of_series-append : (s : SeriesId) (xs ys : List (ℕ × Given)) →
+    last_of_series s (xs ++ ys) ≡ max (last_of_series s xs) (last_of_series s ys)
 last_of_series-append s [] ys = omega arith
 last_of_series-append s (x ∷ xs) ys = by (same_series x.1.series s) refl (last_of_series-append s xs ys)
   where
-    by : (t : Bool) → same_series x.1.series s ≡ t → last_of_series s (xs ++ ys) ≡ max (last_of_series s xs) (last_of_series s ys) → last_of_series s (x ∷ xs ++ ys) ≡ max (last_of_series s (x ∷ xs)) (last_of_series s ys)
+    by : (t : Bool) → same_series x.1.series s ≡ t → last_of_series s (xs ++ ys) ≡ max (last_of_series s xs)
+        (last_of_series s ys) → last_of_series s (x ∷ xs ++ ys) ≡ max (last_of_series s (x ∷ xs)) (last_of_series s ys)
     by true e rest = rw e (omega (arith, rest))
     by false e rest = rw e rest
 
 -- one more assignment ends no series sooner
-pub last_of_series-more : (s : SeriesId) (x : ℕ × Given) (xs : List (ℕ × Given)) → last_of_series s xs ≤ last_of_series s (x ∷ xs)
+pub last_of_series-more : (s : SeriesId) (x : ℕ × Given) (xs : List (ℕ × Given)) →
+    last_of_series s xs ≤ last_of_series s (x ∷ xs)
 last_of_series-more s x xs = by (same_series x.1.series s) refl
   where
     by : (t : Bool) → same_series x.1.series s ≡ t → last_of_series s xs ≤ last_of_series s (x ∷ xs)
@@ -32,15 +35,20 @@ last_of_series-more s x xs = by (same_series x.1.series s) refl
 abbrev pub IsCovered : List (ℕ × Given) → ℕ × Given → Type 0
 IsCovered given row = row.1.assignment.last_month ≤ last_of_series row.1.series given
 
-covered_more : (x : ℕ × Given) (given rows : List (ℕ × Given)) → AllByRecursion (IsCovered given) rows → AllByRecursion (IsCovered (x ∷ given)) rows
+covered_more : (x : ℕ × Given) (given rows : List (ℕ × Given)) → AllByRecursion (IsCovered given) rows →
+    AllByRecursion (IsCovered (x ∷ given)) rows
 covered_more x given [] all = tt
 covered_more x given (r ∷ rows) all =
     (let more = last_of_series-more r.1.series x given in omega (arith, more, all.0), covered_more x given rows all.1)
 
 pub last_of_series-covers : (given : List (ℕ × Given)) → AllByRecursion (IsCovered given) given
 last_of_series-covers [] = tt
-last_of_series-covers (x ∷ given) = (rw (same_series-own x.1.series) (omega arith), covered_more x given given (last_of_series-covers given))
+last_of_series-covers (x ∷ given) = (
+  rw (same_series-own x.1.series) (omega arith),
+  covered_more x given given (last_of_series-covers given),
+)
 
 -- the same of any one of them
 pub last_of_series-covers_one : (given : List (ℕ × Given)) (row : ℕ × Given) → Contains given row → IsCovered given row
-last_of_series-covers_one given row has = subst (IsCovered given) has.2 (All-from_recursion (IsCovered given) given (last_of_series-covers given) has.0 row has.1)
+last_of_series-covers_one given row has = subst (IsCovered given) has.2
+    (All-from_recursion (IsCovered given) given (last_of_series-covers given) has.0 row has.1)

@@ -11,25 +11,37 @@ use Rattle.cpi_store.specs.declared.outlet.Outlet.{Outlet}
 use Rattle.cpi_survey.specs.declared.assignment.Assigned.{Assigned}
 use Rattle.cpi_store.specs.Holders.{named_by, HasOutlet, ArePlaced}
 
-module _ (u : Outlet) (us : List Outlet) (sorted : IsInOrder nat_cmp (λ u. u.number) us) (new : at (λ u. u.number) u.number us ≡ None) where
-  name_stays : (a : Assigned) → HasOutlet us a → with_name (put_by (λ u. u.number) u us) a.assignment ≡ with_name us a.assignment
+module _ (u : Outlet) (us : List Outlet) (sorted : IsInOrder nat_cmp (λ u. u.number) us)
+    (new : at (λ u. u.number) u.number us ≡ None) where
+  name_stays : (a : Assigned) → HasOutlet us a →
+      with_name (put_by (λ u. u.number) u us) a.assignment ≡ with_name us a.assignment
   name_stays a has = by (at (λ u. u.number) a.assignment.outlet us) refl has
     where
-      by : (w : Option Outlet) → at (λ u. u.number) a.assignment.outlet us ≡ w → IsSome w → with_name (put_by (λ u. u.number) u us) a.assignment ≡ with_name us a.assignment
+      by : (w : Option Outlet) → at (λ u. u.number) a.assignment.outlet us ≡ w → IsSome w →
+          with_name (put_by (λ u. u.number) u us) a.assignment ≡ with_name us a.assignment
       by None e some = absurd (false≢true some)
       by (Some x) e some = rw (at-put_found (λ u. u.number) u us sorted new a.assignment.outlet x e, e) refl
 
-  own_stays : (own : List Assigned) → AllByRecursion (HasOutlet us) own → map (with_name (put_by (λ u. u.number) u us)) (map (λ a. a.assignment) own) ≡ map (with_name us) (map (λ a. a.assignment) own)
+  own_stays : (own : List Assigned) → AllByRecursion (HasOutlet us) own →
+      map (with_name (put_by (λ u. u.number) u us)) (map (λ a. a.assignment) own) ≡ map (with_name us)
+      (map (λ a. a.assignment) own)
   own_stays [] all = refl
-  own_stays (a ∷ own) all = ap (λ x. x ∷ map (with_name (put_by (λ u. u.number) u us)) (map (λ a. a.assignment) own)) (name_stays a all.0) ∙ ap (λ xs. with_name us a.assignment ∷ xs) (own_stays own all.1)
+  own_stays (a ∷ own) all = ap (λ x. x ∷ map (with_name (put_by (λ u. u.number) u us)) (map (λ a. a.assignment) own))
+      (name_stays a all.0) ∙ ap (λ xs. with_name us a.assignment ∷ xs) (own_stays own all.1)
 
-  pub names_stay : (lists : List (List Assigned)) → ArePlaced us lists → named_by (put_by (λ u. u.number) u us) lists ≡ named_by us lists
+  pub names_stay : (lists : List (List Assigned)) → ArePlaced us lists →
+      named_by (put_by (λ u. u.number) u us) lists ≡ named_by us lists
   names_stay [] all = refl
-  names_stay (own ∷ lists) all = ap (λ x. x ∷ named_by (put_by (λ u. u.number) u us) lists) (own_stays own all.0) ∙ ap (λ xs. map (with_name us) (map (λ a. a.assignment) own) ∷ xs) (names_stay lists all.1)
+  names_stay (own ∷ lists) all = ap (λ x. x ∷ named_by (put_by (λ u. u.number) u us) lists) (own_stays own all.0)
+      ∙ ap (λ xs. map (with_name us) (map (λ a. a.assignment) own) ∷ xs) (names_stay lists all.1)
 
-  own_placed : (own : List Assigned) → AllByRecursion (HasOutlet us) own → AllByRecursion (HasOutlet (put_by (λ u. u.number) u us)) own
+  own_placed : (own : List Assigned) → AllByRecursion (HasOutlet us) own →
+      AllByRecursion (HasOutlet (put_by (λ u. u.number) u us)) own
   own_placed [] all = tt
-  own_placed (a ∷ own) all = (at-put_some (λ u. u.number) u us sorted new a.assignment.outlet all.0, own_placed own all.1)
+  own_placed (a ∷ own) all = (
+    at-put_some (λ u. u.number) u us sorted new a.assignment.outlet all.0,
+    own_placed own all.1,
+  )
 
   pub still_placed : (lists : List (List Assigned)) → ArePlaced us lists → ArePlaced (put_by (λ u. u.number) u us) lists
   still_placed [] all = tt

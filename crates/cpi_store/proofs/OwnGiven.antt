@@ -1,5 +1,6 @@
 -- What a collector's slots were given, among the assignments of all and with their series.
-use Rattle.std.proofs.Common.{◌≡◌, ◌≢◌, ℕ, true, false, eqb, List, [], ◌∷◌, map, Some, None, Option, refl, sym, ap, ◌∙◌, inl, inr}
+use Rattle.std.proofs.Common.{◌≡◌, ◌≢◌, ℕ, true, false, eqb, List, [], ◌∷◌, map, Some, None, Option, refl, sym, ap, ◌∙◌}
+use Rattle.std.proofs.Common.{inl, inr}
 use Rattle.std.specs.Prelude.{◌⊎◌, IsSome, option_map}
 use Rattle.std.proofs.lemmas.Bool.{false≢true}
 use Rattle.std.proofs.lemmas.Bool.Decides.{eqb_tells}
@@ -21,9 +22,13 @@ abbrev own_slot : Assignment → ℕ
 own_slot a = a.slot
 
 -- where no assignment of a slot is found, nothing was given to it
-pub nothing_found : (us : List Outlet) (slot : ℕ) (gs : List Given) → None ≡ at (λ a. a.assignment.slot) slot (map (with_name us) (map (λ g. g.assignment) gs)) → None ≡ at (λ g. g.assignment.slot) slot gs
+pub nothing_found : (us : List Outlet) (slot : ℕ) (gs : List Given) →
+    None ≡ at (λ a. a.assignment.slot) slot (map (with_name us) (map (λ g. g.assignment) gs)) →
+    None ≡ at (λ g. g.assignment.slot) slot gs
 nothing_found us slot gs is =
-    by (at slot_of slot gs) (is ∙ at-map (with_name us) (λ (a : Assigned). a.assignment.slot) slot (map (λ g. g.assignment) gs) ∙ ap (option_map (with_name us)) (at-map (λ (g : Given). g.assignment) own_slot slot gs))
+    by (at slot_of slot gs) (is ∙ at-map (with_name us) (λ (a : Assigned). a.assignment.slot) slot
+    (map (λ g. g.assignment) gs) ∙ ap (option_map (with_name us))
+    (at-map (λ (g : Given). g.assignment) own_slot slot gs))
   where
     by : (w : Option Given) → None ≡ option_map (with_name us) (option_map (λ g. g.assignment) w) → None ≡ w
     by None e = refl
@@ -38,7 +43,9 @@ module _ (taken : List TakenOver) (c : ℕ) where
   held_given [] = refl
   held_given (r ∷ rows) = by (eqb_tells r.0 c) (held_given rows)
     where
-      by : ((eqb r.0 c ≡ true) × (r.0 ≡ c)) ⊎ ((eqb r.0 c ≡ false) × (r.0 ≢ c)) → held_by c (map (given_in taken) rows) ≡ map named (held_by c rows) → held_by c (map (given_in taken) (r ∷ rows)) ≡ map named (held_by c (r ∷ rows))
+      by : ((eqb r.0 c ≡ true) × (r.0 ≡ c)) ⊎ ((eqb r.0 c ≡ false) × (r.0 ≢ c)) →
+          held_by c (map (given_in taken) rows) ≡ map named (held_by c rows) →
+          held_by c (map (given_in taken) (r ∷ rows)) ≡ map named (held_by c (r ∷ rows))
       by (inl same) rest = rw (same.0, same.1) (ap (λ ys. named r.1 ∷ ys) rest)
       by (inr apart) rest = rw apart.0 rest
 
@@ -46,53 +53,70 @@ module _ (taken : List TakenOver) (c : ℕ) where
   bare [] = refl
   bare (a ∷ xs) = ap (λ ys. a ∷ ys) (bare xs)
 
-  pub assignments_held : (rows : List (ℕ × Assignment)) → map (λ g. g.assignment) (held_by c (map (given_in taken) rows)) ≡ held_by c rows
+  pub assignments_held : (rows : List (ℕ × Assignment)) →
+      map (λ g. g.assignment) (held_by c (map (given_in taken) rows)) ≡ held_by c rows
   assignments_held rows = ap (map (λ (g : Given). g.assignment)) (held_given rows) ∙ bare (held_by c rows)
 
   -- what a slot was given is its assignment, beside its series
-  pub at_given : (slot : ℕ) (rows : List (ℕ × Assignment)) → at (λ g. g.assignment.slot) slot (held_by c (map (given_in taken) rows)) ≡ option_map (λ a. record { assignment = a; series = series_in taken c slot }) (at (λ a. a.slot) slot (held_by c rows))
-  at_given slot rows = ap (at slot_of slot) (held_given rows) ∙ at-map named slot_of slot (held_by c rows) ∙ by (at own_slot slot (held_by c rows)) refl
+  pub at_given : (slot : ℕ) (rows : List (ℕ × Assignment)) →
+      at (λ g. g.assignment.slot) slot (held_by c (map (given_in taken) rows)) ≡ option_map
+      (λ a. record { assignment = a; series = series_in taken c slot }) (at (λ a. a.slot) slot (held_by c rows))
+  at_given slot rows = ap (at slot_of slot) (held_given rows) ∙ at-map named slot_of slot (held_by c rows)
+      ∙ by (at own_slot slot (held_by c rows)) refl
     where
       beside : ℕ → Assignment → Given
       beside s a = record { assignment = a; series = series_in taken c s }
 
-      by : (w : Option Assignment) → at own_slot slot (held_by c rows) ≡ w → option_map named (at own_slot slot (held_by c rows)) ≡ option_map (beside slot) (at own_slot slot (held_by c rows))
+      by : (w : Option Assignment) → at own_slot slot (held_by c rows) ≡ w →
+          option_map named (at own_slot slot (held_by c rows)) ≡ option_map (beside slot)
+          (at own_slot slot (held_by c rows))
       by None e = rw e refl
       by (Some a) e = rw e (ap (λ s. Some (beside s a)) (at_key own_slot slot a (held_by c rows) e))
 
   -- the same from the assignments with their outlets' names
-  pub given_found : (us : List Outlet) (slot : ℕ) (rows : List (ℕ × Assignment)) (found : Option Assigned) → found ≡ at (λ a. a.assignment.slot) slot (map (with_name us) (map (λ g. g.assignment) (held_by c (map (given_in taken) rows)))) →
-      option_map (λ a. record { assignment = a.assignment; series = series_in taken c slot }) found ≡ at (λ g. g.assignment.slot) slot (held_by c (map (given_in taken) rows))
+  pub given_found : (us : List Outlet) (slot : ℕ) (rows : List (ℕ × Assignment)) (found : Option Assigned) →
+      found ≡ at (λ a. a.assignment.slot) slot (map (with_name us)
+      (map (λ g. g.assignment) (held_by c (map (given_in taken) rows)))) →
+      option_map (λ a. record { assignment = a.assignment; series = series_in taken c slot }) found ≡ at
+      (λ g. g.assignment.slot) slot (held_by c (map (given_in taken) rows))
   given_found us slot rows found is =
       ap (option_map beside)
-      (is ∙ ap (λ mine. at (λ (a : Assigned). a.assignment.slot) slot (map (with_name us) mine)) (assignments_held rows) ∙ at-map (with_name us) (λ (a : Assigned). a.assignment.slot) slot (held_by c rows))
+      (is ∙ ap (λ mine. at (λ (a : Assigned). a.assignment.slot) slot (map (with_name us) mine))
+      (assignments_held rows) ∙ at-map (with_name us) (λ (a : Assigned). a.assignment.slot) slot (held_by c rows))
       ∙ by (at own_slot slot (held_by c rows)) ∙ sym (at_given slot rows)
     where
       beside : Assigned → Given
       beside a = record { assignment = a.assignment; series = series_in taken c slot }
 
-      by : (w : Option Assignment) → option_map beside (option_map (with_name us) w) ≡ option_map (λ a. record { assignment = a; series = series_in taken c slot }) w
+      by : (w : Option Assignment) → option_map beside (option_map (with_name us) w) ≡ option_map
+          (λ a. record { assignment = a; series = series_in taken c slot }) w
       by None = refl
       by (Some a) = refl
 
   -- a slot that was given nothing has no assignment, and one that was given something has one
-  pub nothing_given : (slot : ℕ) (rows : List (ℕ × Assignment)) → at (λ g. g.assignment.slot) slot (held_by c (map (given_in taken) rows)) ≡ None → at (λ a. a.slot) slot (held_by c rows) ≡ None
+  pub nothing_given : (slot : ℕ) (rows : List (ℕ × Assignment)) →
+      at (λ g. g.assignment.slot) slot (held_by c (map (given_in taken) rows)) ≡ None →
+      at (λ a. a.slot) slot (held_by c rows) ≡ None
   nothing_given slot rows none = by (at own_slot slot (held_by c rows)) refl (sym (at_given slot rows) ∙ none)
     where
       beside : Assignment → Given
       beside a = record { assignment = a; series = series_in taken c slot }
 
-      by : (w : Option Assignment) → at own_slot slot (held_by c rows) ≡ w → option_map beside (at own_slot slot (held_by c rows)) ≡ None → at own_slot slot (held_by c rows) ≡ None
+      by : (w : Option Assignment) → at own_slot slot (held_by c rows) ≡ w →
+          option_map beside (at own_slot slot (held_by c rows)) ≡ None → at own_slot slot (held_by c rows) ≡ None
       by None e h = e
       by (Some a) e h = let no : Some (beside a) ≡ None = rw e at h in cc
 
-  pub slot_given : (slot : ℕ) (rows : List (ℕ × Assignment)) → IsSome (at (λ g. g.assignment.slot) slot (held_by c (map (given_in taken) rows))) → IsSome (at (λ a. a.slot) slot (held_by c rows))
+  pub slot_given : (slot : ℕ) (rows : List (ℕ × Assignment)) →
+      IsSome (at (λ g. g.assignment.slot) slot (held_by c (map (given_in taken) rows))) →
+      IsSome (at (λ a. a.slot) slot (held_by c rows))
   slot_given slot rows some = by (at own_slot slot (held_by c rows)) refl (rw (← at_given slot rows) some)
     where
       beside : Assignment → Given
       beside a = record { assignment = a; series = series_in taken c slot }
 
-      by : (w : Option Assignment) → at own_slot slot (held_by c rows) ≡ w → IsSome (option_map beside (at own_slot slot (held_by c rows))) → IsSome (at own_slot slot (held_by c rows))
+      by : (w : Option Assignment) → at own_slot slot (held_by c rows) ≡ w →
+          IsSome (option_map beside (at own_slot slot (held_by c rows))) → IsSome (at own_slot slot (held_by c rows))
       by None e h = absurd (false≢true (rw e at h))
       by (Some a) e h = rw e refl
 

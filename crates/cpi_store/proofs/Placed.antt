@@ -31,15 +31,18 @@ series_equal s t e = by (nat_cmp s.collector t.collector) refl e
 
 -- ---- what holds of each quote
 
-pub all_placed : (P : Frozen → Type 0) (f : Frozen) (rows : List Frozen) → P f → AllByRecursion P rows → AllByRecursion P (placed f rows)
+pub all_placed : (P : Frozen → Type 0) (f : Frozen) (rows : List Frozen) → P f → AllByRecursion P rows →
+    AllByRecursion P (placed f rows)
 all_placed P f [] one all = (one, tt)
 all_placed P f (g ∷ rows) one all = by (is_gt (series_cmp f.series g.series)) refl (all_placed P f rows one all.1)
   where
-    by : (w : Bool) → is_gt (series_cmp f.series g.series) ≡ w → AllByRecursion P (placed f rows) → AllByRecursion P (placed f (g ∷ rows))
+    by : (w : Bool) → is_gt (series_cmp f.series g.series) ≡ w → AllByRecursion P (placed f rows) →
+        AllByRecursion P (placed f (g ∷ rows))
     by true e rest = rw e (all.0, rest)
     by false e rest = rw e (one, (all.0, all.1))
 
-pub all_by_series : (P : Frozen → Type 0) (rows : List Frozen) → AllByRecursion P rows → AllByRecursion P (by_series rows)
+pub all_by_series : (P : Frozen → Type 0) (rows : List Frozen) → AllByRecursion P rows →
+    AllByRecursion P (by_series rows)
 all_by_series P [] all = tt
 all_by_series P (f ∷ rows) all = all_placed P f (by_series rows) all.0 (all_by_series P rows all.1)
 
@@ -48,38 +51,53 @@ all_by_series P (f ∷ rows) all = all_placed P f (by_series rows) all.0 (all_by
 abbrev AreApart : Frozen → Frozen → Type 0
 AreApart f g = f.series ≢ g.series
 
-above_too : (f g : Frozen) (rows : List Frozen) → series_cmp f.series g.series ≡ Less → AllByRecursion (λ h. series_cmp g.series h.series ≡ Less) rows → AllByRecursion (λ h. series_cmp f.series h.series ≡ Less) rows
+above_too : (f g : Frozen) (rows : List Frozen) → series_cmp f.series g.series ≡ Less →
+    AllByRecursion (λ h. series_cmp g.series h.series ≡ Less) rows →
+    AllByRecursion (λ h. series_cmp f.series h.series ≡ Less) rows
 above_too f g [] less all = tt
-above_too f g (h ∷ rows) less all = (series_total.trans f.series g.series h.series less all.0, above_too f g rows less all.1)
+above_too f g (h ∷ rows) less all = (
+  series_total.trans f.series g.series h.series less all.0,
+  above_too f g rows less all.1,
+)
 
-placed_in_order : (f : Frozen) (rows : List Frozen) → AllByRecursion (AreApart f) rows → IsInOrder series_cmp (λ g. g.series) rows → IsInOrder series_cmp (λ g. g.series) (placed f rows)
+placed_in_order : (f : Frozen) (rows : List Frozen) → AllByRecursion (AreApart f) rows →
+    IsInOrder series_cmp (λ g. g.series) rows → IsInOrder series_cmp (λ g. g.series) (placed f rows)
 unfolding IsStrictlySortedBy
 placed_in_order f [] apart sorted = (tt, tt)
-placed_in_order f (g ∷ rows) apart sorted = by (series_cmp f.series g.series) refl (placed_in_order f rows apart.1 sorted.1)
+placed_in_order f (g ∷ rows) apart sorted = by (series_cmp f.series g.series) refl
+    (placed_in_order f rows apart.1 sorted.1)
   where
-    by : (w : Ordering) → series_cmp f.series g.series ≡ w → IsInOrder series_cmp (λ g. g.series) (placed f rows) → IsInOrder series_cmp (λ g. g.series) (placed f (g ∷ rows))
+    by : (w : Ordering) → series_cmp f.series g.series ≡ w → IsInOrder series_cmp (λ g. g.series) (placed f rows) →
+        IsInOrder series_cmp (λ g. g.series) (placed f (g ∷ rows))
     by Less e rest = rw (ap is_gt e) ((e, above_too f g rows e sorted.0), (sorted.0, sorted.1))
     by Equal e rest = absurd (apart.0 (series_equal f.series g.series e))
     by Greater e rest =
-        let below : series_cmp g.series f.series ≡ Less = series_total.antisymm g.series f.series ∙ ap ordering_reverse e in
+        let below : series_cmp g.series f.series ≡ Less = series_total.antisymm g.series f.series
+        ∙ ap ordering_reverse e in
         rw (ap is_gt e) (all_placed (λ h. series_cmp g.series h.series ≡ Less) f rows below sorted.0, rest)
 
-pub by_series_in_order : (rows : List Frozen) → AllPairs (λ f g. f.series ≢ g.series) rows → IsInOrder series_cmp (λ f. f.series) (by_series rows)
+pub by_series_in_order : (rows : List Frozen) → AllPairs (λ f g. f.series ≢ g.series) rows →
+    IsInOrder series_cmp (λ f. f.series) (by_series rows)
 unfolding IsStrictlySortedBy
 by_series_in_order [] apart = tt
-by_series_in_order (f ∷ rows) apart = placed_in_order f (by_series rows) (all_by_series (AreApart f) rows apart.0) (by_series_in_order rows apart.1)
+by_series_in_order (f ∷ rows) apart = placed_in_order f (by_series rows) (all_by_series (AreApart f) rows apart.0)
+    (by_series_in_order rows apart.1)
 
 -- ---- the first quote of a series
 
 module _ (s : SeriesId) where
-  first_placed : (f : Frozen) (rows : List Frozen) → row_at series_cmp (λ f. f.series) s (placed f rows) ≡ row_at series_cmp (λ f. f.series) s (f ∷ rows)
+  first_placed : (f : Frozen) (rows : List Frozen) →
+      row_at series_cmp (λ f. f.series) s (placed f rows) ≡ row_at series_cmp (λ f. f.series) s (f ∷ rows)
   first_placed f [] = refl
   first_placed f (g ∷ rows) = by (series_cmp f.series g.series) refl (first_placed f rows)
     where
       Same : List Frozen → Type 0
-      Same rs = row_at series_cmp (λ (f : Frozen). f.series) s (placed f rs) ≡ row_at series_cmp (λ (f : Frozen). f.series) s (f ∷ rs)
+      Same rs = row_at series_cmp (λ (f : Frozen). f.series) s (placed f rs) ≡ row_at series_cmp
+          (λ (f : Frozen). f.series) s (f ∷ rs)
 
-      behind : series_cmp f.series g.series ≡ Greater → (w : Ordering) → series_cmp g.series s ≡ w → Same rows → row_at series_cmp (λ (f : Frozen). f.series) s (g ∷ placed f rows) ≡ row_at series_cmp (λ (f : Frozen). f.series) s (f ∷ g ∷ rows)
+      behind : series_cmp f.series g.series ≡ Greater → (w : Ordering) → series_cmp g.series s ≡ w → Same rows →
+          row_at series_cmp (λ (f : Frozen). f.series) s (g ∷ placed f rows) ≡ row_at series_cmp
+          (λ (f : Frozen). f.series) s (f ∷ g ∷ rows)
       behind e Less t rest = rw (ap is_eq t) rest
       behind e Greater t rest = rw (ap is_eq t) rest
       behind e Equal t rest =
@@ -91,11 +109,14 @@ module _ (s : SeriesId) where
       by Equal e rest = rw (ap is_gt e) refl
       by Greater e rest = rw (ap is_gt e) (behind e (series_cmp g.series s) refl rest)
 
-  pub first_by_series : (rows : List Frozen) → row_at series_cmp (λ f. f.series) s (by_series rows) ≡ row_at series_cmp (λ f. f.series) s rows
+  pub first_by_series : (rows : List Frozen) → row_at series_cmp (λ f. f.series) s
+      (by_series rows) ≡ row_at series_cmp (λ f. f.series) s rows
   first_by_series [] = refl
-  first_by_series (f ∷ rows) = first_placed f (by_series rows) ∙ by (is_eq (series_cmp f.series s)) refl (first_by_series rows)
+  first_by_series (f ∷ rows) = first_placed f (by_series rows)
+      ∙ by (is_eq (series_cmp f.series s)) refl (first_by_series rows)
     where
-      by : (w : Bool) → is_eq (series_cmp f.series s) ≡ w → row_at series_cmp (λ f. f.series) s (by_series rows) ≡ row_at series_cmp (λ f. f.series) s rows →
+      by : (w : Bool) → is_eq (series_cmp f.series s) ≡ w →
+          row_at series_cmp (λ f. f.series) s (by_series rows) ≡ row_at series_cmp (λ f. f.series) s rows →
           row_at series_cmp (λ f. f.series) s (f ∷ by_series rows) ≡ row_at series_cmp (λ f. f.series) s (f ∷ rows)
       by true e rest = rw e refl
       by false e rest = rw e rest

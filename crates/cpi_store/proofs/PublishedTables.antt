@@ -1,5 +1,6 @@
 -- The table that is asked for, with one more release behind the others.
-use Rattle.std.proofs.Common.{◌≡◌, ◌≢◌, ◌⊎◌, inl, inr, ◌≤◌, ◌<◌, arith, leb, eqb, ℕ, Bool, true, false, List, [], ◌∷◌, ◌++◌, map, filter, Some, None, Option, refl, sym, ap, ◌∙◌}
+use Rattle.std.proofs.Common.{◌≡◌, ◌≢◌, ◌⊎◌, inl, inr, ◌≤◌, ◌<◌, arith, leb, eqb, ℕ, Bool, true, false, List, [], ◌∷◌}
+use Rattle.std.proofs.Common.{◌++◌, map, filter, Some, None, Option, refl, sym, ap, ◌∙◌}
 use Rattle.std.specs.declared.cmp.Ordering.{Ordering}
 use Rattle.std.specs.declared.cmp.Ordering.TheVariants.{Less, Equal, Greater}
 use Rattle.std.proofs.lemmas.Bool.{false≢true}
@@ -35,35 +36,47 @@ module _ (month : ℕ) (revision : Option ℕ) (until : ℕ) where
       ∙ ap (filter asked) (map-append published_table (filter due rs) (filter due (r ∷ [])))
       ∙ filter-append asked (published_until until rs) (published_until until (r ∷ []))
 
-  one_more : (rs : List Release) (r : Release) (ts : List PublishedTable) → of (r ∷ []) ≡ ts → table_until month revision until (rs ++ r ∷ []) ≡ latest in_month month (of rs ++ ts)
+  one_more : (rs : List Release) (r : Release) (ts : List PublishedTable) → of (r ∷ []) ≡ ts →
+      table_until month revision until (rs ++ r ∷ []) ≡ latest in_month month (of rs ++ ts)
   one_more rs r ts is = ap (latest in_month month) (of_behind rs r ∙ ap (λ xs. of rs ++ xs) is)
 
-  none_more : (rs : List Release) (r : Release) → of (r ∷ []) ≡ [] → table_until month revision until (rs ++ r ∷ []) ≡ table_until month revision until rs
+  none_more : (rs : List Release) (r : Release) → of (r ∷ []) ≡ [] →
+      table_until month revision until (rs ++ r ∷ []) ≡ table_until month revision until rs
   none_more rs r is = one_more rs r [] is ∙ ap (latest in_month month) (append-nil (of rs))
 
-  pub table_wanted : (rs : List Release) (r : Release) → wanted month revision until r ≡ true → table_until month revision until (rs ++ r ∷ []) ≡ Some (published_table r)
+  pub table_wanted : (rs : List Release) (r : Release) → wanted month revision until r ≡ true →
+      table_until month revision until (rs ++ r ∷ []) ≡ Some (published_table r)
   table_wanted rs r e = by (due r) (asked (published_table r)) refl refl (eqb_tells r.month month)
     where
-      by : (d a : Bool) → due r ≡ d → asked (published_table r) ≡ a → ((eqb r.month month ≡ true) × (r.month ≡ month)) ⊎ ((eqb r.month month ≡ false) × (r.month ≢ month)) → table_until month revision until (rs ++ r ∷ []) ≡ Some (published_table r)
-      by true true f g (inl same) = one_more rs r (published_table r ∷ []) (rw (f, g) refl) ∙ latest_own in_month month (of rs) (published_table r) same.1
+      by : (d a : Bool) → due r ≡ d → asked (published_table r) ≡ a → ((eqb r.month month ≡ true) × (r.month ≡ month))
+          ⊎ ((eqb r.month month ≡ false) × (r.month ≢ month)) → table_until month revision until (rs ++ r ∷ []) ≡ Some
+          (published_table r)
+      by true true f g (inl same) = one_more rs r (published_table r ∷ []) (rw (f, g) refl)
+          ∙ latest_own in_month month (of rs) (published_table r) same.1
       by true true f g (inr apart) = absurd (false≢true (rw (f, g, apart.0) at e))
       by true false f g tells = absurd (false≢true (rw (f, g) at e))
       by false a f g tells = absurd (false≢true (rw f at e))
 
-  pub table_unwanted : (rs : List Release) (r : Release) → wanted month revision until r ≡ false → table_until month revision until (rs ++ r ∷ []) ≡ table_until month revision until rs
+  pub table_unwanted : (rs : List Release) (r : Release) → wanted month revision until r ≡ false →
+      table_until month revision until (rs ++ r ∷ []) ≡ table_until month revision until rs
   table_unwanted rs r e = by (due r) (asked (published_table r)) refl refl (eqb_tells r.month month)
     where
-      by : (d a : Bool) → due r ≡ d → asked (published_table r) ≡ a → ((eqb r.month month ≡ true) × (r.month ≡ month)) ⊎ ((eqb r.month month ≡ false) × (r.month ≢ month)) → table_until month revision until (rs ++ r ∷ []) ≡ table_until month revision until rs
+      by : (d a : Bool) → due r ≡ d → asked (published_table r) ≡ a → ((eqb r.month month ≡ true) × (r.month ≡ month))
+          ⊎ ((eqb r.month month ≡ false) × (r.month ≢ month)) →
+          table_until month revision until (rs ++ r ∷ []) ≡ table_until month revision until rs
       by true true f g (inl same) = absurd (false≢true (sym (rw (f, g, same.0) at e)))
-      by true true f g (inr apart) = one_more rs r (published_table r ∷ []) (rw (f, g) refl) ∙ latest_other in_month month (of rs) (published_table r) apart.1
+      by true true f g (inr apart) = one_more rs r (published_table r ∷ []) (rw (f, g) refl)
+          ∙ latest_other in_month month (of rs) (published_table r) apart.1
       by true false f g tells = none_more rs r (rw (f, g) refl)
       by false a f g tells = none_more rs r (rw f refl)
 
 -- a revision that is named is one of those that may be latest
-pub wanted_named : (month revision until : ℕ) (r : Release) → (r.revision == revision) ≡ true → wanted month (Some revision) until r ≡ wanted month None until r
+pub wanted_named : (month revision until : ℕ) (r : Release) → (r.revision == revision) ≡ true →
+    wanted month (Some revision) until r ≡ wanted month None until r
 wanted_named month revision until r e = rw e refl
 
-pub wanted_other : (month revision until : ℕ) (r : Release) → (r.revision == revision) ≡ false → wanted month (Some revision) until r ≡ false
+pub wanted_other : (month revision until : ℕ) (r : Release) → (r.revision == revision) ≡ false →
+    wanted month (Some revision) until r ≡ false
 wanted_other month revision until r e = by (nat_le r.publishes until) refl
   where
     by : (b : Bool) → nat_le r.publishes until ≡ b → wanted month (Some revision) until r ≡ false
@@ -73,7 +86,8 @@ wanted_other month revision until r e = by (nat_le r.publishes until) refl
 pub le_is : (a b : ℕ) → nat_le a b ≡ is_le (nat_cmp a b)
 le_is a b = by (leb_tells a b) (nat_cmp a b) refl
   where
-    by : ((leb a b ≡ true) × (a ≤ b)) ⊎ ((leb a b ≡ false) × (b < a)) → (s : Ordering) → nat_cmp a b ≡ s → nat_le a b ≡ is_le (nat_cmp a b)
+    by : ((leb a b ≡ true) × (a ≤ b)) ⊎ ((leb a b ≡ false) × (b < a)) → (s : Ordering) → nat_cmp a b ≡ s →
+        nat_le a b ≡ is_le (nat_cmp a b)
     by (inl le) Greater e = absurd (omega (arith, le.1, ranked a b Greater (sym e)))
     by (inl le) Less e = le.0 ∙ sym (ap is_le e)
     by (inl le) Equal e = le.0 ∙ sym (ap is_le e)

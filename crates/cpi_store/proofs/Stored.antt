@@ -1,5 +1,6 @@
 -- What is frozen of a month is what is stored of it.
-use Rattle.std.proofs.Common.{◌≡◌, ◌≢◌, ℕ, Bool, true, false, List, [], ◌∷◌, Some, None, Option, refl, sym, ap, ◌∙◌, inl, inr}
+use Rattle.std.proofs.Common.{◌≡◌, ◌≢◌, ℕ, Bool, true, false, List, [], ◌∷◌, Some, None, Option, refl, sym, ap, ◌∙◌}
+use Rattle.std.proofs.Common.{inl, inr}
 use Rattle.std.specs.Prelude.{◌⊎◌, option_map, option_and_then}
 use Rattle.std.specs.declared.cmp.Ordering.{Ordering}
 use Rattle.std.specs.declared.cmp.Ordering.TheVariants.{Less, Equal, Greater}
@@ -20,7 +21,7 @@ use Rattle.cpi_store.specs.Sound.{AreApart, AllPairs}
 use Rattle.cpi_store.specs.Stored.{assignment_in, stored_mark, FrozenAreStored}
 use Rattle.cpi_store.proofs.Changes.{same_series_tells}
 use Rattle.cpi_store.proofs.Placed.{series_total, series_equal, first_by_series}
-use Rattle.cpi_store.proofs.Published.{stored, IsActiveIfQuoted, month_active}
+use Rattle.cpi_store.proofs.Released.{stored, IsActiveIfQuoted, month_active}
 
 -- another series compares as another
 series_differ : (s t : SeriesId) → s ≢ t → is_eq (series_cmp s t) ≡ false
@@ -37,17 +38,20 @@ module _ (month : ℕ) (series : SeriesId) (o : Office) where
 
   -- the mark of the series among the quotes that are stored for some of the assignments
   abbrev frozen_among : List (ℕ × Given) → Option Mark
-  frozen_among rows = option_map (λ (f : Frozen). f.mark) (row_at series_cmp (λ (f : Frozen). f.series) series (filter_map (frozen_row month o.quotes o.assignments) rows))
+  frozen_among rows = option_map (λ (f : Frozen). f.mark)
+      (row_at series_cmp (λ (f : Frozen). f.series) series (filter_map (frozen_row month o.quotes o.assignments) rows))
 
   -- the mark of the quote of the assignment that the series has among them
   abbrev stored_among : List (ℕ × Given) → Option Mark
   stored_among rows = option_and_then (stored_mark month o) (assignment_in month series rows)
 
-  unquoted_over : (r : ℕ × Given) (rows : List (ℕ × Given)) → of_month r ≡ None → frozen_among (r ∷ rows) ≡ frozen_among rows
+  unquoted_over : (r : ℕ × Given) (rows : List (ℕ × Given)) → of_month r ≡ None →
+      frozen_among (r ∷ rows) ≡ frozen_among rows
   unquoted_over r rows e = rw e refl
 
   -- an assignment of another series is passed over
-  passed_over : (r : ℕ × Given) (rows : List (ℕ × Given)) → r.1.series ≢ series → frozen_among (r ∷ rows) ≡ frozen_among rows
+  passed_over : (r : ℕ × Given) (rows : List (ℕ × Given)) → r.1.series ≢ series →
+      frozen_among (r ∷ rows) ≡ frozen_among rows
   passed_over r rows other = by (of_month r) refl
     where
       by : (w : Option QuoteRow) → of_month r ≡ w → frozen_among (r ∷ rows) ≡ frozen_among rows
@@ -55,31 +59,42 @@ module _ (month : ℕ) (series : SeriesId) (o : Office) where
       by (Some q) e = rw (e, series_differ r.1.series series other) refl
 
   -- where the series has its assignment, it has no other
-  no_other : (r : ℕ × Given) (rows : List (ℕ × Given)) → r.1.series ≡ series → is_active month r.1.assignment ≡ true → AllByRecursion (AreApart r) rows → assignment_in month series rows ≡ None
+  no_other : (r : ℕ × Given) (rows : List (ℕ × Given)) → r.1.series ≡ series → is_active month r.1.assignment ≡ true →
+      AllByRecursion (AreApart r) rows → assignment_in month series rows ≡ None
   no_other r [] same active apart = refl
-  no_other r (s ∷ rows) same active apart = by (same_series_tells s.1.series series) (is_active month s.1.assignment) refl (no_other r rows same active apart.1)
+  no_other r (s ∷ rows) same active apart = by (same_series_tells s.1.series series)
+      (is_active month s.1.assignment) refl (no_other r rows same active apart.1)
     where
-      by : ((same_series s.1.series series ≡ true) × (s.1.series ≡ series)) ⊎ ((same_series s.1.series series ≡ false) × (s.1.series ≢ series)) → (w : Bool) → is_active month s.1.assignment ≡ w →
+      by : ((same_series s.1.series series ≡ true) × (s.1.series ≡ series))
+          ⊎ ((same_series s.1.series series ≡ false) × (s.1.series ≢ series)) → (w : Bool) →
+          is_active month s.1.assignment ≡ w →
           assignment_in month series rows ≡ None → assignment_in month series (s ∷ rows) ≡ None
       by (inl here) true e rest = absurd (apart.0 (same ∙ sym here.1) month active e)
       by (inl here) false e rest = rw (here.0, e) rest
       by (inr there) w e rest = rw there.0 rest
 
-  among : (rows : List (ℕ × Given)) → AllPairs AreApart rows → AllByRecursion (IsActiveIfQuoted month o.quotes o.assignments) rows → frozen_among rows ≡ stored_among rows
+  among : (rows : List (ℕ × Given)) → AllPairs AreApart rows →
+      AllByRecursion (IsActiveIfQuoted month o.quotes o.assignments) rows → frozen_among rows ≡ stored_among rows
   among [] apart quoted = refl
-  among (r ∷ rows) apart quoted = by (same_series_tells r.1.series series) (is_active month r.1.assignment) refl (of_month r) refl (among rows apart.1 quoted.1)
+  among (r ∷ rows) apart quoted = by (same_series_tells r.1.series series) (is_active month r.1.assignment) refl
+      (of_month r) refl (among rows apart.1 quoted.1)
     where
-      by : ((same_series r.1.series series ≡ true) × (r.1.series ≡ series)) ⊎ ((same_series r.1.series series ≡ false) × (r.1.series ≢ series)) → (w : Bool) → is_active month r.1.assignment ≡ w →
-          (v : Option QuoteRow) → of_month r ≡ v → frozen_among rows ≡ stored_among rows → frozen_among (r ∷ rows) ≡ stored_among (r ∷ rows)
+      by : ((same_series r.1.series series ≡ true) × (r.1.series ≡ series))
+          ⊎ ((same_series r.1.series series ≡ false) × (r.1.series ≢ series)) → (w : Bool) →
+          is_active month r.1.assignment ≡ w →
+          (v : Option QuoteRow) → of_month r ≡ v → frozen_among rows ≡ stored_among rows →
+          frozen_among (r ∷ rows) ≡ stored_among (r ∷ rows)
       by (inr there) w e v f rest = passed_over r rows there.1 ∙ rest ∙ rw there.0 refl
       by (inl here) true e (Some q) f rest =
-          let level : is_eq (series_cmp r.1.series series) ≡ true = ap (λ (t : SeriesId). is_eq (series_cmp t series)) here.1 ∙ ap is_eq (tied_itself series_total series) in
+          let level : is_eq (series_cmp r.1.series series) ≡ true =
+          ap (λ (t : SeriesId). is_eq (series_cmp t series)) here.1 ∙ ap is_eq (tied_itself series_total series) in
           let frozen : frozen_among (r ∷ rows) ≡ Some q.mark = rw (f, level) refl in
           let kept : stored_among (r ∷ rows) ≡ Some q.mark = rw (here.0, e, f) refl in
           frozen ∙ sym kept
       by (inl here) true e None f rest =
           let kept : stored_among (r ∷ rows) ≡ None = rw (here.0, e, f) refl in
-          unquoted_over r rows f ∙ rest ∙ ap (option_and_then (stored_mark month o)) (no_other r rows here.1 e apart.0) ∙ sym kept
+          unquoted_over r rows f ∙ rest ∙ ap (option_and_then (stored_mark month o))
+          (no_other r rows here.1 e apart.0) ∙ sym kept
       by (inl here) false e (Some q) f rest = absurd (false≢true (sym e ∙ quoted.0 q f))
       by (inl here) false e None f rest = unquoted_over r rows f ∙ rest ∙ rw (here.0, e) refl
 

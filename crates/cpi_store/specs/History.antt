@@ -1,16 +1,16 @@
 -- What a sound office says of its releases: each table is the index of what was frozen with it and before it.
 use Rattle.std.specs.Prelude.{◌≡◌, map}
 use Rattle.cpi_release.specs.Cached.{IsFit}
-use Rattle.cpi_release.specs.Publishing.{AreSound, all_published, freeze_of}
+use Rattle.cpi_release.specs.Releasing.{AreSound, all_released, freeze_of}
 use Rattle.cpi_store.specs.Office.{Office}
 use Rattle.cpi_store.specs.Sources.{office_sources}
 use Rattle.cpi_store.specs.Sound.{IsSound}
 
--- Take what was frozen, month by month, and publish it anew, each month by the plan of its year and after those before
+-- Take what was frozen, month by month, and release it anew, each month by the plan of its year and after those before
 -- it: these are the releases that stand. So each table is the chained index of the quotes and weights that were frozen
 -- with it and before it.
 abbrev pub HasComputedTables : Office → Type 0
-HasComputedTables o = o.releases ≡ all_published o.plans (map freeze_of o.releases)
+HasComputedTables o = o.releases ≡ all_released o.plans (map freeze_of o.releases)
 
 abbrev pub ReleasesAreComputed : Type 0
 ReleasesAreComputed = (o : Office) → IsSound o → HasComputedTables o

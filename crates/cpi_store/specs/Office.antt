@@ -13,7 +13,7 @@ use Rattle.cpi_survey.specs.declared.assignment.Assigned.{Assigned}
 use Rattle.cpi_survey.specs.Assignment.{until}
 use Rattle.cpi_store.specs.declared.bearer.Bearer.{Bearer}
 use Rattle.cpi_store.specs.declared.given.Given.{Given}
-use Rattle.cpi_store.specs.declared.handover.Handover.{Handover}
+use Rattle.cpi_store.specs.declared.series_move.SeriesMove.{SeriesMove}
 use Rattle.cpi_store.specs.Series.{by_series, first_of_series, last_of_series}
 use Rattle.cpi_survey.specs.Quote.{QuoteRow, quote_cmp, quote_key}
 use Rattle.cpi_survey.specs.Public.{PublicPart}
@@ -86,11 +86,11 @@ abbrev pub end_given : ℕ → ℕ → ℕ → List (ℕ × Given) → List (ℕ
 end_given number slot last_month rows = map (row_until number slot last_month) rows
 
 -- what the new slot is given: the same series
-abbrev pub given_over : Handover → Given
+abbrev pub given_over : SeriesMove → Given
 given_over h = record { assignment = h.assigned.assignment; series = h.ended.series }
 
 -- the former assignment ends, and the new one is put
-abbrev pub hand_over : Handover → List (ℕ × Given) → List (ℕ × Given)
+abbrev pub hand_over : SeriesMove → List (ℕ × Given) → List (ℕ × Given)
 hand_over h rows =
     put_given h.taker.number (given_over h)
     (end_given h.former.number h.ended.assignment.slot h.ended.assignment.last_month rows)
@@ -130,7 +130,7 @@ pub data Change : Type 0 where
   -- for this collector, as a series of its own; with the outlet's name of that moment
   Assigns : Bearer → Assigned → Change
   -- from one collector to another; with the outlet's name of that moment
-  HandsOver : Handover → Change
+  HandsOver : SeriesMove → Change
   -- of this collector
   Quotes : Bearer → QuoteRow → Change
   Freezes : Release → Change

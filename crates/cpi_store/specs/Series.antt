@@ -53,7 +53,8 @@ series_or own (Some t) = t.series
 -- the series of a slot
 abbrev pub series_in : List TakenOver → ℕ → ℕ → SeriesId
 series_in taken collector slot =
-    series_or (own_series collector slot) (row_at (held_cmp nat_cmp) (λ t. (t.collector, t.slot)) (collector, slot) taken)
+    series_or (own_series collector slot) (row_at (held_cmp nat_cmp) (λ t. (t.collector, t.slot))
+    (collector, slot) taken)
 
 -- an assignment beside the series of its slot
 abbrev pub given_in : List TakenOver → ℕ × Assignment → ℕ × Given

@@ -1,5 +1,5 @@
 -- What holds of an office at all times: its lists are in order, what a row names is there, and its releases are
--- published one after the other.
+-- made one after the other.
 use Rattle.std.specs.Prelude.{◌≡◌, ℕ, ◌≤◌, true, List, [], ◌∷◌, Some, IsSome, ⊤}
 use Rattle.std.specs.List.{AllByRecursion}
 use Rattle.std.specs.Ordering.{nat_cmp}
@@ -16,7 +16,7 @@ use Rattle.cpi_store.specs.declared.given.Given.{Given}
 use Rattle.cpi_store.specs.Bearer.{bearer_of}
 use Rattle.cpi_store.specs.Office.{Office}
 use Rattle.cpi_store.specs.FrozenLists.{HasFrozenList}
-use Rattle.cpi_store.specs.PublishedReleases.{ArePublished}
+use Rattle.cpi_store.specs.Released.{AreReleased}
 
 -- whoever has a number is the only one to bear that key
 abbrev pub BearOwnKeys : List Bearer → Type 0
@@ -87,6 +87,6 @@ pub record IsSound (o : Office) : Type 0 where
   pub apart : AllPairs AreApart o.assignments
   -- the nodes of each plan are by code
   pub nodes : AllByRecursion HasNodesInOrder o.plans
-  -- each release has the frozen quotes of the office's series, and is what is published after those before it
+  -- each release has the frozen quotes of the office's series, and is what is released after those before it
   pub frozen : AllByRecursion (HasFrozenList o.assignments) o.releases
-  pub published : ArePublished o.plans [] o.releases
+  pub released : AreReleased o.plans [] o.releases

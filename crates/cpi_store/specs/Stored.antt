@@ -1,5 +1,6 @@
 -- What is frozen of a month is what is stored of it.
-use Rattle.std.specs.Prelude.{◌≡◌, ℕ, ◌&&◌, List, [], ◌∷◌, Option, Some, None, option_map, option_and_then, if◌then◌else◌}
+use Rattle.std.specs.Prelude.{◌≡◌, ℕ, ◌&&◌, List, [], ◌∷◌, Option, Some, None, option_map, option_and_then}
+use Rattle.std.specs.Prelude.{if◌then◌else◌}
 use Rattle.cpi_rows.specs.Keyed.{row_at}
 use Rattle.cpi_rows.specs.Held.{held_by}
 use Rattle.cpi_codes.specs.declared.series.SeriesId.{SeriesId}
@@ -29,7 +30,8 @@ stored_mark month o row =
     option_map (λ q. q.mark)
     (row_at quote_cmp quote_key (row.1.assignment.slot, month) (held_by row.0 o.quotes))
 
--- A freeze takes a quote of a series exactly where the collector who has the series in that month has a quote of it, and
+-- A freeze takes a quote of a series exactly where the collector who has the series in that month has a quote of it,
+-- and
 -- with that quote's mark.
 abbrev pub FrozenAreStored : Type 0
 FrozenAreStored =

@@ -3,8 +3,8 @@ ghost use Rattle.std.specs.Option.{option_copied};
 
 use crate::bearer::Bearer;
 use crate::given::Given;
-use crate::handover::Handover;
 use crate::outlet::Outlet;
+use crate::series_move::SeriesMove;
 use cpi_codes::{CollectorId, Key, Moment, Month, OutletId, Slot};
 use cpi_index::FrozenQuote;
 use cpi_plan::{CalendarRow, Item, YearPlan};
@@ -196,15 +196,15 @@ pub trait Book: Groups {
         ensures writes { Writes (state self.old) (state self.new) result
             (changed (PutsOutlet outlet) (state self.old).held) };
 
-    /// Puts a new assignment of the collector, as a series of its own, with the name of its outlet. The caller owes that
-    /// the collector is registered with this key, that the collector's slot is free, that the first month isn't after
-    /// the last, that item and outlet are there, and that the name is the outlet's.
+    /// Puts a new assignment of the collector, as a series of its own, with the name of its outlet. The caller owes
+    /// that the collector is registered with this key, that the collector's slot is free, that the first month isn't
+    /// after the last, that item and outlet are there, and that the name is the outlet's.
     fn put_assignment(&mut self, bearer: Bearer, assigned: Assigned) -> Result<(), StoreFault>
         requires known { (state self.old).is_clean →
             at (λ b. b.number) bearer.number (state self.old).held.collectors ≡ Some bearer }
         requires new { (state self.old).is_clean →
-            at (λ g. g.assignment.slot) assigned.assignment.slot (held_by bearer.number (state self.old).held.assignments)
-            ≡ None }
+            at (λ g. g.assignment.slot) assigned.assignment.slot
+            (held_by bearer.number (state self.old).held.assignments) ≡ None }
         requires months { (state self.old).is_clean → assigned.assignment.first_month ≤ assigned.assignment.last_month }
         requires item { (state self.old).is_clean →
             IsSome (at (λ i. i.code) assigned.assignment.item (state self.old).held.items) }
@@ -219,7 +219,7 @@ pub trait Book: Groups {
     /// neither. The caller owes that both collectors are registered with these keys, that the former assignment stands
     /// as it is said but for its last month, that the new slot is free, that the outlet is there, and that the name is
     /// its own.
-    fn put_handover(&mut self, handover: Handover) -> Result<(), StoreFault>
+    fn put_handover(&mut self, handover: SeriesMove) -> Result<(), StoreFault>
         requires former { (state self.old).is_clean →
             at (λ b. b.number) handover.former.number (state self.old).held.collectors ≡ Some handover.former }
         requires taker { (state self.old).is_clean →

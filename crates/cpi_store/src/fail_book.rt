@@ -1,8 +1,8 @@
 use crate::bearer::Bearer;
 use crate::book::{Book, Parts, StoreFault};
 use crate::given::Given;
-use crate::handover::Handover;
 use crate::outlet::Outlet;
+use crate::series_move::SeriesMove;
 use cpi_codes::{Code, CollectorId, Key, Moment, Month, OutletId, Slot};
 use cpi_index::{ChainedLevel, FrozenQuote, GroupRow};
 use cpi_plan::{CalendarRow, Item, YearPlan};
@@ -238,7 +238,7 @@ impl<B: Book> Book for FailBook<B> {
         self.inner.put_assignment(bearer, assigned)
     }
 
-    fn put_handover(&mut self, handover: Handover) -> Result<(), StoreFault> {
+    fn put_handover(&mut self, handover: SeriesMove) -> Result<(), StoreFault> {
         self.count()?;
         self.inner.put_handover(handover)
     }

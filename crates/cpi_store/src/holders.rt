@@ -12,8 +12,8 @@ ghost use Rattle.cpi_store.specs.Holders.{named_by, ArePlaced, IsGiven};
 ghost use Rattle.std.specs.List.{AllByRecursion};
 
 use crate::bearer::Bearer;
-use crate::handover::Handover;
 use crate::holder::Holder;
+use crate::series_move::SeriesMove;
 use crate::taken_over::TakenOver;
 use cpi_codes::{CollectorId, Key, Month, Slot};
 use cpi_rows::{Keyed, place_of};
@@ -33,7 +33,8 @@ pub fn put_quote_of(
     ensures ok { OnOk result (all_quotes holders.new.items ≡
         put_quote collector quote (all_quotes holders.old.items)) }
     ensures err { OnErr result (holders.new.items ≡ holders.old.items) }
-    ensures replaced { IsSome (row_at quote_cmp quote_key (quote.slot, quote.month) (held_by collector (all_quotes holders.old.items)))
+    ensures replaced { IsSome (row_at quote_cmp quote_key (quote.slot, quote.month)
+        (held_by collector (all_quotes holders.old.items)))
         → IsOk result }
     ensures collectors { collectors_of holders.new.items ≡ collectors_of holders.old.items }
     ensures assignments { all_assignments holders.new.items ≡ all_assignments holders.old.items }
@@ -59,7 +60,8 @@ pub fn put_assignment_of(
     requires order { IsInOrder nat_cmp (λ h. h.number) holders.old.items }
     requires known { IsSome (row_at nat_cmp (λ h. h.number) collector holders.old.items) }
     ensures ok { OnOk result (all_assignments holders.new.items ≡
-        put (held_cmp nat_cmp) (held_key (λ a. a.slot)) (collector, assigned.assignment) (all_assignments holders.old.items)) }
+        put (held_cmp nat_cmp) (held_key (λ a. a.slot)) (collector, assigned.assignment)
+        (all_assignments holders.old.items)) }
     ensures err { OnErr result (holders.new.items ≡ holders.old.items) }
     ensures collectors { collectors_of holders.new.items ≡ collectors_of holders.old.items }
     ensures quotes { all_quotes holders.new.items ≡ all_quotes holders.old.items }
@@ -115,7 +117,7 @@ fn end_assignment_of(
 pub fn hand_over_in(
     holders: &mut Vec<Holder>,
     taken: &mut Vec<TakenOver>,
-    handover: Handover,
+    handover: SeriesMove,
 ) -> Result<(), AllocError>
     requires order { IsInOrder nat_cmp (λ h. h.number) holders.old.items }
     requires by_slot { IsInOrder (held_cmp nat_cmp) (λ t. (t.collector, t.slot)) taken.old.items }
@@ -155,11 +157,12 @@ pub fn hand_over_in(
 }
 
 /// Puts the new assignment, and ends the former one. Where memory is refused, all is as before.
-fn pass_on(holders: &mut Vec<Holder>, handover: Handover) -> Result<(), AllocError>
+fn pass_on(holders: &mut Vec<Holder>, handover: SeriesMove) -> Result<(), AllocError>
     requires order { IsInOrder nat_cmp (λ h. h.number) holders.old.items }
     requires known { IsSome (row_at nat_cmp (λ h. h.number) handover.taker.number holders.old.items) }
     ensures ok { OnOk result (all_assignments holders.new.items ≡
-        map (assignment_until handover.former.number handover.ended.assignment.slot handover.ended.assignment.last_month)
+        map (assignment_until handover.former.number handover.ended.assignment.slot
+        handover.ended.assignment.last_month)
         (put (held_cmp nat_cmp) (held_key (λ a. a.slot)) (handover.taker.number, handover.assigned.assignment)
         (all_assignments holders.old.items))) }
     ensures err { OnErr result (holders.new.items ≡ holders.old.items) }

@@ -2,10 +2,10 @@ use crate::bearer::Bearer;
 use crate::book::Parts;
 use crate::frozen::month_rows;
 use crate::given::Given;
-use crate::handover::Handover;
 use crate::holder::Holder;
 use crate::holders::{hand_over_in, put_assignment_of, put_holder, put_quote_of};
 use crate::outlet::Outlet;
+use crate::series_move::SeriesMove;
 use crate::taken_over::{TakenOver, series_in};
 use cpi_codes::{CollectorId, Key, Month, OutletId, Slot};
 use cpi_index::FrozenQuote;
@@ -252,7 +252,7 @@ impl Survey {
     /// Ends an assignment of one collector, and gives its series to a new slot of another, who may be the same: both
     /// or neither. The caller owes that the taker is registered, that the former assignment is there, that the new slot
     /// is free, that the outlet is there, and that the name is its own.
-    pub fn put_handover(&mut self, handover: Handover) -> Result<(), AllocError>
+    pub fn put_handover(&mut self, handover: SeriesMove) -> Result<(), AllocError>
         requires taker { IsSome (at (λ b. b.number) handover.taker.number self.old.collectors) }
         requires stands { IsSome (at (λ g. g.assignment.slot) handover.ended.assignment.slot
             (held_by handover.former.number self.old.assignments)) }

@@ -4,7 +4,7 @@ ghost use Rattle.cpi_rows.specs.Keyed.{IsInOrder};
 ghost use Rattle.cpi_rows.specs.Held.{held_cmp};
 ghost use Rattle.cpi_store.specs.Series.{series_in as named_in};
 
-use crate::handover::Handover;
+use crate::series_move::SeriesMove;
 use cpi_codes::{CollectorId, SeriesId, Slot};
 use cpi_rows::{Keyed, find_row};
 
@@ -18,7 +18,7 @@ pub struct TakenOver {
 
 impl TakenOver {
     /// The new slot of a hand-over, with the series that it takes over.
-    pub fn of(handover: &Handover) -> TakenOver
+    pub fn of(handover: &SeriesMove) -> TakenOver
         ensures { result ≡ record {
           collector = handover.now.taker.number;
           slot = handover.now.assigned.assignment.slot;

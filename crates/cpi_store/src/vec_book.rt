@@ -1,9 +1,9 @@
 use crate::bearer::Bearer;
 use crate::book::{Book, Parts, StoreFault};
 use crate::given::Given;
-use crate::handover::Handover;
 use crate::outlet::Outlet;
 use crate::releases::{frozen_months, published_months, revision_until, table_until};
+use crate::series_move::SeriesMove;
 use crate::survey::Survey;
 use cpi_codes::{Code, CollectorId, Key, Moment, Month, OutletId, Slot, Year};
 use cpi_index::{ChainedLevel, FrozenQuote, GroupRow};
@@ -313,7 +313,7 @@ impl Book for VecBook {
         }
     }
 
-    fn put_handover(&mut self, handover: Handover) -> Result<(), StoreFault> {
+    fn put_handover(&mut self, handover: SeriesMove) -> Result<(), StoreFault> {
         self.cached = None;
         match self.survey.put_handover(handover) {
             Ok(()) => Ok(()),
@@ -326,7 +326,8 @@ impl Book for VecBook {
         requires receipt { greatest_receipt (held_by bearer.number self.old.office.quotes) < quote.receipt }
         ensures writes { Writes (kept_state self.old) (kept_state self.new) result
             (changed (Quotes bearer quote) self.old.office) }
-        ensures replaced { IsSome (row_at quote_cmp quote_key (quote.slot, quote.month) (held_by bearer.number self.old.office.quotes)) →
+        ensures replaced { IsSome (row_at quote_cmp quote_key (quote.slot, quote.month)
+            (held_by bearer.number self.old.office.quotes)) →
             IsOk result }
     {
         self.cached = None;

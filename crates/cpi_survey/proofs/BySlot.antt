@@ -1,5 +1,6 @@
 -- Quotes slot by slot: what a slot has of all, what is put among its own, and a slot with none.
-use Rattle.std.proofs.Common.{◌≡◌, ◌≢◌, ℕ, zero, suc, ◌+◌, ◌<◌, Bool, true, false, List, [], ◌∷◌, ◌++◌, map, length, get_or, set, take, drop, Some, None, Option, Ok, Err, refl, sym, ap, ◌∙◌, arith, inl, inr}
+use Rattle.std.proofs.Common.{◌≡◌, ◌≢◌, ℕ, zero, suc, ◌+◌, ◌<◌, Bool, true, false, List, [], ◌∷◌, ◌++◌, map, length}
+use Rattle.std.proofs.Common.{get_or, set, take, drop, Some, None, Option, Ok, Err, refl, sym, ap, ◌∙◌, arith, inl, inr}
 use Rattle.std.specs.Prelude.{if◌then◌else◌, filter, ◌==◌, ◌⊎◌, IsSome, OnErr, OnOk, Result}
 use Rattle.std.specs.declared.cmp.Ordering.{Ordering}
 use Rattle.std.specs.declared.cmp.Ordering.TheVariants.{Less, Equal, Greater}
@@ -51,7 +52,8 @@ beside_all (s ∷ ss) =
     ∙ ap (λ ys. ys ++ map second (beside ss)) (named s.slot s.quotes.items)
     ∙ ap (λ ys. s.quotes.items ++ ys) (beside_all ss)
 
-own_named : (n : ℕ) (qs : List QuoteRow) (rs : List (ℕ × QuoteRow)) → AllByRecursion (λ q. q.slot ≡ n) qs → AllByRecursion IsOwn rs → AllByRecursion IsOwn (map (λ q. (n, q)) qs ++ rs)
+own_named : (n : ℕ) (qs : List QuoteRow) (rs : List (ℕ × QuoteRow)) → AllByRecursion (λ q. q.slot ≡ n) qs →
+    AllByRecursion IsOwn rs → AllByRecursion IsOwn (map (λ q. (n, q)) qs ++ rs)
 own_named n [] rs own rest = rest
 own_named n (q ∷ qs) rs own rest = (own.0, own_named n qs rs own.1 rest)
 
@@ -60,30 +62,37 @@ beside_own [] all = tt
 beside_own (s ∷ ss) all = own_named s.slot s.quotes.items (beside ss) all.0.own (beside_own ss all.1)
 
 -- a test of the rows that says of each what another says of its quote
-sifted : (p : ℕ × QuoteRow → Bool) (t : QuoteRow → Bool) → ((r : ℕ × QuoteRow) → IsOwn r → p r ≡ t r.1) → (rs : List (ℕ × QuoteRow)) → AllByRecursion IsOwn rs → map second (filter p rs) ≡ filter t (map second rs)
+sifted : (p : ℕ × QuoteRow → Bool) (t : QuoteRow → Bool) → ((r : ℕ × QuoteRow) → IsOwn r → p r ≡ t r.1) →
+    (rs : List (ℕ × QuoteRow)) → AllByRecursion IsOwn rs → map second (filter p rs) ≡ filter t (map second rs)
 sifted p t agree [] own = refl
 sifted p t agree (r ∷ rs) own = by (t r.1) refl (sifted p t agree rs own.1)
   where
-    by : (s : Bool) → t r.1 ≡ s → map second (filter p rs) ≡ filter t (map second rs) → map second (filter p (r ∷ rs)) ≡ filter t (map second (r ∷ rs))
+    by : (s : Bool) → t r.1 ≡ s → map second (filter p rs) ≡ filter t (map second rs) →
+        map second (filter p (r ∷ rs)) ≡ filter t (map second (r ∷ rs))
     by true e rest = rw (agree r own.0, e) (ap (λ ys. r.1 ∷ ys) rest)
     by false e rest = rw (agree r own.0, e) rest
 
 -- ---- what a slot has of all
 
-of_slot : (slot : ℕ) (ss : List SlotQuotes) → AreBySlot ss → filter (is_in_slot slot) (all_quotes ss) ≡ rows_in own_quotes (at slot_of slot ss)
+of_slot : (slot : ℕ) (ss : List SlotQuotes) → AreBySlot ss →
+    filter (is_in_slot slot) (all_quotes ss) ≡ rows_in own_quotes (at slot_of slot ss)
 of_slot slot ss kept =
     ap (filter (is_in_slot slot)) (sym (beside_all ss))
-    ∙ sym (sifted (λ r. r.0 == slot) (is_in_slot slot) (λ r own. ap (λ n. n == slot) (sym own)) (beside ss) (beside_own ss kept.own))
+    ∙ sym (sifted (λ r. r.0 == slot) (is_in_slot slot) (λ r own. ap (λ n. n == slot) (sym own)) (beside ss)
+    (beside_own ss kept.own))
     ∙ held_gathered quote_cmp quote_key slot_of own_quotes slot ss kept.order
 
-pub quotes_found : (slot : ℕ) (ss : List SlotQuotes) (s : SlotQuotes) → AreBySlot ss → at slot_of slot ss ≡ Some s → s.quotes.items ≡ filter (is_in_slot slot) (all_quotes ss)
+pub quotes_found : (slot : ℕ) (ss : List SlotQuotes) (s : SlotQuotes) → AreBySlot ss → at slot_of slot ss ≡ Some s →
+    s.quotes.items ≡ filter (is_in_slot slot) (all_quotes ss)
 quotes_found slot ss s kept found = sym (of_slot slot ss kept ∙ ap (rows_in own_quotes) found)
 
-pub quotes_missing : (slot : ℕ) (ss : List SlotQuotes) → AreBySlot ss → at slot_of slot ss ≡ None → [] ≡ filter (is_in_slot slot) (all_quotes ss)
+pub quotes_missing : (slot : ℕ) (ss : List SlotQuotes) → AreBySlot ss → at slot_of slot ss ≡ None →
+    [] ≡ filter (is_in_slot slot) (all_quotes ss)
 quotes_missing slot ss kept none = sym (of_slot slot ss kept ∙ ap (rows_in own_quotes) none)
 
 -- what is found is one of them
-found_all : (P : SlotQuotes → Type 0) (slot : ℕ) (s : SlotQuotes) (ss : List SlotQuotes) → AllByRecursion P ss → at slot_of slot ss ≡ Some s → P s
+found_all : (P : SlotQuotes → Type 0) (slot : ℕ) (s : SlotQuotes) (ss : List SlotQuotes) → AllByRecursion P ss →
+    at slot_of slot ss ≡ Some s → P s
 found_all P slot s [] all found = let wrong : None ≡ Some s = found in cc
 found_all P slot s (x ∷ ss) all found = by (is_eq (nat_cmp x.slot slot)) refl (found_all P slot s ss all.1)
   where
@@ -91,7 +100,8 @@ found_all P slot s (x ∷ ss) all found = by (is_eq (nat_cmp x.slot slot)) refl 
     by true e rest = let same : Some x ≡ Some s = rw e at found in let here : x ≡ s = cc in rw (← here) all.0
     by false e rest = rest (rw e at found)
 
-pub order_found : (slot : ℕ) (ss : List SlotQuotes) (s : SlotQuotes) → AreBySlot ss → at slot_of slot ss ≡ Some s → IsInOrder quote_cmp quote_key s.quotes.items
+pub order_found : (slot : ℕ) (ss : List SlotQuotes) (s : SlotQuotes) → AreBySlot ss → at slot_of slot ss ≡ Some s →
+    IsInOrder quote_cmp quote_key s.quotes.items
 order_found slot ss s kept found = (found_all AreOfSlot slot s ss kept.own found).order
 
 -- ---- what is asked of a slot's quotes
@@ -99,7 +109,8 @@ order_found slot ss s kept found = (found_all AreOfSlot slot s ss kept.own found
 other_slot : (k : ℕ × ℕ) (q : QuoteRow) → q.slot ≢ k.0 → is_eq (quote_cmp (quote_key q) k) ≡ false
 other_slot k q apart = by (nat_cmp q.slot k.0) refl
   where
-    by : (s : Ordering) → nat_cmp q.slot k.0 ≡ s → is_eq (ordering_then (nat_cmp q.slot k.0) (nat_cmp q.month k.1)) ≡ false
+    by : (s : Ordering) → nat_cmp q.slot k.0 ≡ s →
+        is_eq (ordering_then (nat_cmp q.slot k.0) (nat_cmp q.month k.1)) ≡ false
     by Less p = rw p refl
     by Equal p = absurd (apart (ranked q.slot k.0 Equal (sym p)))
     by Greater p = rw p refl
@@ -111,13 +122,16 @@ behind : (p : QuoteRow → Bool) (q : QuoteRow) (qs : List QuoteRow) → p q ≡
 behind p q qs e = rw e refl
 
 -- a key is found among the quotes of its slot
-pub row_of_slot : (k : ℕ × ℕ) (qs : List QuoteRow) → row_at quote_cmp quote_key k (filter (is_in_slot k.0) qs) ≡ row_at quote_cmp quote_key k qs
+pub row_of_slot : (k : ℕ × ℕ) (qs : List QuoteRow) →
+    row_at quote_cmp quote_key k (filter (is_in_slot k.0) qs) ≡ row_at quote_cmp quote_key k qs
 row_of_slot k [] = refl
 row_of_slot k (q ∷ qs) = by (eqb_tells q.slot k.0) (row_of_slot k qs)
   where
-    by : (((q.slot == k.0) ≡ true) × (q.slot ≡ k.0)) ⊎ (((q.slot == k.0) ≡ false) × (q.slot ≢ k.0)) → row_at quote_cmp quote_key k (filter (is_in_slot k.0) qs) ≡ row_at quote_cmp quote_key k qs →
+    by : (((q.slot == k.0) ≡ true) × (q.slot ≡ k.0)) ⊎ (((q.slot == k.0) ≡ false) × (q.slot ≢ k.0)) →
+        row_at quote_cmp quote_key k (filter (is_in_slot k.0) qs) ≡ row_at quote_cmp quote_key k qs →
         row_at quote_cmp quote_key k (filter (is_in_slot k.0) (q ∷ qs)) ≡ row_at quote_cmp quote_key k (q ∷ qs)
-    by (inl same) rest = ap (row_at quote_cmp quote_key k) (front (is_in_slot k.0) q qs same.0) ∙ ap (λ found. if is_eq (quote_cmp (quote_key q) k) then Some q else found) rest
+    by (inl same) rest = ap (row_at quote_cmp quote_key k) (front (is_in_slot k.0) q qs same.0)
+        ∙ ap (λ found. if is_eq (quote_cmp (quote_key q) k) then Some q else found) rest
     by (inr apart) rest =
         ap (row_at quote_cmp quote_key k) (behind (is_in_slot k.0) q qs apart.0) ∙ rest
         ∙ sym (ap (λ test. if test then Some q else row_at quote_cmp quote_key k qs) (other_slot k q apart.1))
@@ -126,13 +140,18 @@ not_earlier : (slot month : ℕ) (q : QuoteRow) → is_in_slot slot q ≡ false 
 not_earlier slot month q e = rw e refl
 
 -- the last price is that among the quotes of the slot
-pub price_of_slot : (slot month : ℕ) (qs : List QuoteRow) → observed_before slot month (filter (is_in_slot slot) qs) ≡ observed_before slot month qs
-price_of_slot slot month qs = sym (ap price_in (latest_filter (is_earlier slot month) (is_in_slot slot) (not_earlier slot month) qs))
+pub price_of_slot : (slot month : ℕ) (qs : List QuoteRow) →
+    observed_before slot month (filter (is_in_slot slot) qs) ≡ observed_before slot month qs
+price_of_slot slot month qs = sym (ap price_in
+    (latest_filter (is_earlier slot month) (is_in_slot slot) (not_earlier slot month) qs))
 
 -- and so is that of an assignment, with the price that was copied where none was found
-pub last_of_slot : (a : Assignment) (month : ℕ) (found : Option ℕ) (own qs : List QuoteRow) → own ≡ filter (is_in_slot a.slot) qs → found ≡ observed_before a.slot month own → or_copied found a.copied ≡ last_price a month qs
+pub last_of_slot : (a : Assignment) (month : ℕ) (found : Option ℕ) (own qs : List QuoteRow) →
+    own ≡ filter (is_in_slot a.slot) qs → found ≡ observed_before a.slot month own →
+    or_copied found a.copied ≡ last_price a month qs
 last_of_slot a month found own qs is_own is_found =
-    ap (λ price. or_copied price a.copied) (is_found ∙ ap (observed_before a.slot month) is_own ∙ price_of_slot a.slot month qs)
+    ap (λ price. or_copied price a.copied) (is_found ∙ ap (observed_before a.slot month) is_own
+    ∙ price_of_slot a.slot month qs)
 
 -- ---- a quote that is put among those of its slot
 
@@ -141,26 +160,36 @@ once Less t = refl
 once Equal t = refl
 once Greater t = refl
 
-level : (q : QuoteRow) (r : ℕ × QuoteRow) → IsOwn r → held_cmp quote_cmp (held_key quote_key r) (q.slot, quote_key q) ≡ quote_cmp (quote_key r.1) (quote_key q)
+level : (q : QuoteRow) (r : ℕ × QuoteRow) → IsOwn r →
+    held_cmp quote_cmp (held_key quote_key r) (q.slot, quote_key q) ≡ quote_cmp (quote_key r.1) (quote_key q)
 level q r own = rw (sym own) (once (nat_cmp r.1.slot q.slot) (nat_cmp r.1.month q.month))
 
-put_beside : (q : QuoteRow) (rs : List (ℕ × QuoteRow)) → AllByRecursion IsOwn rs → map second (put (held_cmp quote_cmp) (held_key quote_key) (q.slot, q) rs) ≡ put quote_cmp quote_key q (map second rs)
+put_beside : (q : QuoteRow) (rs : List (ℕ × QuoteRow)) → AllByRecursion IsOwn rs →
+    map second (put (held_cmp quote_cmp) (held_key quote_key) (q.slot, q) rs) ≡ put quote_cmp quote_key q
+    (map second rs)
 put_beside q rs own =
-    map-append second (filter (λ r. is_lt (held_cmp quote_cmp (held_key quote_key r) (q.slot, quote_key q))) rs) ((q.slot, q) ∷ filter (λ r. is_gt (held_cmp quote_cmp (held_key quote_key r) (q.slot, quote_key q))) rs)
-    ∙ ap (λ ys. ys ++ q ∷ map second (filter (λ r. is_gt (held_cmp quote_cmp (held_key quote_key r) (q.slot, quote_key q))) rs)) (sifted _ (λ x. is_lt (quote_cmp (quote_key x) (quote_key q))) (λ r o. ap is_lt (level q r o)) rs own)
-    ∙ ap (λ ys. filter (λ x. is_lt (quote_cmp (quote_key x) (quote_key q))) (map second rs) ++ q ∷ ys) (sifted _ (λ x. is_gt (quote_cmp (quote_key x) (quote_key q))) (λ r o. ap is_gt (level q r o)) rs own)
+    map-append second (filter (λ r. is_lt (held_cmp quote_cmp (held_key quote_key r) (q.slot, quote_key q))) rs)
+    ((q.slot, q) ∷ filter (λ r. is_gt (held_cmp quote_cmp (held_key quote_key r) (q.slot, quote_key q))) rs)
+    ∙ ap (λ ys. ys ++ q ∷ map second (filter (λ r. is_gt
+    (held_cmp quote_cmp (held_key quote_key r) (q.slot, quote_key q))) rs))
+    (sifted _ (λ x. is_lt (quote_cmp (quote_key x) (quote_key q))) (λ r o. ap is_lt (level q r o)) rs own)
+    ∙ ap (λ ys. filter (λ x. is_lt (quote_cmp (quote_key x) (quote_key q))) (map second rs) ++ q ∷ ys)
+    (sifted _ (λ x. is_gt (quote_cmp (quote_key x) (quote_key q))) (λ r o. ap is_gt (level q r o)) rs own)
 
-all_set : {X : Type 0} (P : X → Type 0) (xs : List X) (i : ℕ) (x : X) → P x → AllByRecursion P xs → AllByRecursion P (set xs i x)
+all_set : {X : Type 0} (P : X → Type 0) (xs : List X) (i : ℕ) (x : X) → P x → AllByRecursion P xs →
+    AllByRecursion P (set xs i x)
 all_set P [] i x here all = tt
 all_set P (y ∷ xs) zero x here all = (here, all.1)
 all_set P (y ∷ xs) (suc i) x here all = (all.0, all_set P xs i x here all.1)
 
-all_at : {X : Type 0} (P : X → Type 0) (xs : List X) (i : ℕ) (d : X) → i < length xs → AllByRecursion P xs → P (get_or xs i d)
+all_at : {X : Type 0} (P : X → Type 0) (xs : List X) (i : ℕ) (d : X) → i < length xs → AllByRecursion P xs →
+    P (get_or xs i d)
 all_at P [] i d lt all = absurd (omega arith)
 all_at P (x ∷ xs) zero d lt all = all.0
 all_at P (x ∷ xs) (suc i) d lt all = all_at P xs i d (omega arith) all.1
 
-all_filter : {X : Type 0} (P : X → Type 0) (p : X → Bool) (xs : List X) → AllByRecursion P xs → AllByRecursion P (filter p xs)
+all_filter : {X : Type 0} (P : X → Type 0) (p : X → Bool) (xs : List X) → AllByRecursion P xs →
+    AllByRecursion P (filter p xs)
 all_filter P p [] all = tt
 all_filter P p (x ∷ xs) all = by (p x) refl (all_filter P p xs all.1)
   where
@@ -168,12 +197,14 @@ all_filter P p (x ∷ xs) all = by (p x) refl (all_filter P p xs all.1)
     by true e rest = rw e (all.0, rest)
     by false e rest = rw e rest
 
-all_joined : {X : Type 0} (P : X → Type 0) (xs : List X) (x : X) (ys : List X) → AllByRecursion P xs → P x → AllByRecursion P ys → AllByRecursion P (xs ++ x ∷ ys)
+all_joined : {X : Type 0} (P : X → Type 0) (xs : List X) (x : X) (ys : List X) → AllByRecursion P xs → P x →
+    AllByRecursion P ys → AllByRecursion P (xs ++ x ∷ ys)
 all_joined P [] x ys front here back = (here, back)
 all_joined P (y ∷ xs) x ys front here back = (front.0, all_joined P xs x ys front.1 here back)
 
 -- a slot at its place, and the slot after its quotes changed
-module _ (ss : List SlotQuotes) (kept : AreBySlot ss) (slot : ℕ) (i : ℕ) (place : IsPlace nat_cmp slot_of slot ss (Ok i)) (s : SlotQuotes) (stands : s ≡ get_or ss i s) where
+module _ (ss : List SlotQuotes) (kept : AreBySlot ss) (slot : ℕ) (i : ℕ)
+    (place : IsPlace nat_cmp slot_of slot ss (Ok i)) (s : SlotQuotes) (stands : s ≡ get_or ss i s) where
   slot_is : s.slot ≡ slot
   slot_is = ap slot_of stands ∙ ranked _ _ _ (sym (place.1 s))
 
@@ -184,10 +215,13 @@ module _ (ss : List SlotQuotes) (kept : AreBySlot ss) (slot : ℕ) (i : ℕ) (pl
   order_standing = standing.order
 
   -- a month that stands among all, stands in the slot
-  pub row_standing : (month : ℕ) → row_at quote_cmp quote_key (slot, month) s.quotes.items ≡ row_at quote_cmp quote_key (slot, month) (all_quotes ss)
+  pub row_standing : (month : ℕ) → row_at quote_cmp quote_key (slot, month) s.quotes.items ≡ row_at quote_cmp
+      quote_key (slot, month) (all_quotes ss)
   row_standing month =
-      let found : at slot_of slot ss ≡ Some s = row_found nat_cmp_total slot_of ss kept.order slot i s place.0 (place.1 s) ∙ ap Some (sym stands) in
-      ap (row_at quote_cmp quote_key (slot, month)) (quotes_found slot ss s kept found) ∙ row_of_slot (slot, month) (all_quotes ss)
+      let found : at slot_of slot ss ≡ Some s = row_found nat_cmp_total slot_of ss kept.order slot i s place.0
+      (place.1 s) ∙ ap Some (sym stands) in
+      ap (row_at quote_cmp quote_key (slot, month)) (quotes_found slot ss s kept found)
+      ∙ row_of_slot (slot, month) (all_quotes ss)
 
   module _ (after : SlotQuotes) (same : after.slot ≡ s.slot) where
     slots_set : IsInOrder nat_cmp slot_of (set ss i after)
@@ -199,7 +233,8 @@ module _ (ss : List SlotQuotes) (kept : AreBySlot ss) (slot : ℕ) (i : ℕ) (pl
     pub quotes_same : after.quotes.items ≡ s.quotes.items → all_quotes (set ss i after) ≡ all_quotes ss
     quotes_same e = set_same own_quotes ss i after s (e ∙ ap own_quotes stands)
       where
-        set_same : {X Y : Type 0} (f : X → List Y) (xs : List X) (j : ℕ) (y d : X) → f y ≡ f (get_or xs j d) → flat_map f (set xs j y) ≡ flat_map f xs
+        set_same : {X Y : Type 0} (f : X → List Y) (xs : List X) (j : ℕ) (y d : X) → f y ≡ f (get_or xs j d) →
+            flat_map f (set xs j y) ≡ flat_map f xs
         set_same f [] j y d e = refl
         set_same f (x ∷ xs) zero y d e = ap (λ vs. vs ++ flat_map f xs) e
         set_same f (x ∷ xs) (suc j) y d e = ap (λ vs. f x ++ vs) (set_same f xs j y d e)
@@ -207,27 +242,31 @@ module _ (ss : List SlotQuotes) (kept : AreBySlot ss) (slot : ℕ) (i : ℕ) (pl
     pub slots_same : after.quotes.items ≡ s.quotes.items → AreBySlot (set ss i after)
     slots_same e = record {
       order = slots_set;
-      own = all_set AreOfSlot ss i after (record { own = rw (e, same) standing.own; order = rw e standing.order }) kept.own;
+      own = all_set AreOfSlot ss i after (record { own = rw (e, same) standing.own; order = rw e standing.order })
+          kept.own;
     }
 
-    module _ (q : QuoteRow) (its : q.slot ≡ slot) (e : after.quotes.items ≡ put quote_cmp quote_key q s.quotes.items) where
-      pub quotes_put : all_quotes (set ss i after) ≡ put quote_cmp quote_key q (all_quotes ss)
-      quotes_put =
-          let slot_there : slot_of (get_or ss i s) ≡ q.slot = ap slot_of (sym stands) ∙ slot_is ∙ sym its in
-          sym (beside_all (set ss i after))
-          ∙ ap (map second) (put_gathered quote_cmp quote_key slot_of own_quotes q after ss i s kept.order place.0 (same ∙ ap slot_of stands) (e ∙ ap (λ g. put quote_cmp quote_key q (own_quotes g)) stands)
-          ∙ ap (λ n. put (held_cmp quote_cmp) (held_key quote_key) (n, q) (beside ss)) slot_there)
-          ∙ put_beside q (beside ss) (beside_own ss kept.own)
-          ∙ ap (put quote_cmp quote_key q) (beside_all ss)
+    module _ (q : QuoteRow) (its : q.slot ≡ slot) (e : after.quotes.items ≡ put quote_cmp quote_key q s.quotes.items)
+      where
+        pub quotes_put : all_quotes (set ss i after) ≡ put quote_cmp quote_key q (all_quotes ss)
+        quotes_put =
+            let slot_there : slot_of (get_or ss i s) ≡ q.slot = ap slot_of (sym stands) ∙ slot_is ∙ sym its in
+            sym (beside_all (set ss i after))
+            ∙ ap (map second) (put_gathered quote_cmp quote_key slot_of own_quotes q after ss i s kept.order place.0
+            (same ∙ ap slot_of stands) (e ∙ ap (λ g. put quote_cmp quote_key q (own_quotes g)) stands)
+            ∙ ap (λ n. put (held_cmp quote_cmp) (held_key quote_key) (n, q) (beside ss)) slot_there)
+            ∙ put_beside q (beside ss) (beside_own ss kept.own)
+            ∙ ap (put quote_cmp quote_key q) (beside_all ss)
 
-      pub slots_put : IsInOrder quote_cmp quote_key after.quotes.items → AreBySlot (set ss i after)
-      slots_put order = record {
-        order = slots_set;
-        own = all_set AreOfSlot ss i after (record {
-          own = rw (e, same) (all_joined _ _ q _ (all_filter _ _ s.quotes.items standing.own) (its ∙ sym slot_is) (all_filter _ _ s.quotes.items standing.own));
-          order = order;
-        }) kept.own;
-      }
+        pub slots_put : IsInOrder quote_cmp quote_key after.quotes.items → AreBySlot (set ss i after)
+        slots_put order = record {
+          order = slots_set;
+          own = all_set AreOfSlot ss i after (record {
+            own = rw (e, same) (all_joined _ _ q _ (all_filter _ _ s.quotes.items standing.own) (its ∙ sym slot_is)
+                (all_filter _ _ s.quotes.items standing.own));
+            order = order;
+          }) kept.own;
+        }
 
 -- what holds where the call succeeded and where it failed, holds
 pub either : {T E A B G : Type 0} (result : Result T E) → OnOk result A → OnErr result B → (A → G) → (B → G) → G
@@ -236,11 +275,13 @@ either (Err e) ok err f g = g err
 
 -- ---- a slot with none
 
-passed_over : {X Y : Type 0} (f : X → List Y) (x : X) (xs ys : List X) → f x ≡ [] → flat_map f (xs ++ x ∷ ys) ≡ flat_map f (xs ++ ys)
+passed_over : {X Y : Type 0} (f : X → List Y) (x : X) (xs ys : List X) → f x ≡ [] →
+    flat_map f (xs ++ x ∷ ys) ≡ flat_map f (xs ++ ys)
 passed_over f x [] ys none = ap (λ vs. vs ++ flat_map f ys) none
 passed_over f x (y ∷ xs) ys none = ap (λ vs. f y ++ vs) (passed_over f x xs ys none)
 
-all_insert : {X : Type 0} (P : X → Type 0) (x : X) (xs ys : List X) → P x → AllByRecursion P (xs ++ ys) → AllByRecursion P (xs ++ x ∷ ys)
+all_insert : {X : Type 0} (P : X → Type 0) (x : X) (xs ys : List X) → P x → AllByRecursion P (xs ++ ys) →
+    AllByRecursion P (xs ++ x ∷ ys)
 all_insert P x [] ys here all = (here, all)
 all_insert P x (y ∷ xs) ys here all = (all.0, all_insert P x xs ys here all.1)
 
@@ -251,17 +292,21 @@ module _ (ss : List SlotQuotes) (kept : AreBySlot ss) (i : ℕ) (s : SlotQuotes)
   pub slots_added : IsPlace nat_cmp slot_of s.slot ss (Err i) → AreBySlot (insert ss i s)
   slots_added place = record {
     order = rw (put_at_gap nat_cmp_total slot_of ss s i place) (put_in_order nat_cmp_total slot_of ss s kept.order);
-    own = all_insert AreOfSlot s (take i ss) (drop i ss) (record { own = rw none tt; order = rw none (none_in_order quote_cmp quote_key) }) (rw (take-append-drop i ss) kept.own);
+    own = all_insert AreOfSlot s (take i ss) (drop i ss)
+        (record { own = rw none tt; order = rw none (none_in_order quote_cmp quote_key) })
+        (rw (take-append-drop i ss) kept.own);
   }
 
 -- a slot that has a quote is found
-pub slot_known : (k : ℕ × ℕ) (ss : List SlotQuotes) → AreBySlot ss → IsSome (row_at quote_cmp quote_key k (all_quotes ss)) → IsSome (at slot_of k.0 ss)
+pub slot_known : (k : ℕ × ℕ) (ss : List SlotQuotes) → AreBySlot ss →
+    IsSome (row_at quote_cmp quote_key k (all_quotes ss)) → IsSome (at slot_of k.0 ss)
 slot_known k ss kept some = by (at slot_of k.0 ss) refl
   where
     by : (w : Option SlotQuotes) → at slot_of k.0 ss ≡ w → IsSome (at slot_of k.0 ss)
     by (Some s) e = rw e refl
     by None e =
-        let none : row_at quote_cmp quote_key k (all_quotes ss) ≡ None = sym (row_of_slot k (all_quotes ss)) ∙ ap (row_at quote_cmp quote_key k) (sym (quotes_missing k.0 ss kept e)) in
+        let none : row_at quote_cmp quote_key k (all_quotes ss) ≡ None = sym (row_of_slot k (all_quotes ss))
+        ∙ ap (row_at quote_cmp quote_key k) (sym (quotes_missing k.0 ss kept e)) in
         let wrong : false ≡ true = rw none at some in cc
 
 -- ---- slot by slot, and quote by quote
@@ -270,20 +315,27 @@ pub none_by_slot : AreBySlot []
 none_by_slot = record { order = none_in_order nat_cmp slot_of; own = tt }
 
 -- the next of quotes in order is put behind those before it
-put_behind : (qs : List QuoteRow) (i : ℕ) (d : QuoteRow) → IsInOrder quote_cmp quote_key qs → i < length qs → put quote_cmp quote_key (get_or qs i d) (take i qs) ≡ take i qs ++ get_or qs i d ∷ []
+put_behind : (qs : List QuoteRow) (i : ℕ) (d : QuoteRow) → IsInOrder quote_cmp quote_key qs → i < length qs →
+    put quote_cmp quote_key (get_or qs i d) (take i qs) ≡ take i qs ++ get_or qs i d ∷ []
 put_behind [] i d sorted lt = absurd (omega arith)
 put_behind (q ∷ qs) zero d sorted lt = refl
 put_behind (q ∷ qs) (suc i) d sorted lt =
-    let less : quote_cmp (quote_key q) (quote_key (get_or qs i d)) ≡ Less = Less-from_sorted _ (q ∷ qs) 0 (suc i) d sorted (omega arith) lt in
+    let less : quote_cmp (quote_key q) (quote_key (get_or qs i d)) ≡ Less =
+    Less-from_sorted _ (q ∷ qs) 0 (suc i) d sorted (omega arith) lt in
     rw (ap is_lt less, ap is_gt less) (ap (λ ys. q ∷ ys) (put_behind qs i d (sorted_tail _ q qs sorted) (omega arith)))
 
-pub put_next : (qs : List QuoteRow) (i : ℕ) (q : QuoteRow) → IsInOrder quote_cmp quote_key qs → i < length qs → q ≡ get_or qs i q → put quote_cmp quote_key q (take i qs) ≡ take (i + 1) qs
-put_next qs i q sorted lt stands = ap (λ x. put quote_cmp quote_key x (take i qs)) stands ∙ put_behind qs i q sorted lt ∙ sym (take_more qs i q lt)
+pub put_next : (qs : List QuoteRow) (i : ℕ) (q : QuoteRow) → IsInOrder quote_cmp quote_key qs → i < length qs →
+    q ≡ get_or qs i q → put quote_cmp quote_key q (take i qs) ≡ take (i + 1) qs
+put_next qs i q sorted lt stands = ap (λ x. put quote_cmp quote_key x (take i qs)) stands
+    ∙ put_behind qs i q sorted lt ∙ sym (take_more qs i q lt)
 
 -- one slot more
-pub filter_next : (p : QuoteRow → Bool) (ss : List SlotQuotes) (i : ℕ) (s : SlotQuotes) → i < length ss → s ≡ get_or ss i s → filter p (all_quotes (take (i + 1) ss)) ≡ filter p (all_quotes (take i ss)) ++ filter p s.quotes.items
+pub filter_next : (p : QuoteRow → Bool) (ss : List SlotQuotes) (i : ℕ) (s : SlotQuotes) → i < length ss →
+    s ≡ get_or ss i s → filter p (all_quotes (take (i + 1) ss)) ≡ filter p (all_quotes (take i ss))
+    ++ filter p s.quotes.items
 filter_next p ss i s lt stands =
     ap (λ xs. filter p (all_quotes xs)) (take_more ss i s lt)
     ∙ ap (filter p) (flat_map-append own_quotes (take i ss) (get_or ss i s ∷ []))
     ∙ filter-append p (all_quotes (take i ss)) (own_quotes (get_or ss i s) ++ [])
-    ∙ ap (λ ys. filter p (all_quotes (take i ss)) ++ filter p ys) (append-nil (own_quotes (get_or ss i s)) ∙ ap own_quotes (sym stands))
+    ∙ ap (λ ys. filter p (all_quotes (take i ss)) ++ filter p ys)
+    (append-nil (own_quotes (get_or ss i s)) ∙ ap own_quotes (sym stands))

@@ -1,5 +1,6 @@
 -- A list in the order of a number is the rows of each number, one number after the other.
-use Rattle.std.proofs.Common.{◌≡◌, ◌≢◌, ℕ, zero, suc, ◌+◌, ◌<◌, ◌≤◌, Bool, true, false, List, [], ◌∷◌, ◌++◌, refl, sym, ap, ◌∙◌, arith, inl, inr}
+use Rattle.std.proofs.Common.{◌≡◌, ◌≢◌, ℕ, zero, suc, ◌+◌, ◌<◌, ◌≤◌, Bool, true, false, List, [], ◌∷◌, ◌++◌, refl, sym}
+use Rattle.std.proofs.Common.{ap, ◌∙◌, arith, inl, inr}
 use Rattle.std.specs.Prelude.{filter, not, ⊤, ◌==◌, ◌⊎◌}
 use Rattle.std.specs.List.{AllByRecursion, flat_map, range_with_len}
 use Rattle.std.specs.List.Sorted.{IsNonDecreasingBy}
@@ -21,7 +22,8 @@ module _ {X : Type 0} (n : X → ℕ) where
   pub rises : (xs : List X) → IsNonDecreasingBy n xs → Rises xs
   rises [] h = tt
   rises (x ∷ xs) h = (
-    recursion_from_All (λ y. n x ≤ n y) xs (All-from_get_or (λ y. n x ≤ n y) xs x (λ i lt. h 0 (suc i) x (omega arith) (omega arith))),
+    recursion_from_All (λ y. n x ≤ n y) xs (All-from_get_or (λ y. n x ≤ n y) xs x
+        (λ i lt. h 0 (suc i) x (omega arith) (omega arith))),
     rises xs (λ i j d le lt. h (suc i) (suc j) d (omega arith) (omega arith)),
   )
 
@@ -51,14 +53,17 @@ module _ {X : Type 0} (n : X → ℕ) where
 
   all_off : (a : ℕ) (xs : List X) → AllByRecursion (λ x. suc a ≤ n x) xs → filter (is_off a) xs ≡ xs
   all_off a [] all = refl
-  all_off a (x ∷ xs) all = rw (ne_eqb (n x) a (λ e. absurd (omega (arith, e, all.0)))) (ap (λ ys. x ∷ ys) (all_off a xs all.1))
+  all_off a (x ∷ xs) all = rw (ne_eqb (n x) a (λ e. absurd (omega (arith, e, all.0))))
+      (ap (λ ys. x ∷ ys) (all_off a xs all.1))
 
   -- the rows of the least number stand first
-  parted : (a : ℕ) (xs : List X) → Rises xs → AllByRecursion (λ x. a ≤ n x) xs → xs ≡ filter (is_at a) xs ++ filter (is_off a) xs
+  parted : (a : ℕ) (xs : List X) → Rises xs → AllByRecursion (λ x. a ≤ n x) xs → xs ≡ filter (is_at a) xs
+      ++ filter (is_off a) xs
   parted a [] r low = refl
   parted a (x ∷ xs) r low = by (cases_eq (n x) a) (parted a xs r.1 low.1)
     where
-      by : (n x ≡ a) ⊎ (n x ≡ a → ⊥) → xs ≡ filter (is_at a) xs ++ filter (is_off a) xs → x ∷ xs ≡ filter (is_at a) (x ∷ xs) ++ filter (is_off a) (x ∷ xs)
+      by : (n x ≡ a) ⊎ (n x ≡ a → ⊥) → xs ≡ filter (is_at a) xs ++ filter (is_off a) xs →
+          x ∷ xs ≡ filter (is_at a) (x ∷ xs) ++ filter (is_off a) (x ∷ xs)
       by (inl same) rest = rw (eq-eqb (n x) a same) (ap (λ ys. x ∷ ys) rest)
       by (inr other) rest =
           let higher = above (suc a) (n x) xs (omega (arith, low.0, other)) r.0 in
@@ -68,11 +73,13 @@ module _ {X : Type 0} (n : X → ℕ) where
   off_at a m [] apart = refl
   off_at a m (x ∷ xs) apart = by (cases_eq (n x) a) (off_at a m xs apart)
     where
-      front : (s : Bool) → (n x == m) ≡ s → filter (is_at m) (filter (is_off a) xs) ≡ filter (is_at m) xs → filter (is_at m) (x ∷ filter (is_off a) xs) ≡ filter (is_at m) (x ∷ xs)
+      front : (s : Bool) → (n x == m) ≡ s → filter (is_at m) (filter (is_off a) xs) ≡ filter (is_at m) xs →
+          filter (is_at m) (x ∷ filter (is_off a) xs) ≡ filter (is_at m) (x ∷ xs)
       front true e rest = rw e (ap (λ ys. x ∷ ys) rest)
       front false e rest = rw e rest
 
-      by : (n x ≡ a) ⊎ (n x ≡ a → ⊥) → filter (is_at m) (filter (is_off a) xs) ≡ filter (is_at m) xs → filter (is_at m) (filter (is_off a) (x ∷ xs)) ≡ filter (is_at m) (x ∷ xs)
+      by : (n x ≡ a) ⊎ (n x ≡ a → ⊥) → filter (is_at m) (filter (is_off a) xs) ≡ filter (is_at m) xs →
+          filter (is_at m) (filter (is_off a) (x ∷ xs)) ≡ filter (is_at m) (x ∷ xs)
       by (inl same) rest = rw (eq-eqb (n x) a same, ne_eqb (n x) m (λ e. apart (sym same ∙ e))) rest
       by (inr other) rest = rw (ne_eqb (n x) a other) (front (n x == m) refl rest)
 
@@ -83,16 +90,19 @@ module _ {X : Type 0} (n : X → ℕ) where
   low a len [] all = tt
   low a len (x ∷ xs) all = (all.0.0, low a len xs all.1)
 
-  rest_in : (a len : ℕ) (xs : List X) → AllByRecursion (IsIn a (suc len)) xs → AllByRecursion (IsIn (a + 1) len) (filter (is_off a) xs)
+  rest_in : (a len : ℕ) (xs : List X) → AllByRecursion (IsIn a (suc len)) xs →
+      AllByRecursion (IsIn (a + 1) len) (filter (is_off a) xs)
   rest_in a len [] all = tt
   rest_in a len (x ∷ xs) all = by (cases_eq (n x) a) (rest_in a len xs all.1)
     where
-      by : (n x ≡ a) ⊎ (n x ≡ a → ⊥) → AllByRecursion (IsIn (a + 1) len) (filter (is_off a) xs) → AllByRecursion (IsIn (a + 1) len) (filter (is_off a) (x ∷ xs))
+      by : (n x ≡ a) ⊎ (n x ≡ a → ⊥) → AllByRecursion (IsIn (a + 1) len) (filter (is_off a) xs) →
+          AllByRecursion (IsIn (a + 1) len) (filter (is_off a) (x ∷ xs))
       by (inl same) rest = rw (eq-eqb (n x) a same) rest
       by (inr other) rest = rw (ne_eqb (n x) a other) ((omega (arith, all.0.0, other), omega (arith, all.0.1)), rest)
 
   -- what rises through a range is, for each number of the range, the rows of that number
-  pub grouped : (f : ℕ → List X) (len a : ℕ) (xs : List X) → Rises xs → AllByRecursion (IsIn a len) xs → ((m : ℕ) → a ≤ m → m < a + len → filter (is_at m) xs ≡ f m) → xs ≡ flat_map f (range_with_len a len)
+  pub grouped : (f : ℕ → List X) (len a : ℕ) (xs : List X) → Rises xs → AllByRecursion (IsIn a len) xs →
+      ((m : ℕ) → a ≤ m → m < a + len → filter (is_at m) xs ≡ f m) → xs ≡ flat_map f (range_with_len a len)
   grouped f zero a [] r all same = refl
   grouped f zero a (x ∷ xs) r all same = absurd (omega (arith, all.0.0, all.0.1))
   grouped f (suc len) a xs r all same =

@@ -6,7 +6,8 @@ use Rattle.cpi_plan.specs.Calendar.{CalendarPart}
 use Rattle.cpi_survey.specs.declared.assignment.Assigned.{Assigned}
 use Rattle.cpi_survey.specs.declared.decision.Decision.{Decision}
 use Rattle.cpi_survey.specs.declared.refusal.Refusal.{Refusal}
-use Rattle.cpi_survey.specs.declared.refusal.Refusal.TheVariants.{NotActive, NotOpen, Closed, NoLastPrice, UnknownSlot, UnknownMonth}
+use Rattle.cpi_survey.specs.declared.refusal.Refusal.TheVariants.{NotActive, NotOpen, Closed, NoLastPrice, UnknownSlot}
+use Rattle.cpi_survey.specs.declared.refusal.Refusal.TheVariants.{UnknownMonth}
 use Rattle.cpi_survey.specs.Assignment.{is_active}
 use Rattle.cpi_survey.specs.Mark.{is_replacement, checked_price}
 use Rattle.cpi_survey.specs.LastPrice.{last_price}
@@ -14,24 +15,30 @@ use Rattle.cpi_survey.specs.Quote.{QuoteRow, greatest_receipt}
 use Rattle.cpi_survey.specs.Entry.{EntryRow}
 use Rattle.cpi_survey.specs.Public.{PublicPart, item_of, calendar_of}
 use Rattle.cpi_survey.specs.Own.{OwnPart, assignment_of, quote_of}
-use Rattle.cpi_survey.specs.Decision.{against_last, checked, check_of, once_checked, with_receipt, over_quote, in_month, in_slot, decided}
+use Rattle.cpi_survey.specs.Decision.{against_last, checked, check_of, once_checked, with_receipt, over_quote, in_month}
+use Rattle.cpi_survey.specs.Decision.{in_slot, decided}
 use Rattle.cpi_survey.specs.Decision.{given, unless_again, unless_refused, unless_outside, in_order}
 
 abbrev Answer : Type 0
 Answer = Result Decision Refusal
 
 -- the lines of the price
-price_in_order : (entry : EntryRow) (item : Option Item) (last : Option ℕ) (greatest : ℕ) → once_checked entry (checked entry item last) greatest
-    ≡ cond (is_replacement entry.mark && is_none last) (Err NoLastPrice) (unless_outside entry item last (with_receipt entry greatest))
+price_in_order : (entry : EntryRow) (item : Option Item) (last : Option ℕ) (greatest : ℕ) →
+    once_checked entry (checked entry item last) greatest
+    ≡ cond (is_replacement entry.mark && is_none last) (Err NoLastPrice)
+    (unless_outside entry item last (with_receipt entry greatest))
 price_in_order entry item None greatest = by (is_replacement entry.mark)
   where
-    by : (b : Bool) → once_checked entry (cond b (Err NoLastPrice) (Ok tt)) greatest ≡ cond (b && true) (Err NoLastPrice) (with_receipt entry greatest)
+    by : (b : Bool) → once_checked entry (cond b (Err NoLastPrice) (Ok tt)) greatest ≡ cond (b && true)
+        (Err NoLastPrice) (with_receipt entry greatest)
     by true = refl
     by false = refl
-price_in_order entry item (Some last) greatest = by (is_replacement entry.mark) entry.confirm (against_last item last (checked_price entry.mark))
+price_in_order entry item (Some last) greatest =
+    by (is_replacement entry.mark) entry.confirm (against_last item last (checked_price entry.mark))
   where
     by : (b c : Bool) (r : Result (Unit {0}) Refusal) → once_checked entry (cond c (Ok tt) r) greatest
-        ≡ cond (b && false) (Err NoLastPrice) (cond c (with_receipt entry greatest) (unless_refused r (with_receipt entry greatest)))
+        ≡ cond (b && false) (Err NoLastPrice) (cond c (with_receipt entry greatest)
+        (unless_refused r (with_receipt entry greatest)))
     by true true r = refl
     by false true r = refl
     by true false (Ok _) = refl
@@ -53,25 +60,31 @@ module _ (now : ℕ) (entry : EntryRow) (public : PublicPart) (own : OwnPart) wh
       (cond (nat_lt now row.opens) (Err NotOpen)
       (cond (nat_le row.closes now) (Err Closed)
       (cond (is_replacement entry.mark && is_none last) (Err NoLastPrice)
-      (unless_outside entry (item_of a.assignment.item public) last (with_receipt entry (greatest_receipt own.quotes))))))
+      (unless_outside entry (item_of a.assignment.item public) last
+      (with_receipt entry (greatest_receipt own.quotes))))))
 
   month_in_order : (a : Assigned) (row : Option CalendarPart) →
-      in_month now entry row a.assignment (check_of entry public own a.assignment) (greatest_receipt own.quotes) ≡ given row UnknownMonth (of_row a)
+      in_month now entry row a.assignment (check_of entry public own a.assignment)
+      (greatest_receipt own.quotes) ≡ given row UnknownMonth (of_row a)
   month_in_order a None = refl
   month_in_order a (Some row) =
       window_in_order (is_active entry.month a.assignment) (nat_lt now row.opens) (nat_le row.closes now) _ _
-      (price_in_order entry (item_of a.assignment.item public) (last_price a.assignment entry.month own.quotes) (greatest_receipt own.quotes))
+      (price_in_order entry (item_of a.assignment.item public) (last_price a.assignment entry.month own.quotes)
+      (greatest_receipt own.quotes))
 
   quote_in_order : (a : Assigned) (quote : Option QuoteRow) →
-      over_quote now entry (calendar_of entry.month public) a.assignment quote (check_of entry public own a.assignment) (greatest_receipt own.quotes)
+      over_quote now entry (calendar_of entry.month public) a.assignment quote
+      (check_of entry public own a.assignment) (greatest_receipt own.quotes)
       ≡ unless_again quote entry (given (calendar_of entry.month public) UnknownMonth (of_row a))
   quote_in_order a None = month_in_order a (calendar_of entry.month public)
   quote_in_order a (Some quote) = rw (month_in_order a (calendar_of entry.month public)) refl
 
   slot_in_order : (a : Option Assigned) → in_slot now entry public a own
-      ≡ given a UnknownSlot (λ a. unless_again (quote_of entry.slot entry.month own) entry (given (calendar_of entry.month public) UnknownMonth (of_row a)))
+      ≡ given a UnknownSlot (λ a. unless_again (quote_of entry.slot entry.month own) entry
+      (given (calendar_of entry.month public) UnknownMonth (of_row a)))
   slot_in_order None = refl
   slot_in_order (Some a) = quote_in_order a (quote_of entry.slot entry.month own)
 
-pub decided_in_order : (now : ℕ) (entry : EntryRow) (public : PublicPart) (own : OwnPart) → decided now entry public own ≡ in_order now entry public own
+pub decided_in_order : (now : ℕ) (entry : EntryRow) (public : PublicPart) (own : OwnPart) →
+    decided now entry public own ≡ in_order now entry public own
 decided_in_order now entry public own = slot_in_order now entry public own (assignment_of entry.slot own)

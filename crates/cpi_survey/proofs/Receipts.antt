@@ -6,7 +6,8 @@ use Rattle.cpi_rows.specs.Keyed.{put}
 use Rattle.cpi_survey.specs.Quote.{QuoteRow}
 use Rattle.cpi_survey.specs.Quote.{greatest_receipt, quote_cmp, quote_key}
 
-greatest_append : (xs ys : List QuoteRow) → greatest_receipt (xs ++ ys) ≡ max (greatest_receipt xs) (greatest_receipt ys)
+greatest_append : (xs ys : List QuoteRow) → greatest_receipt (xs ++ ys) ≡ max (greatest_receipt xs)
+    (greatest_receipt ys)
 greatest_append [] ys = omega arith
 greatest_append (x ∷ xs) ys = rw (greatest_append xs ys) (omega arith)
 
@@ -14,11 +15,13 @@ greatest_filter : (p : QuoteRow → Bool) (xs : List QuoteRow) → greatest_rece
 greatest_filter p [] = omega arith
 greatest_filter p (x ∷ xs) = by (p x) refl (greatest_filter p xs)
   where
-    by : (t : Bool) → p x ≡ t → greatest_receipt (filter p xs) ≤ greatest_receipt xs → greatest_receipt (filter p (x ∷ xs)) ≤ greatest_receipt (x ∷ xs)
+    by : (t : Bool) → p x ≡ t → greatest_receipt (filter p xs) ≤ greatest_receipt xs →
+        greatest_receipt (filter p (x ∷ xs)) ≤ greatest_receipt (x ∷ xs)
     by true e rest = rw e (omega arith)
     by false e rest = rw e (omega arith)
 
-pub greatest_put : (q : QuoteRow) (qs : List QuoteRow) → greatest_receipt qs < q.receipt → q.receipt ≡ greatest_receipt (put quote_cmp quote_key q qs)
+pub greatest_put : (q : QuoteRow) (qs : List QuoteRow) → greatest_receipt qs < q.receipt →
+    q.receipt ≡ greatest_receipt (put quote_cmp quote_key q qs)
 greatest_put q qs new =
     let front = filter (λ r. is_lt (quote_cmp (quote_key r) (quote_key q))) qs in
     let back = filter (λ r. is_gt (quote_cmp (quote_key r) (quote_key q))) qs in

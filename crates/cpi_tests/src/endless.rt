@@ -1,8 +1,8 @@
 //! Input without an end: it is given up after so many calls of its reader.
 use crate::records::at;
 use cpi_codes::{Key, Zone, zone_of};
+use cpi_http::{Served, serve_one};
 use cpi_office::Office;
-use cpi_pages::{Served, serve_one};
 use cpi_store::VecBook;
 use cpi_wire::{WireFault, replay};
 use http::StatusCode;

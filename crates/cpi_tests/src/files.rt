@@ -174,7 +174,8 @@ const FRAMES: usize = 6;
 
 // ---- what is done over a connection of any store, so that each such call is proved once
 
-// Prints that table of the office of a database, or sends it the records, or tells why it is none, and gives the connection back.
+// Prints that table of the office of a database, or sends it the records, or tells why it is none, and gives the
+// connection back.
 fn done_over<S: Alter + Drop>(
     alloc: Global,
     conn: Connection<S>,

@@ -1,11 +1,11 @@
 //! Generic laws, at the types that the office has.
 use cpi_codes::CollectorId;
+use cpi_http::{messages_are_a_run, one_message, responses_are_alike, tables_are_sent};
 use cpi_index::CarriedPrice;
 use cpi_office::{
     empty_is_sound, others_do_not_matter, replies_are_alike, runs_tell_alike, tables_are_computed,
     views_are_rebuilt,
 };
-use cpi_pages::{messages_are_a_run, one_message, responses_are_alike, tables_are_sent};
 use cpi_plan::{CalendarRow, Item};
 use cpi_release::Release;
 use cpi_rows::{gathered_put, gathered_rows, put_same, puts_other, puts_own};
@@ -27,7 +27,7 @@ fn the_laws_hold_of_books_and_rows() {
 }
 
 #[test]
-fn the_laws_hold_of_tables_and_pages() {
+fn the_laws_hold_of_tables_and_messages() {
     tables_are_computed();
     tables_are_told::<FailBook<VecBook>>();
     tables_are_sent::<FailBook<VecBook>>();

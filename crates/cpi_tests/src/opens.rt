@@ -1,5 +1,5 @@
-//! Opens that are stopped at each call of a file: of files that hold nothing yet, where the tables are made, and of files
-//! of schema 1, which are migrated.
+//! Opens that are stopped at each call of a file: of files that hold nothing yet, where the tables are made, and of
+//! files of schema 1, which are migrated.
 use crate::files::{Calls, End, Held, database, number_in, run, told_in, told_in_memory};
 use crate::first::first_files;
 use crate::script::{answers, questions};

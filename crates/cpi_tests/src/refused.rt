@@ -29,7 +29,13 @@ const FIRST: Row<'static> = Row {
         "0|desk|collector|7|aaaaaaaaaaaaaaaaaaaaaaaaaaaaaaaa",
         "0|desk|assign|7|1|10|RICE|2025-12|2026-12",
         "0|desk|calendar|2026-01|1000|2000|2000",
-        "0|desk|plan|2026|T,00,A\nT,01,A\nT,01.1,A\nT,01.1.1,A\nT,01.1.1.1,A\nT,01.1.1.1-01,A\nW,01.1.1.1-01,1000000",
+        "0|desk|plan|2026|T,00,A
+T,01,A
+T,01.1,A
+T,01.1.1,A
+T,01.1.1.1,A
+T,01.1.1.1-01,A
+W,01.1.1.1-01,1000000",
         "1500|aaaaaaaaaaaaaaaaaaaaaaaaaaaaaaaa|quote|1|2026-01|price|210",
         "1500|aaaaaaaaaaaaaaaaaaaaaaaaaaaaaaaa|work|2026-01",
         "1500|aaaaaaaaaaaaaaaaaaaaaaaaaaaaaaaa|quotes|2026-01|2026-01",
@@ -42,7 +48,13 @@ const FIRST: Row<'static> = Row {
         "0|desk|collector|7|bbbbbbbbbbbbbbbbbbbbbbbbbbbbbbbb",
         "0|desk|assign|7|1|10|RICE|2025-12|2026-11",
         "0|desk|calendar|2026-01|1000|3000|3000",
-        "0|desk|plan|2026|T,00,B\nT,01,B\nT,01.1,B\nT,01.1.1,B\nT,01.1.1.1,B\nT,01.1.1.1-01,B\nW,01.1.1.1-01,1000000",
+        "0|desk|plan|2026|T,00,B
+T,01,B
+T,01.1,B
+T,01.1.1,B
+T,01.1.1.1,B
+T,01.1.1.1-01,B
+W,01.1.1.1-01,1000000",
         "1500|aaaaaaaaaaaaaaaaaaaaaaaaaaaaaaaa|quote|1|2026-01|price|220",
         "1500|aaaaaaaaaaaaaaaaaaaaaaaaaaaaaaaa|work|2026-01",
         "1500|aaaaaaaaaaaaaaaaaaaaaaaaaaaaaaaa|quotes|2026-01|2026-01",
@@ -79,6 +91,29 @@ const FREEZE: Row<'static> = Row {
     csv: JANUARY_CSV,
 };
 
+// The plan of a year, with some more rows.
+macro_rules! plan_of {
+    ($year:literal, $rows:literal) => {
+        concat!(
+            "0|desk|plan|",
+            $year,
+            "|T,00,A
+T,01,A
+T,01.1,A
+T,01.1.1,A
+T,01.1.1.1,A
+T,01.1.1.1-01,A
+T,01.1.1.2,A
+T,01.1.1.2-01,A
+W,01.1.1.1-01,600000
+W,01.1.1.2-01,400000
+I,RICE,01.1.1.1-01
+I,FLOUR,01.1.1.2-01",
+            $rows,
+        )
+    };
+}
+
 // Two items and their slots, the months, and the plan of the first year.
 const YEARS: [&str; 21] = [
     "0|desk|item|RICE|Rice|1 kg|1|10000",
@@ -101,7 +136,7 @@ const YEARS: [&str; 21] = [
     "0|desk|calendar|2026-11|11000|12000|12000",
     "0|desk|calendar|2026-12|12000|13000|13000",
     "0|desk|calendar|2027-01|13000|14000|14000",
-    "0|desk|plan|2026|T,00,A\nT,01,A\nT,01.1,A\nT,01.1.1,A\nT,01.1.1.1,A\nT,01.1.1.1-01,A\nT,01.1.1.2,A\nT,01.1.1.2-01,A\nW,01.1.1.1-01,600000\nW,01.1.1.2-01,400000\nI,RICE,01.1.1.1-01\nI,FLOUR,01.1.1.2-01",
+    plan_of!("2026", ""),
 ];
 
 // A year in which rice rises to 105 and flour falls to 98 after its January, and the prices of the January after it.
@@ -130,8 +165,7 @@ const YEAR_OF_PRICES: [&str; 21] = [
 ];
 
 // The plan of the second year, with the weights of the first January.
-const MOVED_PLAN: &str =
-    "0|desk|plan|2027|T,00,A\nT,01,A\nT,01.1,A\nT,01.1.1,A\nT,01.1.1.1,A\nT,01.1.1.1-01,A\nT,01.1.1.2,A\nT,01.1.1.2-01,A\nW,01.1.1.1-01,600000\nW,01.1.1.2-01,400000\nI,RICE,01.1.1.1-01\nI,FLOUR,01.1.1.2-01\nR,2026-01";
+const MOVED_PLAN: &str = plan_of!("2027", "\nR,2026-01");
 
 const MOVED_JANUARY: &str = "00,1022000,101.616438,103.852000,1.6,3.9,0,A
 01,1022000,101.616438,103.852000,1.6,3.9,0,A

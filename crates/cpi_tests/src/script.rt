@@ -49,33 +49,33 @@ I,FLOUR,01.1.1.2-01
     "2000,desk,handover,7,4,8,1,2026-02\n",
 ];
 
-const LINES: &[u8] = b"{\"done\":true}
-{\"done\":true}
-{\"done\":true}
-{\"done\":true}
-{\"done\":true}
-{\"done\":true}
-{\"done\":true}
-{\"done\":true}
-{\"done\":true}
-{\"done\":true}
-{\"done\":true}
-{\"receipt\":1}
-{\"receipt\":1}
-{\"receipt\":2}
-{\"receipt\":3}
-{\"receipt\":4}
-{\"done\":true}
-{\"receipt\":5}
-{\"receipt\":6}
-{\"receipt\":7}
-{\"receipt\":8}
-{\"receipt\":8}
-{\"done\":true}
-{\"done\":true}
-{\"done\":true}
-{\"done\":true}
-";
+const LINES: &str = r#"{"done":true}
+{"done":true}
+{"done":true}
+{"done":true}
+{"done":true}
+{"done":true}
+{"done":true}
+{"done":true}
+{"done":true}
+{"done":true}
+{"done":true}
+{"receipt":1}
+{"receipt":1}
+{"receipt":2}
+{"receipt":3}
+{"receipt":4}
+{"done":true}
+{"receipt":5}
+{"receipt":6}
+{"receipt":7}
+{"receipt":8}
+{"receipt":8}
+{"done":true}
+{"done":true}
+{"done":true}
+{"done":true}
+"#;
 
 const QUESTIONS: &str = "3000,aaaaaaaaaaaaaaaaaaaaaaaaaaaaaaaa,items
 3000,aaaaaaaaaaaaaaaaaaaaaaaaaaaaaaaa,work,2025-12
@@ -85,14 +85,36 @@ const QUESTIONS: &str = "3000,aaaaaaaaaaaaaaaaaaaaaaaaaaaaaaaa,items
 3000,public,table,2026-01,csv
 ";
 
-const ANSWERS: &[u8] =
-    b"{\"items\":[[\"FLOUR\",\"Flour, wheat\",\"1 kg\",500,2000],[\"RICE\",\"Rice\",\"1 kg\",500,2000]]}
-{\"work\":[[1,10,\"Corner shop\",\"RICE\",\"Rice\",\"1 kg\",null,\"price\",1],[2,10,\"Corner shop\",\"RICE\",\"Rice\",\"1 kg\",null,\"price\",2],[3,10,\"Corner shop\",\"RICE\",\"Rice\",\"1 kg\",null,\"price\",3],[4,10,\"Corner shop\",\"FLOUR\",\"Flour, wheat\",\"1 kg\",null,\"price\",4]]}
-{\"work\":[[1,10,\"Corner shop\",\"RICE\",\"Rice\",\"1 kg\",200,\"price\",5],[2,10,\"Corner shop\",\"RICE\",\"Rice\",\"1 kg\",300,\"price\",6],[3,10,\"Corner shop\",\"RICE\",\"Rice\",\"1 kg\",500,\"price\",7],[4,10,\"Corner shop\",\"FLOUR\",\"Flour, wheat\",\"1 kg\",500,\"price\",8]]}
-{\"quotes\":[[1,\"2025-12\",\"price\",200,1],[2,\"2025-12\",\"price\",300,2],[3,\"2025-12\",\"price\",500,3],[4,\"2025-12\",\"price\",500,4],[1,\"2026-01\",\"price\",210,5],[2,\"2026-01\",\"price\",300,6],[3,\"2026-01\",\"price\",540,7],[4,\"2026-01\",\"price\",490,8]]}
-{\"tables\":[[\"2025-12\",1,1000],[\"2026-01\",1,3000]]}
-{\"table\":\"00,1000000,102.200000,102.200000,2.2,,0,All items\\n01,1000000,102.200000,102.200000,2.2,,0,Food and drink\\n01.1,1000000,102.200000,102.200000,2.2,,0,Food\\n01.1.1,1000000,102.200000,102.200000,2.2,,0,Cereals\\n01.1.1.1,600000,105.000000,105.000000,5.0,,0,Rice\\n01.1.1.1-01,600000,105.000000,105.000000,5.0,,0,\\\"Rice, packed\\\"\\n01.1.1.2,400000,98.000000,98.000000,-2.0,,0,Flour\\n01.1.1.2-01,400000,98.000000,98.000000,-2.0,,0,\\\"Flour, wheat\\\"\\n\"}
-";
+const ANSWERS: &str = concat!(
+    r#"{"items":[["FLOUR","Flour, wheat","1 kg",500,2000],["RICE","Rice","1 kg",500,2000]]}"#,
+    "\n",
+    r#"{"work":[[1,10,"Corner shop","RICE","Rice","1 kg",null,"price",1],"#,
+    r#"[2,10,"Corner shop","RICE","Rice","1 kg",null,"price",2],"#,
+    r#"[3,10,"Corner shop","RICE","Rice","1 kg",null,"price",3],"#,
+    r#"[4,10,"Corner shop","FLOUR","Flour, wheat","1 kg",null,"price",4]]}"#,
+    "\n",
+    r#"{"work":[[1,10,"Corner shop","RICE","Rice","1 kg",200,"price",5],"#,
+    r#"[2,10,"Corner shop","RICE","Rice","1 kg",300,"price",6],"#,
+    r#"[3,10,"Corner shop","RICE","Rice","1 kg",500,"price",7],"#,
+    r#"[4,10,"Corner shop","FLOUR","Flour, wheat","1 kg",500,"price",8]]}"#,
+    "\n",
+    r#"{"quotes":[[1,"2025-12","price",200,1],[2,"2025-12","price",300,2],[3,"2025-12","price",500,3],"#,
+    r#"[4,"2025-12","price",500,4],[1,"2026-01","price",210,5],[2,"2026-01","price",300,6],"#,
+    r#"[3,"2026-01","price",540,7],[4,"2026-01","price",490,8]]}"#,
+    "\n",
+    r#"{"tables":[["2025-12",1,1000],["2026-01",1,3000]]}"#,
+    "\n",
+    r#"{"table":"00,1000000,102.200000,102.200000,2.2,,0,All items\n"#,
+    r#"01,1000000,102.200000,102.200000,2.2,,0,Food and drink\n"#,
+    r#"01.1,1000000,102.200000,102.200000,2.2,,0,Food\n"#,
+    r#"01.1.1,1000000,102.200000,102.200000,2.2,,0,Cereals\n"#,
+    r#"01.1.1.1,600000,105.000000,105.000000,5.0,,0,Rice\n"#,
+    r#"01.1.1.1-01,600000,105.000000,105.000000,5.0,,0,\"Rice, packed\"\n"#,
+    r#"01.1.1.2,400000,98.000000,98.000000,-2.0,,0,Flour\n"#,
+    r#"01.1.1.2-01,400000,98.000000,98.000000,-2.0,,0,\"Flour, wheat\"\n"#,
+    r#""}"#,
+    "\n",
+);
 
 // What is asked for the second collector's sake.
 const TAKER: &str = "3000,bbbbbbbbbbbbbbbbbbbbbbbbbbbbbbbb,work,2026-02
@@ -128,7 +150,7 @@ pub(crate) fn script() -> &'static [&'static str] {
 
 /// What the records are told.
 pub(crate) fn lines() -> &'static [u8] {
-    LINES
+    LINES.as_bytes()
 }
 
 /// What everybody and the collector may ask.
@@ -138,7 +160,7 @@ pub(crate) fn questions() -> &'static str {
 
 /// What they are told after the script.
 pub(crate) fn answers() -> &'static [u8] {
-    ANSWERS
+    ANSWERS.as_bytes()
 }
 
 /// The first records of the script, so many.

@@ -1,6 +1,7 @@
 -- What a caller is told of a record hangs on what the caller sees alone.
 use mathlib.Core.Bool.{true≢false}
-use Rattle.std.proofs.Common.{◌≡◌, ◌≢◌, ◌∙◌, sym, ap, ap₂, refl, subst, ℕ, List, [], ◌∷◌, ◌++◌, IsFalse, Option, Some, None, ◌⊎◌, inl, inr}
+use Rattle.std.proofs.Common.{◌≡◌, ◌≢◌, ◌∙◌, sym, ap, ap₂, refl, subst, ℕ, List, [], ◌∷◌, ◌++◌, IsFalse, Option, Some}
+use Rattle.std.proofs.Common.{None, ◌⊎◌, inl, inr}
 use Rattle.cpi_codes.specs.Zone.{ZoneRule}
 use Rattle.cpi_release.specs.State.{State}
 use Rattle.cpi_store.specs.Office.{Office}
@@ -65,24 +66,29 @@ module _ (t : ℕ) (k : Caller) (other : k ≢ Desk) (o u : Office) (same : view
 module _ {B : Type 0} (state : B → State Office) where
   -- where it isn't told that the office is unavailable, it is served
   pub is-served : (t : ℕ) (k : Caller) (r : Request) (p q : B) (reply : Reply)
-      → ServesWhere (state p) (state q) (IsSound (state p).held) reply (reply_to t k r (state p).held) (after_one t k r (state p).held)
+      → ServesWhere (state p) (state q) (IsSound (state p).held) reply (reply_to t k r (state p).held)
+      (after_one t k r (state p).held)
       → (state q).is_clean → IsSound (state p).held → IsFalse (is_failure reply)
       → (reply ≡ reply_to t k r (state p).held) × ((state q).held ≡ after_one t k r (state p).held)
   is-served t k r p q reply serves clean sound fair = by (serves.served clean sound)
     where
-      by : ((reply ≡ reply_to t k r (state p).held) × ((state q).held ≡ after_one t k r (state p).held)) ⊎ ((reply ≡ Refused Unavailable) × ((state q).held ≡ (state p).held))
+      by : ((reply ≡ reply_to t k r (state p).held) × ((state q).held ≡ after_one t k r (state p).held))
+          ⊎ ((reply ≡ Refused Unavailable) × ((state q).held ≡ (state p).held))
           → (reply ≡ reply_to t k r (state p).held) × ((state q).held ≡ after_one t k r (state p).held)
       by (inl h) = h
       by (inr h) = absurd (true≢false (sym (ap is_failure h.0) ∙ fair))
 
-  rows-clean : (t : ℕ) (k : Caller) (p q : B) (rows : List (Option Request)) (rs : List Reply) → RowsAnswer state t k p rows rs q → (state q).is_clean → (state p).is_clean
+  rows-clean : (t : ℕ) (k : Caller) (p q : B) (rows : List (Option Request)) (rs : List Reply) →
+      RowsAnswer state t k p rows rs q → (state q).is_clean → (state p).is_clean
   rows-clean t k p q [] [] a clean = subst (λ y. (state y).is_clean) a clean
   rows-clean t k p q [] (r ∷ rs) a clean = absurd a
   rows-clean t k p q (row ∷ rows) [] a clean = absurd a
-  rows-clean t k p q (None ∷ rows) (r ∷ rs) a clean = subst (λ y. (state y).is_clean) a.1.1 (rows-clean t k a.0 q rows rs a.2 clean)
+  rows-clean t k p q (None ∷ rows) (r ∷ rs) a clean =
+      subst (λ y. (state y).is_clean) a.1.1 (rows-clean t k a.0 q rows rs a.2 clean)
   rows-clean t k p q (Some row ∷ rows) (r ∷ rs) a clean = a.1.was_clean (rows-clean t k a.0 q rows rs a.2 clean)
 
-  pub record-clean : (p q : B) (asked : Ask) (told : Answer) → Answers state p asked told q → (state q).is_clean → (state p).is_clean
+  pub record-clean : (p q : B) (asked : Ask) (told : Answer) → Answers state p asked told q → (state q).is_clean →
+      (state p).is_clean
   record-clean p q ask.Bad (answer.One reply) a clean = subst (λ y. (state y).is_clean) a.1 clean
   record-clean p q ask.Bad (answer.Rows replies) a clean = absurd a
   record-clean p q (ask.One t k r) (answer.One reply) a clean = a.was_clean clean
@@ -91,7 +97,8 @@ module _ {B : Type 0} (state : B → State Office) where
   record-clean p q (ask.Import t k rows) (answer.Rows replies) a clean = rows-clean t k p q rows replies a clean
 
   -- the office that a caller's record meets, and what it shows the caller
-  pub meets : (zone : ZoneRule) (k : Caller) (start : B) (row : Record) (told : Answer) (is : IsTold state zone k start row told)
+  pub meets : (zone : ZoneRule) (k : Caller) (start : B) (row : Record) (told : Answer)
+      (is : IsTold state zone k start row told)
       → IsSound (state is.mid).held
       × (view k (moment_of (ask_of zone row)) (state is.mid).held
       ≡ build (view k (moment_of (ask_of zone row)) (state start).held) (seen_before state zone k start row told is))
@@ -100,7 +107,8 @@ module _ {B : Type 0} (state : B → State Office) where
       let run = ran.run (record-clean is.mid is.end (ask_of zone row) told is.one is.clean) is.sound in
       let front = all_served (requests zone is.rows) (replies_of zone is.rows is.replies) in (
         subst IsSound (sym run.office) (sound_runs front (state start).held is.sound),
-        ap (view k (moment_of (ask_of zone row))) run.office ∙ rebuilt front (state start).held k (moment_of (ask_of zone row)) is.sound,
+        ap (view k (moment_of (ask_of zone row))) run.office
+            ∙ rebuilt front (state start).held k (moment_of (ask_of zone row)) is.sound,
       )
 
 -- ---- one record over two books
@@ -108,8 +116,10 @@ module _ {B : Type 0} (state : B → State Office) where
 module _ {B C : Type 0} (state : B → State Office) (state' : C → State Office)
     (k : Caller) (other : k ≢ Desk) where
   rows-alike : (t : ℕ) (p p' : B) (q q' : C) (rows : List (Option Request)) (rs ss : List Reply)
-      → RowsAnswer state t k p rows rs p' → RowsAnswer state' t k q rows ss q' → (state p').is_clean → (state' q').is_clean
-      → IsSound (state p).held → IsSound (state' q).held → view k t (state p).held ≡ view k t (state' q).held → NoneFails rs → NoneFails ss → rs ≡ ss
+      → RowsAnswer state t k p rows rs p' → RowsAnswer state' t k q rows ss q' → (state p').is_clean →
+      (state' q').is_clean
+      → IsSound (state p).held → IsSound (state' q).held → view k t (state p).held ≡ view k t (state' q).held →
+      NoneFails rs → NoneFails ss → rs ≡ ss
   rows-alike t p p' q q' [] [] [] a b c d s z e f g = refl
   rows-alike t p p' q q' [] (r ∷ rs) ss a b c d s z e f g = absurd a
   rows-alike t p p' q q' [] [] (x ∷ ss) a b c d s z e f g = absurd b
@@ -117,7 +127,8 @@ module _ {B C : Type 0} (state : B → State Office) (state' : C → State Offic
   rows-alike t p p' q q' (row ∷ rows) (r ∷ rs) [] a b c d s z e f g = absurd b
   rows-alike t p p' q q' (None ∷ rows) (r ∷ rs) (x ∷ ss) a b c d s z e f g =
       ap₂ (λ y ys. y ∷ ys) (a.1.0 ∙ sym b.1.0)
-      (rows-alike t a.0 p' b.0 q' rows rs ss a.2 b.2 c d (subst (λ y. IsSound (state y).held) (sym a.1.1) s) (subst (λ y. IsSound (state' y).held) (sym b.1.1) z)
+      (rows-alike t a.0 p' b.0 q' rows rs ss a.2 b.2 c d (subst (λ y. IsSound (state y).held) (sym a.1.1) s)
+      (subst (λ y. IsSound (state' y).held) (sym b.1.1) z)
       (ap (λ y. view k t (state y).held) a.1.1 ∙ e ∙ sym (ap (λ y. view k t (state' y).held) b.1.1)) f.1 g.1)
   rows-alike t p p' q q' (Some row ∷ rows) (r ∷ rs) (x ∷ ss) a b c d s z e f g =
       let here = is-served state t k row p a.0 r a.1 (rows-clean state t k a.0 p' rows rs a.2 c) s f.0 in
@@ -125,12 +136,15 @@ module _ {B C : Type 0} (state : B → State Office) (state' : C → State Offic
       let one : Asking = record { now = t; caller = k; request = row } in
       ap₂ (λ y ys. y ∷ ys) (here.0 ∙ reply-alike t k other (state p).held (state' q).held e row ∙ sym there.0)
       (rows-alike t a.0 p' b.0 q' rows rs ss a.2 b.2 c d
-      (subst IsSound (sym here.1) (next_sound one (state p).held s)) (subst IsSound (sym there.1) (next_sound one (state' q).held z))
-      (ap (view k t) here.1 ∙ view-alike t k other (state p).held (state' q).held e row s z ∙ sym (ap (view k t) there.1)) f.1 g.1)
+      (subst IsSound (sym here.1) (next_sound one (state p).held s))
+      (subst IsSound (sym there.1) (next_sound one (state' q).held z))
+      (ap (view k t) here.1 ∙ view-alike t k other (state p).held (state' q).held e row s z
+      ∙ sym (ap (view k t) there.1)) f.1 g.1)
 
   pub record-alike : (asked : Ask) (p p' : B) (q q' : C) (told told' : Answer) → IsFrom k asked
       → Answers state p asked told p' → Answers state' q asked told' q' → (state p').is_clean → (state' q').is_clean
-      → IsSound (state p).held → IsSound (state' q).held → view k (moment_of asked) (state p).held ≡ view k (moment_of asked) (state' q).held
+      → IsSound (state p).held → IsSound (state' q).held → view k (moment_of asked) (state p).held ≡ view k
+      (moment_of asked) (state' q).held
       → NoneFails (all_replies told) → NoneFails (all_replies told') → told ≡ told'
   record-alike ask.Bad p p' q q' (answer.One r) (answer.One x) by a b c d s z e f g = ap answer.One (a.0 ∙ sym b.0)
   record-alike ask.Bad p p' q q' (answer.One r) (answer.Rows ss) by a b c d s z e f g = absurd b
@@ -140,7 +154,8 @@ module _ {B C : Type 0} (state : B → State Office) (state' : C → State Offic
       (reply_to t i row (state p).held) (after_one t i row (state p).held)) by a in
       let yours = subst (λ i. ServesWhere (state' q) (state' q') (IsSound (state' q).held) x
       (reply_to t i row (state' q).held) (after_one t i row (state' q).held)) by b in
-      ap answer.One ((is-served state t k row p p' r mine c s f.0).0 ∙ reply-alike t k other (state p).held (state' q).held e row
+      ap answer.One ((is-served state t k row p p' r mine c s f.0).0
+      ∙ reply-alike t k other (state p).held (state' q).held e row
       ∙ sym (is-served state' t k row q q' x yours d z g.0).0)
   record-alike (ask.One t j row) p p' q q' (answer.One r) (answer.Rows ss) by a b c d s z e f g = absurd b
   record-alike (ask.One t j row) p p' q q' (answer.Rows rs) told' by a b c d s z e f g = absurd a
@@ -155,5 +170,6 @@ pub lines_are_alike : {B C : Type 0} (state : B → State Office) (state' : C �
 lines_are_alike state state' zone k row told told' start start' is is' other same shown =
     let here = meets state zone k start row told is in
     let there = meets state' zone k start' row told' is' in
-    ap answer_line (record-alike state state' k other (ask_of zone row) is.mid is.end is'.mid is'.end told told' is.caller is.one is'.one is.clean is'.clean here.0 there.0
+    ap answer_line (record-alike state state' k other (ask_of zone row) is.mid is.end is'.mid is'.end told told'
+    is.caller is.one is'.one is.clean is'.clean here.0 there.0
     (here.1 ∙ ap₂ build same shown ∙ sym there.1) is.served is'.served)

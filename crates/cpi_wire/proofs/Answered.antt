@@ -1,5 +1,6 @@
 -- One record more is answered, and what stands when a replay is given up.
-use Rattle.std.proofs.Common.{◌≡◌, ◌≢◌, ◌∙◌, sym, ap, refl, ◌<◌, ◌≤◌, ℕ, List, [], ◌∷◌, ◌++◌, length, map, take, Option, Some, None, IfSome, arith, append_assoc, append-nil, length-append}
+use Rattle.std.proofs.Common.{◌≡◌, ◌≢◌, ◌∙◌, sym, ap, refl, ◌<◌, ◌≤◌, ℕ, List, [], ◌∷◌, ◌++◌, length, map, take, Option}
+use Rattle.std.proofs.Common.{Some, None, IfSome, arith, append_assoc, append-nil, length-append}
 use Rattle.std.proofs.lemmas.List.{map-append}
 use Rattle.std.specs.List.{concat}
 use Rattle.std.specs.Io.KnownBytes.{Appends}
@@ -24,12 +25,15 @@ pub told-none : (old : Option (List ℕ)) → Told [] old old
 told-none old = Appends-nil old
 
 -- one line more
-pub told-more : (replies : List Answer) (reply : Answer) (old mid new : Option (List ℕ)) → Told replies old mid → Appends mid new (answer_line reply) → Told (replies ++ reply ∷ []) old new
+pub told-more : (replies : List Answer) (reply : Answer) (old mid new : Option (List ℕ)) → Told replies old mid →
+    Appends mid new (answer_line reply) → Told (replies ++ reply ∷ []) old new
 told-more replies reply old mid new told line =
-    rw (map-append answer_line replies (reply ∷ []), concat-more) (Appends-trans old mid new (concat (map answer_line replies)) (answer_line reply) told line)
+    rw (map-append answer_line replies (reply ∷ []), concat-more)
+    (Appends-trans old mid new (concat (map answer_line replies)) (answer_line reply) told line)
 
 -- whole lines are what a fault leaves, unless it is one of the writer
-pub told-whole : (e : WireFault) (replies : List Answer) (old new : Option (List ℕ)) → e ≢ fault.Write → Told replies old new → ToldUntil e replies old new
+pub told-whole : (e : WireFault) (replies : List Answer) (old new : Option (List ℕ)) → e ≢ fault.Write →
+    Told replies old new → ToldUntil e replies old new
 told-whole fault.Read replies old new other told = told
 told-whole fault.Write replies old new other told = absurd (other refl)
 told-whole fault.NoMemory replies old new other told = told
@@ -48,7 +52,8 @@ cut-off replies reply old mid new count told short line = record {
 }
 
 -- one more in turn
-pub in-turn-more : {B X Y : Type 0} (step : B → X → Y → B → Type 0) (old mid new : B) (xs : List X) (ys : List Y) (x : X) (y : Y)
+pub in-turn-more : {B X Y : Type 0} (step : B → X → Y → B → Type 0) (old mid new : B) (xs : List X) (ys : List Y)
+    (x : X) (y : Y)
     → InTurn step old xs ys mid → step mid x y new → InTurn step old (xs ++ x ∷ []) (ys ++ y ∷ []) new
 in-turn-more step old mid new [] [] x y h a = (new, rw h at a, refl)
 in-turn-more step old mid new [] (p ∷ ps) x y h a = absurd h
@@ -59,7 +64,9 @@ module _ {B : Type 0} (zone : ZoneRule) (state : B → State Office) where
   pub answers-more : (old mid new : B) (rows : List Record) (replies : List Answer) (row : Record) (reply : Answer)
       → AnswersAll zone state old rows replies mid → Answers state mid (ask_of zone row) reply new
       → AnswersAll zone state old (rows ++ row ∷ []) (replies ++ reply ∷ []) new
-  answers-more old mid new rows replies row reply h a = in-turn-more (λ from row reply to. Answers state from (ask_of zone row) reply to) old mid new rows replies row reply h a
+  answers-more old mid new rows replies row reply h a =
+      in-turn-more (λ from row reply to. Answers state from (ask_of zone row) reply to) old mid new rows replies row
+      reply h a
 
   none-begun : (e : WireFault) (old : B) → BegunUntil zone state e old None old
   none-begun fault.Read old = (refl, refl)
@@ -67,8 +74,10 @@ module _ {B : Type 0} (zone : ZoneRule) (state : B → State Office) where
   none-begun fault.NoMemory old = refl
 
   -- given up between two records
-  pub gave-up-between : (input : Option (List ℕ)) (old new : B) (was is : Option (List ℕ)) (e : WireFault) (rows : List Record) (replies : List Answer)
-      → e ≢ fault.Write → length rows ≤ 1000000 → IfSome input (AreFirst rows) → AnswersAll zone state old rows replies new → Told replies was is
+  pub gave-up-between : (input : Option (List ℕ)) (old new : B) (was is : Option (List ℕ)) (e : WireFault)
+      (rows : List Record) (replies : List Answer)
+      → e ≢ fault.Write → length rows ≤ 1000000 → IfSome input (AreFirst rows) →
+      AnswersAll zone state old rows replies new → Told replies was is
       → GaveUp zone state input old new was is e
   gave-up-between input old new was is e rows replies other few first answers told = record {
     rows = rows;

@@ -1,5 +1,6 @@
 -- The fields of a record, by their places.
-use Rattle.std.proofs.Common.{◌≡◌, refl, ◌≤◌, ◌<◌, ◌-◌, List, [], ◌∷◌, length, get_or, take, drop, Option, None, Bor, arith}
+use Rattle.std.proofs.Common.{◌≡◌, refl, ◌≤◌, ◌<◌, ◌-◌, List, [], ◌∷◌, length, get_or, take, drop, Option, None, Bor}
+use Rattle.std.proofs.Common.{arith}
 use Rattle.std.specs.Option.{unwrap_or}
 use Rattle.std.proofs.lemmas.List.{take_rest}
 use Rattle.cpi_codes.specs.Zone.{ZoneRule}
@@ -19,7 +20,8 @@ ask-short zone (a ∷ b ∷ []) h = refl
 ask-short zone (a ∷ b ∷ c ∷ xs) h = absurd (omega arith)
 
 pub ask-parts : (zone : ZoneRule) (xs : List (Bor Text)) (d : Bor Text) (r : Option Ask) → 3 ≤ length xs
-    → r ≡ parts zone (get_or xs 0 d).now (get_or xs 1 d).now (get_or xs 2 d).now (texts (take (length xs - 3) (drop 3 xs)))
+    → r ≡ parts zone (get_or xs 0 d).now (get_or xs 1 d).now (get_or xs 2 d).now
+    (texts (take (length xs - 3) (drop 3 xs)))
     → unwrap_or r ask.Bad ≡ ask_of zone (texts xs)
 unfolding ask_of
 ask-parts zone [] d r h e = absurd (omega arith)
@@ -27,7 +29,8 @@ ask-parts zone (a ∷ []) d r h e = absurd (omega arith)
 ask-parts zone (a ∷ b ∷ []) d r h e = absurd (omega arith)
 ask-parts zone (a ∷ b ∷ c ∷ xs) d r h e = rw (rw (take_rest (a ∷ b ∷ c ∷ xs) 3) at e) refl
 
-pub row-of : (zone : ZoneRule) (xs : List (Bor Text)) (x : Bor Text) (rest : List (Bor Text)) → xs ≡ x ∷ rest → request_of zone (word_of x.now) (texts rest) ≡ row_request zone (texts xs)
+pub row-of : (zone : ZoneRule) (xs : List (Bor Text)) (x : Bor Text) (rest : List (Bor Text)) → xs ≡ x ∷ rest →
+    request_of zone (word_of x.now) (texts rest) ≡ row_request zone (texts xs)
 unfolding row_request
 row-of zone xs x rest e = rw e refl
 

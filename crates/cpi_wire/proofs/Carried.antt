@@ -24,7 +24,8 @@ pub behind-more : (found : List Code) (text : Text) (code : Code) (texts : List 
     → behind found (elementary_codes (text ∷ texts)) ≡ behind (found ++ code ∷ []) (elementary_codes texts)
 behind-more found text code texts e = rw e (by (elementary_codes texts))
   where
-    by : (more : Option (List Code)) → behind found (more >>= λ codes. Some (code ∷ codes)) ≡ behind (found ++ code ∷ []) more
+    by : (more : Option (List Code)) → behind found (more >>= λ codes. Some (code ∷ codes)) ≡ behind
+        (found ++ code ∷ []) more
     by None = refl
     by (Some codes) = ap (λ all. Some all) (sym (append_assoc found (code ∷ []) codes))
 

@@ -1,11 +1,13 @@
 -- The text of an item code from its number.
-use Rattle.std.proofs.Common.{◌≡◌, ◌∙◌, sym, refl, ap, ap₂, ℕ, zero, suc, ◌+◌, ◌<◌, ◌≤◌, ◌/◌, ◌%◌, ◌-◌, List, [], ◌∷◌, ◌++◌, take, get_or, filter, true, Some, arith, lit<, lit≤, add-one}
+use Rattle.std.proofs.Common.{◌≡◌, ◌∙◌, sym, refl, ap, ap₂, ℕ, zero, suc, ◌+◌, ◌<◌, ◌≤◌, ◌/◌, ◌%◌, ◌-◌, List, [], ◌∷◌}
+use Rattle.std.proofs.Common.{◌++◌, take, get_or, filter, true, Some, arith, lit<, lit≤, add-one}
 use Rattle.std.specs.Int.Digits.{number_from_digits, digits_of}
 use Rattle.std.proofs.lemmas.Int.Digits.{digits_of_step}
 use Rattle.std.proofs.lemmas.List.{take_more, take_all}
 use Rattle.cpi_codes.specs.ItemCode.{is_item_text, is_item_character, item_code_of, filled, is_no_zero}
 use Rattle.cpi_codes.proofs.Digits.{passes-at}
-use Rattle.cpi_codes.proofs.Bytes.{length-filled, text-parts, text-of-code, number-more, character-range, last-byte, kept-filled, whole-number}
+use Rattle.cpi_codes.proofs.Bytes.{length-filled, text-parts, text-of-code, number-more, character-range, last-byte}
+use Rattle.cpi_codes.proofs.Bytes.{kept-filled, whole-number}
 use Rattle.cpi_wire.specs.Line.{item_text}
 
 -- the number that the first bytes write
@@ -16,7 +18,8 @@ front text k = number_from_digits 256 (take k (filled text))
 front-some : (text : List ℕ) → is_item_text text ≡ true → (k : ℕ) → k < 12 → 0 < front text (k + 1)
 front-some text h zero le =
     let parts = text-parts text h in
-    let range = character-range (get_or text 0 0) (passes-at is_item_character text 0 (omega (arith, parts.0)) parts.2) in
+    let range = character-range (get_or text 0 0)
+    (passes-at is_item_character text 0 (omega (arith, parts.0)) parts.2) in
     let more = number-more text 0 parts.1 (lit< tt) in
     omega (arith, more, range.0)
 front-some text h (suc k) le =
@@ -25,7 +28,8 @@ front-some text h (suc k) le =
     let some : 0 < front text (suc k) = rw add-one at (front-some text h k (omega arith)) in
     omega (arith, more, some)
 
-digits-are : (text : List ℕ) → is_item_text text ≡ true → (k : ℕ) → k ≤ 12 → digits_of 256 (front text k) ≡ take k (filled text)
+digits-are : (text : List ℕ) → is_item_text text ≡ true → (k : ℕ) → k ≤ 12 →
+    digits_of 256 (front text k) ≡ take k (filled text)
 digits-are text h zero le = refl
 digits-are text h (suc k) le =
     let parts = text-parts text h in
@@ -37,7 +41,8 @@ digits-are text h (suc k) le =
     let byte : front text (k + 1) % 256 ≡ get_or (filled text) k 0 = last.1 ∙ ap (λ n. get_or (filled text) n 0) less in
     let step = digits_of_step 256 (front text (k + 1)) (lit≤ tt) some in
     let whole : digits_of 256 (front text (k + 1)) ≡ take (k + 1) (filled text) =
-    step ∙ ap₂ (λ (xs : List ℕ) n. xs ++ n ∷ []) (ap (digits_of 256) rest ∙ digits-are text h k (omega arith)) byte ∙ sym (take_more (filled text) k 0 (omega (arith, len))) in
+    step ∙ ap₂ (λ (xs : List ℕ) n. xs ++ n ∷ []) (ap (digits_of 256) rest ∙ digits-are text h k (omega arith)) byte
+    ∙ sym (take_more (filled text) k 0 (omega (arith, len))) in
     rw add-one at whole
 
 pub text_is : (text : List ℕ) (code : ℕ) → item_code_of text ≡ Some code → text ≡ item_text code

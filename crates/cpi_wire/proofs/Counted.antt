@@ -15,7 +15,8 @@ unfolding none
 none-not [] h = absurd (h refl)
 none-not (z ∷ xs) h = refl
 
-pub two-is : (xs : List (Bor Text)) (o : Bor Text) → length xs ≡ 2 → Some ((get_or xs 0 o).now, (get_or xs 1 o).now) ≡ two (texts xs)
+pub two-is : (xs : List (Bor Text)) (o : Bor Text) → length xs ≡ 2 →
+    Some ((get_or xs 0 o).now, (get_or xs 1 o).now) ≡ two (texts xs)
 unfolding two
 two-is [] o h = absurd (omega arith)
 two-is (a ∷ []) o h = absurd (omega arith)
@@ -41,7 +42,9 @@ one-not [] h = refl
 one-not (a ∷ []) h = absurd (h refl)
 one-not (a ∷ z ∷ xs) h = refl
 
-pub confirm-four : (xs : List (Bor Text)) (o : Bor Text) → length xs ≡ 4 → Some ((get_or xs 0 o).now, (get_or xs 1 o).now, (get_or xs 2 o).now, (get_or xs 3 o).now, false) ≡ four_and_confirm (texts xs)
+pub confirm-four : (xs : List (Bor Text)) (o : Bor Text) → length xs ≡ 4 →
+    Some ((get_or xs 0 o).now, (get_or xs 1 o).now, (get_or xs 2 o).now, (get_or xs 3 o).now, false) ≡
+    four_and_confirm (texts xs)
 unfolding four_and_confirm
 confirm-four [] o h = absurd (omega arith)
 confirm-four (a ∷ []) o h = absurd (omega arith)
@@ -51,7 +54,9 @@ confirm-four (a ∷ b ∷ c ∷ d ∷ []) o h = refl
 confirm-four (a ∷ b ∷ c ∷ d ∷ e ∷ []) o h = absurd (omega arith)
 confirm-four (a ∷ b ∷ c ∷ d ∷ e ∷ z ∷ xs) o h = absurd (omega arith)
 
-pub confirm-five : (xs : List (Bor Text)) (o : Bor Text) → length xs ≡ 5 → is_confirm (get_or xs 4 o).now ≡ true → Some ((get_or xs 0 o).now, (get_or xs 1 o).now, (get_or xs 2 o).now, (get_or xs 3 o).now, true) ≡ four_and_confirm (texts xs)
+pub confirm-five : (xs : List (Bor Text)) (o : Bor Text) → length xs ≡ 5 → is_confirm (get_or xs 4 o).now ≡ true →
+    Some ((get_or xs 0 o).now, (get_or xs 1 o).now, (get_or xs 2 o).now, (get_or xs 3 o).now, true) ≡ four_and_confirm
+    (texts xs)
 unfolding four_and_confirm
 confirm-five [] o h yes_it = absurd (omega arith)
 confirm-five (a ∷ []) o h yes_it = absurd (omega arith)
@@ -61,7 +66,8 @@ confirm-five (a ∷ b ∷ c ∷ d ∷ []) o h yes_it = absurd (omega arith)
 confirm-five (a ∷ b ∷ c ∷ d ∷ e ∷ []) o h yes_it = rw yes_it refl
 confirm-five (a ∷ b ∷ c ∷ d ∷ e ∷ z ∷ xs) o h yes_it = absurd (omega arith)
 
-pub confirm-other : (xs : List (Bor Text)) (o : Bor Text) → length xs ≡ 5 → is_confirm (get_or xs 4 o).now ≡ false → None ≡ four_and_confirm (texts xs)
+pub confirm-other : (xs : List (Bor Text)) (o : Bor Text) → length xs ≡ 5 → is_confirm (get_or xs 4 o).now ≡ false →
+    None ≡ four_and_confirm (texts xs)
 unfolding four_and_confirm
 confirm-other [] o h not_it = absurd (omega arith)
 confirm-other (a ∷ []) o h not_it = absurd (omega arith)
@@ -81,7 +87,8 @@ confirm-not (a ∷ b ∷ c ∷ d ∷ []) h i = absurd (h refl)
 confirm-not (a ∷ b ∷ c ∷ d ∷ e ∷ []) h i = absurd (i refl)
 confirm-not (a ∷ b ∷ c ∷ d ∷ e ∷ z ∷ xs) h i = refl
 
-pub four-is : (xs : List (Bor Text)) (o : Bor Text) → length xs ≡ 4 → Some ((get_or xs 0 o).now, (get_or xs 1 o).now, (get_or xs 2 o).now, (get_or xs 3 o).now) ≡ four (texts xs)
+pub four-is : (xs : List (Bor Text)) (o : Bor Text) → length xs ≡ 4 →
+    Some ((get_or xs 0 o).now, (get_or xs 1 o).now, (get_or xs 2 o).now, (get_or xs 3 o).now) ≡ four (texts xs)
 unfolding four
 four-is [] o h = absurd (omega arith)
 four-is (a ∷ []) o h = absurd (omega arith)
@@ -99,7 +106,9 @@ four-not (a ∷ b ∷ c ∷ []) h = refl
 four-not (a ∷ b ∷ c ∷ d ∷ []) h = absurd (h refl)
 four-not (a ∷ b ∷ c ∷ d ∷ z ∷ xs) h = refl
 
-pub five-is : (xs : List (Bor Text)) (o : Bor Text) → length xs ≡ 5 → Some ((get_or xs 0 o).now, (get_or xs 1 o).now, (get_or xs 2 o).now, (get_or xs 3 o).now, (get_or xs 4 o).now) ≡ five (texts xs)
+pub five-is : (xs : List (Bor Text)) (o : Bor Text) → length xs ≡ 5 →
+    Some ((get_or xs 0 o).now, (get_or xs 1 o).now, (get_or xs 2 o).now, (get_or xs 3 o).now, (get_or xs 4 o).now) ≡
+    five (texts xs)
 unfolding five
 five-is [] o h = absurd (omega arith)
 five-is (a ∷ []) o h = absurd (omega arith)
@@ -119,7 +128,15 @@ five-not (a ∷ b ∷ c ∷ d ∷ []) h = refl
 five-not (a ∷ b ∷ c ∷ d ∷ e ∷ []) h = absurd (h refl)
 five-not (a ∷ b ∷ c ∷ d ∷ e ∷ z ∷ xs) h = refl
 
-pub six-is : (xs : List (Bor Text)) (o : Bor Text) → length xs ≡ 6 → Some ((get_or xs 0 o).now, (get_or xs 1 o).now, (get_or xs 2 o).now, (get_or xs 3 o).now, (get_or xs 4 o).now, (get_or xs 5 o).now) ≡ six (texts xs)
+pub six-is : (xs : List (Bor Text)) (o : Bor Text) → length xs ≡ 6 →
+    Some (
+      (get_or xs 0 o).now,
+      (get_or xs 1 o).now,
+      (get_or xs 2 o).now,
+      (get_or xs 3 o).now,
+      (get_or xs 4 o).now,
+      (get_or xs 5 o).now,
+    ) ≡ six (texts xs)
 unfolding six
 six-is [] o h = absurd (omega arith)
 six-is (a ∷ []) o h = absurd (omega arith)
@@ -141,7 +158,8 @@ six-not (a ∷ b ∷ c ∷ d ∷ e ∷ []) h = refl
 six-not (a ∷ b ∷ c ∷ d ∷ e ∷ f ∷ []) h = absurd (h refl)
 six-not (a ∷ b ∷ c ∷ d ∷ e ∷ f ∷ z ∷ xs) h = refl
 
-pub third-none : (xs : List (Bor Text)) (o : Bor Text) → length xs ≡ 2 → Some ((get_or xs 0 o).now, (get_or xs 1 o).now, None) ≡ two_or_three (texts xs)
+pub third-none : (xs : List (Bor Text)) (o : Bor Text) → length xs ≡ 2 →
+    Some ((get_or xs 0 o).now, (get_or xs 1 o).now, None) ≡ two_or_three (texts xs)
 unfolding two_or_three
 third-none [] o h = absurd (omega arith)
 third-none (a ∷ []) o h = absurd (omega arith)
@@ -149,7 +167,8 @@ third-none (a ∷ b ∷ []) o h = refl
 third-none (a ∷ b ∷ c ∷ []) o h = absurd (omega arith)
 third-none (a ∷ b ∷ c ∷ z ∷ xs) o h = absurd (omega arith)
 
-pub third-is : (xs : List (Bor Text)) (o : Bor Text) → length xs ≡ 3 → Some ((get_or xs 0 o).now, (get_or xs 1 o).now, Some (get_or xs 2 o).now) ≡ two_or_three (texts xs)
+pub third-is : (xs : List (Bor Text)) (o : Bor Text) → length xs ≡ 3 →
+    Some ((get_or xs 0 o).now, (get_or xs 1 o).now, Some (get_or xs 2 o).now) ≡ two_or_three (texts xs)
 unfolding two_or_three
 third-is [] o h = absurd (omega arith)
 third-is (a ∷ []) o h = absurd (omega arith)

@@ -15,10 +15,12 @@ use Rattle.cpi_office.specs.declared.refusal.Refusal.{Refusal}
 use Rattle.cpi_office.specs.declared.refusal.Refusal.TheVariants as refusal
 use Rattle.cpi_office.specs.declared.reply.Reply.{Reply}
 use Rattle.cpi_office.specs.declared.reply.Reply.TheVariants as reply
-use Rattle.cpi_wire.specs.Line.{data_of, quote_data, mark_value, item_data, price_data, mark_data, receipt_data, work_row_data, frozen_month_data}
+use Rattle.cpi_wire.specs.Line.{data_of, quote_data, mark_value, item_data, price_data, mark_data, receipt_data}
+use Rattle.cpi_wire.specs.Line.{work_row_data, frozen_month_data}
 use Rattle.cpi_wire.specs.Refusals.{plan_fault_data, index_fault_data, refusal_data}
 
-none-of : {X : Type 0} (f : X → Data) → ((x : X) → has_float (f x) ≡ false) → (xs : List X) → items_have_float (items_of (map f xs)) ≡ false
+none-of : {X : Type 0} (f : X → Data) → ((x : X) → has_float (f x) ≡ false) → (xs : List X) →
+    items_have_float (items_of (map f xs)) ≡ false
 none-of f h [] = refl
 none-of f h (x ∷ xs) = rw (h x) (none-of f h xs)
 

@@ -1,5 +1,6 @@
 -- The rows of an import, carried out one after the other, and the line of their replies so far.
-use Rattle.std.proofs.Common.{◌≡◌, ◌∙◌, refl, sym, ap, ap₂, ℕ, List, [], ◌∷◌, ◌++◌, Bool, true, false, ◌||◌, codes, map, Option, Some, Result, Ok, Err, OnErr, append_assoc, append-nil}
+use Rattle.std.proofs.Common.{◌≡◌, ◌∙◌, refl, sym, ap, ap₂, ℕ, List, [], ◌∷◌, ◌++◌, Bool, true, false, ◌||◌, codes, map}
+use Rattle.std.proofs.Common.{Option, Some, Result, Ok, Err, OnErr, append_assoc, append-nil}
 use Rattle.serde_json.specs.View.{items_of}
 use Rattle.serde_json.specs.Written.{comma_if, compact_text, items_text}
 use Rattle.serde_json.proofs.OnLiterals.{serde_json_on_literals}
@@ -67,7 +68,8 @@ fails-more : (rs : List Reply) (r : Reply) → some_fails (rs ++ r ∷ []) ≡ (
 fails-more [] r = elim (is_failure r) as (λ b. (b || false) ≡ b) [ true ↦ refl | false ↦ refl ]
 fails-more (x ∷ rs) r =
     ap (λ b. is_failure x || b) (fails-more rs r)
-    ∙ elim (is_failure x) as (λ b. (b || (some_fails rs || is_failure r)) ≡ ((b || some_fails rs) || is_failure r)) [ true ↦ refl | false ↦ refl ]
+    ∙ elim (is_failure x) as (λ b. (b || (some_fails rs || is_failure r)) ≡ ((b || some_fails rs) || is_failure r))
+    [ true ↦ refl | false ↦ refl ]
 
 -- ---- the rows
 
@@ -83,7 +85,8 @@ module _ {B : Type 0} (state : B → State Office) (now : ℕ) (caller : Caller)
     pub fails : failed ≡ some_fails replies
     pub written : line ≡ codes "{\"rows\":[" ++ joined false replies
 
-  pub so-far-none : (old : B) (rows : List (Option Request)) → RowsSoFar old rows rows true false (codes "{\"rows\":[") old
+  pub so-far-none : (old : B) (rows : List (Option Request)) →
+      RowsSoFar old rows rows true false (codes "{\"rows\":[") old
   so-far-none old rows =
       record { front = []; replies = []; split = refl; answers = refl; first = refl; fails = refl; written = refl }
 
@@ -99,7 +102,8 @@ module _ {B : Type 0} (state : B → State Office) (now : ℕ) (caller : Caller)
   -- one row more was carried out
   pub first-rows : (old mid new : B) (rows rest more : List (Option Request)) (is_first failed : Bool) (line : List ℕ)
       (row : Option Request) (reply : Reply)
-      → RowsSoFar old rows rest is_first failed line mid → rest ≡ row ∷ more → RowAnswers state now caller mid row reply new
+      → RowsSoFar old rows rest is_first failed line mid → rest ≡ row ∷ more →
+      RowAnswers state now caller mid row reply new
       → FirstRowsAnswer state now caller old rows new
   first-rows old mid new rows rest more is_first failed line row reply so_far next one = record {
     front = so_far.front ++ row ∷ [];

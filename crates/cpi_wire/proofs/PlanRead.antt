@@ -1,5 +1,6 @@
 -- The rows of a plan's body, one after the other.
-use Rattle.std.proofs.Common.{◌≡◌, ◌∙◌, sym, ap, refl, ℕ, List, [], ◌∷◌, ◌++◌, ◌<◌, ◌≤◌, length, Option, Some, None, Bool, true, false, nat_lt, if◌then◌else◌, arith, append_assoc, length-append}
+use Rattle.std.proofs.Common.{◌≡◌, ◌∙◌, sym, ap, refl, ℕ, List, [], ◌∷◌, ◌++◌, ◌<◌, ◌≤◌, length, Option, Some, None}
+use Rattle.std.proofs.Common.{Bool, true, false, nat_lt, if◌then◌else◌, arith, append_assoc, length-append}
 use Rattle.std.proofs.lemmas.Bool.Decides.{nat_tests}
 use Rattle.cpi_plan.specs.declared.plan_bodies.PlanBody.{PlanBody}
 use Rattle.cpi_plan.specs.declared.plan_rows.Title.{Title}
@@ -14,46 +15,127 @@ use Rattle.cpi_codes.specs.Following.{◌>>=◌}
 
 -- ---- one row more
 
-title-more : (rows : List PlanRow) (t : Title) → told_by (rows ++ row.Title t ∷ []) ≡ record { titles = titles_of rows ++ t ∷ []; weights = weights_of rows; places = places_of rows; references = references_of rows }
+title-more : (rows : List PlanRow) (t : Title) →
+    told_by (rows ++ row.Title t ∷ []) ≡ record {
+      titles = titles_of rows ++ t ∷ [];
+      weights =
+          weights_of rows;
+      places = places_of rows;
+      references = references_of rows;
+    }
 title-more [] t = refl
-title-more (row.Title u ∷ rows) t = ap (λ (b : PlanBody). record { titles = u ∷ b.titles; weights = b.weights; places = b.places; references = b.references }) (title-more rows t)
-title-more (row.Weight w ∷ rows) t = ap (λ (b : PlanBody). record { titles = b.titles; weights = w ∷ b.weights; places = b.places; references = b.references }) (title-more rows t)
-title-more (row.Place p ∷ rows) t = ap (λ (b : PlanBody). record { titles = b.titles; weights = b.weights; places = p ∷ b.places; references = b.references }) (title-more rows t)
-title-more (row.Reference m ∷ rows) t = ap (λ (b : PlanBody). record { titles = b.titles; weights = b.weights; places = b.places; references = m ∷ b.references }) (title-more rows t)
+title-more (row.Title u ∷ rows) t = ap (λ (b : PlanBody).
+    record { titles = u ∷ b.titles; weights = b.weights; places = b.places; references = b.references })
+    (title-more rows t)
+title-more (row.Weight w ∷ rows) t = ap (λ (b : PlanBody).
+    record { titles = b.titles; weights = w ∷ b.weights; places = b.places; references = b.references })
+    (title-more rows t)
+title-more (row.Place p ∷ rows) t = ap (λ (b : PlanBody).
+    record { titles = b.titles; weights = b.weights; places = p ∷ b.places; references = b.references })
+    (title-more rows t)
+title-more (row.Reference m ∷ rows) t = ap (λ (b : PlanBody).
+    record { titles = b.titles; weights = b.weights; places = b.places; references = m ∷ b.references })
+    (title-more rows t)
 
-weight-more : (rows : List PlanRow) (v : Weight) → told_by (rows ++ row.Weight v ∷ []) ≡ record { titles = titles_of rows; weights = weights_of rows ++ v ∷ []; places = places_of rows; references = references_of rows }
+weight-more : (rows : List PlanRow) (v : Weight) →
+    told_by (rows ++ row.Weight v ∷ []) ≡ record {
+      titles = titles_of rows;
+      weights = weights_of rows
+          ++ v ∷ [];
+      places = places_of rows;
+      references = references_of rows;
+    }
 weight-more [] v = refl
-weight-more (row.Title u ∷ rows) v = ap (λ (b : PlanBody). record { titles = u ∷ b.titles; weights = b.weights; places = b.places; references = b.references }) (weight-more rows v)
-weight-more (row.Weight w ∷ rows) v = ap (λ (b : PlanBody). record { titles = b.titles; weights = w ∷ b.weights; places = b.places; references = b.references }) (weight-more rows v)
-weight-more (row.Place p ∷ rows) v = ap (λ (b : PlanBody). record { titles = b.titles; weights = b.weights; places = p ∷ b.places; references = b.references }) (weight-more rows v)
-weight-more (row.Reference m ∷ rows) v = ap (λ (b : PlanBody). record { titles = b.titles; weights = b.weights; places = b.places; references = m ∷ b.references }) (weight-more rows v)
+weight-more (row.Title u ∷ rows) v = ap (λ (b : PlanBody).
+    record { titles = u ∷ b.titles; weights = b.weights; places = b.places; references = b.references })
+    (weight-more rows v)
+weight-more (row.Weight w ∷ rows) v = ap (λ (b : PlanBody).
+    record { titles = b.titles; weights = w ∷ b.weights; places = b.places; references = b.references })
+    (weight-more rows v)
+weight-more (row.Place p ∷ rows) v = ap (λ (b : PlanBody).
+    record { titles = b.titles; weights = b.weights; places = p ∷ b.places; references = b.references })
+    (weight-more rows v)
+weight-more (row.Reference m ∷ rows) v = ap (λ (b : PlanBody).
+    record { titles = b.titles; weights = b.weights; places = b.places; references = m ∷ b.references })
+    (weight-more rows v)
 
-place-more : (rows : List PlanRow) (q : Place) → told_by (rows ++ row.Place q ∷ []) ≡ record { titles = titles_of rows; weights = weights_of rows; places = places_of rows ++ q ∷ []; references = references_of rows }
+place-more : (rows : List PlanRow) (q : Place) →
+    told_by (rows ++ row.Place q ∷ []) ≡ record {
+      titles = titles_of rows;
+      weights = weights_of rows;
+      places =
+          places_of rows ++ q ∷ [];
+      references = references_of rows;
+    }
 place-more [] q = refl
-place-more (row.Title u ∷ rows) q = ap (λ (b : PlanBody). record { titles = u ∷ b.titles; weights = b.weights; places = b.places; references = b.references }) (place-more rows q)
-place-more (row.Weight w ∷ rows) q = ap (λ (b : PlanBody). record { titles = b.titles; weights = w ∷ b.weights; places = b.places; references = b.references }) (place-more rows q)
-place-more (row.Place p ∷ rows) q = ap (λ (b : PlanBody). record { titles = b.titles; weights = b.weights; places = p ∷ b.places; references = b.references }) (place-more rows q)
-place-more (row.Reference m ∷ rows) q = ap (λ (b : PlanBody). record { titles = b.titles; weights = b.weights; places = b.places; references = m ∷ b.references }) (place-more rows q)
+place-more (row.Title u ∷ rows) q = ap (λ (b : PlanBody).
+    record { titles = u ∷ b.titles; weights = b.weights; places = b.places; references = b.references })
+    (place-more rows q)
+place-more (row.Weight w ∷ rows) q = ap (λ (b : PlanBody).
+    record { titles = b.titles; weights = w ∷ b.weights; places = b.places; references = b.references })
+    (place-more rows q)
+place-more (row.Place p ∷ rows) q = ap (λ (b : PlanBody).
+    record { titles = b.titles; weights = b.weights; places = p ∷ b.places; references = b.references })
+    (place-more rows q)
+place-more (row.Reference m ∷ rows) q = ap (λ (b : PlanBody).
+    record { titles = b.titles; weights = b.weights; places = b.places; references = m ∷ b.references })
+    (place-more rows q)
 
-reference-more : (rows : List PlanRow) (n : ℕ) → told_by (rows ++ row.Reference n ∷ []) ≡ record { titles = titles_of rows; weights = weights_of rows; places = places_of rows; references = references_of rows ++ n ∷ [] }
+reference-more : (rows : List PlanRow) (n : ℕ) →
+    told_by (rows ++ row.Reference n ∷ []) ≡ record {
+      titles = titles_of rows;
+      weights = weights_of rows;
+      places =
+          places_of rows;
+      references = references_of rows ++ n ∷ [];
+    }
 reference-more [] n = refl
-reference-more (row.Title u ∷ rows) n = ap (λ (b : PlanBody). record { titles = u ∷ b.titles; weights = b.weights; places = b.places; references = b.references }) (reference-more rows n)
-reference-more (row.Weight w ∷ rows) n = ap (λ (b : PlanBody). record { titles = b.titles; weights = w ∷ b.weights; places = b.places; references = b.references }) (reference-more rows n)
-reference-more (row.Place p ∷ rows) n = ap (λ (b : PlanBody). record { titles = b.titles; weights = b.weights; places = p ∷ b.places; references = b.references }) (reference-more rows n)
-reference-more (row.Reference m ∷ rows) n = ap (λ (b : PlanBody). record { titles = b.titles; weights = b.weights; places = b.places; references = m ∷ b.references }) (reference-more rows n)
+reference-more (row.Title u ∷ rows) n = ap (λ (b : PlanBody).
+    record { titles = u ∷ b.titles; weights = b.weights; places = b.places; references = b.references })
+    (reference-more rows n)
+reference-more (row.Weight w ∷ rows) n = ap (λ (b : PlanBody).
+    record { titles = b.titles; weights = w ∷ b.weights; places = b.places; references = b.references })
+    (reference-more rows n)
+reference-more (row.Place p ∷ rows) n = ap (λ (b : PlanBody).
+    record { titles = b.titles; weights = b.weights; places = p ∷ b.places; references = b.references })
+    (reference-more rows n)
+reference-more (row.Reference m ∷ rows) n = ap
+    (λ (b : PlanBody). record {
+      titles = b.titles;
+      weights = b.weights;
+      places = b.places;
+      references =
+          m ∷ b.references;
+    }) (reference-more rows n)
 
 -- a body with one row more
-pub with-title : (b : PlanBody) (rows : List PlanRow) (t : Title) → b ≡ told_by rows → record { titles = b.titles ++ t ∷ []; weights = b.weights; places = b.places; references = b.references } ≡ told_by (rows ++ row.Title t ∷ [])
-with-title b rows t e = ap (λ (b : PlanBody). record { titles = b.titles ++ t ∷ []; weights = b.weights; places = b.places; references = b.references }) e ∙ sym (title-more rows t)
+pub with-title : (b : PlanBody) (rows : List PlanRow) (t : Title) → b ≡ told_by rows →
+    record { titles = b.titles ++ t ∷ []; weights = b.weights; places = b.places; references = b.references } ≡
+    told_by (rows ++ row.Title t ∷ [])
+with-title b rows t e = ap (λ (b : PlanBody).
+    record { titles = b.titles ++ t ∷ []; weights = b.weights; places = b.places; references = b.references }) e
+    ∙ sym (title-more rows t)
 
-pub with-weight : (b : PlanBody) (rows : List PlanRow) (v : Weight) → b ≡ told_by rows → record { titles = b.titles; weights = b.weights ++ v ∷ []; places = b.places; references = b.references } ≡ told_by (rows ++ row.Weight v ∷ [])
-with-weight b rows v e = ap (λ (b : PlanBody). record { titles = b.titles; weights = b.weights ++ v ∷ []; places = b.places; references = b.references }) e ∙ sym (weight-more rows v)
+pub with-weight : (b : PlanBody) (rows : List PlanRow) (v : Weight) → b ≡ told_by rows →
+    record { titles = b.titles; weights = b.weights ++ v ∷ []; places = b.places; references = b.references } ≡
+    told_by (rows ++ row.Weight v ∷ [])
+with-weight b rows v e = ap (λ (b : PlanBody).
+    record { titles = b.titles; weights = b.weights ++ v ∷ []; places = b.places; references = b.references }) e
+    ∙ sym (weight-more rows v)
 
-pub with-place : (b : PlanBody) (rows : List PlanRow) (q : Place) → b ≡ told_by rows → record { titles = b.titles; weights = b.weights; places = b.places ++ q ∷ []; references = b.references } ≡ told_by (rows ++ row.Place q ∷ [])
-with-place b rows q e = ap (λ (b : PlanBody). record { titles = b.titles; weights = b.weights; places = b.places ++ q ∷ []; references = b.references }) e ∙ sym (place-more rows q)
+pub with-place : (b : PlanBody) (rows : List PlanRow) (q : Place) → b ≡ told_by rows →
+    record { titles = b.titles; weights = b.weights; places = b.places ++ q ∷ []; references = b.references } ≡
+    told_by (rows ++ row.Place q ∷ [])
+with-place b rows q e = ap (λ (b : PlanBody).
+    record { titles = b.titles; weights = b.weights; places = b.places ++ q ∷ []; references = b.references }) e
+    ∙ sym (place-more rows q)
 
-pub with-reference : (b : PlanBody) (rows : List PlanRow) (n : ℕ) → b ≡ told_by rows → record { titles = b.titles; weights = b.weights; places = b.places; references = b.references ++ n ∷ [] } ≡ told_by (rows ++ row.Reference n ∷ [])
-with-reference b rows n e = ap (λ (b : PlanBody). record { titles = b.titles; weights = b.weights; places = b.places; references = b.references ++ n ∷ [] }) e ∙ sym (reference-more rows n)
+pub with-reference : (b : PlanBody) (rows : List PlanRow) (n : ℕ) → b ≡ told_by rows →
+    record { titles = b.titles; weights = b.weights; places = b.places; references = b.references ++ n ∷ [] } ≡
+    told_by (rows ++ row.Reference n ∷ [])
+with-reference b rows n e = ap (λ (b : PlanBody).
+    record { titles = b.titles; weights = b.weights; places = b.places; references = b.references ++ n ∷ [] }) e
+    ∙ sym (reference-more rows n)
 
 -- ---- the rows of records
 
@@ -79,7 +161,8 @@ rows-append (x ∷ xs) ys = by (plan_row x) (plan_rows xs) (plan_rows ys) (plan_
     by (Some first) (Some rows) None r e = rw e refl
     by (Some first) (Some rows) (Some more) r e = rw e refl
 
-pub rows-more : (given : List Record) (rows : List PlanRow) (fields : Record) (one : PlanRow) → plan_rows given ≡ Some rows → plan_row fields ≡ Some one
+pub rows-more : (given : List Record) (rows : List PlanRow) (fields : Record) (one : PlanRow) →
+    plan_rows given ≡ Some rows → plan_row fields ≡ Some one
     → plan_rows (given ++ fields ∷ []) ≡ Some (rows ++ one ∷ [])
 unfolding both
 rows-more given rows fields one e f = rows-append given (fields ∷ []) ∙ rw (e, f) refl
@@ -92,7 +175,8 @@ small n h = grind (arith, nat_tests)
 large : (n : ℕ) → 20000 < n → nat_lt 20000 n ≡ true
 large n h = grind (arith, nat_tests)
 
-pub body-whole : (text : List ℕ) (given : List Record) (rows : List PlanRow) → given ≡ records_of text → length given ≤ 20000 → plan_rows given ≡ Some rows
+pub body-whole : (text : List ℕ) (given : List Record) (rows : List PlanRow) → given ≡ records_of text →
+    length given ≤ 20000 → plan_rows given ≡ Some rows
     → Some (told_by rows) ≡ body_of text
 unfolding body_of
 body-whole text given rows e h r = rw (← e, small (length given) h, r) refl
@@ -100,15 +184,19 @@ body-whole text given rows e h r = rw (← e, small (length given) h, r) refl
 pub body-long : (text : List ℕ) (given : List Record) → AreFirst given text → 20000 < length given → None ≡ body_of text
 unfolding body_of
 body-long text given first h =
-    let t : nat_lt 20000 (length (records_of text)) ≡ true = large _ (rw (first.1, length-append) (omega arith)) in rw t refl
+    let t : nat_lt 20000 (length (records_of text)) ≡ true = large _ (rw (first.1, length-append) (omega arith)) in
+    rw t refl
 
-pub body-bad : (text : List ℕ) (given : List Record) (rows : List PlanRow) (fields : Record) → AreFirst (given ++ fields ∷ []) text → plan_rows given ≡ Some rows
+pub body-bad : (text : List ℕ) (given : List Record) (rows : List PlanRow) (fields : Record) →
+    AreFirst (given ++ fields ∷ []) text → plan_rows given ≡ Some rows
     → plan_row fields ≡ None → None ≡ body_of text
 unfolding body_of both
 body-bad text given rows fields first e f =
-    let all : plan_rows (records_of text) ≡ None = ap plan_rows (first.1 ∙ append_assoc given (fields ∷ []) first.0) ∙ rows-append given (fields ∷ first.0) ∙ rw (e, f) refl in
+    let all : plan_rows (records_of text) ≡ None = ap plan_rows (first.1 ∙ append_assoc given (fields ∷ []) first.0)
+    ∙ rows-append given (fields ∷ first.0) ∙ rw (e, f) refl in
     by (nat_lt 20000 (length (records_of text))) (plan_rows (records_of text)) all
   where
-    by : (t : Bool) (o : Option (List PlanRow)) → o ≡ None → None ≡ (if t then None else (o >>= λ rows. Some (told_by rows)))
+    by : (t : Bool) (o : Option (List PlanRow)) → o ≡ None →
+        None ≡ (if t then None else (o >>= λ rows. Some (told_by rows)))
     by true o e = refl
     by false o e = rw e refl

@@ -1,7 +1,9 @@
 -- How far the loop over the records of an input has come.
-use Rattle.std.proofs.Common.{◌≡◌, ◌∙◌, sym, ap, refl, ◌<◌, ◌≤◌, ◌-◌, ℕ, zero, suc, List, [], ◌∷◌, ◌++◌, length, Option, None, Some, IfSome, option_map, arith, Bool, false, true, ◌==◌, ◌&&◌, if◌then◌else◌}
+use Rattle.std.proofs.Common.{◌≡◌, ◌∙◌, sym, ap, refl, ◌<◌, ◌≤◌, ◌-◌, ℕ, zero, suc, List, [], ◌∷◌, ◌++◌, length, Option}
+use Rattle.std.proofs.Common.{None, Some, IfSome, option_map, arith, Bool, false, true, ◌==◌, ◌&&◌, if◌then◌else◌}
 use Rattle.std.proofs.lemmas.Bool.{false≢true}
-use Rattle.csv.specs.Machine.{Read, next_record, step, start_record, start_field, in_field, after_end, ends_with, is_byte, is_end, ends_at_end, fields_after, field_after}
+use Rattle.csv.specs.Machine.{Read, next_record, step, start_record, start_field, in_field, after_end, ends_with}
+use Rattle.csv.specs.Machine.{is_byte, is_end, ends_at_end, fields_after, field_after}
 use Rattle.csv.specs.Reading.{Reached, Ready, ReadRecord, ReadsOn, default_config, source_of, strip_bom, records_from}
 use Rattle.csv.specs.declared.parser.Config.{Config}
 use Rattle.csv.specs.declared.parser.Action.{Action}
@@ -27,7 +29,8 @@ picked true x y p q = p
 picked false x y p q = q
 
 after-end : (t : Terminator) (c : ℕ) → ends_at_end (after_end t c) ≡ false
-after-end term.CRLF c = elim (c == 13) as (λ b. ends_at_end (if b then st.AfterCr else st.StartRecord) ≡ false) [ true ↦ refl | false ↦ refl ]
+after-end term.CRLF c = elim (c == 13) as (λ b. ends_at_end (if b then st.AfterCr else st.StartRecord) ≡ false)
+    [ true ↦ refl | false ↦ refl ]
 after-end (term.Any t) c = refl
 
 in-field : (cfg : Config) (c : ℕ) → EndsWell (in_field cfg c)
@@ -46,10 +49,13 @@ step-ends cfg st.StartRecord c = start-record cfg c
 step-ends cfg st.StartField c = start-field cfg c
 step-ends cfg st.InField c = in-field cfg c
 step-ends cfg st.InQuoted c = picked (cfg.quoting && (c == cfg.quote)) _ _ (goes-on st.AfterQuote act.Skip refl)
-    (picked (cfg.quoting && is_byte cfg.escape c) _ _ (goes-on st.InEscape act.Skip refl) (goes-on st.InQuoted act.Copy refl))
+    (picked (cfg.quoting && is_byte cfg.escape c) _ _ (goes-on st.InEscape act.Skip refl)
+    (goes-on st.InQuoted act.Copy refl))
 step-ends cfg st.InEscape c = goes-on st.InQuoted act.Copy refl
-step-ends cfg st.AfterQuote c = picked (cfg.quoting && cfg.double_quote && (c == cfg.quote)) _ _ (goes-on st.InQuoted act.Copy refl) (in-field cfg c)
-step-ends cfg st.InComment c = picked (c == 10) _ _ (goes-on st.StartRecord act.Skip refl) (goes-on st.InComment act.Skip refl)
+step-ends cfg st.AfterQuote c = picked (cfg.quoting && cfg.double_quote && (c == cfg.quote)) _ _
+    (goes-on st.InQuoted act.Copy refl) (in-field cfg c)
+step-ends cfg st.InComment c = picked (c == 10) _ _ (goes-on st.StartRecord act.Skip refl)
+    (goes-on st.InComment act.Skip refl)
 step-ends cfg st.AfterCr c = picked (c == 10) _ _ (goes-on st.StartRecord act.Skip refl) (start-record cfg c)
 
 -- a record takes bytes, and ends outside a record
@@ -57,7 +63,8 @@ abbrev Took : List ℕ → Option Read → Type 0
 Took xs None = Unit {0}
 Took xs (Some p) = (length p.2 ≤ length xs - 1) × (ends_at_end p.1 ≡ false)
 
-took-if : (b : Bool) (xs : List ℕ) (q : Read) (o : Option Read) → (b ≡ true → Took xs (Some q)) → Took xs o → Took xs (if b then Some q else o)
+took-if : (b : Bool) (xs : List ℕ) (q : Read) (o : Option Read) → (b ≡ true → Took xs (Some q)) → Took xs o →
+    Took xs (if b then Some q else o)
 took-if true xs q o p r = p refl
 took-if false xs q o p r = r
 
@@ -65,21 +72,27 @@ took-less : (c : ℕ) (xs : List ℕ) (o : Option Read) → Took xs o → Took (
 took-less c xs None h = tt
 took-less c xs (Some p) h = (omega (arith, h.0), h.1)
 
-took : (cfg : Config) (s : State) (fields : List (List ℕ)) (field xs : List ℕ) → Took xs (next_record cfg s fields field xs)
+took : (cfg : Config) (s : State) (fields : List (List ℕ)) (field xs : List ℕ) →
+    Took xs (next_record cfg s fields field xs)
 unfolding next_record
 took cfg s fields field [] = took-if (ends_at_end s) [] _ None (λ _. (omega arith, refl)) tt
-took cfg s fields field (c ∷ rest) = took-if (is_end (step cfg s c).1) (c ∷ rest) _ _ (λ h. (omega arith, step-ends cfg s c h))
-    (took-less c rest _ (took cfg (step cfg s c).0 (fields_after (step cfg s c).1 fields field) (field_after (step cfg s c).1 c field) rest))
+took cfg s fields field (c ∷ rest) = took-if (is_end (step cfg s c).1) (c ∷ rest) _ _
+    (λ h. (omega arith, step-ends cfg s c h))
+    (took-less c rest _ (took cfg (step cfg s c).0 (fields_after (step cfg s c).1 fields field)
+    (field_after (step cfg s c).1 c field) rest))
 
-took-some : (s : State) (xs : List ℕ) (p : Read) → next_record default_config s [] [] xs ≡ Some p → (length p.2 ≤ length xs - 1) × (ends_at_end p.1 ≡ false)
-took-some s xs p e = let t : Took xs (next_record default_config s [] [] xs) = took default_config s [] [] xs in rw e at t
+took-some : (s : State) (xs : List ℕ) (p : Read) → next_record default_config s [] [] xs ≡ Some p →
+    (length p.2 ≤ length xs - 1) × (ends_at_end p.1 ≡ false)
+took-some s xs p e = let t : Took xs (next_record default_config s [] [] xs) = took default_config s [] [] xs in
+    rw e at t
 
 -- a state outside a record finds none in an empty text
 none-left : (s : State) → ends_at_end s ≡ false → next_record default_config s [] [] [] ≡ None
 unfolding next_record
 none-left s e = rw e refl
 
-some-left : (s : State) (xs : List ℕ) (p : Read) → ends_at_end s ≡ false → next_record default_config s [] [] xs ≡ Some p → length p.2 < length xs
+some-left : (s : State) (xs : List ℕ) (p : Read) → ends_at_end s ≡ false →
+    next_record default_config s [] [] xs ≡ Some p → length p.2 < length xs
 some-left s [] p e h = cc (none-left s e)
 some-left s (x ∷ xs) p e h = let t = took-some s (x ∷ xs) p h in omega (arith, t.0)
 
@@ -96,7 +109,8 @@ reached-front (suc n) s xs (q ∷ qs) s2 ys h e r =
     (ih.0, rw r.1 (ap (λ (z : List Record). r.0.0 ∷ z) ih.1 ∙ ap (λ (z : Record). z ∷ (qs ++ ih.0)) (sym r.2)))
 
 pub reached-all : (n : ℕ) (s : State) (xs : List ℕ) (rows : List Record) (s2 : State) (ys : List ℕ)
-    → length xs < n → ends_at_end s ≡ false → Reached default_config s xs rows s2 ys → next_record default_config s2 [] [] ys ≡ None
+    → length xs < n → ends_at_end s ≡ false → Reached default_config s xs rows s2 ys →
+    next_record default_config s2 [] [] ys ≡ None
     → records_from default_config n s xs ≡ rows
 unfolding Reached records_from
 reached-all zero s xs rows s2 ys h e r none = absurd (omega arith)
@@ -108,12 +122,20 @@ reached-all (suc n) s xs (q ∷ qs) s2 ys h e r none =
     rw r.1 (ap (λ (z : List Record). r.0.0 ∷ z) ih ∙ ap (λ (z : Record). z ∷ qs) (sym r.2))
 
 pub at-start : {R : Type 0} (rem : R → Option (List ℕ)) (input : Option (List ℕ)) (s : Reader R)
-    → s.trim ≡ trim.None → Ready s → s.config ≡ default_config → s.state ≡ st.StartRecord → source_of rem s ≡ option_map strip_bom input → IsAt rem input [] s
+    → s.trim ≡ trim.None → Ready s → s.config ≡ default_config → s.state ≡ st.StartRecord →
+    source_of rem s ≡ option_map strip_bom input → IsAt rem input [] s
 unfolding Reached
 at-start rem None s t r c e h = record { trim = t; ready = r; config = c; reached = tt }
-at-start rem (Some xs) s t r c e h = record { trim = t; ready = r; config = c; reached = (strip_bom xs, h, (sym e, refl)) }
+at-start rem (Some xs) s t r c e h = record {
+  trim = t;
+  ready = r;
+  config = c;
+  reached =
+      (strip_bom xs, h, (sym e, refl));
+}
 
-at-next : {R : Type 0} (rem : R → Option (List ℕ)) (input : Option (List ℕ)) (rows : List Record) (a b : Reader R) (f : Record)
+at-next : {R : Type 0} (rem : R → Option (List ℕ)) (input : Option (List ℕ)) (rows : List Record) (a b : Reader R)
+    (f : Record)
     → IsAt rem input rows a → ReadRecord rem a b true f → ReadsOn a b → IsAt rem input (rows ++ f ∷ []) b
 at-next rem None rows a b f h r on = record {
   trim = r.3 ∙ h.trim;
@@ -125,7 +147,8 @@ at-next rem (Some xs) rows a b f h r on = record {
   trim = r.3 ∙ h.trim;
   ready = (on.4 h.ready).0;
   config = r.2 ∙ h.config;
-  reached = rows-more rem a b f default_config st.StartRecord (strip_bom xs) h.reached.0 rows h.config h.reached.1 h.reached.2 r;
+  reached = rows-more rem a b f default_config st.StartRecord (strip_bom xs) h.reached.0 rows h.config h.reached.1
+      h.reached.2 r;
 }
 
 pub at-front : {R : Type 0} (rem : R → Option (List ℕ)) (input : Option (List ℕ)) (rows : List Record) (a : Reader R)
@@ -133,13 +156,16 @@ pub at-front : {R : Type 0} (rem : R → Option (List ℕ)) (input : Option (Lis
 at-front rem None rows a h = tt
 at-front rem (Some xs) rows a h = reached-front _ _ _ rows _ _ (omega arith) refl h.reached.2
 
-at-end : {R : Type 0} (rem : R → Option (List ℕ)) (input : Option (List ℕ)) (rows : List Record) (a b : Reader R) (f : Record)
+at-end : {R : Type 0} (rem : R → Option (List ℕ)) (input : Option (List ℕ)) (rows : List Record) (a b : Reader R)
+    (f : Record)
     → IsAt rem input rows a → ReadRecord rem a b false f → IfSome input (λ xs. rows ≡ records_of xs)
 at-end rem None rows a b f h r = tt
 at-end rem (Some xs) rows a b f h r =
-    sym (reached-all _ _ _ rows _ _ (omega arith) refl h.reached.2 (rows-end rem a b f default_config h.reached.0 h.config h.reached.1 r))
+    sym (reached-all _ _ _ rows _ _ (omega arith) refl h.reached.2
+    (rows-end rem a b f default_config h.reached.0 h.config h.reached.1 r))
 
 pub takes_next : {R : Type 0} (rem : R → Option (List ℕ)) (a b : Reader R) (f : Record) (found : Bool)
-    → (a.trim ≡ trim.None → Ready a → ReadRecord rem a b found f) → (found ≡ true → ReadsOn a b) → TakesNext rem a b f found
+    → (a.trim ≡ trim.None → Ready a → ReadRecord rem a b found f) → (found ≡ true → ReadsOn a b) →
+    TakesNext rem a b f found
 takes_next rem a b f true read on = λ input rows h. at-next rem input rows a b f h (read h.trim h.ready) (on refl)
 takes_next rem a b f false read on = λ input rows h. at-end rem input rows a b f h (read h.trim h.ready)

@@ -1,5 +1,6 @@
 -- Records that were answered in turn are a run of their requests.
-use Rattle.std.proofs.Common.{◌≡◌, ◌∙◌, refl, sym, ℕ, List, [], ◌∷◌, ◌++◌, length, Option, Some, None, append_assoc, length-append, arith, inr}
+use Rattle.std.proofs.Common.{◌≡◌, ◌∙◌, refl, sym, ℕ, List, [], ◌∷◌, ◌++◌, length, Option, Some, None, append_assoc}
+use Rattle.std.proofs.Common.{length-append, arith, inr}
 use Rattle.std.proofs.lemmas.List.{append-nil}
 use Rattle.cpi_codes.specs.Zone.{ZoneRule}
 use Rattle.cpi_release.specs.State.{State}
@@ -26,23 +27,38 @@ module _ {B : Type 0} (state : B → State Office) where
   IsRunSoFar start new front told = (length told ≡ length front) × Ran (state start) (state new) front told
 
   pub run-none : (old : B) → IsRunSoFar old old [] []
-  run-none old = (refl, record { was_clean = λ clean. clean; run = λ clean s. record { answers = refl; office = refl }; lasts = λ clean s none o left. inr (refl, left) })
+  run-none old = (
+    refl,
+    record {
+      was_clean = λ clean. clean;
+      run =
+          λ clean s. record { answers = refl; office = refl };
+      lasts = λ clean s none o left. inr (refl, left);
+    },
+  )
 
-  same-more : (front : List Asking) (told : List Reply) (a : Asking) (reply : Reply) → length told ≡ length front → length (told ++ reply ∷ []) ≡ length (front ++ a ∷ [])
-  same-more front told a reply same = length-append told (reply ∷ []) ∙ omega (arith, same) ∙ sym (length-append front (a ∷ []))
+  same-more : (front : List Asking) (told : List Reply) (a : Asking) (reply : Reply) → length told ≡ length front →
+      length (told ++ reply ∷ []) ≡ length (front ++ a ∷ [])
+  same-more front told a reply same = length-append told (reply ∷ []) ∙ omega (arith, same)
+      ∙ sym (length-append front (a ∷ []))
 
   -- the rows of an import more
-  run-rows : (start old new : B) (front : List Asking) (told : List Reply) (t : ℕ) (k : Caller) (rows : List (Option Request)) (replies : List Reply)
+  run-rows : (start old new : B) (front : List Asking) (told : List Reply) (t : ℕ) (k : Caller)
+      (rows : List (Option Request)) (replies : List Reply)
       → IsRunSoFar start old front told → RowsAnswer state t k old rows replies new
       → IsRunSoFar start new (front ++ rows_asked t k rows) (told ++ rows_replied rows replies)
   run-rows start old new front told t k [] [] ran a = rw (append-nil front, append-nil told, a) ran
   run-rows start old new front told t k [] (p ∷ ps) ran a = absurd a
   run-rows start old new front told t k (q ∷ qs) [] ran a = absurd a
-  run-rows start old new front told t k (None ∷ qs) (p ∷ ps) ran a = run-rows start a.0 new front told t k qs ps (rw a.1.1 ran) a.2
+  run-rows start old new front told t k (None ∷ qs) (p ∷ ps) ran a =
+      run-rows start a.0 new front told t k qs ps (rw a.1.1 ran) a.2
   run-rows start old new front told t k (Some r ∷ qs) (p ∷ ps) ran a =
       let one : Asking = record { now = t; caller = k; request = r } in
-      let more = run-rows start a.0 new (front ++ one ∷ []) (told ++ p ∷ []) t k qs ps
-      (same-more front told one p ran.0, ran_more (state start) (state old) (state a.0) front told one p ran.0 ran.1 a.1) a.2 in
+      let more = run-rows start a.0 new (front ++ one ∷ []) (told ++ p ∷ []) t k qs ps (
+        same-more front told one p ran.0,
+        ran_more (state start) (state old)
+            (state a.0) front told one p ran.0 ran.1 a.1,
+      ) a.2 in
       rw (append_assoc front (one ∷ []) (rows_asked t k qs), append_assoc told (p ∷ []) (rows_replied qs ps)) at more
 
   -- one record more
@@ -52,13 +68,18 @@ module _ {B : Type 0} (state : B → State Office) where
   run-one start old new front told ask.Bad (answer.One reply) ran a = rw (append-nil front, append-nil told, a.1) ran
   run-one start old new front told ask.Bad (answer.Rows replies) ran a = absurd a
   run-one start old new front told (ask.One t k r) (answer.One reply) ran a =
-      let one : Asking = record { now = t; caller = k; request = r } in
-      (same-more front told one reply ran.0, ran_more (state start) (state old) (state new) front told one reply ran.0 ran.1 a)
+      let one : Asking = record { now = t; caller = k; request = r } in (
+        same-more front told one reply ran.0,
+        ran_more (state start) (state old)
+            (state new) front told one reply ran.0 ran.1 a,
+      )
   run-one start old new front told (ask.One t k r) (answer.Rows replies) ran a = absurd a
   run-one start old new front told (ask.Import t k rows) (answer.One reply) ran a = absurd a
-  run-one start old new front told (ask.Import t k rows) (answer.Rows replies) ran a = run-rows start old new front told t k rows replies ran a
+  run-one start old new front told (ask.Import t k rows) (answer.Rows replies) ran a =
+      run-rows start old new front told t k rows replies ran a
 
-  run-all : (zone : ZoneRule) (start old new : B) (front : List Asking) (told : List Reply) (rows : List Record) (replies : List Answer)
+  run-all : (zone : ZoneRule) (start old new : B) (front : List Asking) (told : List Reply) (rows : List Record)
+      (replies : List Answer)
       → IsRunSoFar start old front told → AnswersAll zone state old rows replies new
       → IsRunSoFar start new (front ++ requests zone rows) (told ++ replies_of zone rows replies)
   run-all zone start old new front told [] [] ran a = rw (append-nil front, append-nil told, a) ran
@@ -66,8 +87,10 @@ module _ {B : Type 0} (state : B → State Office) where
   run-all zone start old new front told (q ∷ qs) [] ran a = absurd a
   run-all zone start old new front told (q ∷ qs) (p ∷ ps) ran a =
       let k = ask_of zone q in
-      let more = run-all zone start a.0 new (front ++ asked k) (told ++ replied k p) qs ps (run-one start old a.0 front told k p ran a.1) a.2 in
-      rw (append_assoc front (asked k) (requests zone qs), append_assoc told (replied k p) (replies_of zone qs ps)) at more
+      let more = run-all zone start a.0 new (front ++ asked k) (told ++ replied k p) qs ps
+      (run-one start old a.0 front told k p ran a.1) a.2 in
+      rw (append_assoc front (asked k) (requests zone qs), append_assoc told (replied k p) (replies_of zone qs ps)) at
+      more
 
   pub are_a_run : AreARun state
   are_a_run zone old new rows replies a = (run-all zone old old new [] [] rows replies (run-none old) a).1

@@ -1,6 +1,7 @@
 -- The lines to a collector hang on what the office tells that collector.
 use mathlib.Core.Bool.{true≢false}
-use Rattle.std.proofs.Common.{◌≡◌, ◌∙◌, sym, ap, ap₂, refl, subst, ℕ, ◌+◌, List, [], ◌∷◌, ◌++◌, length, map, filter, Bool, true, false, not, Option, Some, None, if◌then◌else◌, ◌==◌, arith, length-append}
+use Rattle.std.proofs.Common.{◌≡◌, ◌∙◌, sym, ap, ap₂, refl, subst, ℕ, ◌+◌, List, [], ◌∷◌, ◌++◌, length, map, filter}
+use Rattle.std.proofs.Common.{Bool, true, false, not, Option, Some, None, if◌then◌else◌, ◌==◌, arith, length-append}
 use Rattle.std.specs.Bool.{⊤}
 use Rattle.cpi_codes.specs.Zone.{ZoneRule}
 use Rattle.cpi_release.specs.State.{State}
@@ -53,7 +54,8 @@ AllFit (k ∷ ks) [] = ⊥
 AllFit (k ∷ ks) (a ∷ ans) = FitsAnswer k a × AllFit ks ans
 
 module _ {B : Type 0} (state : B → State Office) where
-  rows-fit : (t : ℕ) (c : Caller) (p q : B) (rows : List (Option Request)) (rs : List Reply) → RowsAnswer state t c p rows rs q → Fit rows rs
+  rows-fit : (t : ℕ) (c : Caller) (p q : B) (rows : List (Option Request)) (rs : List Reply) →
+      RowsAnswer state t c p rows rs q → Fit rows rs
   rows-fit t c p q [] [] a = tt
   rows-fit t c p q [] (r ∷ rs) a = absurd a
   rows-fit t c p q (row ∷ rows) [] a = absurd a
@@ -68,11 +70,15 @@ module _ {B : Type 0} (state : B → State Office) where
   answer-fits p q (ask.Import t c rows) (answer.One r) a = absurd a
   answer-fits p q (ask.Import t c rows) (answer.Rows rs) a = rows-fit t c p q rows rs a
 
-  all-fit : (zone : ZoneRule) (p q : B) (rows : List Record) (ans : List Answer) → AnswersAll zone state p rows ans q → AllFit (map (ask_of zone) rows) ans
+  all-fit : (zone : ZoneRule) (p q : B) (rows : List Record) (ans : List Answer) →
+      AnswersAll zone state p rows ans q → AllFit (map (ask_of zone) rows) ans
   all-fit zone p q [] [] a = tt
   all-fit zone p q [] (x ∷ ans) a = absurd a
   all-fit zone p q (row ∷ rows) [] a = absurd a
-  all-fit zone p q (row ∷ rows) (x ∷ ans) a = (answer-fits p a.0 (ask_of zone row) x a.1, all-fit zone a.0 q rows ans a.2)
+  all-fit zone p q (row ∷ rows) (x ∷ ans) a = (
+    answer-fits p a.0 (ask_of zone row) x a.1,
+    all-fit zone a.0 q rows ans a.2,
+  )
 
 -- ---- the records of the collector, with their answers
 
@@ -84,10 +90,12 @@ own key [] ans = []
 own key (k ∷ ks) [] = []
 own key (k ∷ ks) (a ∷ ans) = (if is_own key k then a ∷ [] else []) ++ own key ks ans
 
-own-is : (zone : ZoneRule) (key : ℕ) (rows : List Record) (ans : List Answer) → own_answers zone key rows ans ≡ own key (map (ask_of zone) rows) ans
+own-is : (zone : ZoneRule) (key : ℕ) (rows : List Record) (ans : List Answer) →
+    own_answers zone key rows ans ≡ own key (map (ask_of zone) rows) ans
 own-is zone key [] ans = refl
 own-is zone key (row ∷ rows) [] = refl
-own-is zone key (row ∷ rows) (a ∷ ans) = ap (λ (z : List Answer). (if is_own key (ask_of zone row) then a ∷ [] else []) ++ z) (own-is zone key rows ans)
+own-is zone key (row ∷ rows) (a ∷ ans) = ap (λ (z : List Answer).
+    (if is_own key (ask_of zone row) then a ∷ [] else []) ++ z) (own-is zone key rows ans)
 
 own-fit : (key : ℕ) (ks : List Ask) (ans : List Answer) → AllFit ks ans → AllFit (own_asks key ks) (own key ks ans)
 own-fit key [] [] h = tt
@@ -95,7 +103,8 @@ own-fit key [] (a ∷ ans) h = absurd h
 own-fit key (k ∷ ks) [] h = absurd h
 own-fit key (k ∷ ks) (a ∷ ans) h = by (is_own key k) (own-fit key ks ans h.1)
   where
-    by : (mine : Bool) → AllFit (own_asks key ks) (own key ks ans) → AllFit (if mine then k ∷ own_asks key ks else own_asks key ks) ((if mine then a ∷ [] else []) ++ own key ks ans)
+    by : (mine : Bool) → AllFit (own_asks key ks) (own key ks ans) →
+        AllFit (if mine then k ∷ own_asks key ks else own_asks key ks) ((if mine then a ∷ [] else []) ++ own key ks ans)
     by true rest = (h.0, rest)
     by false rest = rest
 
@@ -113,7 +122,8 @@ all_asked (k ∷ ks) = asked k ++ all_asked ks
 
 module _ (key : ℕ) (t : ℕ) (c : Caller) (more : List Asking) (rest : List Reply) where
   rows-own : is_bearer key c ≡ true → (rows : List (Option Request)) (rs : List Reply) → Fit rows rs
-      → replies_to key (rows_asked t c rows ++ more) (rows_replied rows rs ++ rest) ≡ rows_replied rows rs ++ replies_to key more rest
+      → replies_to key (rows_asked t c rows ++ more) (rows_replied rows rs ++ rest) ≡ rows_replied rows rs
+      ++ replies_to key more rest
   rows-own e [] [] h = refl
   rows-own e [] (r ∷ rs) h = absurd h
   rows-own e (row ∷ rows) [] h = absurd h
@@ -128,7 +138,8 @@ module _ (key : ℕ) (t : ℕ) (c : Caller) (more : List Asking) (rest : List Re
   rows-not e (None ∷ rows) (r ∷ rs) h = rows-not e rows rs h.1
   rows-not e (Some q ∷ rows) (r ∷ rs) h = rw e (rows-not e rows rs h)
 
-record-own : (key : ℕ) (k : Ask) (a : Answer) (more : List Asking) (rest : List Reply) → FitsAnswer k a → is_own key k ≡ true
+record-own : (key : ℕ) (k : Ask) (a : Answer) (more : List Asking) (rest : List Reply) → FitsAnswer k a →
+    is_own key k ≡ true
     → replies_to key (asked k ++ more) (replied k a ++ rest) ≡ replied k a ++ replies_to key more rest
 record-own key ask.Bad a more rest h e = absurd (true≢false (sym e))
 record-own key (ask.One t c q) (answer.One r) more rest h e = rw e refl
@@ -136,7 +147,8 @@ record-own key (ask.One t c q) (answer.Rows rs) more rest h e = absurd h
 record-own key (ask.Import t c rows) (answer.One r) more rest h e = absurd h
 record-own key (ask.Import t c rows) (answer.Rows rs) more rest h e = rows-own key t c more rest e rows rs h
 
-record-not : (key : ℕ) (k : Ask) (a : Answer) (more : List Asking) (rest : List Reply) → FitsAnswer k a → is_own key k ≡ false
+record-not : (key : ℕ) (k : Ask) (a : Answer) (more : List Asking) (rest : List Reply) → FitsAnswer k a →
+    is_own key k ≡ false
     → replies_to key (asked k ++ more) (replied k a ++ rest) ≡ replies_to key more rest
 record-not key ask.Bad (answer.One r) more rest h e = refl
 record-not key ask.Bad (answer.Rows rs) more rest h e = absurd h
@@ -145,16 +157,20 @@ record-not key (ask.One t c q) (answer.Rows rs) more rest h e = absurd h
 record-not key (ask.Import t c rows) (answer.One r) more rest h e = absurd h
 record-not key (ask.Import t c rows) (answer.Rows rs) more rest h e = rows-not key t c more rest e rows rs h
 
-told-own : (key : ℕ) (ks : List Ask) (ans : List Answer) → AllFit ks ans → replies_to key (all_asked ks) (all_told ks ans) ≡ all_told (own_asks key ks) (own key ks ans)
+told-own : (key : ℕ) (ks : List Ask) (ans : List Answer) → AllFit ks ans →
+    replies_to key (all_asked ks) (all_told ks ans) ≡ all_told (own_asks key ks) (own key ks ans)
 told-own key [] [] h = refl
 told-own key [] (a ∷ ans) h = absurd h
 told-own key (k ∷ ks) [] h = absurd h
 told-own key (k ∷ ks) (a ∷ ans) h = by (is_own key k) refl (told-own key ks ans h.1)
   where
-    by : (mine : Bool) → is_own key k ≡ mine → replies_to key (all_asked ks) (all_told ks ans) ≡ all_told (own_asks key ks) (own key ks ans)
+    by : (mine : Bool) → is_own key k ≡ mine → replies_to key (all_asked ks) (all_told ks ans) ≡ all_told
+        (own_asks key ks) (own key ks ans)
         → replies_to key (asked k ++ all_asked ks) (replied k a ++ all_told ks ans)
-        ≡ all_told (if mine then k ∷ own_asks key ks else own_asks key ks) ((if mine then a ∷ [] else []) ++ own key ks ans)
-    by true e rest = record-own key k a (all_asked ks) (all_told ks ans) h.0 e ∙ ap (λ (z : List Reply). replied k a ++ z) rest
+        ≡ all_told (if mine then k ∷ own_asks key ks else own_asks key ks)
+        ((if mine then a ∷ [] else []) ++ own key ks ans)
+    by true e rest = record-own key k a (all_asked ks) (all_told ks ans) h.0 e
+        ∙ ap (λ (z : List Reply). replied k a ++ z) rest
     by false e rest = record-not key k a (all_asked ks) (all_told ks ans) h.0 e ∙ rest
 
 -- ---- what is told has one reading
@@ -165,7 +181,8 @@ heads a b xs ys e = cc
 tails : (a b : Reply) (xs ys : List Reply) → (a ∷ xs) ≡ (b ∷ ys) → xs ≡ ys
 tails a b xs ys e = cc
 
-rows-same : (rows : List (Option Request)) (rs ss x y : List Reply) → Fit rows rs → Fit rows ss → rows_replied rows rs ++ x ≡ rows_replied rows ss ++ y → (rs ≡ ss) × (x ≡ y)
+rows-same : (rows : List (Option Request)) (rs ss x y : List Reply) → Fit rows rs → Fit rows ss → rows_replied rows rs
+    ++ x ≡ rows_replied rows ss ++ y → (rs ≡ ss) × (x ≡ y)
 rows-same [] [] [] x y f g e = (refl, e)
 rows-same [] (r ∷ rs) ss x y f g e = absurd f
 rows-same [] [] (s ∷ ss) x y f g e = absurd g
@@ -176,25 +193,29 @@ rows-same (None ∷ rows) (r ∷ rs) (s ∷ ss) x y f g e =
 rows-same (Some q ∷ rows) (r ∷ rs) (s ∷ ss) x y f g e =
     let rest = rows-same rows rs ss x y f g (tails r s _ _ e) in (ap₂ (λ z zs. z ∷ zs) (heads r s _ _ e) rest.0, rest.1)
 
-record-same : (k : Ask) (a b : Answer) (x y : List Reply) → FitsAnswer k a → FitsAnswer k b → replied k a ++ x ≡ replied k b ++ y → (a ≡ b) × (x ≡ y)
+record-same : (k : Ask) (a b : Answer) (x y : List Reply) → FitsAnswer k a → FitsAnswer k b → replied k a
+    ++ x ≡ replied k b ++ y → (a ≡ b) × (x ≡ y)
 record-same ask.Bad (answer.One r) (answer.One s) x y f g e = (ap answer.One (f ∙ sym g), e)
 record-same ask.Bad (answer.One r) (answer.Rows ss) x y f g e = absurd g
 record-same ask.Bad (answer.Rows rs) b x y f g e = absurd f
 record-same (ask.One t c q) (answer.One r) (answer.One s) x y f g e = (ap answer.One (heads r s x y e), tails r s x y e)
 record-same (ask.One t c q) (answer.One r) (answer.Rows ss) x y f g e = absurd g
 record-same (ask.One t c q) (answer.Rows rs) b x y f g e = absurd f
-record-same (ask.Import t c rows) (answer.Rows rs) (answer.Rows ss) x y f g e = let both = rows-same rows rs ss x y f g e in (ap answer.Rows both.0, both.1)
+record-same (ask.Import t c rows) (answer.Rows rs) (answer.Rows ss) x y f g e = let both =
+    rows-same rows rs ss x y f g e in (ap answer.Rows both.0, both.1)
 record-same (ask.Import t c rows) (answer.Rows rs) (answer.One s) x y f g e = absurd g
 record-same (ask.Import t c rows) (answer.One r) b x y f g e = absurd f
 
-told-same : (ks : List Ask) (ans bs : List Answer) → AllFit ks ans → AllFit ks bs → all_told ks ans ≡ all_told ks bs → ans ≡ bs
+told-same : (ks : List Ask) (ans bs : List Answer) → AllFit ks ans → AllFit ks bs → all_told ks ans ≡ all_told ks bs →
+    ans ≡ bs
 told-same [] [] [] f g e = refl
 told-same [] (a ∷ ans) bs f g e = absurd f
 told-same [] [] (b ∷ bs) f g e = absurd g
 told-same (k ∷ ks) [] bs f g e = absurd f
 told-same (k ∷ ks) (a ∷ ans) [] f g e = absurd g
 told-same (k ∷ ks) (a ∷ ans) (b ∷ bs) f g e =
-    let both = record-same k a b (all_told ks ans) (all_told ks bs) f.0 g.0 e in ap₂ (λ z zs. z ∷ zs) both.0 (told-same ks ans bs f.1 g.1 both.1)
+    let both = record-same k a b (all_told ks ans) (all_told ks bs) f.0 g.0 e in
+    ap₂ (λ z zs. z ∷ zs) both.0 (told-same ks ans bs f.1 g.1 both.1)
 
 -- ---- records and their requests
 
@@ -202,12 +223,14 @@ asked-is : (zone : ZoneRule) (rows : List Record) → requests zone rows ≡ all
 asked-is zone [] = refl
 asked-is zone (row ∷ rows) = ap (λ (z : List Asking). asked (ask_of zone row) ++ z) (asked-is zone rows)
 
-told-is : (zone : ZoneRule) (rows : List Record) (ans : List Answer) → replies_of zone rows ans ≡ all_told (map (ask_of zone) rows) ans
+told-is : (zone : ZoneRule) (rows : List Record) (ans : List Answer) →
+    replies_of zone rows ans ≡ all_told (map (ask_of zone) rows) ans
 told-is zone [] ans = refl
 told-is zone (row ∷ rows) [] = refl
 told-is zone (row ∷ rows) (a ∷ ans) = ap (λ (z : List Reply). replied (ask_of zone row) a ++ z) (told-is zone rows ans)
 
-rows-length : (t : ℕ) (c : Caller) (rows : List (Option Request)) (rs : List Reply) → Fit rows rs → length (rows_replied rows rs) ≡ length (rows_asked t c rows)
+rows-length : (t : ℕ) (c : Caller) (rows : List (Option Request)) (rs : List Reply) → Fit rows rs →
+    length (rows_replied rows rs) ≡ length (rows_asked t c rows)
 rows-length t c [] [] h = refl
 rows-length t c [] (r ∷ rs) h = absurd h
 rows-length t c (row ∷ rows) [] h = absurd h
@@ -225,7 +248,8 @@ told-length : (ks : List Ask) (ans : List Answer) → AllFit ks ans → length (
 told-length [] [] h = refl
 told-length [] (a ∷ ans) h = absurd h
 told-length (k ∷ ks) [] h = absurd h
-told-length (k ∷ ks) (a ∷ ans) h = length-append (replied k a) (all_told ks ans) ∙ ap₂ (λ m n. m + n) (record-length k a h.0) (told-length ks ans h.1) ∙ sym (length-append (asked k) (all_asked ks))
+told-length (k ∷ ks) (a ∷ ans) h = length-append (replied k a) (all_told ks ans)
+    ∙ ap₂ (λ m n. m + n) (record-length k a h.0) (told-length ks ans h.1) ∙ sym (length-append (asked k) (all_asked ks))
 
 -- ---- without other collectors
 
@@ -248,12 +272,15 @@ own-not-others key (ask.Import t Public rows) e = refl
 own-not-others key (ask.Import t Desk rows) e = refl
 
 -- the collector's records stand among those that are left
-own-left : (zone : ZoneRule) (key : ℕ) (rows : List Record) → own_asks key (map (ask_of zone) (without_others zone key rows)) ≡ own_asks key (map (ask_of zone) rows)
+own-left : (zone : ZoneRule) (key : ℕ) (rows : List Record) →
+    own_asks key (map (ask_of zone) (without_others zone key rows)) ≡ own_asks key (map (ask_of zone) rows)
 own-left zone key [] = refl
 own-left zone key (row ∷ rows) = by (is_others key (ask_of zone row)) refl (own-left zone key rows)
   where
-    by : (b : Bool) → is_others key (ask_of zone row) ≡ b → own_asks key (map (ask_of zone) (without_others zone key rows)) ≡ own_asks key (map (ask_of zone) rows)
-        → own_asks key (map (ask_of zone) (if not b then row ∷ without_others zone key rows else without_others zone key rows)) ≡ own_asks key (ask_of zone row ∷ map (ask_of zone) rows)
+    by : (b : Bool) → is_others key (ask_of zone row) ≡ b →
+        own_asks key (map (ask_of zone) (without_others zone key rows)) ≡ own_asks key (map (ask_of zone) rows)
+        → own_asks key (map (ask_of zone) (if not b then row ∷ without_others zone key rows else without_others zone
+        key rows)) ≡ own_asks key (ask_of zone row ∷ map (ask_of zone) rows)
     by true e rest = rest ∙ rw (own-not-others key (ask_of zone row) e) refl
     by false e rest = ap (λ (z : List Ask). if is_own key (ask_of zone row) then ask_of zone row ∷ z else z) rest
 
@@ -263,7 +290,8 @@ rows-kept : (key t : ℕ) (c : Caller) (rows : List (Option Request)) (more : Li
 rows-kept key t c [] more e = refl
 rows-kept key t c (None ∷ rows) more e = rows-kept key t c rows more e
 rows-kept key t c (Some q ∷ rows) more e =
-    let one : Asking = record { now = t; caller = c; request = q } in rw e (ap (λ (z : List Asking). one ∷ z) (rows-kept key t c rows more e))
+    let one : Asking = record { now = t; caller = c; request = q } in
+    rw e (ap (λ (z : List Asking). one ∷ z) (rows-kept key t c rows more e))
 
 rows-gone : (key t : ℕ) (c : Caller) (rows : List (Option Request)) (more : List Asking) → is_other key c ≡ true
     → requests_without key (rows_asked t c rows ++ more) ≡ requests_without key more
@@ -271,28 +299,35 @@ rows-gone key t c [] more e = refl
 rows-gone key t c (None ∷ rows) more e = rows-gone key t c rows more e
 rows-gone key t c (Some q ∷ rows) more e = rw e (rows-gone key t c rows more e)
 
-record-kept : (key : ℕ) (k : Ask) (more : List Asking) → is_others key k ≡ false → requests_without key (asked k ++ more) ≡ asked k ++ requests_without key more
+record-kept : (key : ℕ) (k : Ask) (more : List Asking) → is_others key k ≡ false →
+    requests_without key (asked k ++ more) ≡ asked k ++ requests_without key more
 record-kept key ask.Bad more e = refl
 record-kept key (ask.One t c q) more e = rw e refl
 record-kept key (ask.Import t c rows) more e = rows-kept key t c rows more e
 
-record-gone : (key : ℕ) (k : Ask) (more : List Asking) → is_others key k ≡ true → requests_without key (asked k ++ more) ≡ requests_without key more
+record-gone : (key : ℕ) (k : Ask) (more : List Asking) → is_others key k ≡ true →
+    requests_without key (asked k ++ more) ≡ requests_without key more
 record-gone key ask.Bad more e = refl
 record-gone key (ask.One t c q) more e = rw e refl
 record-gone key (ask.Import t c rows) more e = rows-gone key t c rows more e
 
-left-requests : (zone : ZoneRule) (key : ℕ) (rows : List Record) → requests_without key (requests zone rows) ≡ requests zone (without_others zone key rows)
+left-requests : (zone : ZoneRule) (key : ℕ) (rows : List Record) →
+    requests_without key (requests zone rows) ≡ requests zone (without_others zone key rows)
 left-requests zone key [] = refl
 left-requests zone key (row ∷ rows) = by (is_others key (ask_of zone row)) refl (left-requests zone key rows)
   where
-    by : (b : Bool) → is_others key (ask_of zone row) ≡ b → requests_without key (requests zone rows) ≡ requests zone (without_others zone key rows)
-        → requests_without key (asked (ask_of zone row) ++ requests zone rows) ≡ requests zone (if not b then row ∷ without_others zone key rows else without_others zone key rows)
+    by : (b : Bool) → is_others key (ask_of zone row) ≡ b → requests_without key (requests zone rows) ≡ requests zone
+        (without_others zone key rows)
+        → requests_without key (asked (ask_of zone row) ++ requests zone rows) ≡ requests zone
+        (if not b then row ∷ without_others zone key rows else without_others zone key rows)
     by true e rest = record-gone key (ask_of zone row) (requests zone rows) e ∙ rest
-    by false e rest = record-kept key (ask_of zone row) (requests zone rows) e ∙ ap (λ (z : List Asking). asked (ask_of zone row) ++ z) rest
+    by false e rest = record-kept key (ask_of zone row) (requests zone rows) e
+        ∙ ap (λ (z : List Asking). asked (ask_of zone row) ++ z) rest
 
 -- ---- the law
 
-module _ {B : Type 0} (state : B → State Office) (zone : ZoneRule) (old new : B) (rows : List Record) (ans : List Answer)
+module _ {B : Type 0} (state : B → State Office) (zone : ZoneRule) (old new : B) (rows : List Record)
+    (ans : List Answer)
     (is : IsReplayed state zone old new rows ans) where
   fits : AllFit (map (ask_of zone) rows) ans
   fits = all-fit state zone old new rows ans is.each
@@ -302,12 +337,15 @@ module _ {B : Type 0} (state : B → State Office) (zone : ZoneRule) (old new : 
     ran = are_a_run state zone old new rows ans is.each;
     clean = is.clean;
     sound = is.sound;
-    each = ap length (told-is zone rows ans) ∙ told-length (map (ask_of zone) rows) ans fits ∙ sym (ap length (asked-is zone rows));
+    each = ap length (told-is zone rows ans) ∙ told-length (map (ask_of zone) rows) ans fits
+        ∙ sym (ap length (asked-is zone rows));
     served = is.served;
   }
 
-  told-to : (key : ℕ) → replies_to key (requests zone rows) (replies_of zone rows ans) ≡ all_told (own_asks key (map (ask_of zone) rows)) (own key (map (ask_of zone) rows) ans)
-  told-to key = ap₂ (replies_to key) (asked-is zone rows) (told-is zone rows ans) ∙ told-own key (map (ask_of zone) rows) ans fits
+  told-to : (key : ℕ) → replies_to key (requests zone rows) (replies_of zone rows ans) ≡ all_told
+      (own_asks key (map (ask_of zone) rows)) (own key (map (ask_of zone) rows) ans)
+  told-to key = ap₂ (replies_to key) (asked-is zone rows) (told-is zone rows ans)
+      ∙ told-own key (map (ask_of zone) rows) ans fits
 
 pub replays_tell_alike : {B C : Type 0} (state : B → State Office) (state' : C → State Office)
     → ReplaysTellAlike state state'
@@ -317,11 +355,15 @@ replays_tell_alike state state' zone key old new old' new' rows others ans bs is
     let asks : own_asks key mine ≡ own_asks key yours =
     sym (own-left zone key rows) ∙ ap (λ z. own_asks key (map (ask_of zone) z)) same ∙ own-left zone key others in
     let left = left-requests zone key rows ∙ ap (requests zone) same ∙ sym (left-requests zone key others) in
-    let alike = runs_tell_alike state state' key (requests zone rows) (requests zone others) (replies_of zone rows ans) (replies_of zone others bs)
-    old new old' new' (whole state zone old new rows ans is) (whole state' zone old' new' others bs is') start is.none_passes_on is'.none_passes_on left in
+    let alike = runs_tell_alike state state' key (requests zone rows) (requests zone others)
+    (replies_of zone rows ans) (replies_of zone others bs)
+    old new old' new' (whole state zone old new rows ans is) (whole state' zone old' new' others bs is') start
+    is.none_passes_on is'.none_passes_on left in
     let told : all_told (own_asks key mine) (own key mine ans) ≡ all_told (own_asks key mine) (own key yours bs) =
     sym (told-to state zone old new rows ans is key) ∙ alike ∙ told-to state' zone old' new' others bs is' key
     ∙ ap (λ ks. all_told ks (own key yours bs)) (sym asks) in
     let here = own-fit key mine ans (fits state zone old new rows ans is) in
-    let there = subst (λ ks. AllFit ks (own key yours bs)) (sym asks) (own-fit key yours bs (fits state' zone old' new' others bs is')) in
-    ap (map answer_line) (own-is zone key rows ans ∙ told-same (own_asks key mine) (own key mine ans) (own key yours bs) here there told ∙ sym (own-is zone key others bs))
+    let there = subst (λ ks. AllFit ks (own key yours bs)) (sym asks)
+    (own-fit key yours bs (fits state' zone old' new' others bs is')) in
+    ap (map answer_line) (own-is zone key rows ans ∙ told-same (own_asks key mine) (own key mine ans)
+    (own key yours bs) here there told ∙ sym (own-is zone key others bs))

@@ -11,7 +11,8 @@ returns-clause-app c =
     let two = c.in_ok-arg-2.ensures.shape (search rules) ∙ ap₂ with_rule one c.number.ensures.rule in
     let three = c.in_ok-arg-3.ensures.shape (search rules) ∙ ap₂ with_rule two c.required-2.ensures.rule in
     let four = c.in_ok-arg-4.ensures.shape (search rules) ∙ ap₂ with_rule three c.number-2.ensures.rule in
-    IfOk-weaker c.arg-5.result _ _ (λ r h. h.shape c.option.ensures.local ∙ ap₂ with_rule four c.option.ensures.rule) c.arg-5.ensures
+    IfOk-weaker c.arg-5.result _ _ (λ r h. h.shape c.option.ensures.local ∙ ap₂ with_rule four c.option.ensures.rule)
+    c.arg-5.ensures
 
 pub returns-clause-local : goal.returns-clause-local
 returns-clause-local c =
@@ -20,4 +21,16 @@ returns-clause-local c =
     let two = c.in_ok-arg-2.ensures.globals in
     let three = c.in_ok-arg-3.ensures.globals in
     let four = c.in_ok-arg-4.ensures.globals in
-    IfOk-weaker c.arg-5.result _ _ (λ r h. h.globals ∙ rw (four, three, two, one, plain, c.required.ensures.local, c.number.ensures.local, c.required-2.ensures.local, c.number-2.ensures.local, c.option.ensures.local) refl) c.arg-5.ensures
+    IfOk-weaker c.arg-5.result _ _ (λ r h. h.globals
+    ∙ rw (
+      four,
+      three,
+      two,
+      one,
+      plain,
+      c.required.ensures.local,
+      c.number.ensures.local,
+      c.required-2.ensures.local,
+      c.number-2.ensures.local,
+      c.option.ensures.local,
+    ) refl) c.arg-5.ensures

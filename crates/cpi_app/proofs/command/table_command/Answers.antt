@@ -11,7 +11,8 @@ returns-clause-app c =
     let two = c.in_ok-arg-2.ensures.shape (search rules) ∙ ap₂ with_rule one c.required-2.ensures.rule in
     let three = c.in_ok-arg-3.ensures.shape (search rules) ∙ ap₂ with_rule two c.required-3.ensures.rule in
     let four = c.in_ok-arg-4.ensures.shape (search rules) ∙ ap₂ with_rule three c.number.ensures.rule in
-    IfOk-weaker c.arg-5.result _ _ (λ r h. h.shape c.optional_number.ensures.local ∙ ap₂ with_rule four c.optional_number.ensures.rule) c.arg-5.ensures
+    IfOk-weaker c.arg-5.result _ _ (λ r h. h.shape c.optional_number.ensures.local
+    ∙ ap₂ with_rule four c.optional_number.ensures.rule) c.arg-5.ensures
 
 pub returns-clause-local : goal.returns-clause-local
 returns-clause-local c =
@@ -24,5 +25,16 @@ returns-clause-local c =
     let second = c.required-2.ensures.local in
     let third = c.required-3.ensures.local in
     IfOk-weaker c.arg-5.result _ _
-    (λ r h. h.globals ∙ rw (four, three, two, one, plain, first, second, third, c.number.ensures.local, c.optional_number.ensures.local) refl)
+    (λ r h. h.globals ∙ rw (
+      four,
+      three,
+      two,
+      one,
+      plain,
+      first,
+      second,
+      third,
+      c.number.ensures.local,
+      c.optional_number.ensures.local,
+    ) refl)
     c.arg-5.ensures

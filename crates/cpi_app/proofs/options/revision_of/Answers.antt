@@ -9,7 +9,8 @@ use Rattle.cpi_app.proofs.options.revision_of.Goals as goal
 pub returns : goal.returns
 returns c =
     let found = found_of c.args.matches.now in
-    let read = read_number 8 (λ bs r. ParsesUnsigned 8 10 bs r × ExplainsUnsignedError 10 bs r × HasUnsignedDigitsIfOk bs r)
+    let read = read_number 8 (λ bs r. ParsesUnsigned 8 10 bs r × ExplainsUnsignedError 10 bs r
+    × HasUnsignedDigitsIfOk bs r)
     (λ t n g. g.0) (one_text found (codes "revision")) c.get_one.result c.in_ok-number.number c.in_ok-number.was
     c.get_one.ensures.none c.get_one.ensures.value in
     let number : HasNumber 8 (rows_of found) (codes "revision") c.in_ok-number.number =

@@ -8,6 +8,8 @@ use Rattle.cpi_app.proofs.options.second_of.Goals as goal
 pub returns-in-Some : goal.returns-in-Some
 returns-in-Some c =
     let found = found_of c.args.matches.now in
-    let read = read_number 64 (λ bs r. ParsesUnsigned 64 10 bs r × ExplainsUnsignedError 10 bs r × HasUnsignedDigitsIfOk bs r) (λ t n g. g.0)
-    (one_text found (codes "at")) c.get_one.result c.in-Some.second c.in-Some.is c.get_one.ensures.none c.get_one.ensures.value in
+    let read = read_number 64 (λ bs r. ParsesUnsigned 64 10 bs r × ExplainsUnsignedError 10 bs r
+    × HasUnsignedDigitsIfOk bs r) (λ t n g. g.0)
+    (one_text found (codes "at")) c.get_one.result c.in-Some.second c.in-Some.is c.get_one.ensures.none
+    c.get_one.ensures.value in
     ((read.0, sym (one_text-rows found (codes "at")) ∙ read.1, read.2), omega arith)

@@ -27,8 +27,10 @@ returns-in-Ok-clause-printed g c clean =
     let was = reads.keeps.was_clean clean in
     let kept = c.in_ok-revision.ensures.keeps.kept was in
     let shown = if_ok c.table.result c.in-Ok-Some.field-0 _ c.in-Ok-Some.is (reads.shown clean) in
-    let rows = λ (o : Office). option_map (λ (t : PublishedTable). t.levels) (table_until asked.month (Some revision) asked.until o.releases) in
+    let rows = λ (o : Office). option_map (λ (t : PublishedTable). t.levels)
+    (table_until asked.month (Some revision) asked.until o.releases) in
     let found = with_levels asked.month revision (published_until asked.until old.releases) c.in-Ok-Some.levels.now
     (sym (ap option_copied c.in-Ok-Some.field-0-is) ∙ shown ∙ ap rows kept) in
-    let bytes = ap₂ (λ r levels. printed_bytes asked.form asked.month r levels) (sym found.2) (c.as_slice.ensures ∙ found.3) in
+    let bytes = ap₂ (λ r levels. printed_bytes asked.form asked.month r levels) (sym found.2)
+    (c.as_slice.ensures ∙ found.3) in
     (found.0, sym (c.in_ok-revision.ensures.same was) ∙ found.1, c.in-Ok.ensures ∙ bytes)

@@ -10,5 +10,6 @@ returns-in-Ok-Some-clause-same g c clean =
     let asked = c.args.asked in
     let releases = (g.B.Book.state c.args.book.now).held.releases in
     let none : asked.revision ≡ None = search rules in
-    latest_revision asked.month c.in-Ok-Some.revision (published_until asked.until releases) (sym c.in-Ok-Some.field-0-is ∙ c.in-Ok-Some.ensures.reads.shown clean)
+    latest_revision asked.month c.in-Ok-Some.revision (published_until asked.until releases)
+    (sym c.in-Ok-Some.field-0-is ∙ c.in-Ok-Some.ensures.reads.shown clean)
     ∙ ap (λ r. table_until asked.month r asked.until releases) (sym none)

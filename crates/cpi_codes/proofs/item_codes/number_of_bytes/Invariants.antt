@@ -4,4 +4,5 @@ use Rattle.cpi_codes.specs.ItemCode.{filled}
 use Rattle.cpi_codes.proofs.item_codes.number_of_bytes.Given as goal
 
 abbrev pub invariant-loop-place : goal.invariant-loop-place
-invariant-loop-place l = (l.value ≡ number_from_digits 256 (take l.place (filled l.text))) × (l.value < 256 ^ l.place) × (l.place ≤ 12)
+invariant-loop-place l = (l.value ≡ number_from_digits 256 (take l.place (filled l.text))) × (l.value < 256 ^ l.place)
+    × (l.place ≤ 12)

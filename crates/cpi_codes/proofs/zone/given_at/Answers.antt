@@ -9,8 +9,12 @@ use Rattle.cpi_codes.proofs.Seconds.{whole, whole_seconds}
 use Rattle.cpi_codes.proofs.zone.given_at.Goals as goal
 
 pub returns-then-civil-lt-FIRST_YEAR : goal.returns-then-civil-lt-FIRST_YEAR
-returns-then-civil-lt-FIRST_YEAR c =
-    (c.in-Some.civil.year, c.in-Some.civil.time, c.in-Some.ensures.found, λ office. absurd (omega (arith, c.then-civil-lt-FIRST_YEAR.either)))
+returns-then-civil-lt-FIRST_YEAR c = (
+  c.in-Some.civil.year,
+  c.in-Some.civil.time,
+  c.in-Some.ensures.found,
+  λ office. absurd (omega (arith, c.then-civil-lt-FIRST_YEAR.either)),
+)
 
 pub returns-in_default-to_timestamp : goal.returns-in_default-to_timestamp
 returns-in_default-to_timestamp c = (
@@ -23,7 +27,8 @@ returns-in_default-to_timestamp c = (
       let offset = (compatible_offset (ambiguous_at zone time)).seconds in
       let nanos = whole_seconds time offset c.in-Some.ensures.found.fraction in
       let within = is_moment zone _ c.in-Some.civil.year time c.in-Some.ensures.found office in
-      let fits : IsTimestampNanos ((civil_seconds time -ℤ offset) *ℤ pos 1000000000) = (omega (arith, signed_arith), omega (arith, signed_arith)) in
+      let fits : IsTimestampNanos ((civil_seconds time -ℤ offset) *ℤ pos 1000000000) =
+      (omega (arith, signed_arith), omega (arith, signed_arith)) in
       let succeeded = c.in_default-to_timestamp.ensures.succeeds.1 (rw nanos fits) in
       (cc succeeded),
 )
@@ -34,7 +39,8 @@ returns-in-Some-moment_of c =
     let time = c.in-Some.civil.time in
     let offset = (compatible_offset (ambiguous_at zone time)).seconds in
     let nanos = c.in-Ok.ensures.value ∙ whole_seconds time offset c.in-Some.ensures.found.fraction in
-    let second = c.as_second.ensures ∙ ap (λ n. int_div n (pos 1000000000)) nanos ∙ whole (civil_seconds time -ℤ offset) in
+    let second = c.as_second.ensures ∙ ap (λ n. int_div n (pos 1000000000)) nanos
+    ∙ whole (civil_seconds time -ℤ offset) in
     let fits : FitsSigned w64 c.as_second.result = search rules in
     let same = to_z-of_z w64 c.as_second.result fits in
     let found = c.in-Some-moment_of.ensures.found in (
@@ -55,7 +61,8 @@ returns-in-None c = (
       let time = c.in-Some.civil.time in
       let offset = (compatible_offset (ambiguous_at zone time)).seconds in
       let nanos = c.in-Ok.ensures.value ∙ whole_seconds time offset c.in-Some.ensures.found.fraction in
-      let second = c.as_second.ensures ∙ ap (λ n. int_div n (pos 1000000000)) nanos ∙ whole (civil_seconds time -ℤ offset) in
+      let second = c.as_second.ensures ∙ ap (λ n. int_div n (pos 1000000000)) nanos
+      ∙ whole (civil_seconds time -ℤ offset) in
       let fits : FitsSigned w64 c.as_second.result = search rules in
       let same = to_z-of_z w64 c.as_second.result fits in
       let within = is_moment zone _ c.in-Some.civil.year time c.in-Some.ensures.found office in

@@ -37,6 +37,7 @@ loop-weight-preserved c =
 pub returns-clause-least : goal.returns-clause-least
 returns-clause-least c = λ q node.
     let ws = c.args.weights.now in
-    let all : take c.loop-weight.weight-index ws ≡ ws = take_all c.loop-weight.weight-index ws c.loop-weight-test.false in
+    let all : take c.loop-weight.weight-index ws ≡ ws =
+    take_all c.loop-weight.weight-index ws c.loop-weight-test.false in
     let positive : has_zero ws ≡ false = sym (ap has_zero all) ∙ c.loop-weight.invariant.positive in
     omega (arith, c.loop-weight.invariant.so_far q, ap (weight_under q) all, (weighs q ws positive).1 node)

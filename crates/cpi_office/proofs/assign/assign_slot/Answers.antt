@@ -18,7 +18,8 @@ assign_new-requires-clause-free g c = λ clean.
     let o = (g.B.Book.state c.args.book.now).held in
     let a = c.args.assignment in
     rw (reads.keeps.kept clean)
-    (is_free same_content a _ (sym c.in-Ok-Free-false.field-0-0-is ∙ (reads.shown clean).0 ∙ standing_named o.outlets a a.slot (held_by c.args.collector o.assignments)))
+    (is_free same_content a _ (sym c.in-Ok-Free-false.field-0-0-is ∙ (reads.shown clean).0
+    ∙ standing_named o.outlets a a.slot (held_by c.args.collector o.assignments)))
 
 pub returns-in-Ok-Other-default : goal.returns-in-Ok-Other-default
 returns-in-Ok-Other-default g c =
@@ -33,8 +34,11 @@ returns-in-Ok-Same-default g c =
     let a = c.args.assignment in
     let o = old.held in
     let reads = c.in-Ok-Same-default.ensures in
-    let said : Office → Reply = λ u. again_reply (is_first n a.slot (at (λ (g : Given). g.assignment.slot) a.slot (held_by n u.assignments))) (at (λ (b : Bearer). b.number) n u.collectors) in
-    serves_after old mid new c.assign_again.result (said mid.held) (verdict_reply (slot_given n a o)) mid.held (with_verdict (slot_given n a o) o)
+    let said : Office → Reply = λ u. again_reply (is_first n a.slot
+    (at (λ (g : Given). g.assignment.slot) a.slot (held_by n u.assignments)))
+    (at (λ (b : Bearer). b.number) n u.collectors) in
+    serves_after old mid new c.assign_again.result (said mid.held) (verdict_reply (slot_given n a o)) mid.held
+    (with_verdict (slot_given n a o) o)
     reads reads.stays c.assign_again.ensures
     (λ clean.
     let kept = reads.keeps.kept clean in

@@ -11,13 +11,18 @@ put_assignment-requires-clause-known g c = λ clean.
     let reads = c.in-Ok-Some.ensures.reads in
     let o = (g.B.Book.state c.args.book.now).held in
     let b = c.in-Ok-Some.bearer in
-    let found : at (λ (b : Bearer). b.number) c.args.collector o.collectors ≡ Some b = sym (reads.shown clean) ∙ c.in-Ok-Some.field-0-is in
-    rw (reads.keeps.kept clean) (ap (λ n. at (λ (b : Bearer). b.number) n o.collectors) (at_key (λ (b : Bearer). b.number) c.args.collector b o.collectors found) ∙ found)
+    let found : at (λ (b : Bearer). b.number) c.args.collector o.collectors ≡ Some b = sym (reads.shown clean)
+    ∙ c.in-Ok-Some.field-0-is in
+    rw (reads.keeps.kept clean) (ap (λ n. at (λ (b : Bearer). b.number) n o.collectors)
+    (at_key (λ (b : Bearer). b.number) c.args.collector b o.collectors found) ∙ found)
 
 pub put_assignment-requires-clause-new : goal.put_assignment-requires-clause-new
 put_assignment-requires-clause-new g c = λ clean.
     let reads = c.in-Ok-Some.ensures.reads in
     let o = (g.B.Book.state c.args.book.now).held in
     let b = c.in-Ok-Some.bearer in
-    let found : at (λ (b : Bearer). b.number) c.args.collector o.collectors ≡ Some b = sym (reads.shown clean) ∙ c.in-Ok-Some.field-0-is in
-    rw (reads.keeps.kept clean) (ap (λ n. at (λ (g : Given). g.assignment.slot) c.args.assigned.assignment.slot (held_by n o.assignments)) (at_key (λ (b : Bearer). b.number) c.args.collector b o.collectors found) ∙ c.requires.free (reads.keeps.was_clean clean))
+    let found : at (λ (b : Bearer). b.number) c.args.collector o.collectors ≡ Some b = sym (reads.shown clean)
+    ∙ c.in-Ok-Some.field-0-is in
+    rw (reads.keeps.kept clean) (ap (λ n. at (λ (g : Given). g.assignment.slot) c.args.assigned.assignment.slot
+    (held_by n o.assignments)) (at_key (λ (b : Bearer). b.number) c.args.collector b o.collectors found)
+    ∙ c.requires.free (reads.keeps.was_clean clean))

@@ -13,7 +13,8 @@ pub serve_known-requires : goal.serve_known-requires
 serve_known-requires g c = record {
   known = λ clean.
       let reads = c.in-Ok-Some.ensures.reads in
-      rw (reads.keeps.kept clean) (bearer_some c.args.key c.in-Ok-Some.bearer _ (sym (reads.shown clean) ∙ c.in-Ok-Some.field-0-is));
+      rw (reads.keeps.kept clean) (bearer_some c.args.key c.in-Ok-Some.bearer _
+      (sym (reads.shown clean) ∙ c.in-Ok-Some.field-0-is));
 }
 
 pub returns-in-Ok-Some-clause-serves : goal.returns-in-Ok-Some-clause-serves
@@ -25,14 +26,18 @@ returns-in-Ok-Some-clause-serves g c =
     let r = c.args.request in
     let b = c.in-Ok-Some.bearer in
     let mid = c.bearer_of.new.self in
-    serves_after (g.B.Book.state c.args.book.now) (g.B.Book.state mid) (g.B.Book.state c.serve_known.new.book) c.serve_known.result
+    serves_after (g.B.Book.state c.args.book.now) (g.B.Book.state mid)
+    (g.B.Book.state c.serve_known.new.book) c.serve_known.result
     (collector_reply now r (g.B.Book.state mid).held (Some b)) (collector_reply now r o (bearer_of key o.collectors))
-    (collector_after b.key now r (g.B.Book.state mid).held (Some b)) (collector_after key now r o (bearer_of key o.collectors))
+    (collector_after b.key now r (g.B.Book.state mid).held (Some b))
+    (collector_after key now r o (bearer_of key o.collectors))
     reads reads.stays c.serve_known.ensures.serves
     (λ clean.
     let found : bearer_of key o.collectors ≡ Some b = sym (reads.shown clean) ∙ c.in-Ok-Some.field-0-is in (
       ap (λ u. collector_reply now r u (Some b)) (reads.keeps.kept clean) ∙ ap (collector_reply now r o) (sym found),
-      ap (λ u. collector_after b.key now r u (Some b)) (reads.keeps.kept clean) ∙ ap (λ k. collector_after k now r o (Some b)) (bearer_key key b o.collectors found) ∙ ap (collector_after key now r o) (sym found),
+      ap (λ u. collector_after b.key now r u (Some b)) (reads.keeps.kept clean)
+          ∙ ap (λ k. collector_after k now r o (Some b)) (bearer_key key b o.collectors found)
+          ∙ ap (collector_after key now r o) (sym found),
     ))
 
 pub returns-in-Ok-Some-clause-turns : goal.returns-in-Ok-Some-clause-turns
@@ -50,7 +55,9 @@ returns-in-Ok-Some-clause-turns g c =
       keyed = λ clean turned.
           let was = serves.serves.was_clean clean in
           let found : bearer_of key o.collectors ≡ Some b = sym (reads.shown was) ∙ c.in-Ok-Some.field-0-is in
-          let same : collector_reply now r u (Some b) ≡ collector_reply now r o (bearer_of key o.collectors) = ap (λ w. collector_reply now r w (Some b)) (reads.keeps.kept was) ∙ ap (collector_reply now r o) (sym found) in
+          let same : collector_reply now r u (Some b) ≡ collector_reply now r o (bearer_of key o.collectors) =
+          ap (λ w. collector_reply now r w (Some b)) (reads.keeps.kept was)
+          ∙ ap (collector_reply now r o) (sym found) in
           inl (serves.turns (subst (λ w. IsTrue (is_turned_away w)) (sym same) turned) ∙ same);
       unavailable = told_of now r o u (bearer_of key o.collectors) b c.serve_known.result serves.turns;
     }

@@ -31,7 +31,8 @@ pub returns-in-PutCalendar-clause-serves : goal.returns-in-PutCalendar-clause-se
 returns-in-PutCalendar-clause-serves g c =
     let o = (g.B.Book.state c.args.book.now).held in
     rw c.in-PutCalendar.is
-    (serves_where (IsSound o) (g.B.Book.state c.args.book.now) (g.B.Book.state c.put_calendar.new.book) c.put_calendar.result
+    (serves_where (IsSound o) (g.B.Book.state c.args.book.now)
+    (g.B.Book.state c.put_calendar.new.book) c.put_calendar.result
     (scheduled_in c.in-PutCalendar.row o) c.put_calendar.ensures)
 
 pub returns-in-Assign-clause-serves : goal.returns-in-Assign-clause-serves

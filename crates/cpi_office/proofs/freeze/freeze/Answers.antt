@@ -2,68 +2,71 @@ use Rattle.std.proofs.Common.{◌≡◌, Ok, Err, inl, sym, ap, ◌∙◌, subst
 use Rattle.cpi_release.specs.FrozenMonths.{frozen_months, is_next}
 use Rattle.cpi_store.specs.Sound.{IsSound}
 use Rattle.cpi_office.specs.Freezing.{frozen, freeze_judged_in, freeze_verdict, judged_release, release_verdict}
-use Rattle.cpi_office.specs.Verdicts.{Refuses, verdict_reply, with_verdict}
-use Rattle.cpi_office.specs.declared.reply.Reply.TheVariants.{Refused}
-use Rattle.cpi_office.proofs.Calls.{read_endures, serves_where_after}
+use Rattle.cpi_office.specs.Verdicts.{verdict_reply, with_verdict}
+use Rattle.cpi_office.proofs.Calls.{refused_where, serves_where_after}
 use Rattle.cpi_office.proofs.Judged.{judged_few, judged_month, judged_follows}
 use Rattle.cpi_office.proofs.freeze.freeze.Goals as goal
 
-pub publish-requires : goal.publish-requires
-publish-requires g c = record {
+pub release-requires : goal.release-requires
+release-requires g c = record {
   next = λ clean.
       let reads = c.in-Ok-Ok.ensures in
       let o = (g.B.Book.state c.args.book.now).held in
       let judged = sym (reads.shown clean) ∙ c.in-Ok-Ok.field-0-is in
-      let same = judged_month c.args.now c.args.month c.as_slice.result.now o.releases o.calendar o.plans c.in-Ok-Ok.row judged in
-      rw (reads.keeps.kept clean) (ap (λ k. is_next k (frozen_months o.releases)) same ∙ judged_follows c.args.now c.args.month c.as_slice.result.now o.releases o.calendar o.plans c.in-Ok-Ok.row judged);
+      let same = judged_month c.args.now c.args.month c.as_slice.result.now o.releases o.calendar o.plans
+      c.in-Ok-Ok.row judged in
+      rw (reads.keeps.kept clean) (ap (λ k. is_next k (frozen_months o.releases)) same
+      ∙ judged_follows c.args.now c.args.month c.as_slice.result.now o.releases o.calendar o.plans c.in-Ok-Ok.row
+      judged);
   few = λ clean.
       let reads = c.in-Ok-Ok.ensures in
       let o = (g.B.Book.state c.args.book.now).held in
-      rw (reads.keeps.kept clean) (judged_few c.args.now c.args.month c.as_slice.result.now o.releases o.calendar o.plans c.in-Ok-Ok.row (sym (reads.shown clean) ∙ c.in-Ok-Ok.field-0-is));
+      rw (reads.keeps.kept clean) (judged_few c.args.now c.args.month c.as_slice.result.now o.releases o.calendar
+      o.plans c.in-Ok-Ok.row (sym (reads.shown clean) ∙ c.in-Ok-Ok.field-0-is));
 }
 
 pub returns-in-Ok-Err : goal.returns-in-Ok-Err
 returns-in-Ok-Err g c =
     let old = g.B.Book.state c.args.book.now in
-    let new = g.B.Book.state c.judge.new.book in
     let o = old.held in
     let now = c.args.now in
     let carry = c.args.carry in
     let refusal = c.in-Ok-Err.refusal in
     let reads = c.in-Ok-Err.ensures in
     let listed : c.as_slice.result.now ≡ carry = c.as_slice.ensures in
-    let verdict : new.is_clean → frozen now c.args.month carry o ≡ Refuses refusal = λ clean.
-    let judged : freeze_judged_in now c.args.month carry o ≡ Err refusal = ap (λ codes. freeze_judged_in now c.args.month codes o) (sym listed) ∙ sym (reads.shown clean) ∙ c.in-Ok-Err.field-0-is in
-    ap (freeze_verdict (judged_release now carry o)) judged in
-    record {
-      was_clean = reads.keeps.was_clean;
-      served = λ clean sound. inl (ap verdict_reply (sym (verdict clean)), reads.keeps.kept clean ∙ ap (λ v. with_verdict v o) (sym (verdict clean)));
-      refused = λ clean refused. reads.keeps.kept clean;
-      count = reads.count;
-      endures = read_endures old new (Refused refusal) reads.keeps reads.stays;
-      crash = λ sound was kept office left. inl (reads.keeps.crash was kept office left);
-    }
+    refused_where (IsSound o) old (g.B.Book.state c.judge.new.book) refusal (frozen now c.args.month carry o)
+    reads.keeps (λ _. reads.stays) reads.count (λ clean _.
+    let judged : freeze_judged_in now c.args.month carry o ≡ Err refusal =
+    ap (λ codes. freeze_judged_in now c.args.month codes o) (sym listed) ∙ sym (reads.shown clean)
+    ∙ c.in-Ok-Err.field-0-is in
+    inl (ap (freeze_verdict (judged_release now carry o)) judged))
 
 pub returns-in-Ok-Ok : goal.returns-in-Ok-Ok
 returns-in-Ok-Ok g c =
     let old = g.B.Book.state c.args.book.now in
     let mid = g.B.Book.state c.judge.new.book in
-    let new = g.B.Book.state c.publish.new.book in
+    let new = g.B.Book.state c.release.new.book in
     let o = old.held in
     let now = c.args.now in
     let carry = c.args.carry in
     let row = c.in-Ok-Ok.row in
     let reads = c.in-Ok-Ok.ensures in
     let listed : c.as_slice.result.now ≡ carry = c.as_slice.ensures in
-    serves_where_after (IsSound o) (IsSound mid.held) old mid new c.publish.result
-    (verdict_reply (release_verdict (judged_release now carry mid.held row))) (verdict_reply (frozen now c.args.month carry o))
-    (with_verdict (release_verdict (judged_release now carry mid.held row)) mid.held) (with_verdict (frozen now c.args.month carry o) o)
-    reads reads.stays c.publish.ensures
+    serves_where_after (IsSound o) (IsSound mid.held) old mid new c.release.result
+    (verdict_reply (release_verdict (judged_release now carry mid.held row)))
+    (verdict_reply (frozen now c.args.month carry o))
+    (with_verdict (release_verdict (judged_release now carry mid.held row)) mid.held)
+    (with_verdict (frozen now c.args.month carry o) o)
+    reads reads.stays c.release.ensures
     (λ clean.
     let kept = reads.keeps.kept clean in
-    let judged : freeze_judged_in now c.args.month carry o ≡ Ok row = ap (λ codes. freeze_judged_in now c.args.month codes o) (sym listed) ∙ sym (reads.shown clean) ∙ c.in-Ok-Ok.field-0-is in
-    let verdict : release_verdict (judged_release now carry o row) ≡ frozen now c.args.month carry o = ap (freeze_verdict (judged_release now carry o)) (sym judged) in (
+    let judged : freeze_judged_in now c.args.month carry o ≡ Ok row =
+    ap (λ codes. freeze_judged_in now c.args.month codes o) (sym listed) ∙ sym (reads.shown clean)
+    ∙ c.in-Ok-Ok.field-0-is in
+    let verdict : release_verdict (judged_release now carry o row) ≡ frozen now c.args.month carry o =
+    ap (freeze_verdict (judged_release now carry o)) (sym judged) in (
       λ sound. subst IsSound (sym kept) sound,
       ap (λ u. verdict_reply (release_verdict (judged_release now carry u row))) kept ∙ ap verdict_reply verdict,
-      ap (λ u. with_verdict (release_verdict (judged_release now carry u row)) u) kept ∙ ap (λ v. with_verdict v o) verdict,
+      ap (λ u. with_verdict (release_verdict (judged_release now carry u row)) u) kept
+          ∙ ap (λ v. with_verdict v o) verdict,
     ))

@@ -21,7 +21,7 @@ returns c = record {
   apart = tt;
   frozen = tt;
   nodes = tt;
-  published = tt;
+  released = tt;
   keys = λ n b found. let no : None ≡ Some b = found in cc;
   assigned = tt;
   quoted = tt;

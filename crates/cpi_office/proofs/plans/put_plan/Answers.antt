@@ -9,5 +9,6 @@ store_plan-requires g c = record {
       let reads = c.in-Ok-Ok-Ok.ensures in
       let o = (g.B.Book.state c.args.book.now).held in
       let plan = c.in-Ok-Ok-Ok.plan in
-      rw (reads.keeps.kept clean) (judged_known c.args.year (sent o.items c.args.body) o.plans plan _ (sym (rw c.in-Ok-Ok-Ok.field-0-is at (reads.shown clean)) ∙ c.in-Ok-Ok-Ok.field-0-0-is));
+      rw (reads.keeps.kept clean) (judged_known c.args.year (sent o.items c.args.body) o.plans plan _
+      (sym (rw c.in-Ok-Ok-Ok.field-0-is at (reads.shown clean)) ∙ c.in-Ok-Ok-Ok.field-0-0-is));
 }

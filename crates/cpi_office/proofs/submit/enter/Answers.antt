@@ -6,4 +6,5 @@ use Rattle.cpi_office.proofs.submit.enter.Goals as goal
 pub returns : goal.returns
 returns g c =
     let o = (g.B.Book.state c.args.book.now).held in
-    rw (← stored_is c.args.bearer c.args.entry (decided c.args.now c.args.entry (public_part o) (own_part c.args.bearer.number o)) o) c.submit.ensures
+    rw (← stored_is c.args.bearer c.args.entry (decided c.args.now c.args.entry (public_part o)
+    (own_part c.args.bearer.number o)) o) c.submit.ensures

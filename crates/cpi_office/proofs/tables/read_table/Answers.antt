@@ -17,10 +17,16 @@ returns-in-Some g c =
     let revision = c.in-Some.revision in
     let asked : c.args.edition ≡ Some revision = sym c.revision.ensures ∙ c.in-Some.is in
     let tables = published_until c.args.now old.held.releases in
-    let levels : Option (List ℕ) = option_map (printed_bytes form month revision) (option_map (λ (t : PublishedTable). t.levels) (table_until month (Some revision) c.args.now old.held.releases)) in
-    let wanted : Option (List ℕ) = option_map (bytes_of form month) (table_until month c.args.edition c.args.now old.held.releases) in
-    let same : levels ≡ wanted = named_bytes month tables form revision ∙ ap (λ e. option_map (bytes_of form month) (table_until month e c.args.now old.held.releases)) (sym asked) in
-    same_reads old new (λ (found : Result (Option (List ℕ)) AllocError). IfOk found (λ printed. printed ≡ levels)) (λ (found : Result (Option (List ℕ)) AllocError). IfOk found (λ printed. printed ≡ wanted)) c.print_revision.result c.print_revision.ensures
+    let levels : Option (List ℕ) = option_map (printed_bytes form month revision)
+    (option_map (λ (t : PublishedTable). t.levels)
+    (table_until month (Some revision) c.args.now old.held.releases)) in
+    let wanted : Option (List ℕ) = option_map (bytes_of form month)
+    (table_until month c.args.edition c.args.now old.held.releases) in
+    let same : levels ≡ wanted = named_bytes month tables form revision
+    ∙ ap (λ e. option_map (bytes_of form month) (table_until month e c.args.now old.held.releases)) (sym asked) in
+    same_reads old new (λ (found : Result (Option (List ℕ)) AllocError). IfOk found (λ printed. printed ≡ levels))
+    (λ (found : Result (Option (List ℕ)) AllocError). IfOk found (λ printed. printed ≡ wanted))
+    c.print_revision.result c.print_revision.ensures
     (λ clean found shown. if_printed found levels wanted same shown)
 
 pub returns-in-Some-2 : goal.returns-in-Some-2
@@ -35,12 +41,18 @@ returns-in-Some-2 g c =
     let form = c.args.form in
     let latest = c.in-Some-2.latest in
     let tables = published_until c.args.now old.held.releases in
-    let levels : Office → Option (List ℕ) = λ o. option_map (printed_bytes form month latest) (option_map (λ (t : PublishedTable). t.levels) (table_until month (Some latest) c.args.now o.releases)) in
-    let wanted : Option (List ℕ) = option_map (bytes_of form month) (table_until month c.args.edition c.args.now old.held.releases) in
-    reads_then old mid new first.keeps first.stays first.count (λ (found : Result (Option (List ℕ)) AllocError). IfOk found (λ printed. printed ≡ levels mid.held)) (λ (found : Result (Option (List ℕ)) AllocError). IfOk found (λ printed. printed ≡ wanted)) c.print_revision-in-Some-2.result last
+    let levels : Office → Option (List ℕ) = λ o. option_map (printed_bytes form month latest)
+    (option_map (λ (t : PublishedTable). t.levels) (table_until month (Some latest) c.args.now o.releases)) in
+    let wanted : Option (List ℕ) = option_map (bytes_of form month)
+    (table_until month c.args.edition c.args.now old.held.releases) in
+    reads_then old mid new first.keeps first.stays first.count
+    (λ (found : Result (Option (List ℕ)) AllocError). IfOk found (λ printed. printed ≡ levels mid.held))
+    (λ (found : Result (Option (List ℕ)) AllocError). IfOk found (λ printed. printed ≡ wanted))
+    c.print_revision-in-Some-2.result last
     (λ clean found shown.
     let was = last.keeps.was_clean clean in
-    let is : Some latest ≡ option_map (λ (t : PublishedTable). t.revision) (table_until month None c.args.now old.held.releases) = sym c.in-Some-2.is ∙ first.shown was in
+    let is : Some latest ≡ option_map (λ (t : PublishedTable). t.revision)
+    (table_until month None c.args.now old.held.releases) = sym c.in-Some-2.is ∙ first.shown was in
     let same : levels mid.held ≡ wanted =
     ap levels (first.keeps.kept was) ∙ named_bytes month tables form latest ∙ latest_bytes month tables form latest is
     ∙ ap (λ e. option_map (bytes_of form month) (table_until month e c.args.now old.held.releases)) (sym asked) in

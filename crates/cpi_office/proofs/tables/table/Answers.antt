@@ -13,7 +13,11 @@ returns-in-Ok-Ok-Some g c =
     let shown = if_ok c.in-Ok-Ok-Some.field-0 c.in-Ok-Ok-Some.field-0-0 _ c.in-Ok-Ok-Some.field-0-is in
     record {
       was_clean = reads.keeps.was_clean;
-      served = λ clean. inl (printed_found c.args.form c.args.month _ c.in-Ok-Ok-Some.printed_table (sym c.in-Ok-Ok-Some.field-0-0-is ∙ shown (reads.shown clean)), reads.keeps.kept clean);
+      served = λ clean. inl (
+        printed_found c.args.form c.args.month _ c.in-Ok-Ok-Some.printed_table
+            (sym c.in-Ok-Ok-Some.field-0-0-is ∙ shown (reads.shown clean)),
+        reads.keeps.kept clean,
+      );
       count = reads.count;
       endures = read_endures _ _ _ reads.keeps reads.stays;
       crash = λ was kept o left. inl (reads.keeps.crash was kept o left);

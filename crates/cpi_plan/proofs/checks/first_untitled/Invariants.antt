@@ -11,5 +11,6 @@ use Rattle.cpi_plan.proofs.checks.first_untitled.Given as goal
 abbrev pub invariant-loop-code : goal.invariant-loop-code
 invariant-loop-code l = record {
   rising : IsStrictlySortedBy code_cmp (keys_of l.code-iterator);
-  ahead : (q : Code) → is_without l.sums l.titles q ≡ true → unwrap_or (lookup (λ k. is_eq (code_cmp q k)) l.code-iterator) 0 ≡ sum_at l.sums q;
+  ahead : (q : Code) → is_without l.sums l.titles q ≡ true →
+      unwrap_or (lookup (λ k. is_eq (code_cmp q k)) l.code-iterator) 0 ≡ sum_at l.sums q;
 }

@@ -8,4 +8,5 @@ use Rattle.cpi_plan.proofs.checks.is_unplaced.Goals as goal
 pub returns : goal.returns
 returns c =
     let tested : c.is_none.result ≡ is_none (option_copied c.find_row.result) = search rules in
-    tested ∙ ap is_none c.find_row.ensures ∙ none_not_some _ ∙ ap not (found code_cmp (λ w. w.code) c.args.place.now.aggregate c.args.weights.now)
+    tested ∙ ap is_none c.find_row.ensures ∙ none_not_some _
+    ∙ ap not (found code_cmp (λ w. w.code) c.args.place.now.aggregate c.args.weights.now)

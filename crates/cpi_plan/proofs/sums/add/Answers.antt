@@ -14,5 +14,6 @@ returns c = λ q.
     let had : c.unwrap_or-had.result ≡ unwrap_or (get code_cmp sums node) 0 = search rules in
     add_step _ _ (is_same node q) _ c.args.amount (c.in_ok-insert.ensures.updates.0 q)
     (λ same.
-    let agree = lookup_agree (λ k. is_eq (code_cmp node k)) (λ k. is_eq (code_cmp q k)) (λ k. ap is_eq (total-law.congr node q k (eq_of (code_cmp node q) same))) sums.entries in
+    let agree = lookup_agree (λ k. is_eq (code_cmp node k)) (λ k. is_eq (code_cmp q k))
+    (λ k. ap is_eq (total-law.congr node q k (eq_of (code_cmp node q) same))) sums.entries in
     had ∙ ap (λ o. unwrap_or o 0) agree)

@@ -10,17 +10,20 @@ use Rattle.cpi_plan.proofs.weighing.weighed.Goals as goal
 
 pub returns-then-not-are_elementary : goal.returns-then-not-are_elementary
 returns-then-not-are_elementary c =
-    let once = codes_once _ _ _ _ (IsPermutation-refl c.args.titles.now) (IsPermutation-refl c.args.weights.now) c.requires.titles_in_order c.requires.weights_in_order in
+    let once = codes_once _ _ _ _ (IsPermutation-refl c.args.titles.now)
+    (IsPermutation-refl c.args.weights.now) c.requires.titles_in_order c.requires.weights_in_order in
     λ year known references. (once, search rules)
 
 pub returns-then-has_zero : goal.returns-then-has_zero
 returns-then-has_zero c =
-    let once = codes_once _ _ _ _ (IsPermutation-refl c.args.titles.now) (IsPermutation-refl c.args.weights.now) c.requires.titles_in_order c.requires.weights_in_order in
+    let once = codes_once _ _ _ _ (IsPermutation-refl c.args.titles.now)
+    (IsPermutation-refl c.args.weights.now) c.requires.titles_in_order c.requires.weights_in_order in
     λ year known references. ((once, search rules), search rules)
 
 pub returns-then-found-ne-WHOLE : goal.returns-then-found-ne-WHOLE
 returns-then-found-ne-WHOLE c =
-    let once = codes_once _ _ _ _ (IsPermutation-refl c.args.titles.now) (IsPermutation-refl c.args.weights.now) c.requires.titles_in_order c.requires.weights_in_order in
+    let once = codes_once _ _ _ _ (IsPermutation-refl c.args.titles.now)
+    (IsPermutation-refl c.args.weights.now) c.requires.titles_in_order c.requires.weights_in_order in
     λ year known references. (((once, search rules), search rules), search rules, search rules)
 
 pub returns-in-Some : goal.returns-in-Some
@@ -28,24 +31,30 @@ returns-in-Some c =
     let titles = c.args.titles.now in
     let weights = c.args.weights.now in
     let sums = c.in_ok-sums.sums in
-    let once = codes_once _ _ _ _ (IsPermutation-refl titles) (IsPermutation-refl weights) c.requires.titles_in_order c.requires.weights_in_order in
+    let once = codes_once _ _ _ _ (IsPermutation-refl titles) (IsPermutation-refl weights) c.requires.titles_in_order
+    c.requires.weights_in_order in
     let elementary : are_elementary weights c.args.places.now ≡ true = search rules in
     let positive : has_zero weights ≡ false = search rules in
     let whole : total weights ≡ 1000000 = search rules in
     let kept : (q : Code) → sum_at sums q ≡ weight_under q weights = search rules in
     let first : IsFirst (is_without sums titles) c.in-Some.code = search rules in
-    λ year known references. ((((once, elementary), positive), whole), first_is sums weights kept positive titles c.in-Some.code first)
+    λ year known references. (
+      (((once, elementary), positive), whole),
+      first_is sums weights kept positive titles c.in-Some.code first,
+    )
 
 pub returns : goal.returns
 returns c =
     let titles = c.args.titles.now in
     let weights = c.args.weights.now in
     let sums = c.in_ok-sums.sums in
-    let once = codes_once _ _ _ _ (IsPermutation-refl titles) (IsPermutation-refl weights) c.requires.titles_in_order c.requires.weights_in_order in
+    let once = codes_once _ _ _ _ (IsPermutation-refl titles) (IsPermutation-refl weights) c.requires.titles_in_order
+    c.requires.weights_in_order in
     let elementary : are_elementary weights c.args.places.now ≡ true = search rules in
     let positive : has_zero weights ≡ false = search rules in
     let whole : total weights ≡ 1000000 = search rules in
     let kept : (q : Code) → sum_at sums q ≡ weight_under q weights = search rules in
     let none : (q : Code) → is_without sums titles q ≡ false = search rules in
-    let titled : (q : Code) → is_untitled titles weights q ≡ false = λ q. sym (without_untitled sums weights kept positive titles q) ∙ none q in
+    let titled : (q : Code) → is_untitled titles weights q ≡ false =
+    λ q. sym (without_untitled sums weights kept positive titles q) ∙ none q in
     λ year known references. (((((once, elementary), positive), whole), titled), kept)

@@ -16,9 +16,11 @@ returns-clause-texts c =
     let four = texts-more _ _ _ _ _ three c.in_ok-push_field-3.ensures.partial
     c.in_ok-push_field-4.ensures.fields c.as_bytes-4.ensures.value (IsUtf8-string_bytes c.in_ok-chained.chained) in
     let five = texts-more _ _ _ _ _ four c.in_ok-push_field-4.ensures.partial
-    c.in_ok-push_field-5.ensures.fields c.as_bytes-5.ensures.value (IsUtf8-string_bytes c.in_ok-month_change.month_change) in
+    c.in_ok-push_field-5.ensures.fields c.as_bytes-5.ensures.value
+    (IsUtf8-string_bytes c.in_ok-month_change.month_change) in
     let six = texts-more _ _ _ _ _ five c.in_ok-push_field-5.ensures.partial
-    c.in_ok-push_field-6.ensures.fields c.as_bytes-6.ensures.value (IsUtf8-string_bytes c.in_ok-year_change.year_change) in
+    c.in_ok-push_field-6.ensures.fields c.as_bytes-6.ensures.value
+    (IsUtf8-string_bytes c.in_ok-year_change.year_change) in
     let seven = texts-more _ _ _ _ _ six c.in_ok-push_field-6.ensures.partial
     c.in_ok-push_field-7.ensures.fields refl c.as_bytes-7.ensures.utf8 in
     let eight = texts-more _ _ _ _ _ seven c.in_ok-push_field-7.ensures.partial

@@ -12,12 +12,16 @@ loop-release-preserved c =
     let rs = c.args.releases.now in
     let i = c.loop-release.release-index in
     let x = c.release-item.result in
-    let more = ap (λ xs. release_of xs c.args.month) (take_more rs i x c.loop-release-test.true ∙ ap (λ (z : Release). take i rs ++ z ∷ []) (sym c.release-item.is)) in
+    let more = ap (λ xs. release_of xs c.args.month)
+    (take_more rs i x c.loop-release-test.true ∙ ap (λ (z : Release). take i rs ++ z ∷ [])
+    (sym c.release-item.is)) in
     elim c.if-eq.branch [
       | then-eq w ↦
           let same : x.month ≡ c.args.month = search rules in
-          ap option_copied w.found-is ∙ sym (more ∙ latest_own (λ (r : Release). r.month) c.args.month (take i rs) x same)
+          ap option_copied w.found-is ∙ sym (more ∙ latest_own (λ (r : Release). r.month) c.args.month
+          (take i rs) x same)
       | else-eq w ↦
           let apart : x.month ≢ c.args.month = search rules in
-          ap option_copied w.found-is ∙ c.loop-release.invariant ∙ sym (more ∙ latest_other (λ (r : Release). r.month) c.args.month (take i rs) x apart)
+          ap option_copied w.found-is ∙ c.loop-release.invariant
+          ∙ sym (more ∙ latest_other (λ (r : Release). r.month) c.args.month (take i rs) x apart)
     ]

@@ -4,4 +4,5 @@ use Rattle.cpi_release.specs.TextTable.{line_text, heading}
 use Rattle.cpi_release.proofs.printed_table.lines.Given as goal
 
 abbrev pub invariant-loop-level : goal.invariant-loop-level
-invariant-loop-level l = string_bytes l.text ≡ heading l.fn.month l.fn.revision ++ flat_map line_text (take l.level-index l.levels)
+invariant-loop-level l = string_bytes l.text ≡ heading l.fn.month l.fn.revision
+    ++ flat_map line_text (take l.level-index l.levels)

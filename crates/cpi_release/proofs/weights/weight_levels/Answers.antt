@@ -15,22 +15,32 @@ loop-weight-preserved g c =
     let releases = (g.G.Groups.sources (g.G.Groups.holds c.args.groups.now).held).releases in
     let pushed : c.push.new.self.items ≡ c.loop-weight.rows.items ++ c.in-Ok.levels ∷ [] = search rules in
     record {
-      keeps = keeps_more (g.G.Groups.holds c.args.groups.now) (g.G.Groups.holds c.loop-weight.groups) (g.G.Groups.holds c.levels_by.new.groups) inv.keeps inv.stays read.keeps;
-      stays = stays_more (g.G.Groups.holds c.args.groups.now) (g.G.Groups.holds c.loop-weight.groups) (g.G.Groups.holds c.levels_by.new.groups) inv.stays read.keeps (rw c.in-Ok.is at read.stays);
+      keeps = keeps_more (g.G.Groups.holds c.args.groups.now) (g.G.Groups.holds c.loop-weight.groups)
+          (g.G.Groups.holds c.levels_by.new.groups) inv.keeps inv.stays read.keeps;
+      stays = stays_more (g.G.Groups.holds c.args.groups.now) (g.G.Groups.holds c.loop-weight.groups)
+          (g.G.Groups.holds c.levels_by.new.groups) inv.stays read.keeps (rw c.in-Ok.is at read.stays);
       count = omega (arith, inv.count, read.count);
-      own = kept_step c.weights-weights.result.now i w c.loop-weight.rows.items c.push.new.self.items c.in-Ok.levels c.loop-weight-test.true c.weight-item.is pushed c.in-Ok.ensures.weight inv.own;
+      own = kept_step c.weights-weights.result.now i w c.loop-weight.rows.items c.push.new.self.items c.in-Ok.levels
+          c.loop-weight-test.true c.weight-item.is pushed c.in-Ok.ensures.weight inv.own;
       exact = λ clean sound.
           let was = read.keeps.was_clean clean in
           let shown = rw (c.in-Ok.is, inv.keeps.kept was) at (read.shown clean) in
-          made_step (with_levels (level_at releases c.args.link) (level_at releases c.args.reference)) c.weights-weights.result.now i w c.loop-weight.rows.items c.push.new.self.items c.in-Ok.levels
+          made_step (with_levels (level_at releases c.args.link) (level_at releases c.args.reference))
+          c.weights-weights.result.now i w c.loop-weight.rows.items c.push.new.self.items c.in-Ok.levels
           c.loop-weight-test.true c.weight-item.is pushed (shown sound) (inv.exact was sound);
     }
 
 pub returns-in_default-clause-keeps : goal.returns-in_default-clause-keeps
-returns-in_default-clause-keeps g c = keeps_more (g.G.Groups.holds c.args.groups.now) (g.G.Groups.holds c.loop-weight.groups) (g.G.Groups.holds c.levels_by.new.groups) c.loop-weight.invariant.keeps c.loop-weight.invariant.stays c.levels_by.ensures.reads.keeps
+returns-in_default-clause-keeps g c = keeps_more (g.G.Groups.holds c.args.groups.now)
+    (g.G.Groups.holds c.loop-weight.groups) (g.G.Groups.holds c.levels_by.new.groups) c.loop-weight.invariant.keeps
+    c.loop-weight.invariant.stays c.levels_by.ensures.reads.keeps
 
 pub returns-in_default-push-clause-keeps : goal.returns-in_default-push-clause-keeps
-returns-in_default-push-clause-keeps g c = keeps_more (g.G.Groups.holds c.args.groups.now) (g.G.Groups.holds c.loop-weight.groups) (g.G.Groups.holds c.levels_by.new.groups) c.loop-weight.invariant.keeps c.loop-weight.invariant.stays c.levels_by.ensures.reads.keeps
+returns-in_default-push-clause-keeps g c = keeps_more (g.G.Groups.holds c.args.groups.now)
+    (g.G.Groups.holds c.loop-weight.groups) (g.G.Groups.holds c.levels_by.new.groups) c.loop-weight.invariant.keeps
+    c.loop-weight.invariant.stays c.levels_by.ensures.reads.keeps
 
 pub returns-in_default-push-clause-stays : goal.returns-in_default-push-clause-stays
-returns-in_default-push-clause-stays g c = λ _. stays_more (g.G.Groups.holds c.args.groups.now) (g.G.Groups.holds c.loop-weight.groups) (g.G.Groups.holds c.levels_by.new.groups) c.loop-weight.invariant.stays c.levels_by.ensures.reads.keeps (rw c.in-Ok.is at c.levels_by.ensures.reads.stays)
+returns-in_default-push-clause-stays g c = λ _. stays_more (g.G.Groups.holds c.args.groups.now)
+    (g.G.Groups.holds c.loop-weight.groups) (g.G.Groups.holds c.levels_by.new.groups) c.loop-weight.invariant.stays
+    c.levels_by.ensures.reads.keeps (rw c.in-Ok.is at c.levels_by.ensures.reads.stays)

@@ -6,7 +6,8 @@ use Rattle.cpi_release.proofs.InUse.{are_of, fault_moved, weights_moved}
 use Rattle.cpi_release.proofs.weights.weights_of.Goals as goal
 
 pub returns-in_default-clause-codes : goal.returns-in_default-clause-codes
-returns-in_default-clause-codes g c = ap (are_weights_of c.args.plan.now.weights) c.in-Ok.ensures ∙ are_own c.args.plan.now.weights
+returns-in_default-clause-codes g c = ap (are_weights_of c.args.plan.now.weights) c.in-Ok.ensures
+    ∙ are_own c.args.plan.now.weights
 
 pub returns-in-Ok-move_weights-clause-exact : goal.returns-in-Ok-move_weights-clause-exact
 returns-in-Ok-move_weights-clause-exact g c = λ clean sound late.
@@ -17,7 +18,8 @@ returns-in-Ok-move_weights-clause-exact g c = λ clean sound late.
     let releases = (g.G.Groups.sources (g.G.Groups.holds c.args.groups.now).held).releases in
     let e : plan.reference ≡ Some reference = sym c.reference.ensures.value ∙ c.in-Some-Some.is-0 in
     let l : link ≡ link_month month = omega (arith, late, c.in-Some-Some.ensures'.1) in
-    let all : c.deref.result.now ≡ map (with_levels (level_at releases link) (level_at releases reference)) plan.weights = c.deref.ensures.value ∙ c.in_ok-rows.ensures.exact clean sound in
+    let all : c.deref.result.now ≡ map (with_levels (level_at releases link) (level_at releases reference))
+    plan.weights = c.deref.ensures.value ∙ c.in_ok-rows.ensures.exact clean sound in
     let moved = c.in-Ok-move_weights.ensures in (
       sym (fault_moved plan releases month reference link e l c.deref.result.now all) ∙ moved.0,
       moved.1 ∙ weights_moved plan releases month reference link e l c.deref.result.now all,
@@ -38,5 +40,6 @@ returns-clause-exact g c = λ clean sound late other.
     let releases = (g.G.Groups.sources (g.G.Groups.holds c.args.groups.now).held).releases in
     let e : plan.reference ≡ Some reference = sym c.reference.ensures.value ∙ c.in-Some-Some.is-0 in
     let l : link ≡ link_month month = omega (arith, late, c.in-Some-Some.ensures'.1) in
-    let all : c.deref.result.now ≡ map (with_levels (level_at releases link) (level_at releases reference)) plan.weights = c.deref.ensures.value ∙ c.in_ok-rows.ensures.exact clean sound in
+    let all : c.deref.result.now ≡ map (with_levels (level_at releases link) (level_at releases reference))
+    plan.weights = c.deref.ensures.value ∙ c.in_ok-rows.ensures.exact clean sound in
     sym (fault_moved plan releases month reference link e l c.deref.result.now all) ∙ c.in-Err.ensures other

@@ -6,124 +6,52 @@ use Rattle.cpi_sql_rows.specs.Finding.{IsOfOffice}
 use Rattle.cpi_sql_rows.specs.Lists.{outlet_in, item_in, calendar_in}
 use Rattle.cpi_sql_rows.specs.Shelf.{IsWhole}
 use Rattle.cpi_sql_rows.proofs.Kept.{kept_then}
-use Rattle.cpi_sql_rows.proofs.FoundTables.{schema_after, quiet_then, step_kept}
+use Rattle.cpi_sql_rows.proofs.FoundTables.{schema_after}
+use Rattle.cpi_sql_open.proofs.Looks.{looked, looks_on}
 use Rattle.cpi_sql_open.proofs.inspect.read_all_small.Goals as goal
 
-pub returns-in_err-_outlets-clause-kept : goal.returns-in_err-_outlets-clause-kept
-returns-in_err-_outlets-clause-kept g c =
-    (step_kept IsOfOffice (state g.S.Store c.args.conn.now) (state g.S.Store c.bearers.new.conn)
-    (state g.S.Store c.outlets.new.conn) c.outlets.ensures.clean
-    c.bearers.ensures.found_kept
-    c.outlets.ensures.found_kept)
+pub returns-in_err-_outlets-clause-look : goal.returns-in_err-_outlets-clause-look
+returns-in_err-_outlets-clause-look g c =
+    (looks_on IsOfOffice _ (state g.S.Store c.bearers.new.conn) _
+    (looked _ _ c.bearers.ensures.clean c.bearers.ensures.found_kept c.bearers.ensures.found_crash)
+    c.in_ok-_bearers.ensures.open
+    (looked _ _ c.outlets.ensures.clean c.outlets.ensures.found_kept c.outlets.ensures.found_crash))
 
-pub returns-in_err-_outlets-clause-crash : goal.returns-in_err-_outlets-clause-crash
-returns-in_err-_outlets-clause-crash g c =
-    (quiet_then IsOfOffice (state g.S.Store c.args.conn.now) (state g.S.Store c.bearers.new.conn)
-    (state g.S.Store c.outlets.new.conn) c.in_ok-_bearers.ensures.open
-    c.bearers.ensures.found_kept
-    c.bearers.ensures.found_crash
-    c.outlets.ensures.found_crash)
+pub returns-in_err-_items-clause-look : goal.returns-in_err-_items-clause-look
+returns-in_err-_items-clause-look g c =
+    (looks_on IsOfOffice _ (state g.S.Store c.outlets.new.conn) _
+    (looks_on IsOfOffice _ (state g.S.Store c.bearers.new.conn) _
+    (looked _ _ c.bearers.ensures.clean c.bearers.ensures.found_kept c.bearers.ensures.found_crash)
+    c.in_ok-_bearers.ensures.open
+    (looked _ _ c.outlets.ensures.clean c.outlets.ensures.found_kept c.outlets.ensures.found_crash))
+    c.in_ok-_outlets.ensures.open
+    (looked _ _ c.items.ensures.clean c.items.ensures.found_kept c.items.ensures.found_crash))
 
-pub returns-in_err-_items-clause-kept : goal.returns-in_err-_items-clause-kept
-returns-in_err-_items-clause-kept g c =
-    (step_kept IsOfOffice (state g.S.Store c.args.conn.now) (state g.S.Store c.outlets.new.conn)
-    (state g.S.Store c.items.new.conn) c.items.ensures.clean
-    (step_kept IsOfOffice (state g.S.Store c.args.conn.now) (state g.S.Store c.bearers.new.conn)
-    (state g.S.Store c.outlets.new.conn) c.outlets.ensures.clean
-    c.bearers.ensures.found_kept
-    c.outlets.ensures.found_kept)
-    c.items.ensures.found_kept)
+pub returns-in_err-_calendar-clause-look : goal.returns-in_err-_calendar-clause-look
+returns-in_err-_calendar-clause-look g c =
+    (looks_on IsOfOffice _ (state g.S.Store c.items.new.conn) _
+    (looks_on IsOfOffice _ (state g.S.Store c.outlets.new.conn) _
+    (looks_on IsOfOffice _ (state g.S.Store c.bearers.new.conn) _
+    (looked _ _ c.bearers.ensures.clean c.bearers.ensures.found_kept c.bearers.ensures.found_crash)
+    c.in_ok-_bearers.ensures.open
+    (looked _ _ c.outlets.ensures.clean c.outlets.ensures.found_kept c.outlets.ensures.found_crash))
+    c.in_ok-_outlets.ensures.open
+    (looked _ _ c.items.ensures.clean c.items.ensures.found_kept c.items.ensures.found_crash))
+    c.in_ok-_items.ensures.open
+    (looked _ _ c.calendar.ensures.clean c.calendar.ensures.found_kept c.calendar.ensures.found_crash))
 
-pub returns-in_err-_items-clause-crash : goal.returns-in_err-_items-clause-crash
-returns-in_err-_items-clause-crash g c =
-    (quiet_then IsOfOffice (state g.S.Store c.args.conn.now) (state g.S.Store c.outlets.new.conn)
-    (state g.S.Store c.items.new.conn) c.in_ok-_outlets.ensures.open
-    (step_kept IsOfOffice (state g.S.Store c.args.conn.now) (state g.S.Store c.bearers.new.conn)
-    (state g.S.Store c.outlets.new.conn) c.outlets.ensures.clean
-    c.bearers.ensures.found_kept
-    c.outlets.ensures.found_kept)
-    (quiet_then IsOfOffice (state g.S.Store c.args.conn.now) (state g.S.Store c.bearers.new.conn)
-    (state g.S.Store c.outlets.new.conn) c.in_ok-_bearers.ensures.open
-    c.bearers.ensures.found_kept
-    c.bearers.ensures.found_crash
-    c.outlets.ensures.found_crash)
-    c.items.ensures.found_crash)
-
-pub returns-in_err-_calendar-clause-kept : goal.returns-in_err-_calendar-clause-kept
-returns-in_err-_calendar-clause-kept g c =
-    (step_kept IsOfOffice (state g.S.Store c.args.conn.now) (state g.S.Store c.items.new.conn)
-    (state g.S.Store c.calendar.new.conn) c.calendar.ensures.clean
-    (step_kept IsOfOffice (state g.S.Store c.args.conn.now) (state g.S.Store c.outlets.new.conn)
-    (state g.S.Store c.items.new.conn) c.items.ensures.clean
-    (step_kept IsOfOffice (state g.S.Store c.args.conn.now) (state g.S.Store c.bearers.new.conn)
-    (state g.S.Store c.outlets.new.conn) c.outlets.ensures.clean
-    c.bearers.ensures.found_kept
-    c.outlets.ensures.found_kept)
-    c.items.ensures.found_kept)
-    c.calendar.ensures.found_kept)
-
-pub returns-in_err-_calendar-clause-crash : goal.returns-in_err-_calendar-clause-crash
-returns-in_err-_calendar-clause-crash g c =
-    (quiet_then IsOfOffice (state g.S.Store c.args.conn.now) (state g.S.Store c.items.new.conn)
-    (state g.S.Store c.calendar.new.conn) c.in_ok-_items.ensures.open
-    (step_kept IsOfOffice (state g.S.Store c.args.conn.now) (state g.S.Store c.outlets.new.conn)
-    (state g.S.Store c.items.new.conn) c.items.ensures.clean
-    (step_kept IsOfOffice (state g.S.Store c.args.conn.now) (state g.S.Store c.bearers.new.conn)
-    (state g.S.Store c.outlets.new.conn) c.outlets.ensures.clean
-    c.bearers.ensures.found_kept
-    c.outlets.ensures.found_kept)
-    c.items.ensures.found_kept)
-    (quiet_then IsOfOffice (state g.S.Store c.args.conn.now) (state g.S.Store c.outlets.new.conn)
-    (state g.S.Store c.items.new.conn) c.in_ok-_outlets.ensures.open
-    (step_kept IsOfOffice (state g.S.Store c.args.conn.now) (state g.S.Store c.bearers.new.conn)
-    (state g.S.Store c.outlets.new.conn) c.outlets.ensures.clean
-    c.bearers.ensures.found_kept
-    c.outlets.ensures.found_kept)
-    (quiet_then IsOfOffice (state g.S.Store c.args.conn.now) (state g.S.Store c.bearers.new.conn)
-    (state g.S.Store c.outlets.new.conn) c.in_ok-_bearers.ensures.open
-    c.bearers.ensures.found_kept
-    c.bearers.ensures.found_crash
-    c.outlets.ensures.found_crash)
-    c.items.ensures.found_crash)
-    c.calendar.ensures.found_crash)
-
-pub returns-clause-kept : goal.returns-clause-kept
-returns-clause-kept g c =
-    (step_kept IsOfOffice (state g.S.Store c.args.conn.now) (state g.S.Store c.items.new.conn)
-    (state g.S.Store c.calendar.new.conn) c.calendar.ensures.clean
-    (step_kept IsOfOffice (state g.S.Store c.args.conn.now) (state g.S.Store c.outlets.new.conn)
-    (state g.S.Store c.items.new.conn) c.items.ensures.clean
-    (step_kept IsOfOffice (state g.S.Store c.args.conn.now) (state g.S.Store c.bearers.new.conn)
-    (state g.S.Store c.outlets.new.conn) c.outlets.ensures.clean
-    c.bearers.ensures.found_kept
-    c.outlets.ensures.found_kept)
-    c.items.ensures.found_kept)
-    c.calendar.ensures.found_kept)
-
-pub returns-clause-crash : goal.returns-clause-crash
-returns-clause-crash g c =
-    (quiet_then IsOfOffice (state g.S.Store c.args.conn.now) (state g.S.Store c.items.new.conn)
-    (state g.S.Store c.calendar.new.conn) c.in_ok-_items.ensures.open
-    (step_kept IsOfOffice (state g.S.Store c.args.conn.now) (state g.S.Store c.outlets.new.conn)
-    (state g.S.Store c.items.new.conn) c.items.ensures.clean
-    (step_kept IsOfOffice (state g.S.Store c.args.conn.now) (state g.S.Store c.bearers.new.conn)
-    (state g.S.Store c.outlets.new.conn) c.outlets.ensures.clean
-    c.bearers.ensures.found_kept
-    c.outlets.ensures.found_kept)
-    c.items.ensures.found_kept)
-    (quiet_then IsOfOffice (state g.S.Store c.args.conn.now) (state g.S.Store c.outlets.new.conn)
-    (state g.S.Store c.items.new.conn) c.in_ok-_outlets.ensures.open
-    (step_kept IsOfOffice (state g.S.Store c.args.conn.now) (state g.S.Store c.bearers.new.conn)
-    (state g.S.Store c.outlets.new.conn) c.outlets.ensures.clean
-    c.bearers.ensures.found_kept
-    c.outlets.ensures.found_kept)
-    (quiet_then IsOfOffice (state g.S.Store c.args.conn.now) (state g.S.Store c.bearers.new.conn)
-    (state g.S.Store c.outlets.new.conn) c.in_ok-_bearers.ensures.open
-    c.bearers.ensures.found_kept
-    c.bearers.ensures.found_crash
-    c.outlets.ensures.found_crash)
-    c.items.ensures.found_crash)
-    c.calendar.ensures.found_crash)
+pub returns-clause-look : goal.returns-clause-look
+returns-clause-look g c =
+    (looks_on IsOfOffice _ (state g.S.Store c.items.new.conn) _
+    (looks_on IsOfOffice _ (state g.S.Store c.outlets.new.conn) _
+    (looks_on IsOfOffice _ (state g.S.Store c.bearers.new.conn) _
+    (looked _ _ c.bearers.ensures.clean c.bearers.ensures.found_kept c.bearers.ensures.found_crash)
+    c.in_ok-_bearers.ensures.open
+    (looked _ _ c.outlets.ensures.clean c.outlets.ensures.found_kept c.outlets.ensures.found_crash))
+    c.in_ok-_outlets.ensures.open
+    (looked _ _ c.items.ensures.clean c.items.ensures.found_kept c.items.ensures.found_crash))
+    c.in_ok-_items.ensures.open
+    (looked _ _ c.calendar.ensures.clean c.calendar.ensures.found_kept c.calendar.ensures.found_crash))
 
 pub returns-clause-whole : goal.returns-clause-whole
 returns-clause-whole g c = λ clean alone has.

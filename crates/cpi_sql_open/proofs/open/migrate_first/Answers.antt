@@ -26,6 +26,7 @@ returns-clause-whole g c = λ clean.
     let clean_1 = c.migrate.ensures.clean clean in
     let kept = c.test_first.ensures.kept clean_1 in
     let has = schema_after IsFirst start tested kept c.in_ok-test_first.ensures.schema in
-    let ids = subst (λ (d : Database). HaveFirstRowids d.trees) (sym kept.now) (c.in_ok-test_first.ensures.first clean_1) in
+    let ids = subst (λ (d : Database). HaveFirstRowids d.trees) (sym kept.now)
+    (c.in_ok-test_first.ensures.first clean_1) in
     moved_whole tested.now.trees made.now.trees (c.in_ok-migrate.ensures.moved clean.disk has ids).lists
     (subst (λ (d : Database). AreWhole d.trees) (sym kept.now) (c.in_ok-test_first.ensures.whole clean_1))

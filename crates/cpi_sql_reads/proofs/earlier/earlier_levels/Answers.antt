@@ -6,9 +6,12 @@ use Rattle.cpi_release.specs.declared.level.Level.{Level}
 use Rattle.cpi_sql_reads.specs.Headers.{has_release}
 use Rattle.cpi_sql_rows.specs.Lists.{headers_in}
 use Rattle.cpi_sql_reads.proofs.HeaderLists.{levels_none, levels_there}
-use Rattle.cpi_sql_reads.proofs.Looking.{looks}
+use Rattle.cpi_sql_reads.proofs.Looking.{looks_none}
 use Rattle.cpi_sql_reads.proofs.ReleaseLists.{read_found}
 use Rattle.cpi_sql_reads.proofs.earlier.earlier_levels.Goals as goal
+
+pub returns-then-not-has_release-clause-look : goal.returns-then-not-has_release-clause-look
+returns-then-not-has_release-clause-look g c = looks_none (state g.S.Store c.args.conn.now)
 
 pub returns-then-not-has_release-clause-read : goal.returns-then-not-has_release-clause-read
 returns-then-not-has_release-clause-read g c = λ clean has is.
@@ -21,16 +24,11 @@ returns-then-not-has_release-clause-read g c = λ clean has is.
 pub returns-then-not-has_release-clause-order : goal.returns-then-not-has_release-clause-order
 returns-then-not-has_release-clause-order g c = rw c.new.ensures.items (none_in_order code_cmp (λ (l : Level). l.code))
 
-pub returns-clause-look : goal.returns-clause-look
-returns-clause-look g c =
-    looks (state g.S.Store c.args.conn.now) (state g.S.Store c.levels_of.new.conn) c.levels_of.ensures.clean
-    c.levels_of.ensures.kept c.levels_of.ensures.crash
-
 pub returns-clause-read : goal.returns-clause-read
 returns-clause-read g c = λ clean has is.
     let trees = (state g.S.Store c.args.conn.now).now.trees in
     let yes : c.has_release.result ≡ true = search rules in
     let found : has_release c.args.month c.args.revision (headers_in (trees 26)) ≡ true =
     ap (has_release c.args.month c.args.revision) (sym is) ∙ sym c.has_release.ensures ∙ yes in
-    read_found c.levels_of.result _ _ (c.levels_of.ensures.read clean has)
+    read_found c.rows_of_release.result _ _ (c.rows_of_release.ensures.read clean has)
     (levels_there trees c.args.month c.args.revision found)

@@ -6,8 +6,8 @@ use Rattle.cpi_rows.specs.Keyed.{at}
 use Rattle.cpi_release.specs.Cached.{AreGroupsOf}
 use Rattle.cpi_sql_reads.proofs.groups.kept_rows.Goals as goal
 
-pub returns-in-Ok : goal.returns-in-Ok
-returns-in-Ok c = λ s plans kept fit late.
+pub returns-in-Ok-clause-rows : goal.returns-in-Ok-clause-rows
+returns-in-Ok-clause-rows c = λ s plans kept fit late.
     let month : c.in-Some.cached.month ≡ c.args.month = search rules in
     let held : AreGroupsOf s c.in-Some.cached.month c.in-Some.cached.groups.items = rw c.in-Some.is at kept in
     let lent : AreGroupsOf s c.args.month c.deref.result.now = rw (month, sym c.deref.ensures.value) at held in

@@ -1,4 +1,4 @@
-use Rattle.std.proofs.Common.{◌≡◌, sym, ap}
+use Rattle.std.proofs.Common.{◌≡◌, refl, sym, ap}
 use Rattle.std.specs.Option.{option_copied}
 use Rattle.sqlite.specs.Held.{state}
 use Rattle.cpi_codes.specs.Month.{year_of}
@@ -14,7 +14,7 @@ use Rattle.cpi_sql_reads.proofs.groups.sample_of.Goals as goal
 pub returns-in-Some-clause-read : goal.returns-in-Some-clause-read
 returns-in-Some-clause-read g c = λ clean has is stood kept fit late.
     let s : Sources = office_sources (office_in (state g.S.Store c.args.conn.now).now.trees) in
-    let found = rw c.in-Some.is at c.in_ok-rows.ensures in
+    let found = rw c.in-Some.is at c.in_ok-rows.ensures.rows in
     found s (sym (ap (λ (o : Office). o.plans) stood)) kept fit late
 
 pub returns-in-Ok-clause-kept : goal.returns-in-Ok-clause-kept
@@ -34,3 +34,8 @@ returns-in-Ok-clause-read g c = λ clean has is stood kept fit late.
       ap (λ (o : Office). o.plans) stood,
     ) at c.find_row-plan.ensures in
     c.in-Ok.ensures s plan lent fit late
+
+pub returns-in-Some-clause-stand : goal.returns-in-Some-clause-stand
+returns-in-Some-clause-stand g c = λ clean has is stood none.
+    let some = rw c.in-Some.is at c.in_ok-rows.ensures.kept in
+    absurd (let no = rw none at some refl in cc)

@@ -2,87 +2,52 @@ use Rattle.std.proofs.Common.{◌≡◌, ap, ◌∙◌}
 use Rattle.sqlite.specs.Effect.{Database}
 use Rattle.sqlite.specs.Held.{state}
 use Rattle.cpi_sql_rows.specs.Lists.{items_in, plans_in, calendar_rows_in}
-use Rattle.cpi_sql_rows.specs.Shelf.{IsCleanBook, IsKept, IsLook, HasTables}
+use Rattle.cpi_sql_rows.specs.Shelf.{IsCleanBook, IsKept, HasTables}
 use Rattle.cpi_sql_rows.proofs.Kept.{kept_tables}
-use Rattle.cpi_sql_reads.proofs.Looking.{looks, looks_then}
+use Rattle.cpi_sql_reads.proofs.Looking.{looks_both, looks_then}
+use Rattle.cpi_sql_rows.proofs.Whole.{looks_failed}
 use Rattle.cpi_sql_reads.proofs.survey.read_public.Goals as goal
 
 pub from_parts-requires-clause-plans : goal.from_parts-requires-clause-plans
 from_parts-requires-clause-plans g c = c.in_ok-plans.ensures.order
 
-pub returns-in_err-read-clause-look : goal.returns-in_err-read-clause-look
-returns-in_err-read-clause-look g c =
-    looks (state g.S.Store c.args.conn.now) (state g.S.Store c.items.new.conn) c.items.ensures.clean
-    c.items.ensures.kept c.items.ensures.crash
-
-pub returns-in_err-items-clause-look : goal.returns-in_err-items-clause-look
-returns-in_err-items-clause-look g c =
-    looks (state g.S.Store c.args.conn.now) (state g.S.Store c.items.new.conn) c.items.ensures.clean
-    c.items.ensures.kept c.items.ensures.crash
-
 pub returns-in_err-plans-clause-look : goal.returns-in_err-plans-clause-look
 returns-in_err-plans-clause-look g c =
-    let first = state g.S.Store c.args.conn.now in
-    let second = state g.S.Store c.items.new.conn in
-    let third = state g.S.Store c.plans.new.conn in
-    let one : IsLook first second =
-    looks first second c.items.ensures.clean c.items.ensures.kept c.items.ensures.crash in
-    let two : IsLook second third = record {
-      clean = c.plans.ensures.clean;
-      kept = c.plans.ensures.kept;
-      crash = c.plans.ensures.crash;
-    } in
-    looks_then first second third one (λ disk _. c.in_ok-read.ensures.open disk) two
+    let a = state g.S.Store c.args.conn.now in
+    let b = state g.S.Store c.read_all.new.conn in
+    let d = state g.S.Store c.plans.new.conn in
+    looks_failed c.from_residual-in_err-plans.result a d (looks_then c.plans.result a b d c.in_ok-read.ensures.look
+    c.plans.ensures.look) c.from_residual-in_err-plans.ensures.0
 
 pub returns-in_err-rows-clause-look : goal.returns-in_err-rows-clause-look
 returns-in_err-rows-clause-look g c =
-    let first = state g.S.Store c.args.conn.now in
-    let second = state g.S.Store c.items.new.conn in
-    let third = state g.S.Store c.plans.new.conn in
-    let last = state g.S.Store c.calendar.new.conn in
-    let one : IsLook first second =
-    looks first second c.items.ensures.clean c.items.ensures.kept c.items.ensures.crash in
-    let two : IsLook second third = record {
-      clean = c.plans.ensures.clean;
-      kept = c.plans.ensures.kept;
-      crash = c.plans.ensures.crash;
-    } in
-    let three : IsLook third last =
-    looks third last c.calendar.ensures.clean c.calendar.ensures.kept c.calendar.ensures.crash in
-    looks_then first second last one
-    (λ disk _. c.in_ok-read.ensures.open disk) (looks_then second third last two c.in_ok-plans.ensures.open three)
+    let a = state g.S.Store c.args.conn.now in
+    let b = state g.S.Store c.read_all.new.conn in
+    let d = state g.S.Store c.plans.new.conn in
+    let e = state g.S.Store c.read_all-2.new.conn in
+    looks_failed c.from_residual-in_err-rows.result a e (looks_then c.read_all-2.result a b e c.in_ok-read.ensures.look
+    (looks_then c.read_all-2.result b d e c.in_ok-plans.ensures.look c.read_all-2.ensures.look))
+    c.from_residual-in_err-rows.ensures.0
 
 pub returns-clause-look : goal.returns-clause-look
 returns-clause-look g c =
-    let first = state g.S.Store c.args.conn.now in
-    let second = state g.S.Store c.items.new.conn in
-    let third = state g.S.Store c.plans.new.conn in
-    let last = state g.S.Store c.calendar.new.conn in
-    let one : IsLook first second =
-    looks first second c.items.ensures.clean c.items.ensures.kept c.items.ensures.crash in
-    let two : IsLook second third = record {
-      clean = c.plans.ensures.clean;
-      kept = c.plans.ensures.kept;
-      crash = c.plans.ensures.crash;
-    } in
-    let three : IsLook third last =
-    looks third last c.calendar.ensures.clean c.calendar.ensures.kept c.calendar.ensures.crash in
-    looks_then first second last one
-    (λ disk _. c.in_ok-read.ensures.open disk) (looks_then second third last two c.in_ok-plans.ensures.open three)
-
-pub returns-clause-open : goal.returns-clause-open
-returns-clause-open g c = c.in_ok-rows.ensures.open
+    let a = state g.S.Store c.args.conn.now in
+    let b = state g.S.Store c.read_all.new.conn in
+    let d = state g.S.Store c.plans.new.conn in
+    let e = state g.S.Store c.read_all-2.new.conn in
+    looks_both a b e c.in_ok-read.ensures.look
+    (looks_both b d e c.in_ok-plans.ensures.look c.in_ok-rows.ensures.look)
 
 pub returns-clause-read : goal.returns-clause-read
 returns-clause-read g c = λ clean has.
     let first = state g.S.Store c.args.conn.now in
-    let second = state g.S.Store c.items.new.conn in
+    let second = state g.S.Store c.read_all.new.conn in
     let third = state g.S.Store c.plans.new.conn in
-    let clean3 : IsCleanBook third = c.calendar.ensures.clean clean in
-    let clean2 : IsCleanBook second = c.plans.ensures.clean clean3 in
-    let kept2 : IsKept first second = c.items.ensures.kept clean2 has in
+    let clean3 : IsCleanBook third = c.read_all-2.ensures.clean clean in
+    let clean2 : IsCleanBook second = c.plans.ensures.look.still.clean clean3 in
+    let kept2 : IsKept first second = c.read_all.ensures.look.still.kept clean2 has in
     let has2 : HasTables second = kept_tables first second kept2 has in
-    let kept3 : IsKept second third = c.plans.ensures.kept clean3 has2 in
+    let kept3 : IsKept second third = c.plans.ensures.look.still.kept clean3 has2 in
     let has3 : HasTables third = kept_tables second third kept3 has2 in
     let items : c.in_ok-items.items ≡ items_in (first.now.trees 4) = c.in_ok-items.ensures
     ∙ c.in_ok-read.ensures.read clean2 has in

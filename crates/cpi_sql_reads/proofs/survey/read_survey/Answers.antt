@@ -5,15 +5,18 @@ use Rattle.cpi_sql_rows.specs.Lists.{assignments_in, collectors_in, outlets_in, 
 use Rattle.cpi_sql_rows.specs.Shelf.{AreTaken}
 use Rattle.cpi_sql_rows.proofs.Kept.{kept_tables}
 use Rattle.cpi_sql_rows.proofs.FoundTables.{on_any}
-use Rattle.cpi_sql_rows.proofs.Whole.{if_ok}
-use Rattle.cpi_sql_reads.proofs.Looking.{back, looks_then}
+use Rattle.cpi_sql_rows.proofs.Whole.{if_ok, looks_failed, looks_more}
+use Rattle.cpi_sql_reads.proofs.Looking.{back, looks_both, looks_then}
 use Rattle.cpi_sql_reads.proofs.survey.read_survey.Goals as goal
 
 pub returns-in_err-registers-clause-look : goal.returns-in_err-registers-clause-look
 returns-in_err-registers-clause-look g c =
-    looks_then (state g.S.Store c.args.conn.now) (state g.S.Store c.read_public.new.conn)
-    (state g.S.Store c.read_registers.new.conn)
-    c.in_ok-public.ensures.look (λ disk _. c.in_ok-public.ensures.open disk) c.in_err-registers.ensures.look
+    let a = state g.S.Store c.args.conn.now in
+    let b = state g.S.Store c.read_public.new.conn in
+    let d = state g.S.Store c.read_registers.new.conn in
+    looks_failed c.from_residual-in_err-registers.result a d
+    (looks_then c.read_registers.result a b d c.in_ok-public.ensures.look
+    c.read_registers.ensures.look) c.from_residual-in_err-registers.ensures.0
 
 pub returns-in_err-collected-clause-look : goal.returns-in_err-collected-clause-look
 returns-in_err-collected-clause-look g c =
@@ -21,9 +24,10 @@ returns-in_err-collected-clause-look g c =
     let b = state g.S.Store c.read_public.new.conn in
     let d = state g.S.Store c.read_registers.new.conn in
     let e = state g.S.Store c.read_collected.new.conn in
-    looks_then a b e c.in_ok-public.ensures.look (λ disk _. c.in_ok-public.ensures.open disk)
-    (looks_then b d e c.in_ok-registers.ensures.look (λ disk _. c.in_ok-registers.ensures.open disk)
-    c.in_err-collected.ensures.look)
+    looks_failed c.from_residual-in_err-collected.result a e
+    (looks_then c.read_collected.result a b e c.in_ok-public.ensures.look
+    (looks_then c.read_collected.result b d e c.in_ok-registers.ensures.look c.read_collected.ensures.look))
+    c.from_residual-in_err-collected.ensures.0
 
 pub returns-clause-look : goal.returns-clause-look
 returns-clause-look g c =
@@ -31,23 +35,19 @@ returns-clause-look g c =
     let b = state g.S.Store c.read_public.new.conn in
     let d = state g.S.Store c.read_registers.new.conn in
     let e = state g.S.Store c.read_collected.new.conn in
-    looks_then a b e c.in_ok-public.ensures.look (λ disk _. c.in_ok-public.ensures.open disk)
-    (looks_then b d e c.in_ok-registers.ensures.look (λ disk _. c.in_ok-registers.ensures.open disk)
-    c.in_ok-collected.ensures.look)
-
-pub returns-clause-open : goal.returns-clause-open
-returns-clause-open g c = on_any c.survey_from.result _ (λ disk _. c.in_ok-collected.ensures.open disk)
+    looks_more c.survey_from.result a e (looks_both a b e c.in_ok-public.ensures.look
+    (looks_both b d e c.in_ok-registers.ensures.look c.in_ok-collected.ensures.look))
 
 pub returns-clause-taken : goal.returns-clause-taken
 returns-clause-taken g c = λ clean has.
     let a = state g.S.Store c.args.conn.now in
     let b = state g.S.Store c.read_public.new.conn in
     let d = state g.S.Store c.read_registers.new.conn in
-    let clean_d = c.in_ok-collected.ensures.look.clean clean in
-    let clean_b = c.in_ok-registers.ensures.look.clean clean_d in
-    let kept_b = c.in_ok-public.ensures.look.kept clean_b has in
+    let clean_d = c.in_ok-collected.ensures.look.still.clean clean in
+    let clean_b = c.in_ok-registers.ensures.look.still.clean clean_d in
+    let kept_b = c.in_ok-public.ensures.look.still.kept clean_b has in
     let has_b = kept_tables a b kept_b has in
-    let kept_d = c.in_ok-registers.ensures.look.kept clean_d has_b in
+    let kept_d = c.in_ok-registers.ensures.look.still.kept clean_d has_b in
     on_any c.survey_from.result _ (back AreTaken kept_b (back AreTaken kept_d
     (c.in_ok-collected.ensures.taken clean (kept_tables b d kept_d has_b))))
 
@@ -56,11 +56,11 @@ returns-clause-read g c = λ clean has.
     let a = state g.S.Store c.args.conn.now in
     let b = state g.S.Store c.read_public.new.conn in
     let d = state g.S.Store c.read_registers.new.conn in
-    let clean_d = c.in_ok-collected.ensures.look.clean clean in
-    let clean_b = c.in_ok-registers.ensures.look.clean clean_d in
-    let kept_b = c.in_ok-public.ensures.look.kept clean_b has in
+    let clean_d = c.in_ok-collected.ensures.look.still.clean clean in
+    let clean_b = c.in_ok-registers.ensures.look.still.clean clean_d in
+    let kept_b = c.in_ok-public.ensures.look.still.kept clean_b has in
     let has_b = kept_tables a b kept_b has in
-    let kept_d = c.in_ok-registers.ensures.look.kept clean_d has_b in
+    let kept_d = c.in_ok-registers.ensures.look.still.kept clean_d has_b in
     let has_d = kept_tables b d kept_d has_b in
     let public = c.in_ok-public.ensures.read clean_b has in
     let collectors : c.in_ok-registers.registers.bearers.items ≡ collectors_in (a.now.trees 1) =

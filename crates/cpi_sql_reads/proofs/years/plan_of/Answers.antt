@@ -6,20 +6,20 @@ use Rattle.cpi_plan.specs.Stored.{plan_from}
 use Rattle.cpi_sql_rows.specs.Lists.{if_whole, nodes_in, places_in, reference_of, references_in}
 use Rattle.cpi_sql_rows.specs.Shelf.{IsCleanBook, IsKept}
 use Rattle.cpi_sql_rows.proofs.Kept.{kept_tables, kept_then}
-use Rattle.cpi_sql_reads.proofs.Looking.{shown_then}
-use Rattle.cpi_sql_rows.proofs.Whole.{if_ok}
+use Rattle.cpi_sql_reads.proofs.Looking.{looks_both, looks_then}
+use Rattle.cpi_sql_rows.proofs.Whole.{if_ok, looks_failed, looks_more}
 use Rattle.cpi_sql_reads.proofs.years.plan_of.Goals as goal
 
 pub returns-clause-read : goal.returns-clause-read
 returns-clause-read g c = λ clean has.
     let old = state g.S.Store c.args.conn.now in
-    let mid = state g.S.Store c.nodes_of.new.conn in
-    let late = state g.S.Store c.places_of.new.conn in
-    let second : IsCleanBook late = c.references_of.ensures.clean clean in
-    let first : IsCleanBook mid = c.places_of.ensures.clean second in
-    let kept : IsKept old mid = c.nodes_of.ensures.kept first has in
+    let mid = state g.S.Store c.rows_of_year.new.conn in
+    let late = state g.S.Store c.rows_of_year-2.new.conn in
+    let second : IsCleanBook late = c.rows_of_year-3.ensures.look.still.clean clean in
+    let first : IsCleanBook mid = c.rows_of_year-2.ensures.look.still.clean second in
+    let kept : IsKept old mid = c.rows_of_year.ensures.look.still.kept first has in
     let after = kept_tables old mid kept has in
-    let both : IsKept old late = kept_then old mid late kept (c.places_of.ensures.kept second after) in
+    let both : IsKept old late = kept_then old mid late kept (c.rows_of_year-2.ensures.look.still.kept second after) in
     let nodes : c.in_ok-nodes.nodes.items ≡ held_by c.args.year (nodes_in (old.now.trees 6)) =
     c.in_ok-nodes.ensures.read first has in
     let places : c.in_ok-places.places.items ≡ held_by c.args.year (places_in (old.now.trees 8)) =
@@ -38,38 +38,31 @@ returns-clause-read g c = λ clean has.
     (held_by c.args.year (places_in (old.now.trees 8))) o))
     (c.first_month.ensures ∙ ap reference_of (c.deref-3.ensures.value ∙ references)))
 
-pub returns-in_err-places-clause-crash : goal.returns-in_err-places-clause-crash
-returns-in_err-places-clause-crash g c =
-    shown_then (state g.S.Store c.args.conn.now) (state g.S.Store c.nodes_of.new.conn)
-    (state g.S.Store c.places_of.new.conn)
-    c.nodes_of.ensures.kept c.in_ok-nodes.ensures.open c.nodes_of.ensures.crash c.places_of.ensures.crash
+pub returns-in_err-places-clause-look : goal.returns-in_err-places-clause-look
+returns-in_err-places-clause-look g c =
+    let a = state g.S.Store c.args.conn.now in
+    let b = state g.S.Store c.rows_of_year.new.conn in
+    let d = state g.S.Store c.rows_of_year-2.new.conn in
+    looks_failed c.from_residual-in_err-places.result a d
+    (looks_then c.rows_of_year-2.result a b d c.in_ok-nodes.ensures.look
+    c.rows_of_year-2.ensures.look) c.from_residual-in_err-places.ensures.0
 
-pub returns-in_err-references-clause-crash : goal.returns-in_err-references-clause-crash
-returns-in_err-references-clause-crash g c =
-    let old = state g.S.Store c.args.conn.now in
-    let mid = state g.S.Store c.nodes_of.new.conn in
-    let late = state g.S.Store c.places_of.new.conn in
-    let new = state g.S.Store c.references_of.new.conn in
-    shown_then old late new
-    (λ clean has.
-    let kept = c.nodes_of.ensures.kept (c.places_of.ensures.clean clean) has in
-    kept_then old mid late kept (c.places_of.ensures.kept clean (kept_tables old mid kept has)))
-    c.in_ok-places.ensures.open
-    (shown_then old mid late c.nodes_of.ensures.kept c.in_ok-nodes.ensures.open c.nodes_of.ensures.crash
-    c.places_of.ensures.crash)
-    c.references_of.ensures.crash
+pub returns-in_err-references-clause-look : goal.returns-in_err-references-clause-look
+returns-in_err-references-clause-look g c =
+    let a = state g.S.Store c.args.conn.now in
+    let b = state g.S.Store c.rows_of_year.new.conn in
+    let d = state g.S.Store c.rows_of_year-2.new.conn in
+    let e = state g.S.Store c.rows_of_year-3.new.conn in
+    looks_failed c.from_residual-in_err-references.result a e
+    (looks_then c.rows_of_year-3.result a b e c.in_ok-nodes.ensures.look
+    (looks_then c.rows_of_year-3.result b d e c.in_ok-places.ensures.look c.rows_of_year-3.ensures.look))
+    c.from_residual-in_err-references.ensures.0
 
-pub returns-clause-crash : goal.returns-clause-crash
-returns-clause-crash g c =
-    let old = state g.S.Store c.args.conn.now in
-    let mid = state g.S.Store c.nodes_of.new.conn in
-    let late = state g.S.Store c.places_of.new.conn in
-    let new = state g.S.Store c.references_of.new.conn in
-    shown_then old late new
-    (λ clean has.
-    let kept = c.nodes_of.ensures.kept (c.places_of.ensures.clean clean) has in
-    kept_then old mid late kept (c.places_of.ensures.kept clean (kept_tables old mid kept has)))
-    c.in_ok-places.ensures.open
-    (shown_then old mid late c.nodes_of.ensures.kept c.in_ok-nodes.ensures.open c.nodes_of.ensures.crash
-    c.places_of.ensures.crash)
-    c.references_of.ensures.crash
+pub returns-clause-look : goal.returns-clause-look
+returns-clause-look g c =
+    let a = state g.S.Store c.args.conn.now in
+    let b = state g.S.Store c.rows_of_year.new.conn in
+    let d = state g.S.Store c.rows_of_year-2.new.conn in
+    let e = state g.S.Store c.rows_of_year-3.new.conn in
+    looks_more c.made.result a e (looks_both a b e c.in_ok-nodes.ensures.look
+    (looks_both b d e c.in_ok-places.ensures.look c.in_ok-references.ensures.look))

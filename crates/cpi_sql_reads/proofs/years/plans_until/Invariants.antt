@@ -1,7 +1,6 @@
 use Rattle.std.proofs.Common.{◌≡◌}
 use Rattle.sqlite.specs.Held.{state}
-use Rattle.sqlite.specs.State.{Survives}
-use Rattle.cpi_sql_rows.specs.Shelf.{IsCleanBook, IsKept, HasTables, StaysOpen}
+use Rattle.cpi_sql_rows.specs.Shelf.{IsCleanBook, HasTables, Looked, StaysOpen}
 use Rattle.cpi_sql_rows.specs.Lists.{years, plans_of, nodes_in, places_in, references_in}
 use Rattle.cpi_sql_reads.proofs.years.plans_until.Given as goal
 
@@ -9,10 +8,7 @@ abbrev pub invariant-years : goal.invariant-years
 invariant-years g l =
     let old = state g.S.Store l.fn.conn in
     let now = state g.S.Store l.conn in record {
-      clean : IsCleanBook now → IsCleanBook old;
-      kept : IsCleanBook now → HasTables old → IsKept old now;
-      stays : StaysOpen old now;
-      crash : Survives old now (λ _. IsCleanBook old → HasTables old → ⊥);
+      look : Looked old now (StaysOpen old now);
       read : IsCleanBook now → HasTables old
           → l.plans.items ≡ plans_of (years l.n) (nodes_in (old.now.trees 6)) (places_in (old.now.trees 8))
           (references_in (old.now.trees 34));

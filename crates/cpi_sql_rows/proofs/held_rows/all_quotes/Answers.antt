@@ -1,21 +1,25 @@
+use Rattle.std.proofs.Common.{refl}
 use Rattle.sqlite.specs.Held.{state}
+use Rattle.cpi_sql_rows.specs.Finding.{IsSecond}
 use Rattle.cpi_sql_rows.specs.Texts.{all_quotes_text}
-use Rattle.cpi_sql_rows.proofs.Whole.{both_ok, asked_crash}
+use Rattle.cpi_sql_rows.specs.WholeTables.{all_quotes_asked}
 use Rattle.cpi_sql_rows.proofs.FoundTables.{on_any}
-use Rattle.cpi_sql_rows.proofs.HeldReads.{all_quotes_read, all_quotes_stand, all_quotes_plain}
+use Rattle.cpi_sql_rows.proofs.Whole.{both_ok, looked, looks_failed}
+use Rattle.cpi_sql_rows.proofs.HeldReads.{all_quotes_read, all_quotes_stand}
 use Rattle.cpi_sql_rows.proofs.held_rows.all_quotes.Goals as goal
 
-pub returns-in_err-read-clause-kept : goal.returns-in_err-read-clause-kept
-returns-in_err-read-clause-kept g c = λ clean has.
-    c.gather.ensures.kept clean has.alone (all_quotes_plain (state g.S.Store c.args.conn.now) has)
+pub returns-in_err-read-clause-look : goal.returns-in_err-read-clause-look
+returns-in_err-read-clause-look g c =
+    looks_failed c.from_residual.result (state g.S.Store c.args.conn.now) (state g.S.Store c.gather.new.conn)
+    (looked c.gather.result IsSecond all_quotes_text (state g.S.Store c.args.conn.now)
+    (state g.S.Store c.gather.new.conn) _ refl (λ is. (all_quotes_asked _ is).plain) c.gather.ensures.clean
+    c.gather.ensures.kept c.gather.ensures.open c.gather.ensures.crash) c.from_residual.ensures.0
 
-pub returns-in_err-read-clause-crash : goal.returns-in_err-read-clause-crash
-returns-in_err-read-clause-crash g c = asked_crash all_quotes_text (state g.S.Store c.args.conn.now)
-    (state g.S.Store c.gather.new.conn) _ (all_quotes_plain (state g.S.Store c.args.conn.now)) c.gather.ensures.crash
-
-pub returns-clause-kept : goal.returns-clause-kept
-returns-clause-kept g c = λ clean has.
-    c.gather.ensures.kept clean has.alone (all_quotes_plain (state g.S.Store c.args.conn.now) has)
+pub returns-clause-look : goal.returns-clause-look
+returns-clause-look g c =
+    looked c.in_place.result IsSecond all_quotes_text (state g.S.Store c.args.conn.now)
+    (state g.S.Store c.gather.new.conn) _ refl (λ is. (all_quotes_asked _ is).plain) c.gather.ensures.clean
+    c.gather.ensures.kept (λ disk. on_any c.in_place.result _ (c.in_ok-read.ensures.open disk)) c.gather.ensures.crash
 
 pub returns-clause-read : goal.returns-clause-read
 returns-clause-read g c = λ clean has. let it = c.in_ok-read.ensures.read clean.disk in
@@ -23,14 +27,7 @@ returns-clause-read g c = λ clean has. let it = c.in_ok-read.ensures.read clean
     (λ xs moved order. all_quotes_read (state g.S.Store c.args.conn.now) (state g.S.Store c.gather.new.conn) it.0 _ has
     it.1 it.2 xs.items moved order)
 
-pub returns-clause-crash : goal.returns-clause-crash
-returns-clause-crash g c = asked_crash all_quotes_text (state g.S.Store c.args.conn.now)
-    (state g.S.Store c.gather.new.conn) _ (all_quotes_plain (state g.S.Store c.args.conn.now)) c.gather.ensures.crash
-
 pub returns-clause-stand : goal.returns-clause-stand
 returns-clause-stand g c = λ clean has. let it = c.in_ok-read.ensures.read clean.disk in
     on_any c.in_place.result _
     (all_quotes_stand (state g.S.Store c.args.conn.now) (state g.S.Store c.gather.new.conn) it.0 _ has it.1 it.2)
-
-pub returns-clause-open : goal.returns-clause-open
-returns-clause-open g c = λ disk. on_any c.in_place.result _ (c.in_ok-read.ensures.open disk)

@@ -1,12 +1,15 @@
-use Rattle.sqlite.specs.Held.{state}
 use Rattle.cpi_sql_writes.proofs.SlotOffice.{assignment_ran, assignment_survives, copied_bound}
+use Rattle.sqlite.specs.Held.{state}
+use Rattle.cpi_sql_writes.proofs.Withins.{on_then}
 use Rattle.cpi_sql_writes.proofs.writes.put_assignment.Goals as goal
 
-pub returns-in_err-_count-clause-crash : goal.returns-in_err-_count-clause-crash
-returns-in_err-_count-clause-crash g c =
+pub returns : goal.returns
+returns g c =
+    let old = state g.S.Store c.args.conn.now in
+    let new = state g.S.Store c.put_row.new.conn in
     let columns = c.in_ok-columns.columns in
-    assignment_survives c.args.bearer c.args.assigned.now columns c.in_ok-columns.ensures
-    (state g.S.Store c.args.conn.now) (state g.S.Store c.run.new.conn) (rw (
+    let is = c.in_ok-columns.ensures in
+    let runs = rw (
       c.params-to_sql.ensures,
       c.params-to_sql-2.ensures,
       c.params-to_sql-3.ensures,
@@ -18,40 +21,12 @@ returns-in_err-_count-clause-crash g c =
       c.params-to_sql-9.ensures,
       c.as_str.ensures.value,
       copied_bound columns.copied,
-    ) at c.in_err-_count.ensures.crash)
-
-pub returns-clause-done : goal.returns-clause-done
-returns-clause-done g c = λ clean has free.
-    let columns = c.in_ok-columns.columns in
-    assignment_ran c.args.bearer c.args.assigned.now columns c.in_ok-columns.ensures
-    (state g.S.Store c.args.conn.now) (state g.S.Store c.run.new.conn) c.in_ok-_count._count has free (rw (
-      c.params-to_sql.ensures,
-      c.params-to_sql-2.ensures,
-      c.params-to_sql-3.ensures,
-      c.params-to_sql-4.ensures,
-      c.params-to_sql-5.ensures,
-      c.params-to_sql-6.ensures,
-      c.params-to_sql-7.ensures,
-      c.params-to_sql-8.ensures,
-      c.params-to_sql-9.ensures,
-      c.as_str.ensures.value,
-      copied_bound columns.copied,
-    ) at (c.in_ok-_count.ensures.ran clean.disk))
-
-pub returns-clause-crash : goal.returns-clause-crash
-returns-clause-crash g c =
-    let columns = c.in_ok-columns.columns in
-    assignment_survives c.args.bearer c.args.assigned.now columns c.in_ok-columns.ensures
-    (state g.S.Store c.args.conn.now) (state g.S.Store c.run.new.conn) (rw (
-      c.params-to_sql.ensures,
-      c.params-to_sql-2.ensures,
-      c.params-to_sql-3.ensures,
-      c.params-to_sql-4.ensures,
-      c.params-to_sql-5.ensures,
-      c.params-to_sql-6.ensures,
-      c.params-to_sql-7.ensures,
-      c.params-to_sql-8.ensures,
-      c.params-to_sql-9.ensures,
-      c.as_str.ensures.value,
-      copied_bound columns.copied,
-    ) at c.in_ok-_count.ensures.crash)
+    ) at c.put_row.ensures in
+    record {
+      clean = runs.clean;
+      «open» = runs.stays_open;
+      done = λ clean has free. on_then c.put_row.result _ _ (runs.ran clean.disk)
+          (λ it. assignment_ran c.args.bearer c.args.assigned.now columns is old new it.0 has free it.1);
+      kept = λ clean has. runs.kept clean has.alone;
+      crash = assignment_survives c.args.bearer c.args.assigned.now columns is old new runs.crash;
+    }

@@ -1,18 +1,26 @@
-use Rattle.std.proofs.Common.{refl}
-use Rattle.sqlite.specs.Held.{state}
+use Rattle.std.proofs.Common.{◌≡◌, Some, pos, refl}
+use Rattle.std.specs.String.{string_bytes}
+use Rattle.sqlite.specs.declared.types.Value.TheVariants.{Int, Text}
+use Rattle.cpi_sql_rows.specs.Lists.{item_of}
 use Rattle.cpi_sql_writes.proofs.AddStatements.{item_ran, item_survives}
+use Rattle.sqlite.specs.Held.{state}
+use Rattle.cpi_sql_writes.proofs.Withins.{on_then}
 use Rattle.cpi_sql_writes.proofs.writes.put_item.Goals as goal
 
-pub returns-in_err-_count-clause-crash : goal.returns-in_err-_count-clause-crash
-returns-in_err-_count-clause-crash g c =
-    item_survives (state g.S.Store c.args.conn.now) (state g.S.Store c.run.new.conn) c.args.item.now _ _ _ _ _
-    (rw (
+pub returns : goal.returns
+returns g c =
+    let old = state g.S.Store c.args.conn.now in
+    let new = state g.S.Store c.put_row.new.conn in
+    let item = c.args.item.now in
+    let is : item_of (Text (string_bytes c.in_ok-code.code)) (Text item.text) (Text item.unit)
+    (Int (pos c.low_number-low.result)) (Int (pos c.high_number-high.result)) ≡ Some item = rw (
       c.in_ok-code.ensures,
       c.name_text-text.ensures.name,
       c.name_text-unit.ensures.name,
       c.low_number-low.ensures,
       c.high_number-high.ensures,
-    ) refl) (rw (
+    ) refl in
+    let runs = rw (
       c.params-to_sql.ensures,
       c.params-to_sql-2.ensures,
       c.params-to_sql-3.ensures,
@@ -21,45 +29,12 @@ returns-in_err-_count-clause-crash g c =
       c.as_str.ensures.value,
       c.name_text-text.ensures.value,
       c.name_text-unit.ensures.value,
-    ) at c.in_err-_count.ensures.crash)
-
-pub returns-clause-done : goal.returns-clause-done
-returns-clause-done g c = λ clean has new.
-    item_ran (state g.S.Store c.args.conn.now) (state g.S.Store c.run.new.conn) c.args.item.now _ _ _ _ _
-    (rw (
-      c.in_ok-code.ensures,
-      c.name_text-text.ensures.name,
-      c.name_text-unit.ensures.name,
-      c.low_number-low.ensures,
-      c.high_number-high.ensures,
-    ) refl) c.in_ok-_count._count has new
-    (rw (
-      c.params-to_sql.ensures,
-      c.params-to_sql-2.ensures,
-      c.params-to_sql-3.ensures,
-      c.params-to_sql-4.ensures,
-      c.params-to_sql-5.ensures,
-      c.as_str.ensures.value,
-      c.name_text-text.ensures.value,
-      c.name_text-unit.ensures.value,
-    ) at (c.in_ok-_count.ensures.ran clean.disk))
-
-pub returns-clause-crash : goal.returns-clause-crash
-returns-clause-crash g c =
-    item_survives (state g.S.Store c.args.conn.now) (state g.S.Store c.run.new.conn) c.args.item.now _ _ _ _ _
-    (rw (
-      c.in_ok-code.ensures,
-      c.name_text-text.ensures.name,
-      c.name_text-unit.ensures.name,
-      c.low_number-low.ensures,
-      c.high_number-high.ensures,
-    ) refl) (rw (
-      c.params-to_sql.ensures,
-      c.params-to_sql-2.ensures,
-      c.params-to_sql-3.ensures,
-      c.params-to_sql-4.ensures,
-      c.params-to_sql-5.ensures,
-      c.as_str.ensures.value,
-      c.name_text-text.ensures.value,
-      c.name_text-unit.ensures.value,
-    ) at c.in_ok-_count.ensures.crash)
+    ) at c.put_row.ensures in
+    record {
+      clean = runs.clean;
+      «open» = runs.stays_open;
+      done = λ clean has free. on_then c.put_row.result _ _ (runs.ran clean.disk)
+          (λ it. item_ran old new item _ _ _ _ _ is it.0 has free it.1);
+      kept = λ clean has. runs.kept clean has.alone;
+      crash = item_survives old new item _ _ _ _ _ is runs.crash;
+    }

@@ -1,37 +1,12 @@
 use Rattle.std.proofs.Common.{refl}
 use Rattle.sqlite.specs.Held.{state}
 use Rattle.cpi_sql_rows.proofs.QuoteOffice.{quote_ran, quote_survives}
+use Rattle.cpi_sql_writes.proofs.Withins.{on_then}
 use Rattle.cpi_sql_writes.proofs.writes.put_quote.Goals as goal
-
-pub returns-in_err-_count-clause-crash : goal.returns-in_err-_count-clause-crash
-returns-in_err-_count-clause-crash g c =
-    rw (← c.quote.view_is) (quote_survives c.args.bearer (record {
-      slot = c.quote.inside.slot;
-      month = c.quote.inside.month;
-      mark = c.quote.inside.mark;
-      receipt = c.quote.inside.receipt;
-    }) _ _ _ c.month_number-month.ensures
-    (λ id. rw (
-      c.collector_number-collector.ensures.range,
-      c.slot_number-slot.ensures.range,
-      c.month_number-month.ensures,
-      c.mark_value-value.ensures,
-    ) refl) (state g.S.Store c.args.conn.now)
-    (state g.S.Store c.run.new.conn) (rw (
-      c.params-to_sql.ensures,
-      c.params-to_sql-2.ensures,
-      c.params-to_sql-3.ensures,
-      c.params-to_sql-4.ensures,
-      c.params-to_sql-5.ensures,
-      c.params-to_sql-6.ensures,
-      c.collector_number-collector.ensures.value,
-      c.slot_number-slot.ensures.value,
-      c.mark_text-word.ensures,
-    ) at c.in_err-_count.ensures.crash))
 
 pub returns-clause-done : goal.returns-clause-done
 returns-clause-done g c = rw (← c.quote.view_is) (λ clean has.
-    quote_ran c.args.bearer (record {
+    on_then c.put_row.result _ _ (c.put_row.ensures.ran clean.disk) (λ it. quote_ran c.args.bearer (record {
       slot = c.quote.inside.slot;
       month = c.quote.inside.month;
       mark = c.quote.inside.mark;
@@ -43,7 +18,7 @@ returns-clause-done g c = rw (← c.quote.view_is) (λ clean has.
       c.month_number-month.ensures,
       c.mark_value-value.ensures,
     ) refl) (state g.S.Store c.args.conn.now)
-    (state g.S.Store c.run.new.conn) c.in_ok-_count._count has (rw (
+    (state g.S.Store c.put_row.new.conn) it.0 has (rw (
       c.params-to_sql.ensures,
       c.params-to_sql-2.ensures,
       c.params-to_sql-3.ensures,
@@ -53,7 +28,7 @@ returns-clause-done g c = rw (← c.quote.view_is) (λ clean has.
       c.collector_number-collector.ensures.value,
       c.slot_number-slot.ensures.value,
       c.mark_text-word.ensures,
-    ) at (c.in_ok-_count.ensures.ran clean.disk)))
+    ) at it.1)))
 
 pub returns-clause-crash : goal.returns-clause-crash
 returns-clause-crash g c = rw (← c.quote.view_is) (quote_survives c.args.bearer (record {
@@ -68,7 +43,7 @@ returns-clause-crash g c = rw (← c.quote.view_is) (quote_survives c.args.beare
       c.month_number-month.ensures,
       c.mark_value-value.ensures,
     ) refl) (state g.S.Store c.args.conn.now)
-    (state g.S.Store c.run.new.conn) (rw (
+    (state g.S.Store c.put_row.new.conn) (rw (
       c.params-to_sql.ensures,
       c.params-to_sql-2.ensures,
       c.params-to_sql-3.ensures,
@@ -78,4 +53,4 @@ returns-clause-crash g c = rw (← c.quote.view_is) (quote_survives c.args.beare
       c.collector_number-collector.ensures.value,
       c.slot_number-slot.ensures.value,
       c.mark_text-word.ensures,
-    ) at c.in_ok-_count.ensures.crash))
+    ) at c.put_row.ensures.crash))

@@ -5,4 +5,5 @@ use Rattle.cpi_store.proofs.frozen.push_rows.Given as goal
 
 abbrev pub invariant-loop-assigned : goal.invariant-loop-assigned
 invariant-loop-assigned l =
-    l.found.items ≡ l.initial.found.items ++ filter_map (own_row l.month l.ends l.taken l.holder) (take l.assigned-index l.holder.own.assignments)
+    l.found.items ≡ l.initial.found.items ++ filter_map (own_row l.month l.ends l.taken l.holder)
+    (take l.assigned-index l.holder.own.assignments)

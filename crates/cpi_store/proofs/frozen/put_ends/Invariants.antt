@@ -7,4 +7,5 @@ use Rattle.cpi_store.proofs.frozen.put_ends.Given as goal
 
 abbrev pub invariant-loop-assigned : goal.invariant-loop-assigned
 invariant-loop-assigned l =
-    (s : SeriesId) → last_known l.ends s ≡ max (last_known l.initial.ends s) (last_of_series s (given_rows l.taken l.holder.number (take l.assigned-index l.holder.own.assignments)))
+    (s : SeriesId) → last_known l.ends s ≡ max (last_known l.initial.ends s)
+    (last_of_series s (given_rows l.taken l.holder.number (take l.assigned-index l.holder.own.assignments)))

@@ -10,11 +10,13 @@ use Rattle.cpi_store.proofs.Lasts.{last_of_series-append}
 use Rattle.cpi_store.proofs.frozen.series_ends.Goals as goal
 
 -- what one more collector adds
-given_more : (taken : List TakenOver) (hs : List Holder) (i : ℕ) (h : Holder) → i < length hs → h ≡ get_or hs i h → all_given taken (take (i + 1) hs) ≡ all_given taken (take i hs) ++ own_given taken h
+given_more : (taken : List TakenOver) (hs : List Holder) (i : ℕ) (h : Holder) → i < length hs → h ≡ get_or hs i h →
+    all_given taken (take (i + 1) hs) ≡ all_given taken (take i hs) ++ own_given taken h
 given_more taken hs i h lt is =
     ap (all_given taken) (take_more hs i h lt)
     ∙ all_given-append taken (take i hs) (get_or hs i h ∷ [])
-    ∙ ap (λ ys. all_given taken (take i hs) ++ ys) (all_given-cons taken (get_or hs i h) [] ∙ append-nil (own_given taken (get_or hs i h)))
+    ∙ ap (λ ys. all_given taken (take i hs) ++ ys)
+    (all_given-cons taken (get_or hs i h) [] ∙ append-nil (own_given taken (get_or hs i h)))
     ∙ ap (λ g. all_given taken (take i hs) ++ own_given taken g) (sym is)
 
 pub loop-holder-preserved : goal.loop-holder-preserved

@@ -5,4 +5,5 @@ use Rattle.cpi_store.specs.Holders.{all_given}
 use Rattle.cpi_store.proofs.frozen.series_ends.Given as goal
 
 abbrev pub invariant-loop-holder : goal.invariant-loop-holder
-invariant-loop-holder l = (s : SeriesId) → last_known l.ends s ≡ last_of_series s (all_given l.taken (take l.holder-index l.holders))
+invariant-loop-holder l = (s : SeriesId) → last_known l.ends s ≡ last_of_series s
+    (all_given l.taken (take l.holder-index l.holders))

@@ -15,13 +15,16 @@ loop-release-preserved c =
     let x = c.release-item.result in
     let month = c.args.month in
     let until = c.args.until in
-    let more = take_more rs i x c.loop-release-test.true ∙ ap (λ (z : Release). take i rs ++ z ∷ []) (sym c.release-item.is) in
+    let more = take_more rs i x c.loop-release-test.true
+    ∙ ap (λ (z : Release). take i rs ++ z ∷ []) (sym c.release-item.is) in
     let told = ap (λ xs. option_map (λ (t : PublishedTable). t.revision) (table_until month None until xs)) more in
     elim c.if-is_due.branch [
       | then-is_due w ↦
           let is : wanted month None until x ≡ true = search rules in
-          w.found-is ∙ sym (told ∙ ap (option_map (λ (t : PublishedTable). t.revision)) (table_wanted month None until (take i rs) x is))
+          w.found-is ∙ sym (told ∙ ap (option_map (λ (t : PublishedTable). t.revision))
+          (table_wanted month None until (take i rs) x is))
       | else-is_due w ↦
           let is : wanted month None until x ≡ false = search rules in
-          w.found-is ∙ c.loop-release.invariant ∙ sym (told ∙ ap (option_map (λ (t : PublishedTable). t.revision)) (table_unwanted month None until (take i rs) x is))
+          w.found-is ∙ c.loop-release.invariant ∙ sym (told ∙ ap (option_map (λ (t : PublishedTable). t.revision))
+          (table_unwanted month None until (take i rs) x is))
     ]

@@ -7,7 +7,8 @@ use Rattle.cpi_release.specs.declared.release.Release.{Release}
 use Rattle.cpi_store.specs.Tables.{table_until, wanted}
 use Rattle.cpi_store.proofs.PublishedTables.{table_wanted, table_unwanted, wanted_named, wanted_other}
 use Rattle.cpi_store.proofs.releases.table_until.Goals as goal
-use Rattle.cpi_store.proofs.releases.table_until.Goals.{then-eq+then-is_due, else-eq, else-eq-via-then-eq+else-is_due, else-eq-via-else-eq}
+use Rattle.cpi_store.proofs.releases.table_until.Goals.{then-eq+then-is_due, else-eq, else-eq-via-then-eq+else-is_due}
+use Rattle.cpi_store.proofs.releases.table_until.Goals.{else-eq-via-else-eq}
 
 pub loop-release-preserved : goal.loop-release-preserved
 loop-release-preserved c =
@@ -17,16 +18,22 @@ loop-release-preserved c =
     let month = c.args.month in
     let revision = c.args.revision in
     let until = c.args.until in
-    let more = take_more rs i x c.loop-release-test.true ∙ ap (λ (z : Release). take i rs ++ z ∷ []) (sym c.release-item.is) in
-    let told = ap (λ xs. option_map (λ (t : PublishedTable). t.levels) (table_until month (Some revision) until xs)) more in
-    let kept : wanted month (Some revision) until x ≡ false → option_map (λ (t : PublishedTable). t.levels) (table_until month (Some revision) until (take i rs)) ≡ option_map (λ (t : PublishedTable). t.levels) (table_until month (Some revision) until (take (i + 1) rs)) =
-    λ unwanted. sym (told ∙ ap (option_map (λ (t : PublishedTable). t.levels)) (table_unwanted month (Some revision) until (take i rs) x unwanted)) in
+    let more = take_more rs i x c.loop-release-test.true
+    ∙ ap (λ (z : Release). take i rs ++ z ∷ []) (sym c.release-item.is) in
+    let told = ap (λ xs. option_map (λ (t : PublishedTable). t.levels) (table_until month (Some revision) until xs))
+    more in
+    let kept : wanted month (Some revision) until x ≡ false →
+    option_map (λ (t : PublishedTable). t.levels) (table_until month (Some revision) until (take i rs)) ≡
+    option_map (λ (t : PublishedTable). t.levels) (table_until month (Some revision) until (take (i + 1) rs)) =
+    λ unwanted. sym (told ∙ ap (option_map (λ (t : PublishedTable). t.levels))
+    (table_unwanted month (Some revision) until (take i rs) x unwanted)) in
     elim c.if-eq.branch [
       | then-eq+then-is_due w ↦
           let named : (x.revision == revision) ≡ true = search rules in
           let due : wanted month None until x ≡ true = search rules in
           let is = wanted_named month revision until x named ∙ due in
-          ap option_copied w.found-is ∙ sym (told ∙ ap (option_map (λ (t : PublishedTable). t.levels)) (table_wanted month (Some revision) until (take i rs) x is))
+          ap option_copied w.found-is ∙ sym (told ∙ ap (option_map (λ (t : PublishedTable). t.levels))
+          (table_wanted month (Some revision) until (take i rs) x is))
       | else-eq w ↦
           ap option_copied w.found-is ∙ c.loop-release.invariant ∙ elim w.else-eq.branch [
             | else-eq-via-then-eq+else-is_due v ↦

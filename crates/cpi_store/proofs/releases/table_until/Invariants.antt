@@ -7,4 +7,5 @@ use Rattle.cpi_store.proofs.releases.table_until.Given as goal
 -- the one that is asked for among those before
 abbrev pub invariant-loop-release : goal.invariant-loop-release
 invariant-loop-release l =
-    option_copied l.found ≡ option_map (λ t. t.levels) (table_until l.month (Some l.revision) l.until (take l.release-index l.releases))
+    option_copied l.found ≡ option_map (λ t. t.levels)
+    (table_until l.month (Some l.revision) l.until (take l.release-index l.releases))

@@ -5,7 +5,11 @@ use Rattle.cpi_survey.proofs.BySlot.{none_by_slot, put_next}
 use Rattle.cpi_survey.proofs.slots.by_slot.Goals as goal
 
 pub loop-quote-init : goal.loop-quote-init
-loop-quote-init c = record { slots = rw c.new-slots.ensures.items none_by_slot; quotes = rw c.new-slots.ensures.items refl }
+loop-quote-init c = record {
+  slots = rw c.new-slots.ensures.items none_by_slot;
+  quotes =
+      rw c.new-slots.ensures.items refl;
+}
 
 pub loop-quote-preserved : goal.loop-quote-preserved
 loop-quote-preserved c = record {
@@ -13,5 +17,6 @@ loop-quote-preserved c = record {
   quotes =
       c.in_ok-put_quote.ensures.ok
       ∙ ap (put quote_cmp quote_key c.quote-item.result) c.loop-quote.invariant.quotes
-      ∙ put_next c.args.quotes.now c.loop-quote.quote-index c.quote-item.result c.requires c.loop-quote-test.true c.quote-item.is;
+      ∙ put_next c.args.quotes.now c.loop-quote.quote-index c.quote-item.result c.requires c.loop-quote-test.true
+      c.quote-item.is;
 }

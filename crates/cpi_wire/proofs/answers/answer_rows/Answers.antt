@@ -17,7 +17,8 @@ returns-in_err-failed-clause-err g c =
 pub loop-row-preserved : goal.loop-row-preserved
 loop-row-preserved g c =
     let told = c.in_ok-failed.ensures in
-    so-far-more _ _ _ _ _ _ _ _ _ _ _ _ _ _ c.in-Some.row told.0 c.loop-row.invariant c.in-Some.ensures.items told.1 told.2 told.3
+    so-far-more _ _ _ _ _ _ _ _ _ _ _ _ _ _ c.in-Some.row told.0 c.loop-row.invariant c.in-Some.ensures.items told.1
+    told.2 told.3
 
 pub returns-clause-ok : goal.returns-clause-ok
 returns-clause-ok g c =

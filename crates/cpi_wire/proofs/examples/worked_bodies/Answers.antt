@@ -13,7 +13,8 @@ use Rattle.cpi_wire.specs.PlanBody.{body_of}
 use Rattle.cpi_wire.proofs.examples.worked_bodies.Goals as goal
 
 pub returns-clause-any_order : goal.returns-clause-any_order
-unfolding next_record records_from strip_bom body_of two_or_three code_of item_code_of is_name is_utf8 chars encode number_of digits
+unfolding next_record records_from strip_bom body_of two_or_three code_of item_code_of is_name is_utf8 chars encode
+    number_of digits
 returns-clause-any_order c = refl
 
 pub returns-clause-two_references : goal.returns-clause-two_references

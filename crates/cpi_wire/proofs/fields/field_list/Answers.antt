@@ -11,6 +11,7 @@ loop-i-preserved c =
     let fs = fields_of c.args.row.now in
     let i = c.loop-i.i in
     elim c.match-get.branch [
-      | in-Some+in_ok-push w ↦ rw (w.fields-is, w.in_ok-push.ensures.items, map-append, c.loop-i.invariant) (sym (field-more fs i _ (sym w.in-Some.ensures.value)))
+      | in-Some+in_ok-push w ↦ rw (w.fields-is, w.in_ok-push.ensures.items, map-append, c.loop-i.invariant)
+          (sym (field-more fs i _ (sym w.in-Some.ensures.value)))
       | in_default w ↦ absurd (field-there fs i (search rules) (sym w.in_default.ensures.value))
     ]

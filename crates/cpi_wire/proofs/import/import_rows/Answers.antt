@@ -1,4 +1,5 @@
-use Rattle.std.proofs.Common.{◌≡◌, rules, refl, ℕ, List, [], ◌∷◌, ◌++◌, ◌<◌, ◌≤◌, length, map, Some, None, arith, nat_lt, true, false, length-append}
+use Rattle.std.proofs.Common.{◌≡◌, rules, refl, ℕ, List, [], ◌∷◌, ◌++◌, ◌<◌, ◌≤◌, length, map, Some, None, arith}
+use Rattle.std.proofs.Common.{nat_lt, true, false, length-append}
 use Rattle.std.proofs.lemmas.List.{map-append}
 use Rattle.std.proofs.lemmas.Bool.Decides.{nat_tests}
 use Rattle.csv.specs.Records.{fields_of}
@@ -14,14 +15,18 @@ not-more n h = grind (arith, nat_tests)
 is-more : (n : ℕ) → 20000 < n → nat_lt 20000 n ≡ true
 is-more n h = grind (arith, nat_tests)
 
-few-rows : (zone : ZoneRule) (body : List ℕ) (given : List Record) → given ≡ records_of body → length given ≤ 20000 → Some (map (row_request zone) given) ≡ rows_of zone body
+few-rows : (zone : ZoneRule) (body : List ℕ) (given : List Record) → given ≡ records_of body → length given ≤ 20000 →
+    Some (map (row_request zone) given) ≡ rows_of zone body
 unfolding rows_of
-few-rows zone body given e h = let t : nat_lt 20000 (length (records_of body)) ≡ false = rw (← e) (not-more (length given) h) in rw (t, e) refl
+few-rows zone body given e h = let t : nat_lt 20000 (length (records_of body)) ≡ false =
+    rw (← e) (not-more (length given) h) in rw (t, e) refl
 
-many-rows : (zone : ZoneRule) (body : List ℕ) (given : List Record) → AreFirst given body → 20000 < length given → None ≡ rows_of zone body
+many-rows : (zone : ZoneRule) (body : List ℕ) (given : List Record) → AreFirst given body → 20000 < length given →
+    None ≡ rows_of zone body
 unfolding rows_of
 many-rows zone body given first h =
-    let t : nat_lt 20000 (length (records_of body)) ≡ true = is-more _ (rw (first.1, length-append) (omega arith)) in rw t refl
+    let t : nat_lt 20000 (length (records_of body)) ≡ true = is-more _ (rw (first.1, length-append) (omega arith)) in
+    rw t refl
 
 pub returns-then-not-branch : goal.returns-then-not-branch
 returns-then-not-branch c =
@@ -37,7 +42,12 @@ loop-preserved c =
     let one : c.in_ok-next_row.field-0 ≡ true = search rules in (
       inv.0 ++ f ∷ [],
       (rw one at c.in_ok-next_row.ensures) (Some c.args.body.now) inv.0 inv.1,
-      rw (c.in_ok-push.ensures.items, inv.2, c.in_ok-record_request.ensures, map-append (row_request c.args.zone.now) inv.0 (f ∷ [])) refl,
+      rw (
+        c.in_ok-push.ensures.items,
+        inv.2,
+        c.in_ok-record_request.ensures,
+        map-append (row_request c.args.zone.now) inv.0 (f ∷ []),
+      ) refl,
       let count = inv.3 in rw length-append (omega arith),
     )
 
@@ -48,7 +58,8 @@ returns-then-branch c =
     let one : c.in_ok-next_row-2.field-0 ≡ true = search rules in
     let next = (rw one at c.in_ok-next_row-2.ensures) (Some c.args.body.now) inv.0 inv.1 in
     let first = at-front _ (Some c.args.body.now) (inv.0 ++ f ∷ []) c.next_row-2.new.reader next in
-    let count = inv.3 in many-rows c.args.zone.now c.args.body.now (inv.0 ++ f ∷ []) first (rw length-append (omega arith))
+    let count = inv.3 in many-rows c.args.zone.now c.args.body.now (inv.0 ++ f ∷ []) first
+    (rw length-append (omega arith))
 
 pub returns : goal.returns
 returns c =

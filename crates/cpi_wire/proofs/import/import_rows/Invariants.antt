@@ -6,4 +6,5 @@ use Rattle.cpi_wire.proofs.import.import_rows.Given as goal
 
 -- the rows are those of the records that were read so far
 abbrev pub invariant-loop : goal.invariant-loop
-invariant-loop l = (given : List Record) × IsAt (λ s. Some s.now) (Some l.fn.body) given l.reader × (l.rows.items ≡ map (row_request l.fn.zone) given) × (length given ≡ l.counter)
+invariant-loop l = (given : List Record) × IsAt (λ s. Some s.now) (Some l.fn.body) given l.reader
+    × (l.rows.items ≡ map (row_request l.fn.zone) given) × (length given ≡ l.counter)

@@ -8,4 +8,5 @@ returns g c =
     let f = c.flexible.ensures in
     let h = c.has_headers.ensures in
     let n = c.new.ensures in
-    at-start _ _ _ (rw (f, h) at fr.trim ∙ n.trim) (inr (inr (rw (f, h) at fr.has_headers, fr.headers))) (rw (f, h) at fr.config ∙ n.config) fr.state fr.source
+    at-start _ _ _ (rw (f, h) at fr.trim ∙ n.trim) (inr (inr (rw (f, h) at fr.has_headers, fr.headers)))
+    (rw (f, h) at fr.config ∙ n.config) fr.state fr.source

@@ -20,7 +20,8 @@ more-rows text row other first = ap only (sym first.1)
 pub returns-then-not-branch : goal.returns-then-not-branch
 returns-then-not-branch c =
     let none : c.in_ok-next_row.field-0 ≡ false = search rules in
-    no-row c.args.text.now ((rw none at c.in_ok-next_row.ensures) (Some c.args.text.now) [] c.record_reader-reader.ensures)
+    no-row c.args.text.now ((rw none at c.in_ok-next_row.ensures)
+    (Some c.args.text.now) [] c.record_reader-reader.ensures)
 
 pub returns-then-branch : goal.returns-then-branch
 returns-then-branch c =

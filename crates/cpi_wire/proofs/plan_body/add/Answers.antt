@@ -15,4 +15,5 @@ returns-in_ok-push-in-Place c = λ rows e.
 
 pub returns-in_ok-push-in-Reference : goal.returns-in_ok-push-in-Reference
 returns-in_ok-push-in-Reference c = λ rows e.
-    rw (c.in_ok-push-in-Reference.ensures.ok, c.in-Reference.is) (with-reference c.args.body.now rows c.in-Reference.month e)
+    rw (c.in_ok-push-in-Reference.ensures.ok, c.in-Reference.is)
+    (with-reference c.args.body.now rows c.in-Reference.month e)

@@ -7,5 +7,6 @@ use Rattle.cpi_wire.proofs.plan_body.plan_body.Given as goal
 
 -- the body has the rows of the records that were read so far
 abbrev pub invariant-loop : goal.invariant-loop
-invariant-loop l = (given : List Record) × (rows : List PlanRow) × IsAt (λ s. Some s.now) (Some l.fn.text) given l.reader × (plan_rows given ≡ Some rows)
+invariant-loop l = (given : List Record) × (rows : List PlanRow)
+    × IsAt (λ s. Some s.now) (Some l.fn.text) given l.reader × (plan_rows given ≡ Some rows)
     × (l.body ≡ told_by rows) × (length given ≡ l.counter)

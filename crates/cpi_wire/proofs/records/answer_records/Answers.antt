@@ -29,7 +29,8 @@ returns-in_err-next_record-clause-err g c =
     let inv = c.loop.invariant in
     let n = inv.5 in
     let p = err_from_is_err_and c.from_residual.result c.from_residual.ensures.1 in
-    rw (p.1, p.2) (λ input at. gave-up-between _ _ _ _ _ _ _ _ inv.0 inv.1 c.in_err-next_record.ensures.err (omega (arith, n)) (at-front _ _ inv.0 _ (inv.2 input at)) inv.3 inv.4)
+    rw (p.1, p.2) (λ input at. gave-up-between _ _ _ _ _ _ _ _ inv.0 inv.1 c.in_err-next_record.ensures.err
+    (omega (arith, n)) (at-front _ _ inv.0 _ (inv.2 input at)) inv.3 inv.4)
 
 pub returns-in_err-line-clause-err : goal.returns-in_err-line-clause-err
 returns-in_err-line-clause-err g c =
@@ -59,14 +60,17 @@ pub returns-in_err-next_record-2-clause-err : goal.returns-in_err-next_record-2-
 returns-in_err-next_record-2-clause-err g c =
     let inv = c.loop.invariant in
     let n = inv.5 in
-    let p = err_from_is_err_and c.from_residual-in_err-next_record-2.result c.from_residual-in_err-next_record-2.ensures.1 in
-    rw (p.1, p.2) (λ input at. gave-up-between _ _ _ _ _ _ _ _ inv.0 inv.1 c.in_err-next_record-2.ensures.err (omega (arith, n)) (at-front _ _ inv.0 _ (inv.2 input at)) inv.3 inv.4)
+    let p = err_from_is_err_and c.from_residual-in_err-next_record-2.result
+    c.from_residual-in_err-next_record-2.ensures.1 in
+    rw (p.1, p.2) (λ input at. gave-up-between _ _ _ _ _ _ _ _ inv.0 inv.1 c.in_err-next_record-2.ensures.err
+    (omega (arith, n)) (at-front _ _ inv.0 _ (inv.2 input at)) inv.3 inv.4)
 
 pub returns-then-branch-clause-err : goal.returns-then-branch-clause-err
 returns-then-branch-clause-err g c =
     let inv = c.loop.invariant in
     let n = inv.5 in
-    λ input at. gave-up-between _ _ _ _ _ _ _ _ inv.0 inv.1 (λ e. cc) (omega (arith, n)) (at-front _ _ inv.0 _ (inv.2 input at)) inv.3 inv.4
+    λ input at. gave-up-between _ _ _ _ _ _ _ _ inv.0 inv.1 (λ e. cc) (omega (arith, n))
+    (at-front _ _ inv.0 _ (inv.2 input at)) inv.3 inv.4
 
 pub returns-then-not-branch-clause-ok : goal.returns-then-not-branch-clause-ok
 returns-then-not-branch-clause-ok g c = λ input at.

@@ -8,7 +8,8 @@ use Rattle.cpi_wire.proofs.records.answer_records.Given as goal
 -- the records so far were answered, and their lines written
 abbrev pub invariant-loop : goal.invariant-loop
 invariant-loop g l = (rows : List Record) × (replies : List Answer)
-    × ((input : Option (List ℕ)) → IsAt g.R.Read.remaining input [] l.fn.records → IsAt g.R.Read.remaining input rows l.records)
+    × ((input : Option (List ℕ)) → IsAt g.R.Read.remaining input [] l.fn.records →
+    IsAt g.R.Read.remaining input rows l.records)
     × AnswersAll l.fn.zone g.B.Book.state l.fn.office.book rows replies l.office.book
     × Told replies (g.W.Write.contents l.fn.writer) (g.W.Write.contents l.writer)
     × (length rows ≡ l.counter)

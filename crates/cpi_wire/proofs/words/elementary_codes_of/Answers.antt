@@ -11,7 +11,8 @@ pub returns-in_default : goal.returns-in_default
 returns-in_default c =
     let found = c.loop-text.found.items in
     sym (behind-bad found _ _ (sym c.elementary_code_of.ensures ∙ c.in_default.is))
-    ∙ sym (at_drop_more (λ texts. behind found (elementary_codes (map (λ t. t.now) texts))) c.args.texts.now _ _ c.loop-text-test.true)
+    ∙ sym (at_drop_more (λ texts. behind found (elementary_codes (map (λ t. t.now) texts))) c.args.texts.now _ _
+    c.loop-text-test.true)
     ∙ c.loop-text.invariant
 
 pub loop-text-preserved : goal.loop-text-preserved
@@ -19,7 +20,8 @@ loop-text-preserved c =
     let found = c.loop-text.found.items in
     rw c.in_ok-push.ensures.items
     (sym (behind-more found _ c.in-Some.code _ (sym c.elementary_code_of.ensures ∙ c.in-Some.is))
-    ∙ sym (at_drop_more (λ texts. behind found (elementary_codes (map (λ t. t.now) texts))) c.args.texts.now _ _ c.loop-text-test.true)
+    ∙ sym (at_drop_more (λ texts. behind found (elementary_codes (map (λ t. t.now) texts))) c.args.texts.now _ _
+    c.loop-text-test.true)
     ∙ c.loop-text.invariant)
 
 pub returns : goal.returns
@@ -27,5 +29,6 @@ returns c =
     let found = c.loop-text.found.items in
     ap (λ codes. Some codes) c.of.ensures
     ∙ sym (behind-all found)
-    ∙ sym (at_drop_all (λ texts. behind found (elementary_codes (map (λ t. t.now) texts))) c.args.texts.now _ c.loop-text-test.false)
+    ∙ sym (at_drop_all (λ texts. behind found (elementary_codes (map (λ t. t.now) texts))) c.args.texts.now _
+    c.loop-text-test.false)
     ∙ c.loop-text.invariant

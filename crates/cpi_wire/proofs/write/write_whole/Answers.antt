@@ -11,5 +11,6 @@ loop-at-preserved g c =
     let room = rw (take_rest, length-drop) at c.in-Ok.ensures.bound in
     record {
       in_range = omega (arith, room);
-      written = rw take-add (Appends-trans _ _ _ (take at text) (take c.in-Ok.n (drop at text)) c.loop-at.invariant.written (rw take_rest at c.in-Ok.ensures.bytes));
+      written = rw take-add (Appends-trans _ _ _ (take at text)
+          (take c.in-Ok.n (drop at text)) c.loop-at.invariant.written (rw take_rest at c.in-Ok.ensures.bytes));
     }

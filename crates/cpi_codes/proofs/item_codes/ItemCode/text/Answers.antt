@@ -17,4 +17,5 @@ returns c =
     let code = c.self.invariant.1 in
     let bytes = c.bytes_of.ensures text code in
     let kept = kept-filled text (text-of-code text c.self.inside.value code).0 in
-    IfOk-weaker c.text_of.result _ _ (λ s e. ap item_code_of (e ∙ ap (filter is_no_zero) bytes ∙ kept) ∙ code ∙ ap Some c.self.view_is) c.text_of.ensures
+    IfOk-weaker c.text_of.result _ _ (λ s e. ap item_code_of (e ∙ ap (filter is_no_zero) bytes ∙ kept) ∙ code
+    ∙ ap Some c.self.view_is) c.text_of.ensures

@@ -13,4 +13,5 @@ invariant_of-result g c = λ clean. record {
 }
 
 pub returns-in-Err-clause-unknown : goal.returns-in-Err-clause-unknown
-returns-in-Err-clause-unknown g c = λ clean is_unknown. c.open_office-found.ensures.unknown clean (c.in-Err.is ∙ ap Err is_unknown)
+returns-in-Err-clause-unknown g c = λ clean is_unknown. c.open_office-found.ensures.unknown clean
+    (c.in-Err.is ∙ ap Err is_unknown)

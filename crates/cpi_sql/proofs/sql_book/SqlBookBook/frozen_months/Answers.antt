@@ -1,54 +1,23 @@
-use Rattle.std.proofs.Common.{arith}
+use Rattle.std.proofs.Common.{sym, ap, ◌∙◌, arith}
 use Rattle.sqlite.specs.Held.{state}
-use Rattle.cpi_sql.proofs.Calls.{reads, read_fails}
-use Rattle.cpi_sql.proofs.Followed.{look_sound, tables_of}
+use Rattle.cpi_release.specs.FrozenMonths.{frozen_months}
+use Rattle.cpi_store.specs.Office.{Office}
+use Rattle.cpi_sql_reads.specs.Headers.{months_of}
+use Rattle.cpi_sql_reads.proofs.HeaderLists.{months_are}
+use Rattle.cpi_sql.proofs.Calls.{then_shown, then_refused}
 use Rattle.cpi_sql.proofs.sql_book.SqlBookBook.frozen_months.Goals as goal
 
-pub invariant_of-self : goal.invariant_of-self
-invariant_of-self g c =
-    look_sound (state g.S.Store c.self.inside.conn)
-    (state g.S.Store c.all_months.new.conn) _ _ c.all_months.ensures.look c.self.invariant
-    (λ clean st. record {
-      tables = st.tables;
-      survey = st.survey;
-      releases = record {
-        headers = c.all_months.ensures.headers clean st.tables st.releases.headers;
-        tables = st.releases.tables;
-        samples = st.releases.samples;
-      };
-    })
+pub returns-in-Ok-clause-reads : goal.returns-in-Ok-clause-reads
+returns-in-Ok-clause-reads g c =
+    let now = state g.S.Store c.self.inside.conn in
+    let ready = rw (← c.self.view_is) at c.in_ok-ready_headers.ensures.ready in
+    let reads = rw (← c.self.view_is) at c.in_ok-ready_headers.ensures.reads in
+    rw (← c.self.view_is) (then_shown _ _ _ _ _ reads (λ clean.
+    c.in-Ok.ensures ∙ ap months_of (c.deref.ensures.value ∙ (c.self.invariant clean).releases.headers ready)
+    ∙ sym (months_are now.now.trees) ∙ ap (λ (o : Office). frozen_months o.releases) (reads.keeps.kept clean)))
 
-pub invariant_of-self-in-Err : goal.invariant_of-self-in-Err
-invariant_of-self-in-Err g c =
-    look_sound (state g.S.Store c.self.inside.conn)
-    (state g.S.Store c.all_months.new.conn) _ _ c.all_months.ensures.look c.self.invariant
-    (λ clean st. record {
-      tables = st.tables;
-      survey = st.survey;
-      releases = record {
-        headers = c.all_months.ensures.headers clean st.tables st.releases.headers;
-        tables = st.releases.tables;
-        samples = st.releases.samples;
-      };
-    })
-
-pub returns-in-Ok : goal.returns-in-Ok
-returns-in-Ok g c =
-    let old = state g.S.Store c.self.inside.conn in
-    let new = state g.S.Store c.all_months.new.conn in
-    rw (← c.self.view_is) (record {
-      reads = reads old new c.self.inside.failed.count
-          (tables_of old _ c.self.invariant) _ _ c.all_months.ensures.look c.in-Ok.ensures.open (λ clean.
-          let st = c.self.invariant (c.all_months.ensures.look.clean clean) in
-          c.in-Ok.ensures.read clean st.tables st.releases.headers);
-    })
-
-pub returns-in-Err : goal.returns-in-Err
-returns-in-Err g c =
-    let old = state g.S.Store c.self.inside.conn in
-    let new = state g.S.Store c.all_months.new.conn in
-    rw (← c.self.view_is)
-    (record {
-      reads = read_fails old new c.self.inside.failed.count
-          (tables_of old _ c.self.invariant) _ _ _ c.all_months.ensures.look (omega (arith, c.counted.ensures.count));
-    })
+pub returns-in-Err-clause-reads : goal.returns-in-Err-clause-reads
+returns-in-Err-clause-reads g c =
+    let reads = rw (← c.self.view_is) at c.in_ok-ready_headers.ensures.reads in
+    then_refused _ _ _ (state g.S.Store c.self.inside.conn) c.self.inside.failed.count _ _ reads
+    (omega (arith, c.counted.ensures.count))

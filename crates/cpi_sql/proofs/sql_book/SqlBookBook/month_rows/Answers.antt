@@ -1,48 +1,22 @@
-use Rattle.std.proofs.Common.{arith}
+use Rattle.std.proofs.Common.{◌≡◌, true, ap, arith, subst, ◌∙◌}
 use Rattle.sqlite.specs.Held.{state}
-use Rattle.cpi_sql.proofs.Calls.{reads, read_fails}
-use Rattle.cpi_sql.proofs.Followed.{look_sound, tables_of}
+use Rattle.cpi_index.specs.Series.{frozen_serial, is_by_series}
+use Rattle.cpi_store.specs.Office.{Office, month_rows}
+use Rattle.cpi_sql_rows.specs.Shelf.{survey_of}
+use Rattle.cpi_sql.proofs.Calls.{then_shown, then_refused}
 use Rattle.cpi_sql.proofs.sql_book.SqlBookBook.month_rows.Goals as goal
 
-pub invariant_of-self : goal.invariant_of-self
-invariant_of-self g c =
-    look_sound (state g.S.Store c.self.inside.conn) (state g.S.Store c.quotes_of_month.new.conn) _ _ c.quotes_of_month.ensures.look
-    c.self.invariant
-    (λ clean st. record {
-      tables = st.tables;
-      survey = c.quotes_of_month.ensures.survey clean st.tables st.survey;
-      releases = st.releases;
-    })
+pub returns-in-Ok-clause-reads : goal.returns-in-Ok-clause-reads
+returns-in-Ok-clause-reads g c =
+    let ready = rw (← c.self.view_is) at c.in_ok-ready_survey.ensures.ready in
+    let reads = rw (← c.self.view_is) at c.in_ok-ready_survey.ensures.reads in
+    rw (← c.self.view_is) (then_shown _ _ _ _ _ reads (λ clean.
+    subst (λ (o : Office). is_by_series frozen_serial (month_rows c.args.month o) ≡ true →
+    c.in-Ok.found.items ≡ month_rows c.args.month o)
+    ((c.self.invariant clean).survey ready ∙ ap survey_of (reads.keeps.kept clean)) c.in-Ok.ensures))
 
-pub invariant_of-self-in-Err : goal.invariant_of-self-in-Err
-invariant_of-self-in-Err g c =
-    look_sound (state g.S.Store c.self.inside.conn) (state g.S.Store c.quotes_of_month.new.conn) _ _ c.quotes_of_month.ensures.look
-    c.self.invariant
-    (λ clean st. record {
-      tables = st.tables;
-      survey = c.quotes_of_month.ensures.survey clean st.tables st.survey;
-      releases = st.releases;
-    })
-
-pub returns-in-Ok : goal.returns-in-Ok
-returns-in-Ok g c =
-    let old = state g.S.Store c.self.inside.conn in
-    let new = state g.S.Store c.quotes_of_month.new.conn in
-    rw (← c.self.view_is) (record {
-      reads = reads old new c.self.inside.failed.count (tables_of old _ c.self.invariant) _ _ c.quotes_of_month.ensures.look
-          c.in-Ok.ensures.open (λ clean.
-          let st = c.self.invariant (c.quotes_of_month.ensures.look.clean clean) in
-          c.in-Ok.ensures.read clean st.tables st.survey);
-      taken = λ clean unread. c.in-Ok.ensures.taken clean (c.self.invariant (c.quotes_of_month.ensures.look.clean clean)).tables
-          unread;
-    })
-
-pub returns-in-Err : goal.returns-in-Err
-returns-in-Err g c =
-    let old = state g.S.Store c.self.inside.conn in
-    let new = state g.S.Store c.quotes_of_month.new.conn in
-    rw (← c.self.view_is) (record {
-      reads = read_fails old new c.self.inside.failed.count (tables_of old _ c.self.invariant) _ _ _
-          c.quotes_of_month.ensures.look (omega (arith, c.counted.ensures.count));
-      taken = λ _ _. tt;
-    })
+pub returns-in-Err-clause-reads : goal.returns-in-Err-clause-reads
+returns-in-Err-clause-reads g c =
+    let reads = rw (← c.self.view_is) at c.in_ok-ready_survey.ensures.reads in
+    then_refused _ _ _ (state g.S.Store c.self.inside.conn) c.self.inside.failed.count _ _ reads
+    (omega (arith, c.counted.ensures.count))

@@ -46,7 +46,8 @@ invariant_of-self g c =
     let was = c.put_handover.ensures.clean clean in
     let before = c.self.invariant was in
     survey_stands (HandsOver c.args.handover) old new _ _ _ (λ o. refl) (λ o. refl)
-    (c.in-Ok.ensures.done clean before.tables (record { stands = stands was; free = free was })) before c.follow_handover.ensures
+    (c.in-Ok.ensures.done clean before.tables (record { stands = stands was; free = free was })) before
+    c.follow_handover.ensures
 
 pub invariant_of-self-in-Err-1 : goal.invariant_of-self-in-Err-1
 invariant_of-self-in-Err-1 g c =

@@ -13,7 +13,8 @@ returns g c =
     rw (← c.self.view_is) (record {
       writes = write_fails old new c.self.inside.failed.count
           (tables_of old _ c.self.invariant) _ _ c.put_release.ensures.crash c.put_release.ensures.clean
-          (λ clean db made. made (tables_of old _ c.self.invariant clean) (owed clean (releases_ordered old.now.trees))) _ _ (omega (
+          (λ clean db made. made (tables_of old _ c.self.invariant clean)
+          (owed clean (releases_ordered old.now.trees))) _ _ (omega (
             arith,
             c.counted.ensures.count,
           )) c.in-Err.ensures.kept;
@@ -27,10 +28,12 @@ returns-in-Ok g c =
     rw (← c.self.view_is) (record {
       writes = writes old new c.self.inside.failed.count
           (tables_of old _ c.self.invariant) _ _ c.put_release.ensures.crash c.put_release.ensures.clean
-          (λ clean db made. made (tables_of old _ c.self.invariant clean) (owed clean (releases_ordered old.now.trees))) _
+          (λ clean db made. made (tables_of old _ c.self.invariant clean)
+          (owed clean (releases_ordered old.now.trees))) _
           (λ disk _. c.in-Ok.ensures.open disk)
           (λ clean. let was = c.put_release.ensures.clean clean in
-          let done = c.in-Ok.ensures.done clean (tables_of old _ c.self.invariant was) (owed was (releases_ordered old.now.trees)) in
+          let done = c.in-Ok.ensures.done clean (tables_of old _ c.self.invariant was)
+          (owed was (releases_ordered old.now.trees)) in
           (done.tables, done.office)) c.settle.ensures;
     })
 

@@ -1,56 +1,22 @@
-use Rattle.std.proofs.Common.{arith}
+use Rattle.std.proofs.Common.{None, sym, ap, ◌∙◌}
+use Rattle.std.specs.Prelude.{option_map}
 use Rattle.sqlite.specs.Held.{state}
-use Rattle.cpi_sql.proofs.Calls.{reads, read_fails}
-use Rattle.cpi_sql.proofs.Followed.{look_sound, tables_of}
+use Rattle.cpi_release.specs.PublishedTables.{PublishedTable}
+use Rattle.cpi_store.specs.Office.{Office}
+use Rattle.cpi_store.specs.Tables.{table_until}
+use Rattle.cpi_sql_reads.specs.Headers.{revision_published}
+use Rattle.cpi_sql_reads.proofs.HeaderLists.{revision_is}
+use Rattle.cpi_sql.proofs.Calls.{then_shown}
 use Rattle.cpi_sql.proofs.sql_book.SqlBookBook.revision_until.Goals as goal
 
-pub invariant_of-self : goal.invariant_of-self
-invariant_of-self g c =
-    look_sound (state g.S.Store c.self.inside.conn)
-    (state g.S.Store c.find_revision.new.conn) _ _ c.find_revision.ensures.look c.self.invariant
-    (λ clean st. record {
-      tables = st.tables;
-      survey = st.survey;
-      releases = record {
-        headers = c.find_revision.ensures.headers clean st.tables st.releases.headers;
-        tables = st.releases.tables;
-        samples = st.releases.samples;
-      };
-    })
-
-pub invariant_of-self-in-Err : goal.invariant_of-self-in-Err
-invariant_of-self-in-Err g c =
-    look_sound (state g.S.Store c.self.inside.conn)
-    (state g.S.Store c.find_revision.new.conn) _ _ c.find_revision.ensures.look c.self.invariant
-    (λ clean st. record {
-      tables = st.tables;
-      survey = st.survey;
-      releases = record {
-        headers = c.find_revision.ensures.headers clean st.tables st.releases.headers;
-        tables = st.releases.tables;
-        samples = st.releases.samples;
-      };
-    })
-
-pub returns-in-Ok : goal.returns-in-Ok
-returns-in-Ok g c =
-    let old = state g.S.Store c.self.inside.conn in
-    let new = state g.S.Store c.find_revision.new.conn in
-    rw (← c.self.view_is) (record {
-      reads = reads old new c.self.inside.failed.count
-          (tables_of old _ c.self.invariant) _ _ c.find_revision.ensures.look c.in-Ok.ensures.open (λ clean.
-          let st = c.self.invariant (c.find_revision.ensures.look.clean clean) in
-          c.in-Ok.ensures.read clean st.tables st.releases.headers);
-      always = λ no. absurd no;
-    })
-
-pub returns-in-Err : goal.returns-in-Err
-returns-in-Err g c =
-    let old = state g.S.Store c.self.inside.conn in
-    let new = state g.S.Store c.find_revision.new.conn in
-    rw (← c.self.view_is)
-    (record {
-      reads = read_fails old new c.self.inside.failed.count
-          (tables_of old _ c.self.invariant) _ _ _ c.find_revision.ensures.look (omega (arith, c.counted.ensures.count));
-      always = λ no. absurd no;
-    })
+pub returns-clause-reads : goal.returns-clause-reads
+returns-clause-reads g c =
+    let now = state g.S.Store c.self.inside.conn in
+    let ready = rw (← c.self.view_is) at c.in_ok-ready_headers.ensures.ready in
+    let reads = rw (← c.self.view_is) at c.in_ok-ready_headers.ensures.reads in
+    rw (← c.self.view_is) (then_shown _ _ _ _ _ reads (λ clean.
+    c.revision_published.ensures ∙ ap (revision_published c.args.month c.args.until)
+    (c.deref.ensures.value ∙ (c.self.invariant clean).releases.headers ready)
+    ∙ sym (revision_is now.now.trees c.args.month c.args.until)
+    ∙ ap (λ (o : Office). option_map (λ (t : PublishedTable). t.revision)
+    (table_until c.args.month None c.args.until o.releases)) (reads.keeps.kept clean)))

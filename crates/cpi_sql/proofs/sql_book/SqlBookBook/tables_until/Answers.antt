@@ -1,59 +1,25 @@
-use Rattle.std.proofs.Common.{arith}
+use Rattle.std.proofs.Common.{map, sym, ap, ◌∙◌, arith}
 use Rattle.sqlite.specs.Held.{state}
-use Rattle.cpi_sql.proofs.Calls.{reads, read_fails}
-use Rattle.cpi_sql.proofs.Followed.{look_sound, tables_of}
+use Rattle.cpi_release.specs.PublishedTables.{frozen_month_of, published_until}
+use Rattle.cpi_store.specs.Office.{Office}
+use Rattle.cpi_sql_reads.specs.Headers.{months_until}
+use Rattle.cpi_sql_reads.proofs.HeaderLists.{tables_are}
+use Rattle.cpi_sql.proofs.Calls.{then_shown, then_refused}
 use Rattle.cpi_sql.proofs.sql_book.SqlBookBook.tables_until.Goals as goal
 
-pub invariant_of-self : goal.invariant_of-self
-invariant_of-self g c =
-    look_sound (state g.S.Store c.self.inside.conn) (state g.S.Store c.months_published.new.conn) _ _
-    c.months_published.ensures.look c.self.invariant
-    (λ clean st. record {
-      tables = st.tables;
-      survey = st.survey;
-      releases =
-          record {
-            headers = c.months_published.ensures.headers clean st.tables st.releases.headers;
-            tables = st.releases.tables;
-            samples = st.releases.samples;
-          };
-    })
+pub returns-in-Ok-clause-reads : goal.returns-in-Ok-clause-reads
+returns-in-Ok-clause-reads g c =
+    let now = state g.S.Store c.self.inside.conn in
+    let ready = rw (← c.self.view_is) at c.in_ok-ready_headers.ensures.ready in
+    let reads = rw (← c.self.view_is) at c.in_ok-ready_headers.ensures.reads in
+    rw (← c.self.view_is) (then_shown _ _ _ _ _ reads (λ clean.
+    c.in-Ok.ensures
+    ∙ ap (months_until c.args.until) (c.deref.ensures.value ∙ (c.self.invariant clean).releases.headers ready)
+    ∙ sym (tables_are now.now.trees c.args.until)
+    ∙ ap (λ (o : Office). map frozen_month_of (published_until c.args.until o.releases)) (reads.keeps.kept clean)))
 
-pub invariant_of-self-in-Err : goal.invariant_of-self-in-Err
-invariant_of-self-in-Err g c =
-    look_sound (state g.S.Store c.self.inside.conn) (state g.S.Store c.months_published.new.conn) _ _
-    c.months_published.ensures.look c.self.invariant
-    (λ clean st. record {
-      tables = st.tables;
-      survey = st.survey;
-      releases =
-          record {
-            headers = c.months_published.ensures.headers clean st.tables st.releases.headers;
-            tables = st.releases.tables;
-            samples = st.releases.samples;
-          };
-    })
-
-pub returns-in-Ok : goal.returns-in-Ok
-returns-in-Ok g c =
-    let old = state g.S.Store c.self.inside.conn in
-    let new = state g.S.Store c.months_published.new.conn in
-    rw (← c.self.view_is) (record {
-      reads = reads old new c.self.inside.failed.count
-          (tables_of old _ c.self.invariant) _ _ c.months_published.ensures.look c.in-Ok.ensures.open (λ clean.
-          let st = c.self.invariant (c.months_published.ensures.look.clean clean) in
-          c.in-Ok.ensures.read clean st.tables st.releases.headers);
-    })
-
-pub returns-in-Err : goal.returns-in-Err
-returns-in-Err g c =
-    let old = state g.S.Store c.self.inside.conn in
-    let new = state g.S.Store c.months_published.new.conn in
-    rw (← c.self.view_is)
-    (record {
-      reads = read_fails old new c.self.inside.failed.count
-          (tables_of old _ c.self.invariant) _ _ _ c.months_published.ensures.look (omega (
-            arith,
-            c.counted.ensures.count,
-          ));
-    })
+pub returns-in-Err-clause-reads : goal.returns-in-Err-clause-reads
+returns-in-Err-clause-reads g c =
+    let reads = rw (← c.self.view_is) at c.in_ok-ready_headers.ensures.reads in
+    then_refused _ _ _ (state g.S.Store c.self.inside.conn) c.self.inside.failed.count _ _ reads
+    (omega (arith, c.counted.ensures.count))

@@ -1,51 +1,84 @@
-use Rattle.std.proofs.Common.{arith}
+use Rattle.std.proofs.Common.{◌≡◌, List, [], ◌∷◌, length, refl, arith, ap, subst, ◌∙◌}
+use Rattle.std.specs.Prelude.{⊤}
+use Rattle.sqlite.specs.Effect.{Database}
 use Rattle.sqlite.specs.Held.{state}
-use Rattle.cpi_sql.proofs.Calls.{reads, read_fails}
+use Rattle.cpi_release.specs.Releases.{level_at}
+use Rattle.cpi_store.specs.Office.{Office}
+use Rattle.cpi_sql_rows.specs.LevelTables.{ReleaseLevels}
+use Rattle.cpi_sql_rows.specs.Lists.{level_in}
+use Rattle.cpi_sql_reads.specs.Headers.{LatestStands}
+use Rattle.cpi_sql.proofs.Calls.{reads, read_fails, then_read, then_fails}
 use Rattle.cpi_sql.proofs.Followed.{look_sound, tables_of}
 use Rattle.cpi_sql.proofs.sql_book.SqlBookGroups.chained.Goals as goal
 
+none_kept : (tables : List ReleaseLevels) → length tables ≡ 0 → tables ≡ []
+none_kept [] e = refl
+none_kept (t ∷ tables) e = absurd (cc)
+
 pub invariant_of-self : goal.invariant_of-self
 invariant_of-self g c =
-    look_sound (state g.S.Store c.self.inside.conn) (state g.S.Store c.level_of.new.conn) _ _ c.level_of.ensures.look
-    c.self.invariant
+    let ready = rw (← c.self.view_is) at c.in_ok-ready_levels.ensures.ready in
+    look_sound (state g.S.Store c.self.inside.conn) (state g.S.Store c.chained_level.new.conn) _ _
+    c.chained_level.ensures.look.still c.self.invariant
     (λ clean st. record {
       tables = st.tables;
       survey = st.survey;
       releases = record {
-        headers = c.level_of.ensures.headers clean st.tables st.releases.headers;
-        tables = c.level_of.ensures.tables clean st.tables st.releases.headers st.releases.tables;
+        headers = st.releases.headers;
+        tables = c.chained_level.ensures.kept clean st.tables (c.deref.ensures.value ∙ st.releases.headers ready)
+            st.releases.tables;
         samples = st.releases.samples;
       };
     })
 
 pub invariant_of-self-in-Err : goal.invariant_of-self-in-Err
 invariant_of-self-in-Err g c =
-    look_sound (state g.S.Store c.self.inside.conn) (state g.S.Store c.level_of.new.conn) _ _ c.level_of.ensures.look
-    c.self.invariant
+    let ready = rw (← c.self.view_is) at c.in_ok-ready_levels.ensures.ready in
+    look_sound (state g.S.Store c.self.inside.conn) (state g.S.Store c.chained_level.new.conn) _ _
+    c.chained_level.ensures.look.still c.self.invariant
     (λ clean st. record {
       tables = st.tables;
       survey = st.survey;
       releases = record {
-        headers = c.level_of.ensures.headers clean st.tables st.releases.headers;
-        tables = c.level_of.ensures.tables clean st.tables st.releases.headers st.releases.tables;
+        headers = st.releases.headers;
+        tables = c.chained_level.ensures.kept clean st.tables (c.deref.ensures.value ∙ st.releases.headers ready)
+            st.releases.tables;
         samples = st.releases.samples;
       };
     })
 
-pub returns-in-Ok : goal.returns-in-Ok
-returns-in-Ok g c =
-    let old = state g.S.Store c.self.inside.conn in
-    let new = state g.S.Store c.level_of.new.conn in
-    rw (← c.self.view_is)
-    (reads old new c.self.inside.failed.count (tables_of old _ c.self.invariant) _ _ c.level_of.ensures.look
-    c.in-Ok.ensures.open (λ clean.
-    let st = c.self.invariant (c.level_of.ensures.look.clean clean) in
-    λ fit. c.in-Ok.ensures.read clean st.tables st.releases.headers st.releases.tables))
+pub returns-in-Ok-clause-reads : goal.returns-in-Ok-clause-reads
+returns-in-Ok-clause-reads g c =
+    let now = state g.S.Store c.self.inside.conn in
+    let new = state g.S.Store c.chained_level.new.conn in
+    let ready = rw (← c.self.view_is) at c.in_ok-ready_levels.ensures.ready in
+    let read = rw (← c.self.view_is) at c.in_ok-ready_levels.ensures.reads in
+    then_read _ _ _ _ _ _ read
+    (reads now new c.self.inside.failed.count (tables_of now _ c.self.invariant) {T = ⊤} {F = ⊤} tt (λ _. ⊤)
+    c.chained_level.ensures.look.still c.in-Ok.ensures.look.stays (λ _. tt))
+    (λ clean fit.
+    let before = c.chained_level.ensures.look.still.clean clean in
+    let st = c.self.invariant before in
+    c.in-Ok.ensures.read clean st.tables (c.deref.ensures.value ∙ st.releases.headers ready) st.releases.tables
+    ∙ ap (λ (o : Office). level_at o.releases c.args.month c.args.code) (read.keeps.kept before))
 
-pub returns-in-Err : goal.returns-in-Err
-returns-in-Err g c =
-    let old = state g.S.Store c.self.inside.conn in
-    let new = state g.S.Store c.level_of.new.conn in
-    rw (← c.self.view_is)
-    (read_fails old new c.self.inside.failed.count
-    (tables_of old _ c.self.invariant) _ _ _ c.level_of.ensures.look (omega (arith, c.counted.ensures.count)))
+pub returns-in-Err-clause-reads : goal.returns-in-Err-clause-reads
+returns-in-Err-clause-reads g c =
+    let now = state g.S.Store c.self.inside.conn in
+    let new = state g.S.Store c.chained_level.new.conn in
+    let read = rw (← c.self.view_is) at c.in_ok-ready_levels.ensures.reads in
+    then_fails _ _ _ _ _ _ read (read_fails now new c.self.inside.failed.count
+    (tables_of now _ c.self.invariant) {T = ⊤} {F = ⊤} tt (λ _. ⊤) _ c.chained_level.ensures.look.still
+    (omega (arith, c.counted.ensures.count)))
+
+pub returns-in-Ok-clause-rows : goal.returns-in-Ok-clause-rows
+returns-in-Ok-clause-rows g c = λ clean none.
+    let now = state g.S.Store c.self.inside.conn in
+    let ready = rw (← c.self.view_is) at c.in_ok-ready_levels.ensures.ready in
+    let same = rw (← c.self.view_is) at c.in_ok-ready_levels.ensures.now in
+    let kept = rw (← c.self.view_is) at c.in_ok-ready_levels.ensures.kept in
+    let before = c.chained_level.ensures.look.still.clean clean in
+    let st = c.self.invariant before in
+    let empty : c.self.inside.tables.items ≡ [] = none_kept c.self.inside.tables.items (kept.2 ∙ none) in
+    subst (λ (d : Database). LatestStands level_in 32 c.args.month d.trees) (same before)
+    (c.in-Ok.ensures.stand clean st.tables (c.deref.ensures.value ∙ st.releases.headers ready) empty)

@@ -1,55 +1,95 @@
-use Rattle.std.proofs.Common.{arith}
+use Rattle.std.proofs.Common.{◌≡◌, false, None, Some, Option, arith, sym, subst, ◌∙◌, refl}
+use Rattle.std.specs.Prelude.{⊤, is_some, IsSome}
+use Rattle.sqlite.specs.Effect.{Database}
 use Rattle.sqlite.specs.Held.{state}
-use Rattle.cpi_sql.proofs.Calls.{reads, read_fails}
-use Rattle.cpi_sql.proofs.Followed.{look_sound, tables_of}
+use Rattle.cpi_codes.specs.Month.{year_of}
+use Rattle.cpi_plan.specs.Plan.{Plan}
+use Rattle.cpi_rows.specs.Keyed.{at}
 use Rattle.cpi_release.proofs.Late.{late}
+use Rattle.cpi_release.specs.Cached.{IsFit}
+use Rattle.cpi_release.specs.GroupCalls.{IsAfterFrozen, group_of}
+use Rattle.cpi_release.specs.declared.cached.Cached.{Cached}
+use Rattle.cpi_store.specs.Office.{Office}
 use Rattle.cpi_store.specs.Sources.{office_sources}
 use Rattle.cpi_sql_rows.specs.Lists.{office_in}
+use Rattle.cpi_sql_reads.specs.Headers.{SamplesStand}
+use Rattle.cpi_sql.proofs.Calls.{reads, read_fails, then_read, then_fails}
+use Rattle.cpi_sql.proofs.Followed.{look_sound, tables_of}
 use Rattle.cpi_sql.proofs.sql_book.SqlBookGroups.rows.Goals as goal
+
+none_kept : (o : Option Cached) → is_some o ≡ false → o ≡ None
+none_kept None e = refl
+none_kept (Some x) e = absurd (cc)
 
 pub invariant_of-self : goal.invariant_of-self
 invariant_of-self g c =
-    look_sound (state g.S.Store c.self.inside.conn)
-    (state g.S.Store c.sample_rows.new.conn) _ _ c.sample_rows.ensures.look c.self.invariant
+    let ready = rw (← c.self.view_is) at c.in_ok-ready_samples.ensures.ready in
+    look_sound (state g.S.Store c.self.inside.conn) (state g.S.Store c.sample_of.new.conn) _ _
+    c.sample_of.ensures.look.still c.self.invariant
     (λ clean st. record {
       tables = st.tables;
-      survey = c.sample_rows.ensures.survey clean st.tables st.survey;
+      survey = st.survey;
       releases = record {
-        headers = c.sample_rows.ensures.headers clean st.tables st.releases.headers;
+        headers = st.releases.headers;
         tables = st.releases.tables;
-        samples = c.sample_rows.ensures.samples clean st.tables st.releases.headers st.survey st.releases.samples;
+        samples = c.sample_of.ensures.kept clean st.tables (c.deref.ensures.value ∙ st.releases.headers ready.0)
+            (st.survey ready.1) st.releases.samples;
       };
     })
 
 pub invariant_of-self-in-Err : goal.invariant_of-self-in-Err
 invariant_of-self-in-Err g c =
-    look_sound (state g.S.Store c.self.inside.conn)
-    (state g.S.Store c.sample_rows.new.conn) _ _ c.sample_rows.ensures.look c.self.invariant
+    let ready = rw (← c.self.view_is) at c.in_ok-ready_samples.ensures.ready in
+    look_sound (state g.S.Store c.self.inside.conn) (state g.S.Store c.sample_of.new.conn) _ _
+    c.sample_of.ensures.look.still c.self.invariant
     (λ clean st. record {
       tables = st.tables;
-      survey = c.sample_rows.ensures.survey clean st.tables st.survey;
+      survey = st.survey;
       releases = record {
-        headers = c.sample_rows.ensures.headers clean st.tables st.releases.headers;
+        headers = st.releases.headers;
         tables = st.releases.tables;
-        samples = c.sample_rows.ensures.samples clean st.tables st.releases.headers st.survey st.releases.samples;
+        samples = c.sample_of.ensures.kept clean st.tables (c.deref.ensures.value ∙ st.releases.headers ready.0)
+            (st.survey ready.1) st.releases.samples;
       };
     })
 
-pub returns-in-Ok : goal.returns-in-Ok
-returns-in-Ok g c =
-    let old = state g.S.Store c.self.inside.conn in
-    let new = state g.S.Store c.sample_rows.new.conn in
-    rw (← c.self.view_is)
-    (reads old new c.self.inside.failed.count (tables_of old _ c.self.invariant) _ _ c.sample_rows.ensures.look
-    c.in-Ok.ensures.open (λ clean.
-    let st = c.self.invariant (c.sample_rows.ensures.look.clean clean) in
-    λ fit _ after. c.in-Ok.ensures.read clean st.tables st.releases.headers st.survey st.releases.samples fit
-    (late (office_sources (office_in old.now.trees)) c.args.month fit.0 after)))
+pub returns-in-Ok-clause-reads : goal.returns-in-Ok-clause-reads
+returns-in-Ok-clause-reads g c =
+    let now = state g.S.Store c.self.inside.conn in
+    let new = state g.S.Store c.sample_of.new.conn in
+    let ready = rw (← c.self.view_is) at c.in_ok-ready_samples.ensures.ready in
+    let read = rw (← c.self.view_is) at c.in_ok-ready_samples.ensures.reads in
+    then_read _ _ _ _ _ _ read
+    (reads now new c.self.inside.failed.count (tables_of now _ c.self.invariant) {T = ⊤} {F = ⊤} tt (λ _. ⊤)
+    c.sample_of.ensures.look.still c.in-Ok.ensures.look.stays (λ _. tt))
+    (λ clean.
+    let before = c.sample_of.ensures.look.still.clean clean in
+    let st = c.self.invariant before in
+    subst (λ (o : Office). IsFit (office_sources o) → c.args._year ≡ year_of c.args.month →
+    IsAfterFrozen (office_sources o) c.args.month →
+    c.in-Ok.rows.items ≡ group_of (office_sources o) c.args.month c.args.code)
+    (read.keeps.kept before) (λ fit _ after.
+    c.in-Ok.ensures.read clean st.tables (c.deref.ensures.value ∙ st.releases.headers ready.0) (st.survey ready.1)
+    st.releases.samples fit (late (office_sources (office_in now.now.trees)) c.args.month fit.0 after)))
 
-pub returns-in-Err : goal.returns-in-Err
-returns-in-Err g c =
-    let old = state g.S.Store c.self.inside.conn in
-    let new = state g.S.Store c.sample_rows.new.conn in
-    rw (← c.self.view_is)
-    (read_fails old new c.self.inside.failed.count
-    (tables_of old _ c.self.invariant) _ _ _ c.sample_rows.ensures.look (omega (arith, c.counted.ensures.count)))
+pub returns-in-Err-clause-reads : goal.returns-in-Err-clause-reads
+returns-in-Err-clause-reads g c =
+    let now = state g.S.Store c.self.inside.conn in
+    let new = state g.S.Store c.sample_of.new.conn in
+    let read = rw (← c.self.view_is) at c.in_ok-ready_samples.ensures.reads in
+    then_fails _ _ _ _ _ _ read (read_fails now new c.self.inside.failed.count
+    (tables_of now _ c.self.invariant) {T = ⊤} {F = ⊤} tt (λ _. ⊤) _ c.sample_of.ensures.look.still
+    (omega (arith, c.counted.ensures.count)))
+
+pub returns-in-Ok-clause-lists : goal.returns-in-Ok-clause-lists
+returns-in-Ok-clause-lists g c = λ clean none late plan.
+    let ready = rw (← c.self.view_is) at c.in_ok-ready_samples.ensures.ready in
+    let same = rw (← c.self.view_is) at c.in_ok-ready_samples.ensures.now in
+    let kept = rw (← c.self.view_is) at c.in_ok-ready_samples.ensures.kept in
+    let before = c.sample_of.ensures.look.still.clean clean in
+    let st = c.self.invariant before in
+    subst (λ (d : Database). SamplesStand c.args.month d.trees) (same before)
+    (c.in-Ok.ensures.stand clean st.tables (c.deref.ensures.value ∙ st.releases.headers ready.0) (st.survey ready.1)
+    (none_kept c.self.inside.cached (kept ∙ none))
+    (subst (λ (d : Database). IsSome (at (λ (p : Plan). p.year) (year_of c.args.month) (office_in d.trees).plans))
+    (sym (same before)) plan) late)

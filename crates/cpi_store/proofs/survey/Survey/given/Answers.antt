@@ -20,7 +20,8 @@ pub returns-in-None : goal.returns-in-None
 returns-in-None c =
     let o = c.args.self.now in
     let own = own_part c.args.collector o in
-    let found : None ≡ assigned_in c.args.slot own = sym (ap option_copied c.in-None.is) ∙ c.assigned.ensures ∙ ap (assigned_in c.args.slot) c.own.ensures in
+    let found : None ≡ assigned_in c.args.slot own = sym (ap option_copied c.in-None.is) ∙ c.assigned.ensures
+    ∙ ap (assigned_in c.args.slot) c.own.ensures in
     nothing_found o.outlets c.args.slot (held_by c.args.collector o.assignments) found
 
 pub returns-in-Some : goal.returns-in-Some
@@ -31,8 +32,10 @@ returns-in-Some c =
     let n = c.args.collector in
     let slot = c.args.slot in
     let a : Assigned = c.in-Some.assigned.now in
-    let found = sym (ap option_copied c.in-Some.is) ∙ c.assigned.ensures ∙ ap (assigned_in slot) c.own.ensures ∙ ap (λ (o : Office). assigned_in slot (own_part n o)) (sym c.self.view_is) in
-    let series : c.series_in.result ≡ series_in taken n slot = c.series_in.ensures ∙ ap (λ ts. series_in ts n slot) c.deref.ensures.value in
+    let found = sym (ap option_copied c.in-Some.is) ∙ c.assigned.ensures ∙ ap (assigned_in slot) c.own.ensures
+    ∙ ap (λ (o : Office). assigned_in slot (own_part n o)) (sym c.self.view_is) in
+    let series : c.series_in.result ≡ series_in taken n slot = c.series_in.ensures
+    ∙ ap (λ ts. series_in ts n slot) c.deref.ensures.value in
     let given : SeriesId → Given = λ s. record { assignment = a.assignment; series = s } in
     ap (λ s. Some (given s)) series ∙ given_found taken n i.outlets slot rows (Some a) found
     ∙ ap (λ (o : Office). at (λ (g : Given). g.assignment.slot) slot (held_by n o.assignments)) c.self.view_is

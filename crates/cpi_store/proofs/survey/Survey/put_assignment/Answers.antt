@@ -21,7 +21,8 @@ use Rattle.cpi_store.proofs.survey.Survey.put_assignment.Goals as goal
 
 pub put_assignment_of-requires-clause-known : goal.put_assignment_of-requires-clause-known
 put_assignment_of-requires-clause-known c =
-    known_holder c.args.bearer.number c.self.inside.holders.items (rw (ap (λ (o : Office). o.collectors) c.self.view_is) c.requires.known)
+    known_holder c.args.bearer.number c.self.inside.holders.items
+    (rw (ap (λ (o : Office). o.collectors) c.self.view_is) c.requires.known)
 
 pub invariant_of-self-2 : goal.invariant_of-self-2
 invariant_of-self-2 c =
@@ -29,14 +30,18 @@ invariant_of-self-2 c =
     let rows = all_assignments i.holders.items in
     let b = c.args.bearer.number in
     let a = c.args.assigned.assignment in
-    let there : IsSome (at (λ (u : Outlet). u.number) a.outlet i.outlets) = rw (ap (λ (o : Office). o.outlets) c.self.view_is) c.requires.outlet in
-    let named : c.args.assigned ≡ with_name i.outlets a = rw (ap (λ (o : Office). o.outlets) c.self.view_is) c.requires.name in
+    let there : IsSome (at (λ (u : Outlet). u.number) a.outlet i.outlets) =
+    rw (ap (λ (o : Office). o.outlets) c.self.view_is) c.requires.outlet in
+    let named : c.args.assigned ≡ with_name i.outlets a =
+    rw (ap (λ (o : Office). o.outlets) c.self.view_is) c.requires.name in
     record {
       holders = c.put_assignment_of.ensures.order;
       bearers = λ key. c.self.invariant.bearers key ∙ ap (bearer_of key) (sym c.put_assignment_of.ensures.collectors);
       outlets = c.self.invariant.outlets;
       taken = c.self.invariant.taken;
-      given = given_after rows (all_assignments c.put_assignment_of.new.holders.items) (λ n slot is. rw c.in_ok-put_assignment_of.ensures.ok (slot_stays n slot b a rows is)) i.taken.items c.self.invariant.given;
+      given = given_after rows (all_assignments c.put_assignment_of.new.holders.items)
+          (λ n slot is. rw c.in_ok-put_assignment_of.ensures.ok (slot_stays n slot b a rows is)) i.taken.items
+          c.self.invariant.given;
       placed = c.put_assignment_of.ensures.placed i.outlets there c.self.invariant.placed;
       nobody = c.self.invariant.nobody;
       names = c.put_assignment_of.ensures.names i.outlets named c.self.invariant.names;
@@ -61,11 +66,17 @@ returns-clause-ok c =
       quotes = qs;
       releases = [];
     } in
-    let empty : at (λ (g : Given). g.assignment.slot) a.slot (held_by b (all_given taken hs)) ≡ None = ap (λ (o : Office). at (λ (g : Given). g.assignment.slot) a.slot (held_by b o.assignments)) c.self.view_is ∙ c.requires.new in
-    let free : at (λ (a : Assignment). a.slot) a.slot (held_by b rows) ≡ None = nothing_given taken b a.slot rows empty in
-    let none : row_at (held_cmp nat_cmp) taken_key (b, a.slot) taken ≡ None = none_taken b a.slot rows free taken c.self.invariant.given in
-    let assigned : all_given taken new ≡ put_given b (first_of_series b a) (all_given taken hs) = ap (map (given_in taken)) c.in_ok-put_assignment_of.ensures.ok ∙ given_put taken b a rows none in
+    let empty : at (λ (g : Given). g.assignment.slot) a.slot (held_by b (all_given taken hs)) ≡ None =
+    ap (λ (o : Office). at (λ (g : Given). g.assignment.slot) a.slot (held_by b o.assignments)) c.self.view_is
+    ∙ c.requires.new in
+    let free : at (λ (a : Assignment). a.slot) a.slot (held_by b rows) ≡ None =
+    nothing_given taken b a.slot rows empty in
+    let none : row_at (held_cmp nat_cmp) taken_key (b, a.slot) taken ≡ None =
+    none_taken b a.slot rows free taken c.self.invariant.given in
+    let assigned : all_given taken new ≡ put_given b (first_of_series b a) (all_given taken hs) =
+    ap (map (given_in taken)) c.in_ok-put_assignment_of.ensures.ok ∙ given_put taken b a rows none in
     rw (← c.self.view_is)
     (ap (λ cs. office cs (all_given taken new) (all_quotes new)) c.put_assignment_of.ensures.collectors
     ∙ ap (λ gs. office (collectors_of hs) gs (all_quotes new)) assigned
-    ∙ ap (office (collectors_of hs) (put_given b (first_of_series b a) (all_given taken hs))) c.put_assignment_of.ensures.quotes)
+    ∙ ap (office (collectors_of hs) (put_given b (first_of_series b a) (all_given taken hs)))
+    c.put_assignment_of.ensures.quotes)

@@ -12,7 +12,8 @@ pub invariant_of-self-2 : goal.invariant_of-self-2
 invariant_of-self-2 c =
     let us = c.self.inside.outlets in
     let lists = map (λ (h : Holder). h.own.assignments) c.self.inside.holders.items in
-    let new : at (λ (u : Outlet). u.number) c.args.outlet.number us ≡ None = rw (ap (λ (o : Office). o.outlets) c.self.view_is) c.requires.new in
+    let new : at (λ (u : Outlet). u.number) c.args.outlet.number us ≡ None =
+    rw (ap (λ (o : Office). o.outlets) c.self.view_is) c.requires.new in
     let after : c.put.new.self ≡ put_by (λ (u : Outlet). u.number) c.args.outlet us = c.in_ok-put.ensures.ok in
     record {
       holders = c.self.invariant.holders;
@@ -22,7 +23,8 @@ invariant_of-self-2 c =
       given = c.self.invariant.given;
       placed = rw after (still_placed c.args.outlet us c.self.invariant.outlets new lists c.self.invariant.placed);
       nobody = c.self.invariant.nobody;
-      names = ap (λ vs. named_by vs lists) after ∙ names_stay c.args.outlet us c.self.invariant.outlets new lists c.self.invariant.placed ∙ c.self.invariant.names;
+      names = ap (λ vs. named_by vs lists) after ∙ names_stay c.args.outlet us c.self.invariant.outlets new lists
+          c.self.invariant.placed ∙ c.self.invariant.names;
     }
 
 pub invariant_of-self : goal.invariant_of-self

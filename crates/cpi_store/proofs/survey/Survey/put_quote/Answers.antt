@@ -5,7 +5,8 @@ use Rattle.cpi_store.specs.Office.{Office}
 use Rattle.cpi_store.proofs.survey.Survey.put_quote.Goals as goal
 
 pub put_quote_of-requires-clause-known : goal.put_quote_of-requires-clause-known
-put_quote_of-requires-clause-known c = known_holder c.args.bearer.number c.self.inside.holders.items (rw (ap (λ (o : Office). o.collectors) c.self.view_is) c.requires.known)
+put_quote_of-requires-clause-known c = known_holder c.args.bearer.number c.self.inside.holders.items
+    (rw (ap (λ (o : Office). o.collectors) c.self.view_is) c.requires.known)
 
 pub invariant_of-self : goal.invariant_of-self
 invariant_of-self c = record {

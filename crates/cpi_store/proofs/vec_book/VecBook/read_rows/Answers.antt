@@ -15,10 +15,14 @@ invariant_of-self c =
     let i = c.self.inside in
     let o : Office = with_releases i.releases.items i.survey in
     let same : o ≡ c.args.self.now.office = ap (λ (k : Kept). k.office) c.self.view_is in
-    let plan : option_copied c.plan_of-plan.result ≡ at (λ (p : Plan). p.year) (year_of c.args.month) o.plans = c.plan_of-plan.ensures ∙ ap (λ (u : Office). at (λ (p : Plan). p.year) (year_of c.args.month) u.plans) (sym same) in
-    let quotes : IsFit (office_sources o) → c.in_ok-frozen.frozen.items ≡ month_rows c.args.month o = λ fit. c.in_ok-frozen.ensures (fit.1 c.args.month) in
+    let plan : option_copied c.plan_of-plan.result ≡ at (λ (p : Plan). p.year) (year_of c.args.month) o.plans =
+    c.plan_of-plan.ensures ∙ ap (λ (u : Office). at (λ (p : Plan). p.year) (year_of c.args.month) u.plans)
+    (sym same) in
+    let quotes : IsFit (office_sources o) → c.in_ok-frozen.frozen.items ≡ month_rows c.args.month o =
+    λ fit. c.in_ok-frozen.ensures (fit.1 c.args.month) in
     let made : AreGroupsOf (office_sources o) c.args.month c.in_ok-groups.groups.items = λ p fit late found.
-    c.in_ok-groups.ensures (office_sources o) plan (sym c.deref.ensures.value) (sym (quotes fit) ∙ sym c.deref-2.ensures.value) p fit late found in
+    c.in_ok-groups.ensures (office_sources o) plan (sym c.deref.ensures.value)
+    (sym (quotes fit) ∙ sym c.deref-2.ensures.value) p fit late found in
     record { releases = c.self.invariant.releases; kept = made }
 
 pub returns-clause-shown : goal.returns-clause-shown
@@ -26,10 +30,16 @@ returns-clause-shown c = λ fit late.
     let i = c.self.inside in
     let o : Office = with_releases i.releases.items i.survey in
     let same : o ≡ c.args.self.now.office = ap (λ (k : Kept). k.office) c.self.view_is in
-    let plan : option_copied c.plan_of-plan.result ≡ at (λ (p : Plan). p.year) (year_of c.args.month) o.plans = c.plan_of-plan.ensures ∙ ap (λ (u : Office). at (λ (p : Plan). p.year) (year_of c.args.month) u.plans) (sym same) in
+    let plan : option_copied c.plan_of-plan.result ≡ at (λ (p : Plan). p.year) (year_of c.args.month) o.plans =
+    c.plan_of-plan.ensures ∙ ap (λ (u : Office). at (λ (p : Plan). p.year) (year_of c.args.month) u.plans)
+    (sym same) in
     let own_fit : IsFit (office_sources o) = subst (λ u. IsFit (office_sources u)) (sym same) fit in
-    let quotes : c.in_ok-frozen.frozen.items ≡ month_rows c.args.month o = c.in_ok-frozen.ensures (own_fit.1 c.args.month) in
-    let made : AreGroupsOf (office_sources o) c.args.month c.in_ok-groups.groups.items = c.in_ok-groups.ensures (office_sources o) plan (sym c.deref.ensures.value) (sym quotes ∙ sym c.deref-2.ensures.value) in
-    let lent : AreGroupsOf (office_sources o) c.args.month c.deref-3.result.now = rw (sym c.deref-3.ensures.value) at made in
+    let quotes : c.in_ok-frozen.frozen.items ≡ month_rows c.args.month o =
+    c.in_ok-frozen.ensures (own_fit.1 c.args.month) in
+    let made : AreGroupsOf (office_sources o) c.args.month c.in_ok-groups.groups.items =
+    c.in_ok-groups.ensures (office_sources o) plan (sym c.deref.ensures.value)
+    (sym quotes ∙ sym c.deref-2.ensures.value) in
+    let lent : AreGroupsOf (office_sources o) c.args.month c.deref-3.result.now =
+    rw (sym c.deref-3.ensures.value) at made in
     let own = c.in_ok-rows-2.ensures (office_sources o) plan lent own_fit late in
     own ∙ ap (λ u. group_of (office_sources u) c.args.month c.args.code) same

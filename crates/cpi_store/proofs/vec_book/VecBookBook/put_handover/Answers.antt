@@ -12,5 +12,7 @@ pub put_handover-requires-clause-stands : goal.put_handover-requires-clause-stan
 put_handover-requires-clause-stands c =
     let h = c.args.handover in
     let until = given_until h.ended.assignment.last_month in
-    some_mapped until h.ended (at (λ (g : Given). g.assignment.slot) h.ended.assignment.slot (held_by h.former.number c.self.inside.survey.assignments))
-    (ap (λ (k : Kept). option_map until (at (λ (g : Given). g.assignment.slot) h.ended.assignment.slot (held_by h.former.number k.office.assignments))) c.self.view_is ∙ c.requires.stands tt)
+    some_mapped until h.ended (at (λ (g : Given). g.assignment.slot) h.ended.assignment.slot
+    (held_by h.former.number c.self.inside.survey.assignments))
+    (ap (λ (k : Kept). option_map until (at (λ (g : Given). g.assignment.slot) h.ended.assignment.slot
+    (held_by h.former.number k.office.assignments))) c.self.view_is ∙ c.requires.stands tt)

@@ -7,7 +7,8 @@ use Rattle.cpi_store.proofs.vec_book.VecBookBook.put_release.Goals as goal
 pub returns-in-Ok : goal.returns-in-Ok
 returns-in-Ok c =
     let i = c.self.inside in
-    let after : c.put_row.new.rows.items ≡ put release_cmp release_key c.args.release i.releases.items = rw c.in-Ok.is at c.put_row.ensures.ok in
+    let after : c.put_row.new.rows.items ≡ put release_cmp release_key c.args.release i.releases.items =
+    rw c.in-Ok.is at c.put_row.ensures.ok in
     rw (← c.self.view_is)
     (record {
       writes = record {

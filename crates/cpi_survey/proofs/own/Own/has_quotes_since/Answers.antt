@@ -10,14 +10,18 @@ use Rattle.cpi_survey.proofs.own.Own.has_quotes_since.Goals as goal
 
 pub returns-in-None : goal.returns-in-None
 returns-in-None c =
-    since_none c.args.slot c.args.month c.quotes_of.result.now (all_quotes c.deref.result.now) c.quotes_of.ensures.quotes
+    since_none c.args.slot c.args.month c.quotes_of.result.now
+    (all_quotes c.deref.result.now) c.quotes_of.ensures.quotes
     (sym c.last.ensures.value ∙ ap option_copied c.in-None.is)
-    ∙ ap (has_quotes_since c.args.slot c.args.month) (ap all_quotes c.deref.ensures.value ∙ ap (λ (o : OwnPart). o.quotes) c.self.view_is)
+    ∙ ap (has_quotes_since c.args.slot c.args.month)
+    (ap all_quotes c.deref.ensures.value ∙ ap (λ (o : OwnPart). o.quotes) c.self.view_is)
 
 pub returns-in-Some : goal.returns-in-Some
 returns-in-Some c =
     c.le.ensures ∙ is_le_tells c.args.month c.quote.inside.month
     ∙ ap (λ (q : QuoteRow). nat_le c.args.month q.month) c.quote.view_is
-    ∙ since_last c.args.slot c.args.month c.quotes_of.result.now (all_quotes c.deref.result.now) _ c.quotes_of.ensures.quotes c.quotes_of.ensures.order
+    ∙ since_last c.args.slot c.args.month c.quotes_of.result.now
+    (all_quotes c.deref.result.now) _ c.quotes_of.ensures.quotes c.quotes_of.ensures.order
     (sym c.last.ensures.value ∙ ap option_copied c.in-Some.is)
-    ∙ ap (has_quotes_since c.args.slot c.args.month) (ap all_quotes c.deref.ensures.value ∙ ap (λ (o : OwnPart). o.quotes) c.self.view_is)
+    ∙ ap (has_quotes_since c.args.slot c.args.month)
+    (ap all_quotes c.deref.ensures.value ∙ ap (λ (o : OwnPart). o.quotes) c.self.view_is)

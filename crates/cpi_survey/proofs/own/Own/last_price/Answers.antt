@@ -7,10 +7,14 @@ use Rattle.cpi_survey.proofs.own.Own.last_price.Goals as goal
 
 pub returns-in-Some : goal.returns-in-Some
 returns-in-Some c =
-    last_of_slot c.args.assignment.now c.args.month _ c.quotes_of.result.now (all_quotes c.deref.result.now) c.quotes_of.ensures.quotes (sym c.in-Some.is ∙ c.observed_before.ensures)
-    ∙ ap (last_price c.args.assignment.now c.args.month) (ap all_quotes c.deref.ensures.value ∙ ap (λ (o : OwnPart). o.quotes) c.self.view_is)
+    last_of_slot c.args.assignment.now c.args.month _ c.quotes_of.result.now
+    (all_quotes c.deref.result.now) c.quotes_of.ensures.quotes (sym c.in-Some.is ∙ c.observed_before.ensures)
+    ∙ ap (last_price c.args.assignment.now c.args.month)
+    (ap all_quotes c.deref.ensures.value ∙ ap (λ (o : OwnPart). o.quotes) c.self.view_is)
 
 pub returns-in-None : goal.returns-in-None
 returns-in-None c =
-    last_of_slot c.args.assignment.now c.args.month _ c.quotes_of.result.now (all_quotes c.deref.result.now) c.quotes_of.ensures.quotes (sym c.in-None.is ∙ c.observed_before.ensures)
-    ∙ ap (last_price c.args.assignment.now c.args.month) (ap all_quotes c.deref.ensures.value ∙ ap (λ (o : OwnPart). o.quotes) c.self.view_is)
+    last_of_slot c.args.assignment.now c.args.month _ c.quotes_of.result.now
+    (all_quotes c.deref.result.now) c.quotes_of.ensures.quotes (sym c.in-None.is ∙ c.observed_before.ensures)
+    ∙ ap (last_price c.args.assignment.now c.args.month)
+    (ap all_quotes c.deref.ensures.value ∙ ap (λ (o : OwnPart). o.quotes) c.self.view_is)

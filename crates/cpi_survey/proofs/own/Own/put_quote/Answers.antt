@@ -8,5 +8,7 @@ pub invariant_of-self-2 : goal.invariant_of-self-2
 invariant_of-self-2 c = record {
   assignments = c.self.invariant.assignments;
   slots = c.put_quote.ensures.slots;
-  greatest = rw (c.in_ok-put_quote.ensures.ok, c.receipt-receipt.ensures) (greatest_put c.args.quote (all_quotes c.self.inside.slots.items) (rw (ap (λ h. greatest_receipt h.quotes) c.self.view_is) c.requires));
+  greatest = rw (c.in_ok-put_quote.ensures.ok, c.receipt-receipt.ensures)
+      (greatest_put c.args.quote (all_quotes c.self.inside.slots.items)
+      (rw (ap (λ h. greatest_receipt h.quotes) c.self.view_is) c.requires));
 }

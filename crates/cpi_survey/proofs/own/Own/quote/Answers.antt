@@ -11,4 +11,5 @@ returns c =
     c.find_row.ensures
     ∙ ap (row_at quote_cmp quote_key (c.args.slot, c.args.month)) c.quotes_of.ensures.quotes
     ∙ row_of_slot (c.args.slot, c.args.month) (all_quotes c.deref.result.now)
-    ∙ ap (row_at quote_cmp quote_key (c.args.slot, c.args.month)) (ap all_quotes c.deref.ensures.value ∙ ap (λ (o : OwnPart). o.quotes) c.self.view_is)
+    ∙ ap (row_at quote_cmp quote_key (c.args.slot, c.args.month))
+    (ap all_quotes c.deref.ensures.value ∙ ap (λ (o : OwnPart). o.quotes) c.self.view_is)

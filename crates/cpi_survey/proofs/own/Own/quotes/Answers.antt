@@ -11,7 +11,8 @@ pub returns : goal.returns
 returns c =
     let by_month = answers_always _ _ _ (λ f a r next called. search rules) in
     sorted_within c.args.first c.args.last c.args.self.now.quotes c.in_ok-found.found.items _
-    (c.in_ok-found.ensures ∙ ap (filter (is_within c.args.first c.args.last)) (ap all_quotes c.deref.ensures.value ∙ ap (λ (o : OwnPart). o.quotes) c.self.view_is))
+    (c.in_ok-found.ensures ∙ ap (filter (is_within c.args.first c.args.last))
+    (ap all_quotes c.deref.ensures.value ∙ ap (λ (o : OwnPart). o.quotes) c.self.view_is))
     c.sort_by_key.ensures.permutation
     (c.in_ok-sort_by_key.ensures.sorted month_of by_month)
     (c.sort_by_key.ensures.stable month_of by_month)

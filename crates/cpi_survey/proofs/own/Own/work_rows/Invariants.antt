@@ -4,4 +4,5 @@ use Rattle.cpi_survey.specs.Work.{row_of}
 use Rattle.cpi_survey.proofs.own.Own.work_rows.Given as goal
 
 abbrev pub invariant-loop-assigned : goal.invariant-loop-assigned
-invariant-loop-assigned l = l.rows.items ≡ filter_map (row_of l.month l.public l.self) (take l.assigned-index l.assigned-items)
+invariant-loop-assigned l = l.rows.items ≡ filter_map (row_of l.month l.public l.self)
+    (take l.assigned-index l.assigned-items)

@@ -1,0 +1,24 @@
+-- The caller of a message, by the values of its field `Authorization`.
+use Rattle.std.specs.Prelude.{ℕ, List, [], ◌∷◌, Option, Some, None, if◌then◌else◌, ◌==◌, codes}
+use Rattle.cpi_codes.specs.Following.{◌>>=◌}
+use Rattle.cpi_codes.specs.Key.{key_of}
+use Rattle.cpi_office.specs.declared.caller.Caller.{Caller}
+use Rattle.cpi_office.specs.declared.caller.Caller.TheVariants.{Public, Collector, Desk}
+use Rattle.cpi_http.specs.Fields.{after_scheme}
+
+-- whoever has the desk's key is the desk
+abbrev pub bearer_of : ℕ → ℕ → Caller
+bearer_of desk_key key = if key == desk_key then Desk else Collector key
+
+-- the scheme `CPI-Key` in any case, one or more spaces, and a key
+abbrev pub caller_named : ℕ → List ℕ → Option Caller
+caller_named desk_key value = do
+  text ← after_scheme (codes "CPI-Key ") value
+  key ← key_of text
+  Some (bearer_of desk_key key)
+
+-- no field is the public, and two are nobody
+abbrev pub caller_of : ℕ → List (List ℕ) → Option Caller
+caller_of desk_key [] = Some Public
+caller_of desk_key (value ∷ []) = caller_named desk_key value
+caller_of desk_key (value ∷ other ∷ values) = None

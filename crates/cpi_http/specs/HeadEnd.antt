@@ -1,0 +1,24 @@
+-- What reading the head of a request came to.
+use Rattle.std.specs.Prelude.{⊤, ℕ, List, [], Option}
+use Rattle.std.specs.Io.KnownBytes.{IsAtEnd}
+use Rattle.httparse.specs.Grammar.{RequestHead}
+use Rattle.httparse.specs.declared.spans.HeaderSpan.{HeaderSpan}
+use Rattle.httparse.specs.Spans.{IsRequestWithin, IsRequestAt}
+use Rattle.cpi_http.specs.Head.{ReadsHead, HasNoHead, NeverHasHead, MayGoOn}
+use Rattle.cpi_wire.specs.declared.fault.WireFault.{WireFault}
+use Rattle.cpi_wire.specs.declared.fault.WireFault.TheVariants as fault
+use Rattle.cpi_http.specs.declared.head.HeadEnd.{HeadEnd}
+use Rattle.cpi_http.specs.declared.head.HeadEnd.TheVariants.{Whole, Malformed, Cut}
+
+-- the bytes that were taken, and those that are left, are as the answer says
+abbrev pub HeadEndIs : List ℕ → List HeaderSpan → Option (List ℕ) → HeadEnd → Type 0
+HeadEndIs taken fields left (Whole spans) =
+    (h : RequestHead) × ReadsHead taken h [] × IsRequestAt taken fields spans h × IsRequestWithin taken fields spans
+HeadEndIs taken fields left Malformed = NeverHasHead taken
+HeadEndIs taken fields left Cut = HasNoHead taken × MayGoOn taken × IsAtEnd left
+
+-- a fault of reading, or want of memory
+abbrev pub IsReadFault : WireFault → Type 0
+IsReadFault fault.Read = ⊤
+IsReadFault fault.Write = ⊥
+IsReadFault fault.NoMemory = ⊤

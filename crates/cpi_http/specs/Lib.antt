@@ -1,0 +1,15 @@
+pub mod Body
+pub mod Bytes
+pub mod Called
+pub mod Callers
+pub mod Fields
+pub mod Framing
+pub mod Head
+pub mod HeadEnd
+pub mod Laws
+pub mod Message
+pub mod RouteAsks
+pub mod Response
+pub mod Routes
+pub mod Served
+pub mod Statuses

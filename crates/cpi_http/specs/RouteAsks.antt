@@ -1,0 +1,35 @@
+-- What a route asks: what the record with its word and the same arguments asks.
+use Rattle.std.specs.Prelude.{ℕ, List, [], ◌∷◌, ◌++◌, drop, Option, ◌==◌}
+use Rattle.std.specs.List.{slice_split}
+use Rattle.cpi_codes.specs.Following.{◌>>=◌}
+use Rattle.cpi_codes.specs.Zone.{ZoneRule}
+use Rattle.cpi_office.specs.declared.caller.Caller.{Caller}
+use Rattle.cpi_wire.specs.declared.asks.Ask.{Ask}
+use Rattle.cpi_wire.specs.OnlyRows.{only_row}
+use Rattle.cpi_wire.specs.Record.{asks}
+use Rattle.cpi_http.specs.declared.routes.Route.{Route}
+use Rattle.cpi_http.specs.declared.routes.Route.TheVariants as route
+use Rattle.cpi_http.specs.Routes.{word_of}
+
+-- the parts of a path between its slashes
+abbrev pub parts_of : List ℕ → List (List ℕ)
+parts_of path = slice_split (λ b. b == 47) path
+
+-- nothing stands before the first slash, and the name of the route behind it
+abbrev pub path_arguments : List ℕ → List (List ℕ)
+path_arguments path = drop 2 (parts_of path)
+
+-- a word whose last arguments are the fields of the body's one row
+abbrev pub ask_by_row : ZoneRule → ℕ → Caller → List ℕ → List (List ℕ) → List ℕ → Option Ask
+ask_by_row zone now caller word front body = only_row body >>= λ fields. asks zone now caller word (front ++ fields)
+
+-- The arguments of the path come first. Behind them stand for a quote the fields of the body's one row, for a plan and
+-- an import the body itself, and for another route nothing.
+abbrev pub ask_of_route : ZoneRule → ℕ → Caller → Route → List ℕ → List ℕ → Option Ask
+ask_of_route zone now caller route.Quote path body =
+    ask_by_row zone now caller (word_of route.Quote) (path_arguments path) body
+ask_of_route zone now caller route.Plan path body =
+    asks zone now caller (word_of route.Plan) (path_arguments path ++ body ∷ [])
+ask_of_route zone now caller route.Import path body =
+    asks zone now caller (word_of route.Import) (path_arguments path ++ body ∷ [])
+ask_of_route zone now caller other path body = asks zone now caller (word_of other) (path_arguments path)

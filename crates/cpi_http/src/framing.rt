@@ -1,0 +1,56 @@
+//! How many bytes of body follow a head (RFC 9112, section 6).
+ghost use Rattle.std.specs.Prelude.{◌≡◌, length, map, All, codes};
+ghost use Rattle.httparse.specs.Spans.{IsHeaderWithin, header_bytes};
+ghost use Rattle.cpi_http.specs.Fields.{values_named};
+ghost use Rattle.cpi_http.specs.Framing.{length_of_value, body_length, framing_of};
+
+use crate::fields::{Named, find};
+use http::StatusCode;
+use httparse::spans::HeaderSpan;
+
+/// The most bytes of a body.
+const MAX_BODY_LENGTH: usize = 65_536;
+
+// The length that a value writes.
+fn length_of_value(value: &[u8]) -> Result<usize, StatusCode>
+    ensures { result ≡ length_of_value value.now }
+{
+    if value.is_empty() {
+        return Err(StatusCode::BAD_REQUEST);
+    }
+    let mut length = 0;
+    for digit in value {
+        if !digit.is_ascii_digit() {
+            return Err(StatusCode::BAD_REQUEST);
+        }
+        length = (length * 10 + usize::from(*digit - b'0')).min(MAX_BODY_LENGTH + 1);
+    }
+    if length > MAX_BODY_LENGTH {
+        return Err(StatusCode::PAYLOAD_TOO_LARGE);
+    }
+    Ok(length)
+}
+
+// The length of the body that the fields announce.
+fn body_length(buf: &[u8], fields: &[HeaderSpan]) -> Result<usize, StatusCode>
+    requires { All (IsHeaderWithin (length buf.now)) fields.now }
+    ensures { result ≡ body_length (values_named (codes "content-length") (map (header_bytes buf.now) fields.now)) }
+{
+    match find(buf, fields, b"content-length") {
+        Named::Never => Ok(0),
+        Named::Once(value) => length_of_value(value),
+        Named::Again => Err(StatusCode::BAD_REQUEST),
+    }
+}
+
+/// The length of the body, in bytes, or the status that refuses the message before its body is read: 501 where it is
+/// coded for its transfer, 400 where its length isn't one number, 413 where that is above 65,536.
+pub(crate) fn framing(buf: &[u8], fields: &[HeaderSpan]) -> Result<usize, StatusCode>
+    requires { All (IsHeaderWithin (length buf.now)) fields.now }
+    ensures { result ≡ framing_of (map (header_bytes buf.now) fields.now) }
+{
+    let Named::Never = find(buf, fields, b"transfer-encoding") else {
+        return Err(StatusCode::NOT_IMPLEMENTED);
+    };
+    body_length(buf, fields)
+}

@@ -1,0 +1,58 @@
+//! Reading the head of a request.
+ghost use Rattle.std.specs.Prelude.{◌≡◌, ◌≤◌, [], ◌∷◌, ◌++◌, length, OnOk, IfOk, IfErr};
+ghost use Rattle.std.specs.Io.KnownBytes.{Consumes};
+ghost use Rattle.cpi_http.specs.HeadEnd.{HeadEndIs, IsReadFault};
+
+use crate::read::{MAX_HEAD_LENGTH, read_byte};
+use cpi_wire::WireFault;
+use httparse::Status;
+use httparse::spans::{HeaderSpan, RequestSpans, parse_request};
+use std::alloc::AllocError;
+use std::io::Read;
+
+/// What the bytes of a stream began with.
+#[derive(Clone, Copy, PartialEq, Eq)]
+pub enum HeadEnd {
+    /// A head within the limits, which ends where reading stopped.
+    Whole(RequestSpans),
+    /// No head within the limits, whatever follows.
+    Malformed,
+    /// The stream ended before the head was whole.
+    Cut,
+}
+
+fn push_byte(buf: &mut Vec<u8>, byte: u8) -> Result<(), AllocError>
+    ensures { OnOk result (buf.new.items ≡ buf.old.items ++ byte ∷ []) }
+{
+    buf.push(byte)?;
+    Ok(())
+}
+
+/// Reads the head of a request, and no byte after it.
+pub fn read_head<R: Read>(
+    reader: &mut R,
+    calls_left: &mut u32,
+    buf: &mut Vec<u8>,
+    fields: &mut [HeaderSpan],
+) -> Result<HeadEnd, WireFault>
+    requires empty { buf.old.items ≡ [] }
+    requires room { length fields.old ≡ 64 }
+    ensures bytes { OnOk result (Consumes (R.remaining reader.old) (R.remaining reader.new) buf.new.items) }
+    ensures fault { IfErr result IsReadFault }
+    ensures head { IfOk result (HeadEndIs buf.new.items fields.new (R.remaining reader.new)) }
+{
+    'bytes: while buf.len() < MAX_HEAD_LENGTH {
+        let Some(byte) = read_byte(reader, calls_left)? else {
+            return Ok(HeadEnd::Cut);
+        };
+        push_byte(buf, byte)?;
+        if byte == b'\n' {
+            match parse_request(buf, fields) {
+                Ok(Status::Complete(spans)) => return Ok(HeadEnd::Whole(spans)),
+                Ok(Status::Partial) => {}
+                Err(_) => return Ok(HeadEnd::Malformed),
+            }
+        }
+    }
+    Ok(HeadEnd::Malformed)
+}

@@ -1,0 +1,23 @@
+//! HTTP: one message in, carried out on an office, and its response out, to the byte.
+#![tactic(auto)]
+
+mod asked;
+mod body;
+mod bytes;
+mod called;
+mod callers;
+mod fields;
+mod framing;
+mod head;
+mod laws;
+mod read;
+mod responses;
+mod route_asks;
+mod routes;
+mod serve;
+mod statuses;
+
+pub use bytes::Content;
+pub use laws::{messages_are_a_run, one_message, responses_are_alike, tables_are_sent};
+pub use routes::{Route, examples};
+pub use serve::{Served, serve_one};

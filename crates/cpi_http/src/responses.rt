@@ -1,0 +1,125 @@
+//! Carrying out what a message asks, and its response.
+ghost use Rattle.std.specs.Prelude.{◌≡◌, false, Some, Ok, IfOk, OnErr};
+ghost use Rattle.cpi_office.specs.Calls.{is_failure as is_failure_of};
+ghost use Rattle.cpi_office.specs.declared.refusal.Refusal.TheVariants.{BadRequest};
+ghost use Rattle.cpi_office.specs.declared.reply.Reply.TheVariants.{Refused};
+ghost use Rattle.cpi_wire.specs.Answers.{Begins};
+ghost use Rattle.cpi_wire.specs.Line.{line_of};
+ghost use Rattle.cpi_http.specs.Response.{Says, IsCarriedOut, in_json, as_printed, content_of, form_asked, said_of};
+
+use crate::bytes::Content;
+use crate::statuses::status_of;
+use cpi_office::{Office, Refusal, Reply, Request};
+use cpi_release::{Form, PrintedTable};
+use cpi_store::Book;
+use cpi_wire::{Ask, RowsTold, answer_rows, is_failure, reply_line};
+use http::StatusCode;
+use std::alloc::{AllocError, Global};
+
+/// A response, before it is put into bytes.
+#[derive(Drop)]
+pub(crate) struct Response {
+    pub(crate) status: StatusCode,
+    pub(crate) content: Content,
+    pub(crate) body: Vec<u8>,
+    /// One of the replies is that the office is unavailable.
+    pub(crate) failed: bool,
+}
+
+// A reply as its line.
+fn line_response(alloc: Global, status: StatusCode, reply: &Reply) -> Result<Response, AllocError>
+    ensures { IfOk result (Says (in_json status (line_of reply.now)) (is_failure_of reply.now)) }
+{
+    Ok(Response {
+        status,
+        content: Content::Json,
+        body: reply_line(alloc, reply)?,
+        failed: is_failure(reply),
+    })
+}
+
+/// The response to a message of which no request was made.
+pub(crate) fn refusal(alloc: Global, status: StatusCode) -> Result<Response, AllocError>
+    ensures { IfOk result (Says (in_json status (line_of (Refused BadRequest))) false) }
+{
+    line_response(alloc, status, &Reply::Refused(Refusal::BadRequest))
+}
+
+fn content_of(form: Form) -> Content
+    ensures { result ≡ content_of form }
+{
+    match form {
+        Form::Text => Content::Text,
+        Form::Csv => Content::Csv,
+    }
+}
+
+// A printed table, as it is.
+fn table_response(alloc: Global, form: Form, printed: &PrintedTable) -> Result<Response, AllocError>
+    ensures { IfOk result (Says (as_printed form printed.now) false) }
+{
+    Ok(Response {
+        status: StatusCode::OK,
+        content: content_of(form),
+        body: Vec::from_slice(alloc, printed.as_bytes())?,
+        failed: false,
+    })
+}
+
+// The response to who asked for a table.
+fn form_response(alloc: Global, form: Form, reply: &Reply) -> Result<Response, AllocError>
+    ensures { IfOk result (Says (said_of (Some form) reply.now) (is_failure_of reply.now)) }
+{
+    match reply {
+        Reply::Table(printed) => table_response(alloc, form, printed),
+        other => line_response(alloc, status_of(other), other),
+    }
+}
+
+// A reply, as the request asks for it.
+fn reply_response(alloc: Global, form: Option<Form>, reply: &Reply) -> Result<Response, AllocError>
+    ensures { IfOk result (Says (said_of form reply.now) (is_failure_of reply.now)) }
+{
+    match form {
+        Some(form) => form_response(alloc, form, reply),
+        None => line_response(alloc, status_of(reply), reply),
+    }
+}
+
+// The form of the table that is asked for.
+fn form_asked(request: &Request) -> Option<Form>
+    ensures { result ≡ form_asked request.now }
+{
+    match request {
+        Request::Table(_, form, _) => Some(*form),
+        _ => None,
+    }
+}
+
+/// Carries out what a message asks. Without memory it may have been begun.
+pub(crate) fn respond<B: Book>(
+    alloc: Global,
+    office: &mut Office<B>,
+    ask: Ask,
+) -> Result<Response, AllocError>
+    ensures ok { IfOk result (IsCarriedOut B.state (Ok ask) office.old.book office.new.book) }
+    ensures err { OnErr result (Begins B.state office.old.book ask office.new.book) }
+{
+    match ask {
+        Ask::Bad => refusal(alloc, StatusCode::BAD_REQUEST),
+        Ask::One(now, caller, request) => {
+            let form = form_asked(&request);
+            let reply = office.handle(now, caller, request);
+            reply_response(alloc, form, &reply)
+        }
+        Ask::Import(now, caller, rows) => {
+            let RowsTold { line, failed } = answer_rows(alloc, office, now, &caller, rows)?;
+            Ok(Response {
+                status: StatusCode::OK,
+                content: Content::Json,
+                body: line,
+                failed,
+            })
+        }
+    }
+}

@@ -1,0 +1,185 @@
+//! One message: read, carried out, answered.
+ghost use Rattle.std.specs.Prelude.{◌≡◌, ◌++◌, false, List, ℕ, IfOk, IfErr, OnOk, OnErr};
+ghost use Rattle.std.specs.Io.KnownBytes.{Appends};
+ghost use Rattle.cpi_office.specs.declared.refusal.Refusal.TheVariants.{BadRequest};
+ghost use Rattle.cpi_office.specs.declared.reply.Reply.TheVariants.{Refused};
+ghost use Rattle.cpi_wire.specs.Answers.{Begins};
+ghost use Rattle.cpi_wire.specs.Line.{line_of};
+ghost use Rattle.cpi_http.specs.Bytes.{http_of};
+ghost use Rattle.cpi_http.specs.Message.{asked_by, setting};
+ghost use Rattle.cpi_http.specs.Response.{IsCarriedOut, ask_in, bytes_of, in_json};
+ghost use Rattle.cpi_http.specs.Served.{bodies, messages, change, IsServed, GaveUp, SendFails};
+
+use crate::asked::asked_by;
+use crate::body::receive_body;
+use crate::bytes::front_of;
+use crate::called::called_of;
+use crate::framing::framing;
+use crate::head::{HeadEnd, read_head};
+use crate::read::{MAX_CALLS, MAX_FIELDS};
+use crate::responses::{Response, refusal, respond};
+use crate::routes::{Route, all_routes};
+use cpi_codes::{Key, Moment, Zone};
+use cpi_office::{Caller, Office};
+use cpi_store::Book;
+use cpi_wire::{WireFault, write_whole};
+use http::StatusCode;
+use httparse::spans::EMPTY_HEADER_SPAN;
+use std::alloc::{AllocError, Global};
+use std::io::{Read, Write};
+
+/// How many bytes of a body are written together with the head.
+const BODY_WITH_HEAD: usize = 65_536;
+
+/// What became of a connection's message.
+#[derive(Clone, Copy, PartialEq, Eq)]
+pub enum Served {
+    /// The status that was written, and whether one of the replies is that the office was unavailable.
+    Answered(StatusCode, bool),
+    /// The stream ended within the message. Nothing was done, and nothing written.
+    Cut,
+}
+
+// Writes two texts, one after the other.
+fn write_both<W: Write>(writer: &mut W, front: &[u8], rest: &[u8]) -> Result<(), WireFault>
+    ensures whole { OnOk result (Appends (W.contents writer.old) (W.contents writer.new) (front.now ++ rest.now)) }
+    ensures part { IfErr result (SendFails (W.contents writer.old) (W.contents writer.new) (front.now ++ rest.now)) }
+{
+    write_whole(writer, front)?;
+    write_whole(writer, rest)
+}
+
+// Writes a response: the head together with the first bytes of the body, and then the others from where they stand, so
+// that a long body isn't in memory twice.
+fn send<W: Write>(alloc: Global, writer: &mut W, response: &Response) -> Result<Served, WireFault>
+    ensures ok { IfOk result (λ served. served ≡ Served.Answered response.now.status response.now.failed) }
+    ensures whole { OnOk result (Appends (W.contents writer.old) (W.contents writer.new)
+        (http_of response.now.status response.now.content response.now.body.items)) }
+    ensures err { IfErr result (SendFails (W.contents writer.old) (W.contents writer.new)
+        (http_of response.now.status response.now.content response.now.body.items)) }
+{
+    let size = response.body.len();
+    let (begun, rest) = response.body.split_at(size.min(BODY_WITH_HEAD));
+    let front = front_of(alloc, response.status, response.content, size, begun)?;
+    write_both(writer, &front, rest)?;
+    Ok(Served::Answered(response.status, response.failed))
+}
+
+// Refuses a message of which no request was made.
+fn refuse<W: Write>(alloc: Global, writer: &mut W, status: StatusCode) -> Result<Served, WireFault>
+    ensures ok { IfOk result (λ served. served ≡ Served.Answered status false) }
+    ensures whole { OnOk result (Appends (W.contents writer.old) (W.contents writer.new)
+        (bytes_of (in_json status (line_of (Refused BadRequest))))) }
+    ensures err { IfErr result (SendFails (W.contents writer.old) (W.contents writer.new)
+        (bytes_of (in_json status (line_of (Refused BadRequest))))) }
+{
+    send(alloc, writer, &refusal(alloc, status)?)
+}
+
+// Carries out a whole message. Without memory it may have been begun.
+fn carry_out<B: Book>(
+    alloc: Global,
+    now: Moment,
+    zone: &Zone,
+    called: Result<(Route, Caller), StatusCode>,
+    path: &[u8],
+    body: &[u8],
+    office: &mut Office<B>,
+) -> Result<Response, AllocError>
+    ensures ok { IfOk result (IsCarriedOut B.state (asked_by now zone.now called path.now body.now)
+        office.old.book office.new.book) }
+    ensures err { OnErr result (Begins B.state office.old.book (ask_in (asked_by now zone.now called path.now body.now))
+        office.new.book) }
+{
+    match asked_by(alloc, now, zone, called, path, body)? {
+        Ok(ask) => respond(alloc, office, ask),
+        Err(status) => refusal(alloc, status),
+    }
+}
+
+// Reads the body after a head, carries out the message and answers it.
+fn serve_body<R: Read, W: Write, B: Book>(
+    alloc: Global,
+    reader: &mut R,
+    calls_left: &mut u32,
+    writer: &mut W,
+    now: Moment,
+    zone: &Zone,
+    size: Result<usize, StatusCode>,
+    called: Result<(Route, Caller), StatusCode>,
+    path: &[u8],
+    office: &mut Office<B>,
+) -> Result<Served, WireFault>
+    ensures ok { IfOk result (IsServed B.state (bodies now zone.now size called path.now)
+        (R.remaining reader.old) (R.remaining reader.new)
+        (change office.old.book office.new.book (W.contents writer.old) (W.contents writer.new))) }
+    ensures err { IfErr result (GaveUp B.state (bodies now zone.now size called path.now)
+        (R.remaining reader.old) (R.remaining reader.new)
+        (change office.old.book office.new.book (W.contents writer.old) (W.contents writer.new))) }
+{
+    let length = match size {
+        Ok(length) => length,
+        Err(status) => return refuse(alloc, writer, status),
+    };
+    let Some(body) = receive_body(alloc, reader, calls_left, length)? else {
+        return Ok(Served::Cut);
+    };
+    let response = carry_out(alloc, now, zone, called, path, &body, office)?;
+    send(alloc, writer, &response)
+}
+
+/// Reads one HTTP message at a moment, in seconds since 1970 UTC, carries out on the office what it asks, and writes
+/// its response. Civil times are read by the clock of the zone. The desk's key makes its bearer the desk; any other key
+/// is a collector's; without a key the caller is the public.
+///
+/// The message is judged in this order: whole (or `Cut`: nothing is done or written); its head, of at most 8,192 bytes
+/// and 64 fields (400); no transfer coding (501); its length, one number (400) up to 65,536 (413); its route (404); its
+/// caller (400); what it asks, which must make a record (400). Then the request is carried out. No byte after the
+/// message is read, and `read` is called at most 80,000 times.
+///
+/// After `Read` nothing was done. After `Write` all commands of the message stand, and the same message again is
+/// answered anew. After `NoMemory` some first commands of it stand, or none.
+pub fn serve_one<R: Read, W: Write, B: Book>(
+    alloc: Global,
+    reader: &mut R,
+    writer: &mut W,
+    now: Moment,
+    zone: &Zone,
+    desk_key: Key,
+    office: &mut Office<B>,
+) -> Result<Served, WireFault>
+    ensures ok { IfOk result (IsServed B.state (messages (setting now zone.now desk_key))
+        (R.remaining reader.old) (R.remaining reader.new)
+        (change office.old.book office.new.book (W.contents writer.old) (W.contents writer.new))) }
+    ensures err { IfErr result (GaveUp B.state (messages (setting now zone.now desk_key))
+        (R.remaining reader.old) (R.remaining reader.new)
+        (change office.old.book office.new.book (W.contents writer.old) (W.contents writer.new))) }
+{
+    let Ok(routes) = all_routes(alloc) else {
+        return Err(WireFault::NoMemory);
+    };
+    let mut calls_left = MAX_CALLS;
+    let mut buf = Vec::new(alloc);
+    let mut fields = [EMPTY_HEADER_SPAN; MAX_FIELDS];
+    let spans = match read_head(reader, &mut calls_left, &mut buf, &mut fields)? {
+        HeadEnd::Whole(spans) => spans,
+        HeadEnd::Malformed => return refuse(alloc, writer, StatusCode::BAD_REQUEST),
+        HeadEnd::Cut => return Ok(Served::Cut),
+    };
+    let fields = &fields[..spans.headers];
+    let path = spans.path.of(&buf);
+    let size = framing(&buf, fields);
+    let called = called_of(&routes, desk_key, &buf, fields, spans.method.of(&buf), path);
+    serve_body(
+        alloc,
+        reader,
+        &mut calls_left,
+        writer,
+        now,
+        zone,
+        size,
+        called,
+        path,
+        office,
+    )
+}

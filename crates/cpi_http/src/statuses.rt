@@ -1,0 +1,29 @@
+//! The status of a reply.
+ghost use Rattle.std.specs.Prelude.{◌≡◌};
+ghost use Rattle.cpi_http.specs.Statuses.{status_of, status_of_refusal};
+
+use cpi_office::{Refusal, Reply};
+use http::StatusCode;
+
+fn status_of_refusal(refusal: &Refusal) -> StatusCode
+    ensures { result ≡ status_of_refusal refusal.now }
+{
+    match refusal {
+        Refusal::BadRequest => StatusCode::BAD_REQUEST,
+        Refusal::UnknownKey => StatusCode::UNAUTHORIZED,
+        Refusal::NotForCaller => StatusCode::FORBIDDEN,
+        Refusal::UnknownSlot | Refusal::UnknownMonth | Refusal::NoTable => StatusCode::NOT_FOUND,
+        Refusal::Unavailable => StatusCode::SERVICE_UNAVAILABLE,
+        _ => StatusCode::CONFLICT,
+    }
+}
+
+/// The status of a reply: 200 where it is no refusal.
+pub(crate) fn status_of(reply: &Reply) -> StatusCode
+    ensures { result ≡ status_of reply.now }
+{
+    match reply {
+        Reply::Refused(refusal) => status_of_refusal(refusal),
+        _ => StatusCode::OK,
+    }
+}

@@ -1,9 +1,0 @@
-use Rattle.std.proofs.Common.{◌≡◌, length}
-use Rattle.cpi_pages.specs.Fields.{after_spaces}
-use Rattle.cpi_pages.proofs.fields.after_spaces.Given as goal
-
-abbrev pub invariant-loop-text : goal.invariant-loop-text
-invariant-loop-text l = after_spaces l.text ≡ after_spaces l.fn.text
-
-abbrev pub decreases-loop-text : goal.decreases-loop-text
-decreases-loop-text l = length l.text

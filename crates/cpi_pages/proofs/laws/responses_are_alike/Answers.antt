@@ -1,5 +1,0 @@
-use Rattle.cpi_pages.proofs.Alike.{responses_are_alike}
-use Rattle.cpi_pages.proofs.laws.responses_are_alike.Goals as goal
-
-pub returns : goal.returns
-returns g c = responses_are_alike g.B.Book.state g.C.Book.state

@@ -1,0 +1,22 @@
+//! Statements that are run in turn within a transaction.
+ghost use Rattle.std.specs.Prelude.{◌≡◌, map, OnOk};
+ghost use Rattle.sqlite.specs.Held.{state};
+ghost use Rattle.sqlite.specs.State.{HasCleanDisk, KeepsCommit, Survives};
+ghost use Rattle.cpi_sql_open.specs.Stages.{RanEach, stage_of};
+
+use sqlite::{Alter, Error, Transaction};
+
+/// Runs statements that have no parameters, in turn.
+pub fn perform_each<S: Alter>(tx: &mut Transaction<'_, S>, texts: &[&str]) -> Result<(), Error>
+    ensures same_reference { tx.new.conn.ghost_name ≡ tx.old.conn.ghost_name }
+    ensures ran { HasCleanDisk (state S.Store tx.new.conn.now) → OnOk result (RanEach (map (λ t. t.now) texts.now)
+        (stage_of (state S.Store tx.old.conn.now)) (stage_of (state S.Store tx.new.conn.now))) }
+    ensures kept { HasCleanDisk (state S.Store tx.new.conn.now) →
+        KeepsCommit (state S.Store tx.old.conn.now) (state S.Store tx.new.conn.now) }
+    ensures survives { Survives (state S.Store tx.old.conn.now) (state S.Store tx.new.conn.now) (λ _. ⊥) }
+{
+    for text in texts {
+        let _count = tx.execute(text, &[])?;
+    }
+    Ok(())
+}

@@ -1,0 +1,54 @@
+//! A table that is read whole, by one statement.
+ghost use Rattle.std.specs.Prelude.{◌≡◌, false, map, IfOk, IsTrue, OnOk};
+ghost use Rattle.sqlite.specs.Held.{state};
+ghost use Rattle.sqlite.specs.Order.{Row as SqlRow, column};
+ghost use Rattle.sqlite.specs.Schema.{Schema};
+ghost use Rattle.sqlite.specs.State.{HasCleanDisk, Survives};
+ghost use Rattle.cpi_rows.specs.Keyed.{IsInOrder};
+ghost use Rattle.cpi_sql_rows.specs.Finding.{IsQuietOver};
+ghost use Rattle.cpi_sql_rows.specs.Lists.{listed};
+ghost use Rattle.cpi_sql_rows.specs.Shelf.{HasTables, IsCleanBook, IsKept, IsWhole, Looks};
+ghost use Rattle.cpi_sql_rows.specs.WholeTables.{WholeTable};
+
+use crate::stored::{Stored, Unread, list};
+use sqlite::{Alter, Connection};
+use std::alloc::Global;
+
+/// What the rows of one table stand for.
+pub trait Table: Stored {
+    /// The schemas that have the table.
+    ghost is_in: { Schema → Type 0 };
+
+    /// The table, and the statement that asks for all its rows, in the order of their keys.
+    ghost table: { WholeTable Self is_in };
+
+    /// The statement.
+    fn text() -> &'static str
+        ensures { result.now ≡ table.text };
+
+    /// What is read of a row stands for what the row does.
+    ghost same: { (row : SqlRow) → Self.stands_for (map (column row) table.shown) ≡ table.entry row };
+}
+
+/// All rows of a table, by their keys. It says too of a table that is only found that each of its rows stands for
+/// something, and that no two have one key.
+pub fn read_all<S: Alter, T: Table>(
+    conn: &mut Connection<S>,
+    alloc: Global,
+) -> Result<Vec<T>, Unread>
+    ensures look { Looks (state S.Store conn.old) (state S.Store conn.new) result }
+    ensures read { IsCleanBook (state S.Store conn.new) → HasTables (state S.Store conn.old) →
+        IfOk result (λ xs. xs.items
+        ≡ listed T.Key.cmp T.key T.table.entry ((state S.Store conn.old).now.trees T.table.tree)) }
+    ensures order { IfOk result (λ xs. IsInOrder T.Key.cmp T.key xs.items) }
+    ensures whole { IsCleanBook (state S.Store conn.new) → T.is_in (state S.Store conn.old).now.schema →
+        OnOk result (IsWhole T.Key.cmp T.key T.table.entry ((state S.Store conn.old).now.trees T.table.tree)) }
+    ensures clean { IsCleanBook (state S.Store conn.new) → IsCleanBook (state S.Store conn.old) }
+    ensures kept { IsCleanBook (state S.Store conn.new) → (state S.Store conn.old).in_transaction ≡ false →
+        T.is_in (state S.Store conn.old).now.schema → IsKept (state S.Store conn.old) (state S.Store conn.new) }
+    ensures open { HasCleanDisk (state S.Store conn.new) → OnOk result (IsTrue (state S.Store conn.new).is_open) }
+    ensures crash { Survives (state S.Store conn.old) (state S.Store conn.new)
+        (λ _. IsQuietOver T.is_in (state S.Store conn.old)) }
+{
+    list(conn, alloc, T::text(), &[])
+}

@@ -1,0 +1,46 @@
+use Rattle.std.proofs.Common.{◌≡◌, ◌∙◌, Some, rules, sym, subst, arith}
+use Rattle.sqlite.specs.Held.{state}
+use Rattle.cpi_store.specs.Office.{Freezes}
+use Rattle.cpi_sql_rows.specs.Lists.{month_at}
+use Rattle.cpi_sql_rows.specs.Shelf.{HasRowids, HasTables, IsDone}
+use Rattle.cpi_sql_rows.specs.Steps.{outside}
+use Rattle.cpi_sql_writes.proofs.ReleaseOffice.{steps_written, written_done}
+use Rattle.cpi_sql_writes.proofs.Withins.{clean_before, inside_then, on_given, on_then}
+use Rattle.cpi_sql_writes.proofs.releases.ReleaseOneChange.write.Goals as goal
+
+pub returns-clause-written : goal.returns-clause-written
+returns-clause-written g c =
+    let r = c.args.self.now in
+    let result = c.replace-3.result in
+    let numbers = c.numbers_of-numbers.result in
+    let is : month_at numbers.month ≡ Some r.month = c.numbers_of-numbers.ensures.month in
+    let a = state g.S.Store c.args.tx.now.conn.now in
+    let b = state g.S.Store c.add_header.new.tx.conn.now in
+    let d = state g.S.Store c.replace.new.tx.conn.now in
+    let e = state g.S.Store c.replace-2.new.tx.conn.now in
+    let f = state g.S.Store c.replace-3.new.tx.conn.now in
+    let header = c.in_ok-add_header.ensures.added in
+    let frozen = c.in_ok-replace.ensures.replaced in
+    let carried = c.in_ok-replace-2.ensures.replaced in
+    let levels = c.replace-3.ensures.replaced in
+    let late = inside_then {R = Unit {0}} d e f carried levels (λ _ _ _. tt) in
+    inside_then a b f header (inside_then {R = Unit {0}} b d f frozen late (λ _ _ _. tt)) (λ clean_b clean inside.
+    on_given result _ _ (λ none. on_given result (HasTables (outside a)) (IsDone (Freezes r) (outside a) (outside f))
+    (λ has.
+    let one = header.step clean_b inside has.schema is c.numbers_of-numbers.ensures.range in
+    let frozen_ids = subst HasRowids (sym (one.others.frozen (λ n. absurd (omega (arith, n)))))
+    has.releases.frozen_ids in
+    let two = frozen.step (clean_before d f late clean) one.inside
+    (record { schema = one.schema; rowids = frozen_ids }) in
+    let carried_ids = subst HasRowids (sym (two.others.carried (λ n. absurd (omega (arith, n)))
+    ∙ one.others.carried (λ n. absurd (omega (arith, n))))) has.releases.carried_ids in
+    let three = carried.step (clean_before e f levels clean) two.inside
+    (record { schema = two.schema; rowids = carried_ids }) in
+    let level_ids = subst HasRowids (sym (three.others.levels (λ n. absurd (omega (arith, n)))
+    ∙ two.others.levels (λ n. absurd (omega (arith, n)))
+    ∙ one.others.levels (λ n. absurd (omega (arith, n))))) has.releases.level_ids in
+    on_then result _ _ (levels.step clean three.inside) (λ four.
+    written_done r (c.fits_tables.ensures (search rules)) a f has none
+    (steps_written r numbers.month numbers.revision is c.numbers_of-numbers.ensures.revision c.as_slice.result.now
+    c.as_slice-2.result.now c.as_slice-3.result.now c.as_slice.ensures c.as_slice-2.ensures c.as_slice-3.ensures
+    a b d e f one two three (four (record { schema = three.schema; rowids = level_ids })))))))

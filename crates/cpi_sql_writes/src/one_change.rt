@@ -1,0 +1,80 @@
+//! A change of the office that is made in one transaction: all of its rows are written, or none.
+ghost use Rattle.std.specs.Prelude.{◌≡◌, false, IsTrue, OnErr, OnOk};
+ghost use Rattle.sqlite.specs.Held.{state};
+ghost use Rattle.sqlite.specs.State.{HasCleanDisk, Survives};
+ghost use Rattle.cpi_store.specs.Office.{Change, Office, changed};
+ghost use Rattle.cpi_sql_rows.specs.Lists.{office_in};
+ghost use Rattle.cpi_sql_rows.specs.Shelf.{HasTables, IsCleanBook, IsDone, IsKept};
+ghost use Rattle.cpi_sql_writes.specs.Within.{ChangesOffice, Within};
+
+use cpi_sql_rows::Unread;
+use sqlite::{Alter, Connection, Transaction};
+use std::alloc::Global;
+
+/// What is written in one transaction.
+pub trait OneChange {
+    /// The change of the office.
+    ghost change: { Self → Change };
+
+    /// Whether the office can take it.
+    ghost fits: { Self → Office → Type 0 };
+
+    /// Writes its rows.
+    fn write<S: Alter>(&self, tx: &mut Transaction<'_, S>, alloc: Global) -> Result<(), Unread>
+        ensures same_reference { tx.new.conn.ghost_name ≡ tx.old.conn.ghost_name }
+        ensures written { Within (state S.Store tx.old.conn.now) (state S.Store tx.new.conn.now) result
+            (λ old new. fits self.now (office_in old.now.trees) → ChangesOffice (change self.now) old new) };
+}
+
+// In a transaction, which is rolled back where it fails.
+fn in_transaction<S: Alter, C: OneChange>(
+    conn: &mut Connection<S>,
+    alloc: Global,
+    change: &C,
+) -> Result<(), Unread>
+    requires alone { (state S.Store conn.old).in_transaction ≡ false }
+    ensures alone { (state S.Store conn.new).in_transaction ≡ false }
+    ensures clean { IsCleanBook (state S.Store conn.new) → IsCleanBook (state S.Store conn.old) }
+    ensures open { HasCleanDisk (state S.Store conn.new) → OnOk result (IsTrue (state S.Store conn.new).is_open) }
+    ensures done { HasCleanDisk (state S.Store conn.new) → HasTables (state S.Store conn.old) →
+        C.fits change.now (office_in (state S.Store conn.old).now.trees) →
+        OnOk result (IsDone (C.change change.now) (state S.Store conn.old) (state S.Store conn.new)) }
+    ensures undone { HasCleanDisk (state S.Store conn.new) → IsTrue (state S.Store conn.new).is_open →
+        OnErr result ((state S.Store conn.new).now ≡ (state S.Store conn.old).now) }
+    ensures crash { Survives (state S.Store conn.old) (state S.Store conn.new) (λ db.
+        HasTables (state S.Store conn.old) → C.fits change.now (office_in (state S.Store conn.old).now.trees) →
+        office_in db ≡ changed (C.change change.now) (office_in (state S.Store conn.old).now.trees)) }
+{
+    let _settled = conn.is_autocommit();
+    let mut tx = conn.transaction();
+    change.write(&mut tx, alloc)?;
+    let done = tx.commit();
+    let _settled_again = conn.is_autocommit();
+    match done {
+        Ok(()) => Ok(()),
+        Err(_) => Err(Unread),
+    }
+}
+
+/// Makes the change, where no transaction is open.
+pub fn make_change<S: Alter, C: OneChange>(
+    conn: &mut Connection<S>,
+    alloc: Global,
+    change: &C,
+) -> Result<(), Unread>
+    ensures clean { IsCleanBook (state S.Store conn.new) → IsCleanBook (state S.Store conn.old) }
+    ensures open { HasCleanDisk (state S.Store conn.new) → OnOk result (IsTrue (state S.Store conn.new).is_open) }
+    ensures done { IsCleanBook (state S.Store conn.new) → HasTables (state S.Store conn.old) →
+        C.fits change.now (office_in (state S.Store conn.old).now.trees) →
+        OnOk result (IsDone (C.change change.now) (state S.Store conn.old) (state S.Store conn.new)) }
+    ensures kept { IsCleanBook (state S.Store conn.new) → HasTables (state S.Store conn.old) →
+        OnErr result (IsKept (state S.Store conn.old) (state S.Store conn.new)) }
+    ensures crash { Survives (state S.Store conn.old) (state S.Store conn.new) (λ db.
+        HasTables (state S.Store conn.old) → C.fits change.now (office_in (state S.Store conn.old).now.trees) →
+        office_in db ≡ changed (C.change change.now) (office_in (state S.Store conn.old).now.trees)) }
+{
+    if !conn.is_autocommit() {
+        return Err(Unread);
+    }
+    in_transaction(conn, alloc, change)
+}
