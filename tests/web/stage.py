@@ -144,7 +144,7 @@ class Stage:
         """The same, once there are any."""
         begun = time.monotonic()
         while not (found := self.quotes(key)) and time.monotonic() - begun < seconds:
-            time.sleep(0.02)
+            time.sleep(0.1)  # (the front takes 20 requests a second)
         return found
 
     def logs(self, requests: int = 1) -> str:

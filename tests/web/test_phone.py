@@ -3,6 +3,7 @@
 from __future__ import annotations
 
 import json
+import re
 import shutil
 import signal
 import time
@@ -593,6 +594,11 @@ return await new Promise((end) => {
 """All that a phone has kept, as one text."""
 
 
+def stands_in(text: str, seen: str) -> bool:
+    """Whether a text stands there by itself, and not within a longer number, a moment or a version among them."""
+    return re.search(rf"\b{re.escape(text)}\b", seen) is not None
+
+
 def test_collectors_see_their_own(phone: Phone, other_phone: Phone, stage: Stage) -> None:
     phone.sign_in()
     other_phone.sign_in(BENO)
@@ -601,12 +607,20 @@ def test_collectors_see_their_own(phone: Phone, other_phone: Phone, stage: Stage
     assert stage.wait_for_quotes(ANNA) == [[1, NOW, "price", 321, NEXT]]
     other_phone.send()
     other_phone.browser.wait_text("#line", "All sent")
-    for one, others in ((other_phone, ("Corner shop", "321", ANNA)), (phone, ("Market hall", "999", BENO))):
-        seen = one.browser.text("body") + one.browser.run_until(KEPT)
-        assert [text for text in others if text in seen] == []
     assert stage.quotes(BENO) == []
     other_phone.show("quotes")
     assert "no quote of yours" in other_phone.browser.text("#list")
+    other_phone.show("all")
+    other_phone.enter(1, "2.87")
+    assert [row[3] for row in stage.wait_for_quotes(BENO)] == [287]
+    annas, benos = ("Corner shop", "321", "3.21", ANNA), ("Market hall", "287", "2.87", BENO)
+    for one, own, others in ((phone, annas, benos), (other_phone, benos, annas)):
+        one.send()
+        one.show("quotes")
+        one.browser.wait_text("#list", own[2])
+        seen = one.browser.text("body") + one.browser.run_until(KEPT)
+        assert [text for text in own if stands_in(text, seen)] == list(own)
+        assert [text for text in ("999", *others) if stands_in(text, seen)] == []
 
 
 LEFT = """
