@@ -1,7 +1,6 @@
 -- What a freeze releases, and which histories are sound.
 use Rattle.std.specs.Prelude.{◌≡◌, ◌⊎◌, ℕ, ◌+◌, ◌<◌, ◌%◌, Bool, true, List, [], ◌∷◌, ◌++◌, length, map, fold, Contains}
-use Rattle.std.specs.Prelude.{Option, Some, None, IsSome, nat_lt, slice_index_or, if◌then◌else◌}
-use Rattle.std.specs.List.{list_any}
+use Rattle.std.specs.Prelude.{Option, Some, None, IsSome, slice_index_or}
 use Rattle.std.specs.Option.{option_or}
 use Rattle.std.specs.Ordering.{nat_cmp}
 use Rattle.cpi_codes.specs.Month.{year_of}

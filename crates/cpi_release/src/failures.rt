@@ -1,5 +1,4 @@
-// A count that stands in contracts alone. It takes no bytes, and so it has no last value.
-
+//! A count that stands in contracts alone. It takes no bytes, and so it has no last value.
 ghost use Rattle.std.specs.Prelude.{◌≡◌, ℕ, ◌+◌};
 
 use std::marker::Model;

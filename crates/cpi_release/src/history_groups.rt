@@ -1,13 +1,13 @@
 //! Groups read from a history that is handed in.
-ghost use Rattle.std.specs.Prelude.{◌≡◌, ◌≤◌, IfOk, IfSome};
+ghost use Rattle.std.specs.Prelude.{◌≡◌, ◌≤◌, IfOk};
 ghost use Rattle.cpi_release.specs.GroupCalls.{group_of};
-ghost use Rattle.cpi_release.specs.Cached.{sources_in, IsFit};
+ghost use Rattle.cpi_release.specs.KeptSamples.{sources_in, IsFit};
 
-use crate::cached::Cached;
 use crate::failures::Failures;
 use crate::group_fault::GroupFault;
 use crate::groups::Groups;
-use crate::kept_groups::{group_rows, month_groups};
+use crate::kept_groups::month_groups;
+use crate::kept_samples::KeptSamples;
 use crate::month_rows::{level_in, plan_of};
 use crate::release::History;
 use cpi_codes::{Code, Month};
@@ -21,13 +21,13 @@ use std::marker::Model;
 pub struct HistoryGroups<'a> {
     history: &'a History,
     frozen: &'a [FrozenQuote],
-    cached: Option<Cached>,
+    samples: KeptSamples,
     failed: Failures,
     alloc: Global,
 }
 
 impl<'a> Model for HistoryGroups<'a> {
-    ghost use Rattle.cpi_release.specs.Cached.{KeptGroups, AreKept, sources_of};
+    ghost use Rattle.cpi_release.specs.KeptSamples.{KeptGroups, AreKept, sources_of};
 
     ghost Value = { KeptGroups };
 
@@ -38,7 +38,7 @@ impl<'a> Model for HistoryGroups<'a> {
       failures = h.failed.count;
     } };
 
-    ghost invariant = { λ h. AreKept (sources_of h.history.now.plans h.history.now.releases h.frozen.now) h.cached };
+    ghost invariant = { λ h. AreKept (sources_of h.history.now.plans h.history.now.releases h.frozen.now) h.samples };
 }
 
 impl<'a> HistoryGroups<'a> {
@@ -55,7 +55,7 @@ impl<'a> HistoryGroups<'a> {
         HistoryGroups {
             history,
             frozen,
-            cached: None,
+            samples: KeptSamples::none(),
             failed: Failures::none(),
             alloc,
         }
@@ -63,36 +63,19 @@ impl<'a> HistoryGroups<'a> {
 }
 
 impl<'a> HistoryGroups<'a> {
-    // The rows of one aggregate, where the month's groups are kept.
-    fn kept(&self, month: Month, code: Code) -> Result<Option<Vec<GroupRow>>, AllocError>
-        ensures { IfOk result (λ o. IfSome o (λ v. IsFit (sources_in self.now) → 12 ≤ month →
-            v.items ≡ group_of (sources_in self.now) month code)) }
-    {
-        let Some(cached) = &self.cached else {
-            return Ok(None);
-        };
-        if cached.month != month {
-            return Ok(None);
-        }
-        let plan = plan_of(self.history.plans.as_slice(), month.year());
-        let rows = group_rows(self.alloc, plan, &cached.groups, month, code)?;
-        Ok(Some(rows))
-    }
-
-    // The rows of one aggregate; the month's groups are kept from then on.
+    // The rows of one aggregate; the month's samples are kept from then on.
     fn read(&mut self, month: Month, code: Code) -> Result<Vec<GroupRow>, AllocError>
         ensures same { self.new ≡ self.old }
         ensures shown { IfOk result (λ v. IsFit (sources_in self.old) → 12 ≤ month →
             v.items ≡ group_of (sources_in self.old) month code) }
     {
-        if let Some(rows) = self.kept(month, code)? {
+        let plan = plan_of(self.history, month);
+        if let Some(rows) = self.samples.rows(self.alloc, plan, month, code)? {
             return Ok(rows);
         }
-        let plan = plan_of(self.history.plans.as_slice(), month.year());
         let releases = self.history.releases.as_slice();
         let groups = month_groups(self.alloc, plan, releases, month, self.frozen)?;
-        let rows = group_rows(self.alloc, plan, &groups, month, code)?;
-        self.cached = Some(Cached { month, groups });
+        let rows = self.samples.keep(self.alloc, plan, month, groups, code)?;
         Ok(rows)
     }
 }
@@ -100,7 +83,7 @@ impl<'a> HistoryGroups<'a> {
 impl<'a> Groups for HistoryGroups<'a> {
     ghost use Rattle.std.specs.Prelude.{⊤};
     ghost use Rattle.cpi_release.specs.GroupCalls.{Sources};
-    ghost use Rattle.cpi_release.specs.Cached.{sources_of, IsFit};
+    ghost use Rattle.cpi_release.specs.KeptSamples.{sources_of, IsFit};
 
     ghost Held = { Sources };
 

@@ -5,7 +5,7 @@ ghost use Rattle.cpi_codes.specs.Month.{year_of};
 ghost use Rattle.cpi_rows.specs.Keyed.{at};
 ghost use Rattle.cpi_release.specs.Releases.{carried_of, frozen_of, link_month};
 ghost use Rattle.cpi_release.specs.GroupCalls.{Sources, group_of};
-ghost use Rattle.cpi_release.specs.Cached.{IsFit, AreGroupsOf};
+ghost use Rattle.cpi_release.specs.KeptSamples.{IsFit, AreGroupsOf};
 
 use crate::month_rows::{carried_at, frozen_at, group_at, groups_from};
 use crate::release::Release;
@@ -61,8 +61,8 @@ pub fn month_groups(
     Ok(groups)
 }
 
-/// The rows of one aggregate among the samples of a month, copied.
-pub fn group_rows(
+// The rows of one aggregate among the samples of a month, copied.
+pub(crate) fn group_rows(
     alloc: Global,
     plan: Option<&YearPlan>,
     groups: &[Vec<GroupRow>],

@@ -4,7 +4,6 @@
 
 mod before;
 mod by_group;
-mod cached;
 mod changes;
 mod compute;
 mod csv_table;
@@ -20,6 +19,7 @@ mod group_fault;
 mod groups;
 mod history_groups;
 mod kept_groups;
+mod kept_samples;
 mod level;
 mod levels;
 mod month_rows;
@@ -32,7 +32,6 @@ mod text_table;
 mod weights;
 mod whole;
 
-pub use cached::Cached;
 pub use changes::change;
 pub use csv_table::table_csv;
 pub use examples::{worked_histories, worked_tables};
@@ -44,7 +43,8 @@ pub use frozen_month::FrozenMonth;
 pub use group_fault::GroupFault;
 pub use groups::Groups;
 pub use history_groups::HistoryGroups;
-pub use kept_groups::{group_rows, groups_after, month_groups};
+pub use kept_groups::{groups_after, month_groups};
+pub use kept_samples::KeptSamples;
 pub use level::Level;
 pub use month_rows::level_in;
 pub use printed_table::{PrintedTable, printed};

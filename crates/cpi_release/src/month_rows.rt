@@ -2,6 +2,7 @@
 ghost use Rattle.std.specs.Prelude.{◌≡◌, List, true, option_map, IfOk, if◌then◌else◌};
 ghost use Rattle.std.specs.Option.{option_copied};
 ghost use Rattle.cpi_codes.specs.CodeOrder.{code_cmp};
+ghost use Rattle.cpi_codes.specs.Month.{year_of};
 ghost use Rattle.cpi_rows.specs.Keyed.{IsInOrder, at, row_at};
 ghost use Rattle.cpi_index.specs.Row.{Row};
 ghost use Rattle.cpi_index.specs.Series.{is_by_series, carried_serial, frozen_serial};
@@ -12,7 +13,7 @@ ghost use Rattle.cpi_release.specs.Releases.{release_of as release_in, carried_o
 ghost use Rattle.cpi_release.specs.Releases.{is_january, level_at as level_at_in};
 
 use crate::level::Level;
-use crate::release::Release;
+use crate::release::{History, Release};
 use cpi_codes::{Code, Month};
 use cpi_index::{
     CarriedPrice, ChainedLevel, FrozenQuote, GroupRow, groups_of_january, groups_of_month,
@@ -101,10 +102,12 @@ pub(crate) fn group_at(
     Ok(rows)
 }
 
-// The plan of a year.
-pub(crate) fn plan_of(plans: &[YearPlan], year: u16) -> Option<&YearPlan>
-    ensures { option_copied result ≡ at (λ p. p.year) year plans.now }
+// The plan of a month's year.
+pub(crate) fn plan_of(history: &History, month: Month) -> Option<&YearPlan>
+    ensures { option_copied result ≡ at (λ p. p.year) (year_of month) history.now.plans }
 {
+    let plans = history.plans.as_slice();
+    let year = month.year();
     for plan in plans {
         if plan.year() == year {
             return Some(plan);

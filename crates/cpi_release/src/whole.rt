@@ -6,7 +6,7 @@ ghost use Rattle.cpi_index.specs.Series.{is_by_series, frozen_serial};
 ghost use Rattle.cpi_index.specs.declared.fault.IndexFault.{IndexFault};
 ghost use Rattle.cpi_index.specs.declared.fault.IndexFault.TheVariants.{NoMemory};
 ghost use Rattle.cpi_release.specs.Summed.{IsFreezeFault};
-ghost use Rattle.cpi_release.specs.Cached.{sources_of};
+ghost use Rattle.cpi_release.specs.KeptSamples.{sources_of};
 ghost use Rattle.cpi_release.specs.GroupCalls.{IsAfterFrozen};
 ghost use Rattle.cpi_release.specs.Releasing.{Freeze, AreInOrder, has_earlier as has_an_earlier};
 ghost use Rattle.cpi_release.specs.Releasing.{plan_of as plan_in, fault_of, released};
@@ -33,7 +33,7 @@ fn releasing_plan(history: &History, month: Month) -> Option<&YearPlan>
     ensures { option_copied result ≡ plan_in history.now.plans history.now.releases month }
 {
     if has_earlier(history.releases.as_slice(), month) {
-        plan_of(history.plans.as_slice(), month.year())
+        plan_of(history, month)
     } else {
         None
     }

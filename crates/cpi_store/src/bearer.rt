@@ -1,3 +1,4 @@
+//! Registered collectors.
 ghost use Rattle.std.specs.Prelude.{◌≡◌};
 ghost use Rattle.cpi_store.specs.Bearer.{same_bearer};
 

@@ -1,3 +1,4 @@
+//! A book of the office: what it lends and hands out, and what is put into it.
 ghost use Rattle.std.specs.Prelude.{◌≡◌, ◌<◌, ◌≤◌, IsOk, IsSome, None, Some, false, true, map, option_map};
 ghost use Rattle.std.specs.Option.{option_copied};
 
@@ -46,7 +47,7 @@ pub trait Book: Groups {
     ghost use Rattle.cpi_store.specs.Calls.{Writes, IsOffice, EndsAs};
     ghost use Rattle.cpi_store.specs.Sources.{office_sources};
     ghost use Rattle.cpi_store.specs.Tables.{table_until};
-    ghost use Rattle.cpi_release.specs.Cached.{IsFit};
+    ghost use Rattle.cpi_release.specs.KeptSamples.{IsFit};
     ghost use Rattle.cpi_index.specs.Series.{is_by_series, frozen_serial};
     ghost use Rattle.cpi_plan.specs.Plan.{has_unknown};
     ghost use Rattle.cpi_rows.specs.Held.{held_by};

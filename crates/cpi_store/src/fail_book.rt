@@ -1,3 +1,4 @@
+//! A book whose n-th call fails.
 use crate::bearer::Bearer;
 use crate::book::{Book, Parts, StoreFault};
 use crate::given::Given;

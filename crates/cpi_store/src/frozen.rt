@@ -1,3 +1,4 @@
+//! The quotes that a freeze of a month takes.
 ghost use Rattle.std.specs.Prelude.{◌≡◌, ◌++◌, true, IfOk, OnOk, max, option_map};
 ghost use Rattle.std.specs.Option.{option_copied};
 ghost use Rattle.cpi_codes.specs.declared.series.SeriesId.{SeriesId};

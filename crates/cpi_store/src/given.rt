@@ -1,3 +1,4 @@
+//! What slots were given.
 use cpi_codes::{SeriesId, Slot};
 use cpi_rows::Keyed;
 use cpi_survey::Assignment;

@@ -1,3 +1,4 @@
+//! Collectors, each with what the collector has.
 ghost use Rattle.std.specs.Prelude.{◌≡◌, []};
 
 use crate::bearer::Bearer;

@@ -1,3 +1,4 @@
+//! Rows put among those of all collectors.
 ghost use Rattle.std.specs.Prelude.{◌≡◌, ◌<◌, List, map, OnOk, OnErr, IsOk, IsSome, None, Some};
 ghost use Rattle.std.specs.BTreeMap.{IsUnchanged, Updates};
 ghost use Rattle.std.specs.Ordering.{nat_cmp};

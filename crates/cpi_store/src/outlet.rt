@@ -1,3 +1,4 @@
+//! Outlets.
 ghost use Rattle.std.specs.Prelude.{◌≡◌};
 ghost use Rattle.cpi_store.specs.Outlet.{same_outlet};
 

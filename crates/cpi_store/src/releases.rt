@@ -1,3 +1,4 @@
+//! What is read of a list of releases.
 ghost use Rattle.std.specs.Prelude.{◌≡◌, None, Some, IfOk, map, option_map};
 ghost use Rattle.std.specs.Option.{option_copied};
 ghost use Rattle.cpi_release.specs.FrozenMonths.{frozen_months};

@@ -1,3 +1,4 @@
+//! The last months of series.
 ghost use Rattle.std.specs.Prelude.{◌≡◌, max, OnOk, if◌then◌else◌};
 ghost use Rattle.cpi_codes.specs.declared.series.SeriesId.{SeriesId};
 ghost use Rattle.cpi_store.specs.Series.{last_known, or_first, same_series};

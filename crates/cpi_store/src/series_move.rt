@@ -1,3 +1,4 @@
+//! Series that go from one slot to another.
 use crate::bearer::Bearer;
 use crate::given::Given;
 use cpi_survey::Assigned;

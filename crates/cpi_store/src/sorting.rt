@@ -1,3 +1,4 @@
+//! Quotes put in the order of their series.
 ghost use Rattle.std.specs.Prelude.{◌≡◌, true, IfOk};
 ghost use Rattle.cpi_index.specs.Series.{is_by_series, frozen_serial};
 ghost use Rattle.cpi_store.specs.Series.{by_series};

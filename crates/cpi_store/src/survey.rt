@@ -1,3 +1,4 @@
+//! The survey of an office, in memory.
 use crate::bearer::Bearer;
 use crate::book::Parts;
 use crate::frozen::month_rows;
@@ -70,6 +71,7 @@ impl Model for Survey {
 impl Survey {
     ghost use Rattle.std.specs.Prelude.{◌≡◌, true, IfOk};
     ghost use Rattle.std.specs.Option.{option_copied};
+    ghost use Rattle.cpi_codes.specs.Month.{year_of};
     ghost use Rattle.cpi_rows.specs.Keyed.{at};
     ghost use Rattle.cpi_rows.specs.Held.{held_by};
     ghost use Rattle.cpi_index.specs.Series.{is_by_series, frozen_serial};
@@ -123,6 +125,13 @@ impl Survey {
         ensures { result.now ≡ public_part self.now }
     {
         &self.public
+    }
+
+    /// The plan of the month's year, if there is one.
+    pub fn plan_of(&self, month: Month) -> Option<&YearPlan>
+        ensures { option_copied result ≡ at (λ p. p.year) (year_of month) self.now.plans }
+    {
+        find_row(self.public.plans(), &month.year())
     }
 
     /// What a collector has: assignments by slot, and quotes by slot and month. A number that nobody has, has nothing.

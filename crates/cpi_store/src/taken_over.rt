@@ -1,3 +1,4 @@
+//! The slots that took a series over.
 ghost use Rattle.std.specs.Prelude.{◌≡◌};
 ghost use Rattle.std.specs.Ordering.{nat_cmp};
 ghost use Rattle.cpi_rows.specs.Keyed.{IsInOrder};

@@ -1,3 +1,4 @@
+//! The office in memory: its survey and its releases.
 use crate::bearer::Bearer;
 use crate::book::{Book, Parts, StoreFault};
 use crate::given::Given;
@@ -9,10 +10,10 @@ use cpi_codes::{Code, CollectorId, Key, Moment, Month, OutletId, Slot, Year};
 use cpi_index::{ChainedLevel, FrozenQuote, GroupRow};
 use cpi_plan::{CalendarRow, Item, YearPlan};
 use cpi_release::{
-    Cached, Failures, FrozenMonth, GroupFault, Groups, Level, Release, Revision, group_rows,
-    level_in, month_groups,
+    Failures, FrozenMonth, GroupFault, Groups, KeptSamples, Level, Release, Revision, level_in,
+    month_groups,
 };
-use cpi_rows::{Rows, find_row, put_row};
+use cpi_rows::{Rows, put_row};
 use cpi_survey::{Assigned, Own, Public, Quote};
 use std::alloc::{AllocError, Global};
 use std::marker::Model;
@@ -26,14 +27,14 @@ pub struct VecBook {
     releases: Vec<Release>,
     failed: Failures,
     // the samples of the month that is being frozen; none once anything is written
-    cached: Option<Cached>,
+    samples: KeptSamples,
     alloc: Global,
 }
 
 impl Model for VecBook {
     ghost use Rattle.cpi_rows.specs.Keyed.{IsInOrder};
     ghost use Rattle.cpi_release.specs.FrozenMonths.{release_cmp, release_key};
-    ghost use Rattle.cpi_release.specs.Cached.{AreKept};
+    ghost use Rattle.cpi_release.specs.KeptSamples.{AreKept};
     ghost use Rattle.cpi_store.specs.Office.{with_releases};
     ghost use Rattle.cpi_store.specs.Holders.{Kept};
     ghost use Rattle.cpi_store.specs.Sources.{office_sources};
@@ -44,7 +45,7 @@ impl Model for VecBook {
 
     ghost invariant = { λ b. record {
       releases : IsInOrder release_cmp release_key b.releases.items;
-      kept : AreKept (office_sources (with_releases b.releases.items b.survey)) b.cached;
+      kept : AreKept (office_sources (with_releases b.releases.items b.survey)) b.samples;
     } };
 }
 
@@ -60,43 +61,17 @@ impl VecBook {
             survey: Survey::new(alloc),
             releases: Vec::new(alloc),
             failed: Failures::none(),
-            cached: None,
+            samples: KeptSamples::none(),
             alloc,
         }
     }
 }
 
 impl VecBook {
-    ghost use Rattle.std.specs.Prelude.{◌≡◌, ◌≤◌, IfOk, IfSome};
-    ghost use Rattle.std.specs.Option.{option_copied};
-    ghost use Rattle.cpi_codes.specs.Month.{year_of};
-    ghost use Rattle.cpi_rows.specs.Keyed.{at};
-    ghost use Rattle.cpi_release.specs.Cached.{IsFit};
+    ghost use Rattle.std.specs.Prelude.{◌≡◌, ◌≤◌, IfOk};
+    ghost use Rattle.cpi_release.specs.KeptSamples.{IsFit};
     ghost use Rattle.cpi_release.specs.GroupCalls.{group_of};
     ghost use Rattle.cpi_store.specs.Sources.{office_sources};
-
-    // The plan of the month's year.
-    fn plan_of(&self, month: Month) -> Option<&YearPlan>
-        ensures { option_copied result ≡ at (λ p. p.year) (year_of month) self.now.office.plans }
-    {
-        find_row(self.survey.public().plans(), &month.year())
-    }
-
-    // The rows of one aggregate, where the month's samples are kept.
-    fn kept_rows(&self, month: Month, code: Code) -> Result<Option<Vec<GroupRow>>, AllocError>
-        ensures { IfOk result (λ o.
-            IfSome o (λ v. let s = office_sources self.now.office in
-            IsFit s → 12 ≤ month → v.items ≡ group_of s month code)) }
-    {
-        let Some(cached) = &self.cached else {
-            return Ok(None);
-        };
-        if cached.month != month {
-            return Ok(None);
-        }
-        let rows = group_rows(self.alloc, self.plan_of(month), &cached.groups, month, code)?;
-        Ok(Some(rows))
-    }
 
     // The rows of one aggregate; the month's samples are kept from then on.
     fn read_rows(&mut self, month: Month, code: Code) -> Result<Vec<GroupRow>, AllocError>
@@ -104,14 +79,13 @@ impl VecBook {
         ensures shown { IfOk result (λ v.
             let s = office_sources self.old.office in IsFit s → 12 ≤ month → v.items ≡ group_of s month code) }
     {
-        if let Some(rows) = self.kept_rows(month, code)? {
+        let plan = self.survey.plan_of(month);
+        if let Some(rows) = self.samples.rows(self.alloc, plan, month, code)? {
             return Ok(rows);
         }
         let frozen = self.survey.month_rows(month)?;
-        let plan = self.plan_of(month);
         let groups = month_groups(self.alloc, plan, &self.releases, month, &frozen)?;
-        let rows = group_rows(self.alloc, plan, &groups, month, code)?;
-        self.cached = Some(Cached { month, groups });
+        let rows = self.samples.keep(self.alloc, plan, month, groups, code)?;
         Ok(rows)
     }
 }
@@ -120,7 +94,7 @@ impl Groups for VecBook {
     ghost use Rattle.cpi_store.specs.Office.{Office};
     ghost use Rattle.cpi_store.specs.Sources.{office_sources};
     ghost use Rattle.cpi_store.specs.Holders.{kept_state};
-    ghost use Rattle.cpi_release.specs.Cached.{IsFit};
+    ghost use Rattle.cpi_release.specs.KeptSamples.{IsFit};
 
     ghost Held = { Office };
 
@@ -258,7 +232,7 @@ impl Book for VecBook {
     }
 
     fn put_item(&mut self, item: Item) -> Result<(), StoreFault> {
-        self.cached = None;
+        self.samples.clear();
         match self.survey.put_item(item) {
             Ok(()) => Ok(()),
             Err(_) => Err(self.failed.counted(StoreFault)),
@@ -270,7 +244,7 @@ impl Book for VecBook {
             (changed (PutsPlan plan) self.old.office) }
         ensures replaced { IsSome (at (λ y. y.year) plan.year self.old.office.plans) → IsOk result }
     {
-        self.cached = None;
+        self.samples.clear();
         match self.survey.put_plan(plan) {
             Ok(()) => Ok(()),
             Err(_) => Err(self.failed.counted(StoreFault)),
@@ -282,7 +256,7 @@ impl Book for VecBook {
             (changed (PutsCalendar row) self.old.office) }
         ensures replaced { IsSome (at (λ r. r.month) row.month self.old.office.calendar) → IsOk result }
     {
-        self.cached = None;
+        self.samples.clear();
         match self.survey.put_calendar(row) {
             Ok(()) => Ok(()),
             Err(_) => Err(self.failed.counted(StoreFault)),
@@ -290,7 +264,7 @@ impl Book for VecBook {
     }
 
     fn put_collector(&mut self, bearer: Bearer) -> Result<(), StoreFault> {
-        self.cached = None;
+        self.samples.clear();
         match self.survey.put_collector(bearer) {
             Ok(()) => Ok(()),
             Err(_) => Err(self.failed.counted(StoreFault)),
@@ -298,7 +272,7 @@ impl Book for VecBook {
     }
 
     fn put_outlet(&mut self, outlet: Outlet) -> Result<(), StoreFault> {
-        self.cached = None;
+        self.samples.clear();
         match self.survey.put_outlet(outlet) {
             Ok(()) => Ok(()),
             Err(_) => Err(self.failed.counted(StoreFault)),
@@ -306,7 +280,7 @@ impl Book for VecBook {
     }
 
     fn put_assignment(&mut self, bearer: Bearer, assigned: Assigned) -> Result<(), StoreFault> {
-        self.cached = None;
+        self.samples.clear();
         match self.survey.put_assignment(bearer, assigned) {
             Ok(()) => Ok(()),
             Err(_) => Err(self.failed.counted(StoreFault)),
@@ -314,7 +288,7 @@ impl Book for VecBook {
     }
 
     fn put_handover(&mut self, handover: SeriesMove) -> Result<(), StoreFault> {
-        self.cached = None;
+        self.samples.clear();
         match self.survey.put_handover(handover) {
             Ok(()) => Ok(()),
             Err(_) => Err(self.failed.counted(StoreFault)),
@@ -330,7 +304,7 @@ impl Book for VecBook {
             (held_by bearer.number self.old.office.quotes)) →
             IsOk result }
     {
-        self.cached = None;
+        self.samples.clear();
         match self.survey.put_quote(bearer, quote) {
             Ok(()) => Ok(()),
             Err(_) => Err(self.failed.counted(StoreFault)),
@@ -338,7 +312,7 @@ impl Book for VecBook {
     }
 
     fn put_release(&mut self, release: Release) -> Result<(), StoreFault> {
-        self.cached = None;
+        self.samples.clear();
         match put_row(&mut self.releases, release) {
             Ok(()) => Ok(()),
             Err(_) => Err(self.failed.counted(StoreFault)),

@@ -3,7 +3,7 @@ use Rattle.std.proofs.lemmas.Result.{IfErr-weaker}
 use Rattle.std.specs.Option.{option_copied}
 use Rattle.cpi_index.specs.Series.{is_by_series, frozen_serial}
 use Rattle.cpi_plan.specs.Plan.{Plan}
-use Rattle.cpi_release.specs.Cached.{IsFit}
+use Rattle.cpi_release.specs.KeptSamples.{IsFit}
 use Rattle.cpi_release.specs.FrozenMonths.{frozen_months, next_revision, plan_for}
 use Rattle.cpi_release.specs.declared.release.Release.{Release}
 use Rattle.cpi_release.specs.GroupCalls.{Sources}

@@ -3,7 +3,7 @@ use Rattle.std.specs.Prelude.{IsSome, Option, Result, MatchResult}
 use Rattle.std.specs.Option.{option_copied}
 use Rattle.cpi_index.specs.Series.{is_by_series, frozen_serial}
 use Rattle.cpi_release.specs.Asking.{IsAsked}
-use Rattle.cpi_release.specs.Cached.{sources_of, sources_in, IsFit}
+use Rattle.cpi_release.specs.KeptSamples.{sources_of, sources_in, IsFit}
 use Rattle.cpi_release.specs.GroupCalls.{Sources}
 use Rattle.cpi_release.specs.Summed.{IsFreezeFault}
 use Rattle.cpi_plan.specs.Plan.{Plan}

@@ -1,5 +1,5 @@
--- A holder of groups over a history, with the groups of one month kept.
-use Rattle.std.specs.Prelude.{◌≡◌, ℕ, ◌≤◌, ⊤, true, List, Option, Some, None}
+-- What a month's samples are read from, and when samples that are kept are its own.
+use Rattle.std.specs.Prelude.{◌≡◌, ℕ, ◌≤◌, ⊤, true, List, Option, Some, None, option_map}
 use Rattle.cpi_codes.specs.Month.{year_of}
 use Rattle.cpi_rows.specs.Keyed.{at}
 use Rattle.cpi_plan.specs.Plan.{Plan}
@@ -11,7 +11,6 @@ use Rattle.cpi_index.specs.MonthGroups.{AreGroups}
 use Rattle.cpi_release.specs.Releases.{rows_in}
 use Rattle.cpi_release.specs.Releasing.{AreInOrder}
 use Rattle.cpi_release.specs.GroupCalls.{Sources}
-use Rattle.cpi_release.specs.declared.cached.Cached.{Cached}
 use Rattle.cpi_release.specs.declared.release.Release.{Release}
 
 -- what is read from, and how often a read failed
@@ -38,6 +37,16 @@ AreGroupsOf s month groups =
     (p : Plan) → IsFit s → 12 ≤ month → at (λ p. p.year) (year_of month) s.plans ≡ Some p →
     AreGroups p (rows_in p s.releases month (s.quotes month)) groups
 
-abbrev pub AreKept : Sources → Option Cached → Type 0
+-- the samples of a month: one list of rows for each weight of the plan of its year
+pub record Samples : Type 0 where
+  pub month : ℕ
+  pub groups : List (Vec Row)
+
+-- the month whose samples are kept, if there is one
+abbrev pub kept_month : Option Samples → Option ℕ
+kept_month kept = option_map (λ k. k.month) kept
+
+-- samples that are kept are those of their month
+abbrev pub AreKept : Sources → Option Samples → Type 0
 AreKept s None = ⊤
-AreKept s (Some c) = AreGroupsOf s c.month c.groups.items
+AreKept s (Some k) = AreGroupsOf s k.month k.groups
