@@ -1,3 +1,4 @@
+//! Examples of command lines.
 ghost use Rattle.cpi_app.specs.CommandExamples.{Replays, Serves, Prints, NamesNone};
 
 /// Command lines and the values that they give, computed by the definitions.

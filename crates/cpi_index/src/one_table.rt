@@ -1,3 +1,4 @@
+//! A law of the indices and their means, as a function that does nothing.
 ghost use Rattle.cpi_index.specs.OneTable.{IndicesAreOfRows, MeansAreOfRows};
 
 /// A law: where each series keeps its item, the indices and means that `elementary` and `upper` answer from a year's

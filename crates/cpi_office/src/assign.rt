@@ -1,3 +1,4 @@
+//! A collector's slot is given an assignment, as a series of its own.
 ghost use Rattle.std.specs.Prelude.{◌≡◌, Some, None, IsSome, IfOk, is_none, option_map};
 ghost use Rattle.std.specs.Option.{option_copied};
 ghost use Rattle.cpi_rows.specs.Keyed.{at};

@@ -1,3 +1,4 @@
+//! A month's row is put into the calendar.
 ghost use Rattle.std.specs.Prelude.{◌≡◌, Some, None};
 ghost use Rattle.std.specs.Option.{option_copied};
 ghost use Rattle.cpi_rows.specs.Keyed.{at};

@@ -1,3 +1,4 @@
+//! Callers of the office.
 use cpi_codes::Key;
 
 /// Who makes a request.

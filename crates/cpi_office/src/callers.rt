@@ -1,3 +1,4 @@
+//! What each caller may ask, and what answers it.
 ghost use Rattle.std.specs.Prelude.{◌≡◌, IsTrue, Some, None, IsSome};
 ghost use Rattle.cpi_rows.specs.Keyed.{at};
 ghost use Rattle.cpi_store.specs.Office.{Quotes};

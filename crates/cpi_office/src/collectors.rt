@@ -1,3 +1,4 @@
+//! A collector is registered.
 ghost use Rattle.std.specs.Prelude.{◌≡◌, Some, None};
 ghost use Rattle.cpi_rows.specs.Keyed.{at};
 ghost use Rattle.cpi_release.specs.State.{Reads};

@@ -1,3 +1,4 @@
+//! The editions of a month's table.
 use cpi_release::Revision;
 use std::marker::Model;
 

@@ -1,3 +1,4 @@
+//! Examples of runs.
 ghost use Rattle.cpi_office.specs.Examples.{OneQuote, TwoCollectors, TenOfAnother, Again, Window, EntryRefusals};
 ghost use Rattle.cpi_office.specs.Examples.{LastReceipt, ByMonth, Tolerance, Replacements, WorkLists, ItemsOfAll};
 ghost use Rattle.cpi_office.specs.Examples.{NotForCallers, StandsAlready, TakenPlaces, AssignRefusals, NewWindow};

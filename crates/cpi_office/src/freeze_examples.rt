@@ -1,3 +1,4 @@
+//! Examples of runs with freezes.
 ghost use Rattle.cpi_office.specs.FreezeExamples.{OneMonth, FreezeRefusals, WithoutReference, WithoutRows, FrozenRows};
 ghost use Rattle.cpi_office.specs.FreezeExamples.{Reopened, KeptFrozen, Backwards};
 

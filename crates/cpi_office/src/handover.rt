@@ -1,3 +1,4 @@
+//! A series is handed over from one slot to another.
 ghost use Rattle.std.specs.Prelude.{◌≡◌, Some, None, Ok, IsSome, option_map, if◌then◌else◌};
 ghost use Rattle.std.specs.Option.{option_copied};
 ghost use Rattle.cpi_rows.specs.Keyed.{at};

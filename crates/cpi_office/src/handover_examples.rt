@@ -1,3 +1,4 @@
+//! Examples of runs with series that are handed over.
 ghost use Rattle.cpi_office.specs.HandoverExamples.{HandedOver, CopiedOnce, HandedOn, HandoverRefusals, LaterQuotes};
 ghost use Rattle.cpi_office.specs.HandoverExamples.{KeptMonths, NotAssigned, StaysInSample, TwoYears};
 

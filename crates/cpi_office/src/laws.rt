@@ -1,3 +1,4 @@
+//! What holds of the office's definitions.
 ghost use Rattle.cpi_store.specs.Office.{empty_office};
 ghost use Rattle.cpi_store.specs.Sound.{IsSound};
 ghost use Rattle.cpi_office.specs.Laws.{StaysSound, ViewsAreRebuilt, ChangesAreEnough};

@@ -1,3 +1,4 @@
+//! Which months and years were frozen, and which may be reopened.
 ghost use Rattle.std.specs.Prelude.{◌≡◌, Some};
 ghost use Rattle.std.specs.Option.{option_copied};
 ghost use Rattle.cpi_release.specs.State.{Reads};

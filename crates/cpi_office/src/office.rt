@@ -1,3 +1,4 @@
+//! The office over a book.
 ghost use Rattle.std.specs.Prelude.{◌≡◌, IsFalse};
 ghost use Rattle.cpi_office.specs.Runs.{reply_to, after_one};
 ghost use Rattle.cpi_office.specs.Calls.{ServesWhere, is_failure};

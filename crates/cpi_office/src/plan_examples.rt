@@ -1,3 +1,4 @@
+//! Examples of runs with plans.
 ghost use Rattle.cpi_office.specs.PlanExamples.{EachFault, FaultsChangeNothing, FirstFault, PlanStands};
 ghost use Rattle.cpi_office.specs.PlanExamples.{PlansAreSeen, PlansByYear, ItemsFirst, PlansOfTheDesk};
 ghost use Rattle.cpi_office.specs.PlanExamples.{ReferenceStands, NoFirstReference};

@@ -1,3 +1,4 @@
+//! A year's plan is made of what was sent, and put.
 ghost use Rattle.std.specs.Prelude.{◌≡◌, IfOk, false};
 ghost use Rattle.std.specs.Option.{option_copied};
 ghost use Rattle.cpi_release.specs.State.{Reads};

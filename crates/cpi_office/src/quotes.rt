@@ -1,3 +1,4 @@
+//! A collector's quotes are listed.
 ghost use Rattle.std.specs.Prelude.{◌≡◌, IfOk};
 ghost use Rattle.cpi_rows.specs.Held.{held_by};
 ghost use Rattle.cpi_release.specs.State.{Reads};

@@ -1,3 +1,4 @@
+//! Refusals of requests.
 ghost use Rattle.std.specs.Prelude.{◌≡◌};
 ghost use Rattle.cpi_office.specs.Refusal.{of_survey, number_of};
 

@@ -1,3 +1,4 @@
+//! Replies to requests.
 use crate::refusal::Refusal;
 use cpi_plan::Item;
 use cpi_release::{FrozenMonth, PrintedTable};

@@ -1,3 +1,4 @@
+//! Requests of callers.
 use crate::caller::Caller;
 use crate::edition::Edition;
 use cpi_codes::{Code, CollectorId, ItemCode, Moment, Month, OutletId, Slot, Year};

@@ -1,3 +1,4 @@
+//! A list of requests, answered in order.
 ghost use Rattle.std.specs.Prelude.{◌≡◌, ◌++◌, List, IfOk, OnErr, length};
 ghost use Rattle.cpi_office.specs.Served.{Ran};
 ghost use Rattle.cpi_store.specs.Sound.{IsSound};

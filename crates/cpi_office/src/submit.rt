@@ -1,3 +1,4 @@
+//! A collector's entry is decided, and a new quote stored.
 ghost use Rattle.std.specs.Prelude.{◌≡◌, ◌<◌, IsSome};
 ghost use Rattle.cpi_rows.specs.Keyed.{at};
 ghost use Rattle.cpi_rows.specs.Held.{held_by};

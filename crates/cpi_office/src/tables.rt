@@ -1,3 +1,4 @@
+//! The published tables: they are listed, and one is printed.
 ghost use Rattle.std.specs.Prelude.{◌≡◌, Some, map, option_map, IfOk};
 ghost use Rattle.std.specs.Option.{option_copied};
 ghost use Rattle.cpi_release.specs.PublishedTables.{asked_table, frozen_month_of, published_until, printed_bytes};

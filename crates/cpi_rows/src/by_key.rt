@@ -1,3 +1,4 @@
+//! Rows in a map, by their keys.
 ghost use Rattle.std.specs.Prelude.{◌≡◌, [], None, OnOk, OnErr, IsOk, IsSome, IsTrue};
 ghost use Rattle.std.specs.Option.{option_copied};
 ghost use Rattle.std.specs.Map.Iter.{ShowsInOrder, deref};

@@ -1,3 +1,4 @@
+//! The key of a row.
 ghost use Rattle.std.specs.Prelude.{◌≡◌};
 
 /// A row that has a key.

@@ -1,3 +1,4 @@
+//! Rows in a vector.
 ghost use Rattle.std.specs.Prelude.{◌≡◌, ◌↔◌, List, [], ◌∷◌, ◌++◌, length, IsTrue, IfErr, OnErr, OnOk};
 
 use std::alloc::{AllocFailed, Global};

@@ -1,3 +1,4 @@
+//! A row is looked up by its key.
 ghost use Rattle.std.specs.Prelude.{◌≡◌};
 ghost use Rattle.std.specs.Option.{option_copied};
 ghost use Rattle.cpi_rows.specs.Keyed.{row_at, IsInOrder, IsPlace};

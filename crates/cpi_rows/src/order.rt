@@ -1,3 +1,4 @@
+//! Whether rows are in order.
 ghost use Rattle.std.specs.Prelude.{MatchBool};
 ghost use Rattle.cpi_rows.specs.Keyed.{IsInOrder, Falters};
 

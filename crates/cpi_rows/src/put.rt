@@ -1,3 +1,4 @@
+//! A row is put in its place.
 ghost use Rattle.std.specs.Prelude.{◌≡◌, OnErr, OnOk, IsSome, IsOk};
 ghost use Rattle.cpi_rows.specs.Keyed.{put, row_at, IsInOrder};
 

@@ -1,3 +1,4 @@
+//! Assignments.
 ghost use Rattle.std.specs.Prelude.{◌≡◌};
 ghost use Rattle.cpi_survey.specs.Assignment.{is_active, same_assignment};
 

@@ -1,3 +1,4 @@
+//! Decisions on entries.
 use crate::quote::Quote;
 
 /// How an entry of a quote is decided, where it isn't refused.

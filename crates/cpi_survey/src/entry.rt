@@ -1,3 +1,4 @@
+//! Entries of collectors.
 use crate::mark::Mark;
 use cpi_codes::{Month, Slot};
 use std::marker::Model;

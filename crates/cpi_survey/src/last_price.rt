@@ -1,3 +1,4 @@
+//! The last price of a slot before a month.
 ghost use Rattle.std.specs.Prelude.{◌≡◌, None, All, IsTrue, nat_lt};
 ghost use Rattle.cpi_rows.specs.Keyed.{IsInOrder};
 ghost use Rattle.cpi_survey.specs.Quote.{quote_cmp, quote_key};

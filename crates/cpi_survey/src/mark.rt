@@ -1,3 +1,4 @@
+//! What a collector found for a slot in a month.
 ghost use Rattle.std.specs.Prelude.{◌≡◌};
 ghost use Rattle.cpi_survey.specs.Mark.{checked_price, is_replacement, is_same_mark, observed_price};
 

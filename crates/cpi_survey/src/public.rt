@@ -1,3 +1,4 @@
+//! What everybody may see of the survey.
 ghost use Rattle.std.specs.Prelude.{◌≡◌, IfOk, [], OnOk, OnErr, IsSome, IsOk};
 ghost use Rattle.std.specs.Ordering.{nat_cmp};
 ghost use Rattle.std.specs.Option.{option_copied};

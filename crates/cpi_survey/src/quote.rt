@@ -1,3 +1,4 @@
+//! Stored quotes.
 ghost use Rattle.std.specs.Prelude.{◌≡◌};
 
 use crate::mark::Mark;

@@ -1,3 +1,4 @@
+//! Refusals of entries.
 use cpi_codes::Price;
 
 /// Why an entry of a quote is refused, in the order in which the reasons are looked at.

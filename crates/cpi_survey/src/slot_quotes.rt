@@ -1,3 +1,4 @@
+//! The quotes of one slot.
 use crate::quote::Quote;
 use cpi_codes::Slot;
 use cpi_rows::Keyed;

@@ -1,3 +1,4 @@
+//! Quotes slot by slot.
 ghost use Rattle.std.specs.Prelude.{◌≡◌, IfOk, OnOk, OnErr, IsSome, IsOk, Ok, filter};
 ghost use Rattle.std.specs.Ordering.{nat_cmp};
 ghost use Rattle.cpi_rows.specs.Keyed.{IsInOrder, IsPlace, at, put, row_at};

@@ -1,3 +1,4 @@
+//! How an entry of a quote is decided.
 ghost use Rattle.std.specs.Prelude.{◌≡◌};
 ghost use Rattle.std.specs.Option.{option_copied};
 ghost use Rattle.cpi_survey.specs.Quote.{greatest_receipt};

@@ -1,3 +1,4 @@
+//! How a price lies to the bounds round the last one.
 ghost use Rattle.std.specs.Prelude.{◌≡◌};
 ghost use Rattle.cpi_survey.specs.Tolerance.{high_bound, low_bound, verdict};
 

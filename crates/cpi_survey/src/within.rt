@@ -1,3 +1,4 @@
+//! The quotes from a first month to a last.
 ghost use Rattle.std.specs.Prelude.{◌≡◌, ◌++◌, filter, IfOk, OnOk};
 ghost use Rattle.cpi_survey.specs.Slots.{all_quotes};
 ghost use Rattle.cpi_survey.specs.Within.{is_within};

@@ -1,3 +1,4 @@
+//! The work list of a month.
 ghost use Rattle.std.specs.Prelude.{◌≡◌, IfOk};
 ghost use Rattle.cpi_survey.specs.Work.{row_of, work, work_row, work_rows};
 

@@ -1,3 +1,4 @@
+//! Rows of a work list.
 use crate::quote::Quote;
 use cpi_codes::{ItemCode, Name, OutletId, Price, Slot};
 use std::marker::Model;

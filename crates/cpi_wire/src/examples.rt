@@ -1,3 +1,4 @@
+//! Examples of bodies of plans.
 ghost use Rattle.cpi_wire.specs.Examples.{AnyOrder, TwoReferences, NoReferences, ReferenceFaults};
 
 /// The bodies of plans with a reference month, computed by the definitions, and what is told of its faults.
