@@ -1,6 +1,6 @@
 -- A statement of a known text that changes rows: what it leaves, and what it commits.
 use Rattle.std.proofs.Common.{◌≡◌, ◌⊎◌, inl, inr, ℕ, List, Option, None, Ok}
-use Rattle.std.proofs.Common.{sym, subst}
+use Rattle.std.proofs.Common.{subst}
 use Rattle.sqlite.specs.Order.{Row}
 use Rattle.sqlite.specs.Tree.{Trees}
 use Rattle.sqlite.specs.Command.{Command}
@@ -8,12 +8,18 @@ use Rattle.sqlite.specs.Command.TheVariants.{Commit, Release}
 use Rattle.sqlite.specs.Does.{Tally, Does}
 use Rattle.sqlite.specs.Effect.{Database}
 use Rattle.sqlite.specs.Listing.{understood}
-use Rattle.sqlite.specs.State.{State, Writes, Runs, Executes, CommitsBy, Survives, mode_of}
-use Rattle.sqlite.proofs.StateLemmas.{survives_weaker}
+use Rattle.sqlite.specs.State.{State, Writes, Runs, Executes, CommitsBy, mode_of}
 use Rattle.sqlite.proofs.Callers.{runs_as, statement_of}
 use Rattle.cpi_sql_rows.specs.Tables.{office_schema}
 use Rattle.cpi_sql_rows.proofs.Texts.{Makes}
 use Rattle.cpi_sql_rows.proofs.Commits.{commits_as}
+
+-- what the statement does to the tables of the office, where it is run and where a crash leaves it
+pub record IsChange (text : List ℕ) (params : Row) (Done : Trees → Database → Type 0) : Type 1 where
+  pub ran : (old new : State) (count : ℕ) → old.now.schema ≡ office_schema
+      → Executes text params old new (Ok count) → Done old.now.trees new.now × (new.in_transaction ≡ old.in_transaction)
+  pub commits : (old : State) (db : Trees) → old.now.schema ≡ office_schema → CommitsBy text params old db
+      → (after : Database) × Done old.now.trees after × (db ≡ after.trees)
 
 module _ (text : List ℕ) (command : Command) (is : Makes text command) (params : Row)
     (writes : (old new : State) (t : List ℕ) (count : ℕ) → Runs old new None command t params count
@@ -26,7 +32,7 @@ module _ (text : List ℕ) (command : Command) (is : Makes text command) (params
       trees = db;
     }) (statement_of text (understood office_schema text)) None command (Ok (tally, after))
     → Done db after) where
-  pub change_done : (old new : State) (count : ℕ) → old.now.schema ≡ office_schema
+  change_done : (old new : State) (count : ℕ) → old.now.schema ≡ office_schema
       → Executes text params old new (Ok count) → Done old.now.trees new.now × (new.in_transaction ≡ old.in_transaction)
   change_done old new count has h =
       let t = statement_of text (understood office_schema text) in
@@ -39,7 +45,7 @@ module _ (text : List ℕ) (command : Command) (is : Makes text command) (params
         w.shown.mode,
       )
 
-  pub change_commits : (old : State) (db : Trees) → old.now.schema ≡ office_schema → CommitsBy text params old db
+  change_commits : (old : State) (db : Trees) → old.now.schema ≡ office_schema → CommitsBy text params old db
       → (after : Database) × Done old.now.trees after × (db ≡ after.trees)
   change_commits old db has may =
       let t = statement_of text (understood office_schema text) in
@@ -56,9 +62,5 @@ module _ (text : List ℕ) (command : Command) (is : Makes text command) (params
         )
       ]
 
-  -- what a crash may leave in place of what stood
-  pub change_survives : (old new : State) (P : Trees → Type 0) → (old.now.schema ≡ office_schema → (after : Database)
-      → Done old.now.trees after → P after.trees)
-      → Survives old new (CommitsBy text params old) → Survives old new (λ db. old.now.schema ≡ office_schema → P db)
-  change_survives old new P leads h = survives_weaker old new _ _
-      (λ _ db may has. let it = change_commits old db has may in subst P (sym it.2) (leads has it.0 it.1)) h
+  pub is_change : IsChange text params Done
+  is_change = record { ran = change_done; commits = change_commits }

@@ -1,23 +1,22 @@
 -- The rowids that a query shows of a table, where they rise: each row has its own.
-use Rattle.std.proofs.Common.{◌≡◌, ◌≢◌, inl, inr, ℕ, List, [], ◌∷◌}
+use Rattle.std.proofs.Common.{◌≡◌, ◌≢◌, inl, inr, ℕ, true, List, [], ◌∷◌}
 use Rattle.std.proofs.Common.{map, Some, Option, refl, sym, ap, subst, ◌∙◌}
 use Rattle.std.specs.List.{flat_map}
 use Rattle.std.specs.List.Sorted.{IsPermutation}
 use Rattle.std.specs.declared.cmp.Ordering.TheVariants.{Less, Equal}
-use Rattle.std.specs.Ordering.{int_cmp}
+use Rattle.std.specs.Ordering.{int_cmp, is_eq}
 use Rattle.std.specs.Cmp.{tied_itself}
-use Rattle.std.proofs.lemmas.Cmp.{int_ranked, int_cmp_total}
+use Rattle.std.proofs.lemmas.Cmp.{int_cmp_total}
 use Rattle.std.proofs.lemmas.List.Sorted.{IsPermutation-refl, IsPermutation-trans, IsPermutation-sym}
 use Rattle.std.proofs.lemmas.List.Sorted.{IsPermutation-cons, IsPermutation-map, IsPermutation-append_left}
 use Rattle.std.proofs.lemmas.List.Sorted.{IsPermutation-append_comm}
 use Rattle.sqlite.specs.declared.types.Value.{Value}
-use Rattle.sqlite.specs.declared.types.Value.TheVariants.{Null, Int, Real, Text, Blob}
-use Rattle.sqlite.specs.Order.{Row, column, value_cmp}
+use Rattle.sqlite.specs.declared.types.Value.TheVariants.{Null, Int}
+use Rattle.sqlite.specs.Order.{Row, column}
 use Rattle.sqlite.specs.Tree.{Trees, rowid}
 use Rattle.sqlite_trees.specs.Tree.{IsAscending}
 use Rattle.sqlite_trees.specs.View.{is_int}
 use Rattle.sqlite_trees.proofs.ListLemmas.{along_permutation, all-permutation, map-map}
-use Rattle.sqlite_value.proofs.OrderLemmas.{value_cmp-Int}
 use Rattle.sqlite.specs.Program.{overlay}
 use Rattle.sqlite.specs.Term.{Term, eval_all}
 use Rattle.sqlite.specs.Query.{IsAnswer, Output, output}
@@ -34,7 +33,10 @@ use Rattle.cpi_sql_rows.specs.Texts.{select, whole_query, columns, by_columns}
 use Rattle.cpi_sql_rows.specs.Read.{AreRead}
 use Rattle.cpi_sql_rows.specs.Finding.{AsksRowids, rowid_from}
 use Rattle.cpi_sql_rows.specs.Shelf.{HasRowids}
+use Rattle.cpi_sql_rows.proofs.KeyColumns.{same_int}
 use Rattle.cpi_sql_rows.proofs.Listed.{head_in}
+use Rattle.cpi_sql_rows.proofs.Lists.{stands_as}
+use Rattle.cpi_sql_rows.proofs.Reading.{has_permuted}
 use Rattle.std.proofs.lemmas.Map.Keys.{sorted_tail}
 
 -- no two places have one element
@@ -91,12 +93,9 @@ shown_all tree project order db params rows answer =
 
 -- ---- the rowids
 
-id_is : (v : Value) (i : Rowid) → rowid_from v ≡ Some i → v ≡ Int i.number
-id_is (Int n) i e = let same : ◌≡◌ {A = Rowid} (record { number = n }) i = cc in ap (λ (r : Rowid). Int r.number) same
-id_is Null i e = cc
-id_is (Real x) i e = cc
-id_is (Text t) i e = cc
-id_is (Blob b) i e = cc
+rowid_int : (v : Value) (i : Rowid) → rowid_from v ≡ Some i → is_int v ≡ true
+rowid_int (Int n) i e = refl
+rowid_int _ i e = cc
 
 risen : (ids : List Rowid) → IsInOrder int_cmp (λ i. i.number) ids → AreApart (map Some ids)
 risen [] up = tt
@@ -112,14 +111,6 @@ risen (i ∷ ids) up = (
   risen ids (sorted_tail (λ (a b : Rowid). int_cmp a.number b.number) i ids up),
 )
 
-every_some : {X : Type 0} (f : Row → Option X) (rows : List Row) (xs : List X) → map f rows ≡ map Some xs → (r : Row)
-    → Has rows r → (x : X) × (f r ≡ Some x)
-every_some f [] xs e r h = absurd h
-every_some f (y ∷ rows) [] e r h = cc
-every_some f (y ∷ rows) (x ∷ xs) e r (inl is) = (x, let here : f y ≡ Some x = cc in ap f is ∙ here)
-every_some f (y ∷ rows) (x ∷ xs) e r (inr h) = let later : map f rows ≡ map Some xs = cc in
-    every_some f rows xs later r h
-
 pub rowids_read : (table rows : List Row) (ids : List Rowid) → IsPermutation (map (λ r. column r 0 ∷ []) table) rows
     → AreRead (λ x. rowid_from (column x 0)) rows ids → IsInOrder int_cmp (λ i. i.number) ids → HasRowids table
 unfolding HasRowids
@@ -131,22 +122,13 @@ rowids_read table rows ids same read order =
     let apart : AreApart (map (λ r. rowid_from (rowid r)) table) =
     subst AreApart (map-map entry shape table) (apart_permuted (map entry rows) (map entry (map shape table))
     (IsPermutation-map entry rows (map shape table) back) up) in
-    let numbered : (r : Row) → Has table r → (i : Rowid) × (rowid_from (rowid r) ≡ Some i) = λ r h.
-    every_some entry rows ids read (shape r) (all_has
-    (λ x. Has rows x) (map shape table) (shape r) (all-permutation (Has rows) rows (map shape table) back
-    (all_from (Has rows) rows (λ x k. k))) (mapped_has shape table r h)) in (
-      λ r h. let it = numbered r h in ap is_int (id_is (rowid r) it.0 it.1),
-      λ r s h k tie.
-          let a = numbered r h in
-          let b = numbered s k in
-          let one = id_is (rowid r) a.0 a.1 in
-          let two = id_is (rowid s) b.0 b.1 in
-          let tied : int_cmp a.0.number b.0.number ≡ Equal = sym (value_cmp-Int a.0.number b.0.number)
-          ∙ subst (λ w. value_cmp (Int a.0.number) w ≡ Equal) two (subst
-          (λ w. value_cmp w (rowid s) ≡ Equal) one tie) in
-          let level : a.0.number ≡ b.0.number = int_ranked a.0.number b.0.number Equal (sym tied) in
-          apart_same (λ (r : Row). rowid_from (rowid r)) table apart r s h k (ap rowid_from (one ∙ ap Int level
-          ∙ sym two)),
+    let is : (r : Row) → Has table r → is_int (rowid r) ≡ true = λ r h.
+    let it = stands_as entry rows ids (shape r) read
+    (has_permuted rows (map shape table) (shape r) back (mapped_has shape table r h)) in
+    rowid_int (rowid r) it.0 it.1 in (
+      is,
+      λ r s h k tie. apart_same (λ (r : Row). rowid_from (rowid r)) table apart r s h k (ap rowid_from
+          (same_int (rowid r) (rowid s) (is r h) (is s k) (ap is_eq tie))),
     )
 
 pub rowids_rise : (text : List ℕ) (tree : ℕ) (old new : State) (rows : List Row) (ids : List Rowid)

@@ -3,8 +3,9 @@ use Rattle.std.proofs.Common.{◌≡◌, inl, inr, ℕ, List, [], ◌∷◌, cod
 use Rattle.std.proofs.Common.{sym, subst}
 use Rattle.sqlite.specs.Tree.{Trees}
 use Rattle.sqlite.specs.Effect.{Database}
-use Rattle.sqlite.specs.Listing.{understood}
+use Rattle.sqlite.specs.Listing.{understood, reads_listing}
 use Rattle.sqlite.specs.State.{State, IsLive}
+use Rattle.sqlite.proofs.Callers.{IsPlain, command_of}
 use Rattle.sqlite_catalog.specs.Listing.{IsSound}
 use Rattle.sqlite_trees.specs.View.{doubt}
 use Rattle.sqlite_trees.specs.Memory.{memory_view}
@@ -14,6 +15,7 @@ use Rattle.sqlite.specs.Schema.{Schema}
 use Rattle.cpi_sql_rows.specs.Tables.{first_schema, office_schema}
 use Rattle.cpi_sql_rows.specs.Finding.{AsksRowids, HaveRowids, HavePlanRowids, AreWhole, IsOfOffice, IsFirst, IsSecond}
 use Rattle.cpi_sql_rows.specs.Finding.{KeepsLists, IsMoved}
+use Rattle.cpi_sql_rows.specs.Texts.{select}
 use Rattle.cpi_sql_rows.specs.Shelf.{HasTables, HasRowids, IsKept}
 use Rattle.cpi_sql_rows.proofs.Found.{assignments_keyed, quotes_keyed}
 use Rattle.cpi_sql_rows.proofs.FoundPlans.{nodes_keyed, places_keyed, references_keyed}
@@ -21,160 +23,110 @@ use Rattle.cpi_sql_rows.proofs.FoundReleases.{headers_keyed, frozen_keyed, carri
 
 -- ---- the texts that ask for rowids
 
-first_node_rowids : AsksRowids first_schema (codes "SELECT rowid FROM node ORDER BY rowid") 6
-unfolding understood everything
-first_node_rowids = record { names = codes "rowid" ∷ []; command = refl; listing = refl; plain = (refl, refl) }
+asked : {schema : Schema} {text : List ℕ} {tree : ℕ} (name : List ℕ)
+    → command_of (understood schema text) ≡ select tree [] (0 ∷ []) (0 ∷ []) (name ∷ [])
+    → reads_listing schema text ≡ false → IsPlain (understood schema text) → AsksRowids schema text tree
+asked name command listing plain = record {
+  names = name ∷ [];
+  command = command;
+  listing = listing;
+  plain = plain;
+}
 
-second_node_rowids : AsksRowids office_schema (codes "SELECT rowid FROM node ORDER BY rowid") 6
-unfolding understood everything
-second_node_rowids = record { names = codes "rowid" ∷ []; command = refl; listing = refl; plain = (refl, refl) }
-
-first_plan_item_rowids : AsksRowids first_schema (codes "SELECT rowid FROM plan_item ORDER BY rowid") 8
-unfolding understood everything
-first_plan_item_rowids = record { names = codes "rowid" ∷ []; command = refl; listing = refl; plain = (refl, refl) }
-
-second_plan_item_rowids : AsksRowids office_schema (codes "SELECT rowid FROM plan_item ORDER BY rowid") 8
-unfolding understood everything
-second_plan_item_rowids = record { names = codes "rowid" ∷ []; command = refl; listing = refl; plain = (refl, refl) }
-
-first_calendar_rowids : AsksRowids first_schema (codes "SELECT rowid FROM calendar ORDER BY rowid") 10
-unfolding understood everything
-first_calendar_rowids = record { names = codes "month" ∷ []; command = refl; listing = refl; plain = (refl, refl) }
-
-second_calendar_rowids : AsksRowids office_schema (codes "SELECT rowid FROM calendar ORDER BY rowid") 10
-unfolding understood everything
-second_calendar_rowids = record { names = codes "month" ∷ []; command = refl; listing = refl; plain = (refl, refl) }
-
+-- so they do under either schema, where they do under both, or under the one that fits
 under_both : (text : List ℕ) (tree : ℕ) → AsksRowids first_schema text tree → AsksRowids office_schema text tree
     → (schema : Schema) → IsOfOffice schema → AsksRowids schema text tree
 under_both text tree one two schema (inl e) = subst (λ s. AsksRowids s text tree) (sym e) one
 under_both text tree one two schema (inr e) = subst (λ s. AsksRowids s text tree) (sym e) two
 
-under_second : (text : List ℕ) (tree : ℕ) → AsksRowids office_schema text tree → (schema : Schema) → IsSecond schema
-    → AsksRowids schema text tree
-under_second text tree two schema e = subst (λ s. AsksRowids s text tree) (sym e) two
+under_one : (known : Schema) (text : List ℕ) (tree : ℕ) → AsksRowids known text tree → (schema : Schema)
+    → schema ≡ known → AsksRowids schema text tree
+under_one known text tree asks schema e = subst (λ s. AsksRowids s text tree) (sym e) asks
 
 pub node_rowids : (schema : Schema) → IsOfOffice schema
     → AsksRowids schema (codes "SELECT rowid FROM node ORDER BY rowid") 6
-node_rowids = under_both _ 6 first_node_rowids second_node_rowids
+unfolding understood everything
+node_rowids = under_both _ 6 (asked (codes "rowid") refl refl (refl, refl))
+    (asked (codes "rowid") refl refl (refl, refl))
 
 pub plan_item_rowids : (schema : Schema) → IsOfOffice schema
     → AsksRowids schema (codes "SELECT rowid FROM plan_item ORDER BY rowid") 8
-plan_item_rowids = under_both _ 8 first_plan_item_rowids second_plan_item_rowids
+unfolding understood everything
+plan_item_rowids = under_both _ 8 (asked (codes "rowid") refl refl (refl, refl))
+    (asked (codes "rowid") refl refl (refl, refl))
 
 pub calendar_rowids : (schema : Schema) → IsOfOffice schema
     → AsksRowids schema (codes "SELECT rowid FROM calendar ORDER BY rowid") 10
-calendar_rowids = under_both _ 10 first_calendar_rowids second_calendar_rowids
-
-second_assignment_rowids : AsksRowids office_schema (codes "SELECT rowid FROM assignment_2 ORDER BY rowid") 22
 unfolding understood everything
-second_assignment_rowids = record { names = codes "rowid" ∷ []; command = refl; listing = refl; plain = (refl, refl) }
+calendar_rowids = under_both _ 10 (asked (codes "month") refl refl (refl, refl))
+    (asked (codes "month") refl refl (refl, refl))
 
 pub assignment_rowids : (schema : Schema) → IsSecond schema
     → AsksRowids schema (codes "SELECT rowid FROM assignment_2 ORDER BY rowid") 22
-assignment_rowids = under_second _ 22 second_assignment_rowids
-
-second_quote_rowids : AsksRowids office_schema (codes "SELECT rowid FROM quote_2 ORDER BY rowid") 24
 unfolding understood everything
-second_quote_rowids = record { names = codes "rowid" ∷ []; command = refl; listing = refl; plain = (refl, refl) }
+assignment_rowids = under_one office_schema _ 22 (asked (codes "rowid") refl refl (refl, refl))
 
 pub quote_rowids : (schema : Schema) → IsSecond schema
     → AsksRowids schema (codes "SELECT rowid FROM quote_2 ORDER BY rowid") 24
-quote_rowids = under_second _ 24 second_quote_rowids
-
-second_reference_rowids : AsksRowids office_schema (codes "SELECT rowid FROM plan_ref ORDER BY rowid") 34
 unfolding understood everything
-second_reference_rowids = record { names = codes "year" ∷ []; command = refl; listing = refl; plain = (refl, refl) }
+quote_rowids = under_one office_schema _ 24 (asked (codes "rowid") refl refl (refl, refl))
 
 pub reference_rowids : (schema : Schema) → IsSecond schema
     → AsksRowids schema (codes "SELECT rowid FROM plan_ref ORDER BY rowid") 34
-reference_rowids = under_second _ 34 second_reference_rowids
-
-second_release_rowids : AsksRowids office_schema (codes "SELECT rowid FROM release_2 ORDER BY rowid") 26
 unfolding understood everything
-second_release_rowids = record { names = codes "rowid" ∷ []; command = refl; listing = refl; plain = (refl, refl) }
+reference_rowids = under_one office_schema _ 34 (asked (codes "year") refl refl (refl, refl))
 
 pub release_rowids : (schema : Schema) → IsSecond schema
     → AsksRowids schema (codes "SELECT rowid FROM release_2 ORDER BY rowid") 26
-release_rowids = under_second _ 26 second_release_rowids
-
-second_frozen_rowids : AsksRowids office_schema (codes "SELECT rowid FROM frozen_2 ORDER BY rowid") 28
 unfolding understood everything
-second_frozen_rowids = record { names = codes "rowid" ∷ []; command = refl; listing = refl; plain = (refl, refl) }
+release_rowids = under_one office_schema _ 26 (asked (codes "rowid") refl refl (refl, refl))
 
 pub frozen_rowids : (schema : Schema) → IsSecond schema
     → AsksRowids schema (codes "SELECT rowid FROM frozen_2 ORDER BY rowid") 28
-frozen_rowids = under_second _ 28 second_frozen_rowids
-
-second_carried_rowids : AsksRowids office_schema (codes "SELECT rowid FROM carried_2 ORDER BY rowid") 30
 unfolding understood everything
-second_carried_rowids = record { names = codes "rowid" ∷ []; command = refl; listing = refl; plain = (refl, refl) }
+frozen_rowids = under_one office_schema _ 28 (asked (codes "rowid") refl refl (refl, refl))
 
 pub carried_rowids : (schema : Schema) → IsSecond schema
     → AsksRowids schema (codes "SELECT rowid FROM carried_2 ORDER BY rowid") 30
-carried_rowids = under_second _ 30 second_carried_rowids
-
-second_level_rowids : AsksRowids office_schema (codes "SELECT rowid FROM level_2 ORDER BY rowid") 32
 unfolding understood everything
-second_level_rowids = record { names = codes "rowid" ∷ []; command = refl; listing = refl; plain = (refl, refl) }
+carried_rowids = under_one office_schema _ 30 (asked (codes "rowid") refl refl (refl, refl))
 
 pub level_rowids : (schema : Schema) → IsSecond schema
     → AsksRowids schema (codes "SELECT rowid FROM level_2 ORDER BY rowid") 32
-level_rowids = under_second _ 32 second_level_rowids
+unfolding understood everything
+level_rowids = under_one office_schema _ 32 (asked (codes "rowid") refl refl (refl, refl))
 
 -- those of schema 1 alone
 
-under_first : (text : List ℕ) (tree : ℕ) → AsksRowids first_schema text tree → (schema : Schema) → IsFirst schema
-    → AsksRowids schema text tree
-under_first text tree one schema e = subst (λ s. AsksRowids s text tree) (sym e) one
-
-old_assignment_rowids : AsksRowids first_schema (codes "SELECT rowid FROM assignment ORDER BY rowid") 11
-unfolding understood everything
-old_assignment_rowids = record { names = codes "rowid" ∷ []; command = refl; listing = refl; plain = (refl, refl) }
-
 pub first_assignment_rowids : (schema : Schema) → IsFirst schema
     → AsksRowids schema (codes "SELECT rowid FROM assignment ORDER BY rowid") 11
-first_assignment_rowids = under_first _ 11 old_assignment_rowids
-
-old_quote_rowids : AsksRowids first_schema (codes "SELECT rowid FROM quote ORDER BY rowid") 13
 unfolding understood everything
-old_quote_rowids = record { names = codes "rowid" ∷ []; command = refl; listing = refl; plain = (refl, refl) }
+first_assignment_rowids = under_one first_schema _ 11 (asked (codes "rowid") refl refl (refl, refl))
 
 pub first_quote_rowids : (schema : Schema) → IsFirst schema
     → AsksRowids schema (codes "SELECT rowid FROM quote ORDER BY rowid") 13
-first_quote_rowids = under_first _ 13 old_quote_rowids
-
-old_release_rowids : AsksRowids first_schema (codes "SELECT rowid FROM release ORDER BY rowid") 15
 unfolding understood everything
-old_release_rowids = record { names = codes "month" ∷ []; command = refl; listing = refl; plain = (refl, refl) }
+first_quote_rowids = under_one first_schema _ 13 (asked (codes "rowid") refl refl (refl, refl))
 
 pub first_release_rowids : (schema : Schema) → IsFirst schema
     → AsksRowids schema (codes "SELECT rowid FROM release ORDER BY rowid") 15
-first_release_rowids = under_first _ 15 old_release_rowids
-
-old_frozen_rowids : AsksRowids first_schema (codes "SELECT rowid FROM frozen ORDER BY rowid") 16
 unfolding understood everything
-old_frozen_rowids = record { names = codes "rowid" ∷ []; command = refl; listing = refl; plain = (refl, refl) }
+first_release_rowids = under_one first_schema _ 15 (asked (codes "month") refl refl (refl, refl))
 
 pub first_frozen_rowids : (schema : Schema) → IsFirst schema
     → AsksRowids schema (codes "SELECT rowid FROM frozen ORDER BY rowid") 16
-first_frozen_rowids = under_first _ 16 old_frozen_rowids
-
-old_carried_rowids : AsksRowids first_schema (codes "SELECT rowid FROM carried ORDER BY rowid") 18
 unfolding understood everything
-old_carried_rowids = record { names = codes "rowid" ∷ []; command = refl; listing = refl; plain = (refl, refl) }
+first_frozen_rowids = under_one first_schema _ 16 (asked (codes "rowid") refl refl (refl, refl))
 
 pub first_carried_rowids : (schema : Schema) → IsFirst schema
     → AsksRowids schema (codes "SELECT rowid FROM carried ORDER BY rowid") 18
-first_carried_rowids = under_first _ 18 old_carried_rowids
-
-old_level_rowids : AsksRowids first_schema (codes "SELECT rowid FROM level ORDER BY rowid") 20
 unfolding understood everything
-old_level_rowids = record { names = codes "rowid" ∷ []; command = refl; listing = refl; plain = (refl, refl) }
+first_carried_rowids = under_one first_schema _ 18 (asked (codes "rowid") refl refl (refl, refl))
 
 pub first_level_rowids : (schema : Schema) → IsFirst schema
     → AsksRowids schema (codes "SELECT rowid FROM level ORDER BY rowid") 20
-first_level_rowids = under_first _ 20 old_level_rowids
+unfolding understood everything
+first_level_rowids = under_one first_schema _ 20 (asked (codes "rowid") refl refl (refl, refl))
 
 pub schema_after : (Fits : Schema → Type 0) (a b : State) → IsKept a b → Fits a.now.schema → Fits b.now.schema
 schema_after Fits a b k has = subst (λ (d : Database). Fits d.schema) (sym k.now) has

@@ -1,16 +1,21 @@
 -- What the row of an assignment shows of its slot.
-use Rattle.std.proofs.Common.{◌≡◌, ℕ, pos, [], ◌∷◌, Option, Some, ap, ◌∙◌}
+use Rattle.std.proofs.Common.{◌≡◌, ℕ, pos, List, [], ◌∷◌, Some, refl, ap, ◌∙◌}
+use Rattle.std.proofs.lemmas.Cmp.{nat_cmp_total}
+use Rattle.std.specs.Cmp.{tied_itself}
+use Rattle.std.specs.Ordering.{nat_cmp}
+use Rattle.std.specs.declared.cmp.Ordering.{Ordering}
+use Rattle.std.specs.declared.cmp.Ordering.TheVariants.{Equal}
 use Rattle.sqlite.specs.declared.types.Value.{Value}
 use Rattle.sqlite.specs.declared.types.Value.TheVariants.{Int}
 use Rattle.sqlite.specs.Order.{Row, column}
+use Rattle.cpi_rows.specs.Held.{held_cmp, held_key}
 use Rattle.cpi_survey.specs.declared.assignment.Assignment.{Assignment}
 use Rattle.cpi_store.specs.declared.given.Given.{Given}
 use Rattle.cpi_sql_rows.specs.Lists.{ranged, month_from, item_from, price_or_none, series_from, assignment_from}
 use Rattle.cpi_sql_rows.specs.Lists.{assignment_in, shown_given}
-use Rattle.cpi_sql_rows.proofs.Lists.{bound_is, ranged_is}
-
-some_is : {X : Type 0} {x y : X} → ◌≡◌ {A = Option X} (Some x) (Some y) → x ≡ y
-some_is e = cc
+use Rattle.cpi_sql_rows.proofs.KeyColumns.{IsUnique, Tells}
+use Rattle.cpi_sql_rows.proofs.Lists.{bound_is, held_tied, held_total, number_tied, ranged_is, some_is}
+use Rattle.cpi_sql_rows.specs.Tables.{assignment_2}
 
 -- the nine columns of an assignment, as an answer shows them
 abbrev pub assignment_shape : Row → Row
@@ -52,3 +57,41 @@ slot_of r c g e =
 
 pub slot_in : (r : Row) (c : ℕ) (g : Given) → assignment_in r ≡ Some (c, g) → HasSlot r c g
 slot_in r c g e = slot_of r c g e
+
+-- ---- the key of a slot
+
+-- what a slot was given is known by its collector and the slot
+abbrev pub slot_places : List ℕ
+slot_places = 1 ∷ 2 ∷ []
+
+pub slots_unique : IsUnique assignment_2 slot_places
+slots_unique = record { at = 13; stands = refl; rule = λ db row. refl }
+
+abbrev R : ℕ × ℕ → ℕ × ℕ → Ordering
+R = held_cmp nat_cmp
+
+abbrev key : ℕ × Given → ℕ × ℕ
+key = held_key (λ (g : Given). g.assignment.slot)
+
+abbrev pub slot_tells : Tells R key assignment_in slot_places
+slot_tells = record {
+  told = λ r x e.
+      let a = slot_in r x.0 x.1 e in
+      record {
+        values = Int (pos x.0) ∷ Int (pos x.1.assignment.slot) ∷ [];
+        are = rw (a.collector, a.slot) refl;
+        exact = refl;
+      };
+  tied = λ r s x y e f tie.
+      let same = held_tied nat_cmp (key x) (key y) tie in
+      let slot = number_tied x.1.assignment.slot y.1.assignment.slot same.1 in
+      λ i. Int (pos (same.0 i)) ∷ Int (pos (slot i)) ∷ [];
+}
+
+-- and rows with the same columns are of one slot
+pub same_slot : (r s : Row) (x y : ℕ × Given) (e : assignment_in r ≡ Some x) (f : assignment_in s ≡ Some y)
+    → (slot_tells.told r x e).values ≡ (slot_tells.told s y f).values → R (key x) (key y) ≡ Equal
+same_slot r s x y e f same =
+    let mine : x.0 ≡ y.0 = cc in
+    let slot : x.1.assignment.slot ≡ y.1.assignment.slot = cc in
+    rw (mine, slot) (tied_itself (held_total nat_cmp_total) (key y))

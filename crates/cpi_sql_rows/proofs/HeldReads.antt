@@ -5,7 +5,6 @@ use Rattle.std.specs.Cmp.{IsTotalOrder}
 use Rattle.std.specs.List.{list_all}
 use Rattle.std.specs.List.Sorted.{IsPermutation}
 use Rattle.std.specs.declared.cmp.Ordering.{Ordering}
-use Rattle.std.proofs.lemmas.Bool.{and_parts}
 use Rattle.std.proofs.lemmas.List.Sorted.{IsPermutation-sym}
 use Rattle.sqlite.specs.declared.types.Value.TheVariants.{Int}
 use Rattle.sqlite.specs.Order.{Row, column}
@@ -23,13 +22,11 @@ use Rattle.cpi_sql_rows.specs.Texts.{all_quotes_text, is_first, is_release}
 use Rattle.cpi_sql_rows.specs.WholeTables.{all_quotes_asked}
 use Rattle.cpi_sql_rows.proofs.Listed.{listed_is}
 use Rattle.cpi_sql_rows.proofs.Lists.{Shows, bound_is, equal_number, has_read, held_read, held_total, quote_total}
+use Rattle.cpi_sql_rows.proofs.Lists.{some_is}
 use Rattle.cpi_sql_rows.proofs.Lists.{ranged_is, read_has, same_number, stands_read}
 use Rattle.cpi_sql_rows.proofs.Reading.{equality, has_permuted}
-use Rattle.cpi_sql_rows.proofs.ReleaseRows.{release_named, release_of, release_tested}
+use Rattle.cpi_sql_rows.proofs.ReleaseRows.{release_named, release_numbered, release_tested}
 use Rattle.cpi_sql_rows.proofs.Whole.{shows}
-
-some_is : {X : Type 0} {x y : X} → ◌≡◌ {A = Option X} (Some x) (Some y) → x ≡ y
-some_is e = cc
 
 -- ---- the rows of one holder
 
@@ -107,13 +104,7 @@ names_year place c = record {
 pub names_release : (n m v : ℕ) → month_at n ≡ Some m → 1 ≤ v → v ≤ 9
     → Names release_in is_release (Int (pos n) ∷ Int (pos v) ∷ []) (release_number m v)
 names_release n m v is low high = record {
-  own = λ r k passes e.
-      let a = release_of r k e in
-      let both = and_parts _ _ (sym (release_tested r n v) ∙ passes) in
-      let same : a.named.number ≡ n = same_number (column r 1) a.named.number n a.named.column both.0 in
-      let months : a.month ≡ m = some_is (sym a.named.is ∙ ap month_at same ∙ is) in
-      let revisions : a.revision ≡ v = same_number (column r 2) a.revision v a.column both.1 in
-      sym a.is ∙ ap (λ x. release_number x a.revision) months ∙ ap (release_number m) revisions;
+  own = λ r k passes e. release_numbered n m v is r k (sym (release_tested r n v) ∙ passes) e;
   all = λ r e. release_tested r n v ∙ release_named n m v is low high r e;
 }
 

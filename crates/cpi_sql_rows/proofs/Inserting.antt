@@ -13,7 +13,7 @@ use Rattle.sqlite_rules.proofs.TableLemmas.{has_put as has_put_row, put_has as p
 use Rattle.cpi_rows.specs.Keyed.{row_at}
 use Rattle.cpi_sql_rows.specs.Lists.{listed}
 use Rattle.cpi_sql_rows.specs.Shelf.{IsKeyed}
-use Rattle.cpi_sql_rows.proofs.Listed.{PutsRow, stands_listed}
+use Rattle.cpi_sql_rows.proofs.Listed.{PutsRow, stands_listed, takes_one}
 
 pub none_apart : {X K : Type 0} (R : K → K → Ordering) (key : X → K) (k : K) (xs : List X) (x : X)
     → row_at R key k xs ≡ None → Has xs x → R (key x) k ≢ Equal
@@ -40,4 +40,5 @@ module _ {X K : Type 0} {R : K → K → Ordering} (o : IsTotalOrder R) (key : X
       | inr was ↦ inr (was, apart y (stands_listed o key entry old y r keyed was e))
     ];
     kept = λ r y h e other. keeps r h;
+    takes = takes_one entry x row old new is (λ r h. put_row_has row old r (subst (λ l. Has l r) rows h));
   }

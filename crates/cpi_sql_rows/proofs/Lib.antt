@@ -11,7 +11,11 @@ pub mod Change
 pub mod Inserting
 pub mod Whole
 pub mod Unchanged
-pub mod Adds
+pub mod Frame
+pub mod KeptRowids
+pub mod TableRows
+pub mod KeyColumns
+pub mod Upserts
 pub mod GivenRows
 pub mod QuoteRows
 pub mod QuoteOffice

@@ -1,7 +1,7 @@
 -- Rows in order are determined by their members, and what the rows of a table stand for is put and found by members.
-use Rattle.std.proofs.Common.{◌≡◌, ◌≢◌, ◌⊎◌, inl, inr, Bool, true, false, List, [], ◌∷◌, Some, None}
+use Rattle.std.proofs.Common.{◌≡◌, ◌≢◌, ◌⊎◌, inl, inr, true, false, List, [], ◌∷◌, Some, None}
 use Rattle.std.proofs.Common.{Option, refl, sym, ap, subst, ◌∙◌}
-use Rattle.std.specs.Prelude.{filter, if◌then◌else◌}
+use Rattle.std.specs.Prelude.{filter, is_some}
 use Rattle.std.specs.declared.cmp.Ordering.{Ordering}
 use Rattle.std.specs.declared.cmp.Ordering.TheVariants.{Less, Equal, Greater}
 use Rattle.std.specs.Ordering.{is_lt, is_gt, ordering_reverse}
@@ -9,41 +9,20 @@ use Rattle.std.specs.Cmp.{IsTotalOrder, tied_itself}
 use Rattle.std.proofs.lemmas.Map.Keys.{sorted_head, sorted_tail}
 use Rattle.sqlite.specs.Order.{Row}
 use Rattle.sqlite_rules.specs.Lists.{Has}
-use Rattle.sqlite_rules.proofs.ListLemmas.{all_has, has_either, has_left, has_right}
+use Rattle.sqlite_rules.proofs.ListLemmas.{all_has, has_either, has_filtered, has_kept, has_left, has_right}
 use Rattle.cpi_rows.specs.Keyed.{put, IsInOrder}
 use Rattle.cpi_rows.proofs.Places.{put_in_order, none_in_order}
 use Rattle.cpi_sql_rows.specs.Lists.{listed, put_entry}
-use Rattle.cpi_sql_rows.specs.Shelf.{IsKeyed}
+use Rattle.cpi_sql_rows.specs.Shelf.{IsKeyed, Takes}
 
-pub kept_has : {X : Type 0} (p : X → Bool) (xs : List X) (x : X) → Has (filter p xs) x → Has xs x × (p x ≡ true)
-kept_has p [] x h = absurd h
-kept_has p (y ∷ xs) x h = at (p y) refl h (kept_has p xs x)
-  where
-    at : (b : Bool) → p y ≡ b → Has (if b then y ∷ filter p xs else filter p xs) x
-        → (Has (filter p xs) x → Has xs x × (p x ≡ true)) → Has (y ∷ xs) x × (p x ≡ true)
-    at true e (inl same) later = (inl same, ap p same ∙ e)
-    at true e (inr k) later = let r = later k in (inr r.0, r.1)
-    at false e k later = let r = later k in (inr r.0, r.1)
-
-pub has_kept : {X : Type 0} (p : X → Bool) (xs : List X) (x : X) → Has xs x → p x ≡ true → Has (filter p xs) x
-has_kept p [] x h e = absurd h
-has_kept p (y ∷ xs) x (inl same) e = let here : p y ≡ true = ap p (sym same) ∙ e in
-    subst (λ b. Has (if b then y ∷ filter p xs else filter p xs) x) (sym here) (inl same)
-has_kept p (y ∷ xs) x (inr k) e = at (p y) (has_kept p xs x k e)
-  where
-    at : (b : Bool) → Has (filter p xs) x → Has (if b then y ∷ filter p xs else filter p xs) x
-    at true k = inr k
-    at false k = k
-
-is_less : (o : Ordering) → is_lt o ≡ true → o ≡ Less
-is_less Less e = refl
-is_less Equal e = cc
-is_less Greater e = cc
-
-is_more : (o : Ordering) → is_gt o ≡ true → o ≡ Greater
-is_more Less e = cc
-is_more Equal e = cc
-is_more Greater e = refl
+-- each row was there, or is the one that stands for what is put
+pub takes_one : {X : Type 0} (entry : Row → Option X) (x : X) (row : Row) (old new : List Row) → entry row ≡ Some x
+    → ((r : Row) → Has new r → (r ≡ row) ⊎ Has old r) → Takes entry old new
+unfolding Takes
+takes_one entry x row old new is from r h = elim (from r h) [
+  | inl same ↦ inr (ap is_some (ap entry same ∙ is))
+  | inr was ↦ inl was
+]
 
 module _ {X K : Type 0} {R : K → K → Ordering} (o : IsTotalOrder R) (key : X → K) where
   abbrev c : X → X → Ordering
@@ -86,13 +65,13 @@ module _ {X K : Type 0} {R : K → K → Ordering} (o : IsTotalOrder R) (key : X
   put_has row xs x h = elim (has_either (filter (λ r. is_lt (R (key r) (key row))) xs) (row ∷ filter
       (λ r. is_gt (R (key r) (key row))) xs) x h) [
         | inl low ↦
-            let it = kept_has (λ r. is_lt (R (key r) (key row))) xs x low in
-            inr (it.0, λ e. absurd (let n : Equal ≡ Less = sym e ∙ is_less _ it.1 in cc))
+            let it = has_filtered (λ r. is_lt (R (key r) (key row))) xs x low in
+            inr (it.0, λ e. absurd (let n : true ≡ false = sym it.1 ∙ ap is_lt e in cc))
         | inr rest ↦ elim rest [
           | inl is ↦ inl is
           | inr high ↦
-              let it = kept_has (λ r. is_gt (R (key r) (key row))) xs x high in
-              inr (it.0, λ e. absurd (let n : Equal ≡ Greater = sym e ∙ is_more _ it.1 in cc))
+              let it = has_filtered (λ r. is_gt (R (key r) (key row))) xs x high in
+              inr (it.0, λ e. absurd (let n : true ≡ false = sym it.1 ∙ ap is_gt e in cc))
         ]
       ]
 
@@ -186,6 +165,7 @@ module _ {X K : Type 0} {R : K → K → Ordering} (o : IsTotalOrder R) (key : X
       pub others : (r : Row) (y : X) → Has new r → entry r ≡ Some y → (r ≡ row)
           ⊎ (Has old r × (R (key y) (key x) ≢ Equal))
       pub kept : (r : Row) (y : X) → Has old r → entry r ≡ Some y → R (key y) (key x) ≢ Equal → Has new r
+      pub takes : Takes entry old new
 
     same_entry : (r : Row) (x y : X) → entry r ≡ Some x → entry r ≡ Some y → x ≡ y
     same_entry r x y a b = let both : Some x ≡ Some y = sym a ∙ b in cc

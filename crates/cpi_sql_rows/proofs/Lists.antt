@@ -1,7 +1,7 @@
 -- A table that was read whole, and the rows of one holder.
 use Rattle.std.proofs.Common.{◌≡◌, ◌≢◌, ◌⊎◌, inl, inr, ℕ, pos, negsuc, Bool, true, false, eqb, ◌&&◌, List, []}
 use Rattle.std.proofs.Common.{◌∷◌, Some, None, Option, IsSome, refl, sym, ap, subst, ◌∙◌}
-use Rattle.std.specs.Prelude.{filter, nat_le, if◌then◌else◌}
+use Rattle.std.specs.Prelude.{filter, nat_le, if◌then◌else◌, is_some}
 use Rattle.std.specs.declared.cmp.Ordering.{Ordering}
 use Rattle.std.specs.declared.cmp.Ordering.TheVariants.{Less, Equal, Greater}
 use Rattle.std.specs.Ordering.{nat_cmp, int_cmp, is_eq, ordering_then}
@@ -9,13 +9,13 @@ use Rattle.std.specs.Cmp.{IsTotalOrder, tied_itself}
 use Rattle.std.specs.List.Sorted.{IsStrictlySortedBy}
 use Rattle.std.proofs.lemmas.Bool.{eq-eqb}
 use Rattle.std.proofs.lemmas.Bool.Decides.{eqb_tells}
-use Rattle.std.proofs.lemmas.Cmp.{nat_cmp_total, on_total, then_total, int_ranked}
+use Rattle.std.proofs.lemmas.Cmp.{nat_cmp_total, on_total, then_total, int_ranked, ranked}
 use Rattle.sqlite.specs.declared.types.Value.{Value}
 use Rattle.sqlite.specs.declared.types.Value.TheVariants.{Null, Int, Real, Text, Blob}
 use Rattle.sqlite.specs.Order.{Row}
 use Rattle.sqlite_value.proofs.OrderLemmas.{value_cmp-Int, value_cmp_total}
 use Rattle.sqlite_rules.specs.Lists.{Has}
-use Rattle.sqlite_rules.proofs.ListLemmas.{all_from}
+use Rattle.sqlite_rules.proofs.ListLemmas.{all_from, has_filtered, has_kept}
 use Rattle.sqlite_rules.proofs.ProbeLemmas.{has_mapped, mapped_has}
 use Rattle.cpi_rows.specs.Keyed.{IsInOrder}
 use Rattle.cpi_rows.specs.Held.{held_by, held_cmp, held_key}
@@ -23,7 +23,7 @@ use Rattle.cpi_survey.specs.Quote.{quote_cmp}
 use Rattle.cpi_sql_rows.specs.Read.{AreRead}
 use Rattle.cpi_sql_rows.specs.Lists.{listed, number_in, within, ranged, and_then}
 use Rattle.cpi_sql_rows.specs.Shelf.{IsKeyed, equals}
-use Rattle.cpi_sql_rows.proofs.Listed.{kept_has, has_kept, same_in_order, listed_is, listed_in_order, listed_stands}
+use Rattle.cpi_sql_rows.proofs.Listed.{same_in_order, listed_is, listed_in_order, listed_stands}
 use Rattle.cpi_sql_rows.proofs.Listed.{stands_listed, head_in}
 
 pub held_total : {K : Type 0} {R : K → K → Ordering} → IsTotalOrder R → IsTotalOrder (held_cmp R)
@@ -32,7 +32,26 @@ held_total o = then_total (on_total (λ r. r.0) nat_cmp_total) (on_total (λ r. 
 pub quote_total : IsTotalOrder quote_cmp
 quote_total = then_total (on_total (λ r. r.0) nat_cmp_total) (on_total (λ r. r.1) nat_cmp_total)
 
-some_is : {X : Type 0} {x y : X} → ◌≡◌ {A = Option X} (Some x) (Some y) → x ≡ y
+-- an order by one thing and then another ties where both tie
+pub first_tied : (a b : Ordering) → ordering_then a b ≡ Equal → a ≡ Equal
+first_tied Less b e = cc
+first_tied Equal b e = refl
+first_tied Greater b e = cc
+
+pub second_tied : (a b : Ordering) → ordering_then a b ≡ Equal → b ≡ Equal
+second_tied Less b e = cc
+second_tied Equal b e = e
+second_tied Greater b e = cc
+
+pub number_tied : (a b : ℕ) → nat_cmp a b ≡ Equal → a ≡ b
+number_tied a b e = ranked a b Equal (sym e)
+
+-- rows of one key are of one holder
+pub held_tied : {K : Type 0} (R : K → K → Ordering) (j k : ℕ × K) → held_cmp R j k ≡ Equal → (j.0 ≡ k.0)
+    × (R j.1 k.1 ≡ Equal)
+held_tied R j k e = (number_tied j.0 k.0 (first_tied _ _ e), second_tied _ _ e)
+
+pub some_is : {X : Type 0} {x y : X} → ◌≡◌ {A = Option X} (Some x) (Some y) → x ≡ y
 some_is e = cc
 
 module _ {X : Type 0} (stands : Row → Option X) where
@@ -49,14 +68,15 @@ module _ {X : Type 0} (stands : Row → Option X) where
       (it.0, inr it.1, it.2)
 
   -- each row that was read stands for something
+  pub stands_as : (rows : List Row) (xs : List X) (s : Row) → AreRead stands rows xs → Has rows s → (x : X)
+      × (stands s ≡ Some x)
+  stands_as [] xs s e h = absurd h
+  stands_as (r ∷ rows) [] s e h = cc
+  stands_as (r ∷ rows) (y ∷ xs) s e (inl same) = let here : stands r ≡ Some y = cc in (y, ap stands same ∙ here)
+  stands_as (r ∷ rows) (y ∷ xs) s e (inr h) = let later : AreRead stands rows xs = cc in stands_as rows xs s later h
+
   pub stands_read : (rows : List Row) (xs : List X) (s : Row) → AreRead stands rows xs → Has rows s → IsSome (stands s)
-  stands_read [] xs s e h = absurd h
-  stands_read (r ∷ rows) [] s e h = cc
-  stands_read (r ∷ rows) (y ∷ xs) s e (inl same) =
-      let here : stands r ≡ Some y = cc in
-      subst (λ (o : Option X). IsSome o) (sym (ap stands same ∙ here)) refl
-  stands_read (r ∷ rows) (y ∷ xs) s e (inr h) = let later : AreRead stands rows xs = cc in
-      stands_read rows xs s later h
+  stands_read rows xs s e h = ap is_some (stands_as rows xs s e h).1
 
   pub has_read : (rows : List Row) (xs : List X) (s : Row) (x : X) → AreRead stands rows xs → Has rows s
       → stands s ≡ Some x → Has xs x
@@ -100,7 +120,7 @@ module _ {X K : Type 0} {R : K → K → Ordering} (o : IsTotalOrder R) (key : X
   pub held_has : (c : ℕ) (x : X) (ys : List (ℕ × X)) → Has (held_by c ys) x → Has ys (c, x)
   held_has c x ys h =
       let it = has_mapped (λ (y : ℕ × X). y.1) (filter (λ y. eqb y.0 c) ys) x h in
-      let kept = kept_has (λ (y : ℕ × X). eqb y.0 c) ys it.0 it.1 in
+      let kept = has_filtered (λ (y : ℕ × X). eqb y.0 c) ys it.0 it.1 in
       elim (eqb_tells it.0.0 c) [
         | inl mine ↦ subst (Has ys) (pair_is it.0 c x mine.1 it.2) kept.0
         | inr other ↦ absurd (let no : true ≡ false = sym kept.1 ∙ other.0 in cc)

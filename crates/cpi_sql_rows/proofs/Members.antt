@@ -10,9 +10,7 @@ use Rattle.std.proofs.lemmas.Map.Keys.{sorted_tail}
 use Rattle.sqlite_rules.specs.Lists.{Has}
 use Rattle.cpi_rows.specs.Keyed.{IsInOrder, row_at}
 use Rattle.cpi_sql_rows.proofs.Listed.{head_in}
-
-some_is : {X : Type 0} {x y : X} → ◌≡◌ {A = Option X} (Some x) (Some y) → x ≡ y
-some_is e = cc
+use Rattle.cpi_sql_rows.proofs.Lists.{some_is}
 
 module _ {X Y : Type 0} (g : X → Option Y) where
   pub given_has : (xs : List X) (x : X) (y : Y) → Has xs x → g x ≡ Some y → Has (filter_map g xs) y

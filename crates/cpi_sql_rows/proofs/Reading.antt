@@ -1,6 +1,7 @@
 -- What a query on one table answers.
 use Rattle.std.proofs.Common.{◌≡◌, inl, inr, ℕ, ℤ, not, Some, ◌&&◌, List, [], ◌∷◌}
 use Rattle.std.proofs.Common.{◌++◌, map, Bool, true, false, cond, refl, sym, ap, subst, ◌∙◌}
+use Rattle.std.proofs.lemmas.Bool.{not-true}
 use Rattle.std.specs.List.{flat_map, list_all}
 use Rattle.std.specs.List.Sorted.{IsPermutation}
 use Rattle.std.proofs.lemmas.List.Sorted.{IsPermutation-sym}
@@ -13,7 +14,6 @@ use Rattle.sqlite_sql.specs.declared.ops.CompareOp.TheVariants.{Eq}
 use Rattle.sqlite.specs.Ops.{binary, is_true, from_truth}
 use Rattle.sqlite_value.proofs.OrderLemmas.{value_cmp-Null}
 use Rattle.cpi_sql_rows.specs.Texts.{whole_query}
-use Rattle.cpi_sql_rows.proofs.Listed.{kept_has, has_kept}
 use Rattle.cpi_sql_rows.specs.Shelf.{equals}
 use Rattle.sqlite.specs.Edit.{without_all}
 use Rattle.sqlite_value.specs.declared.keys.Key.{Key}
@@ -23,7 +23,7 @@ use Rattle.sqlite.specs.Term.{Term, holds, eval_all}
 use Rattle.sqlite.specs.Query.{inner, end, IsAnswer, Output, output, matches}
 use Rattle.sqlite_rules.specs.Lists.{Has}
 use Rattle.sqlite_rules.proofs.ProbeLemmas.{has_mapped, mapped_has}
-use Rattle.sqlite_rules.proofs.ListLemmas.{all_has, all_from}
+use Rattle.sqlite_rules.proofs.ListLemmas.{all_from, all_has, has_filtered, has_kept}
 use Rattle.sqlite_trees.proofs.ListLemmas.{all-permutation}
 
 module _ {X Y : Type 0} (p : X → Bool) (f : X → Y) where
@@ -90,11 +90,11 @@ members tree terms project order db params rows answer =
 
 -- ---- an equality with a number, as WHERE tests it
 
-true_of : (b : Bool) → is_true (from_truth (Some b)) ≡ b
+pub true_of : (b : Bool) → is_true (from_truth (Some b)) ≡ b
 true_of true = refl
 true_of false = refl
 
-and_true : (b : Bool) → (b && true) ≡ b
+pub and_true : (b : Bool) → (b && true) ≡ b
 and_true true = refl
 and_true false = refl
 
@@ -118,20 +118,16 @@ text_equality (Blob b) t = and_true _ ∙ true_of _
 
 -- ---- what is left after some rowids are taken out
 
-not_true : (b : Bool) → not b ≡ true → b ≡ false
-not_true true e = cc
-not_true false e = refl
-
 pub left_has : (ids : List ℤ) (rows : List Row) (x : Row) → Has (without_all rows ids) x → Has rows x
     × ((id : ℤ) → Has ids id → has_rowid id x ≡ false)
 left_has [] rows x h = (h, λ id none. absurd none)
 left_has (i ∷ ids) rows x h =
     let later = left_has ids (without_rowid i rows) x h in
-    let here = kept_has (λ r. not (has_rowid i r)) rows x later.0 in (
+    let here = has_filtered (λ r. not (has_rowid i r)) rows x later.0 in (
       here.0,
       λ id among. elim among [
         | inl same ↦ ap (λ k. has_rowid k x) same
-            ∙ not_true _ here.1
+            ∙ not-true _ here.1
         | inr k ↦ later.1 id k
       ],
     )

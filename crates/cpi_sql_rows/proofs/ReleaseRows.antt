@@ -26,12 +26,9 @@ use Rattle.cpi_sql_rows.specs.Lists.{and_then, number_in, within, ranged, month_
 use Rattle.cpi_sql_rows.specs.Lists.{revision_from, release_from_key, release_number}
 use Rattle.cpi_sql_rows.specs.ReleaseRows.{carry_text}
 use Rattle.cpi_sql_rows.specs.Shelf.{equals}
-use Rattle.cpi_sql_rows.proofs.Lists.{bound_is, number_is, ranged_is, same_number, equal_number}
-use Rattle.cpi_sql_rows.proofs.Reading.{equality}
-use Rattle.cpi_sql_rows.proofs.QuoteOffice.{same_month}
-
-some_is : {X : Type 0} {x y : X} → ◌≡◌ {A = Option X} (Some x) (Some y) → x ≡ y
-some_is e = cc
+use Rattle.cpi_sql_rows.proofs.Lists.{bound_is, ranged_is, same_number, equal_number, some_is}
+use Rattle.cpi_sql_rows.proofs.Reading.{and_true, equality}
+use Rattle.cpi_sql_rows.proofs.QuoteOffice.{HasMonth, month_of, same_month}
 
 -- ---- each stands for something
 
@@ -117,23 +114,12 @@ within_limits low high v n e =
         subst (λ z. (low ≤ z) × (z ≤ high)) same (leb-true low k both.0, leb-true k high both.1)
     at k false f g = cc
 
--- the number that stands for a month
-pub record HasMonth (r : Row) (m : ℕ) : Type 0 where
-  pub number : ℕ
-  pub column : column r 1 ≡ Int (pos number)
-  pub is : month_at number ≡ Some m
-
-pub month_of : (r : Row) (m : ℕ) → month_from (column r 1) ≡ Some m → HasMonth r m
-month_of r m e =
-    let it = bound_is (number_in (column r 1)) month_at m e in
-    record { number = it.0; column = number_is (column r 1) it.0 it.1; is = it.2 }
-
 -- the columns that name a release
 pub record HasRelease (r : Row) (number : ℕ) : Type 0 where
   pub month : ℕ
   pub revision : ℕ
   pub is : release_number month revision ≡ number
-  pub named : HasMonth r month
+  pub named : HasMonth (column r 1) month
   pub column : column r 2 ≡ Int (pos revision)
   pub low : 1 ≤ revision
   pub high : revision ≤ 9
@@ -148,7 +134,7 @@ release_of r number e =
       month = one.0;
       revision = two.0;
       is = some_is two.2;
-      named = month_of r one.0 one.1;
+      named = month_of (column r 1) one.0 one.1;
       column = ranged_is 1 9 (column r 2) two.0 two.1;
       low = limits.0;
       high = limits.1;
@@ -162,10 +148,6 @@ one_release m v k w a b c d e = (omega (arith, a, b, c, d, e), omega (arith, a, 
 -- the rows of the month with the number `n`, in the revision `v`
 abbrev pub of_release : ℕ → ℕ → Row → Bool
 of_release n v r = equals (column r 1) (Int (pos n)) && equals (column r 2) (Int (pos v))
-
-and_true : (b : Bool) → (b && true) ≡ b
-and_true true = refl
-and_true false = refl
 
 -- as WHERE tests it
 pub release_tested : (r : Row) (n v : ℕ)
@@ -184,12 +166,20 @@ release_named n m v is low high r e =
     and_from _ _ (equal_number (column r 1) n (a.named.column ∙ ap (λ k. Int (pos k)) same))
     (equal_number (column r 2) v (a.column ∙ ap (λ k. Int (pos k)) key.1))
 
+-- a row among those is of that release
+pub release_numbered : (n m v : ℕ) → month_at n ≡ Some m → (r : Row) (k : ℕ) → of_release n v r ≡ true
+    → release_from_key (column r 1) (column r 2) ≡ Some k → k ≡ release_number m v
+release_numbered n m v is r k test e =
+    let a = release_of r k e in
+    let both = and_parts _ _ test in
+    let same : a.named.number ≡ n = same_number (column r 1) a.named.number n a.named.column both.0 in
+    let months : a.month ≡ m = some_is (sym a.named.is ∙ ap month_at same ∙ is) in
+    let revisions : a.revision ≡ v = same_number (column r 2) a.revision v a.column both.1 in
+    sym a.is ∙ ap (λ x. release_number x a.revision) months ∙ ap (release_number m) revisions
+
 module _ {X : Type 0} (from : Row → Option X) where
   abbrev pub release_entry : Row → Option (ℕ × X)
   release_entry r = and_then (release_from_key (column r 1) (column r 2)) (λ n. and_then (from r) (λ x. Some (n, x)))
-
-  abbrev pub release_stands : Row → Option X
-  release_stands r = and_then (release_from_key (column r 1) (column r 2)) (λ _. from r)
 
   -- a row that stands beside a release, by its parts
   pub record IsBeside (r : Row) (number : ℕ) (x : X) : Type 0 where
@@ -205,28 +195,3 @@ module _ {X : Type 0} (from : Row → Option X) where
         release = one.1 ∙ ap (λ (p : ℕ × X). Some p.0) pair;
         row = two.1 ∙ ap (λ (p : ℕ × X). Some p.1) pair;
       }
-
-  pub stands_beside : (r : Row) (number : ℕ) (x : X) → IsBeside r number x → release_entry r ≡ Some (number, x)
-  stands_beside r number x b =
-      ap (λ o. and_then o (λ k. and_then (from r) (λ w. Some (k, w)))) b.release
-      ∙ ap (λ o. and_then o (λ w. Some (number, w))) b.row
-
-  module _ (n m v : ℕ) (is : month_at n ≡ Some m) (low : 1 ≤ v) (high : v ≤ 9) where
-    pub release_same : (r : Row) (x : X) → of_release n v r ≡ true → release_stands r ≡ Some x
-        → release_entry r ≡ Some (release_number m v, x)
-    release_same r x test e =
-        let it = bound_is (release_from_key (column r 1) (column r 2)) _ _ e in
-        let a = release_of r it.0 it.1 in
-        let both = and_parts _ _ test in
-        let same : a.named.number ≡ n = same_number (column r 1) a.named.number n a.named.column both.0 in
-        let months : a.month ≡ m = some_is (sym a.named.is ∙ ap month_at same ∙ is) in
-        let revisions : a.revision ≡ v = same_number (column r 2) a.revision v a.column both.1 in
-        let numbers : it.0 ≡ release_number m v = sym a.is ∙ ap (λ k. release_number k a.revision) months
-        ∙ ap (release_number m) revisions in
-        stands_beside r (release_number m v) x (record { release = it.1 ∙ ap Some numbers; row = it.2 })
-
-    pub release_back : (r : Row) (x : X) → release_entry r ≡ Some (release_number m v, x)
-        → (of_release n v r ≡ true) × (release_stands r ≡ Some x)
-    release_back r x e =
-        let b = beside r (release_number m v) x e in
-        (release_named n m v is low high r b.release, ap (λ o. and_then o (λ _. from r)) b.release ∙ b.row)

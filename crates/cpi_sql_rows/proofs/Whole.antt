@@ -20,7 +20,7 @@ use Rattle.cpi_sql_rows.specs.Asked.{AsksFor}
 use Rattle.cpi_sql_rows.specs.Finding.{IsQuietOver}
 use Rattle.cpi_sql_rows.specs.Lists.{listed}
 use Rattle.cpi_sql_rows.specs.Read.{AreRead}
-use Rattle.cpi_sql_rows.specs.Shelf.{IsCleanBook, IsKept, IsWhole, Looked, Looks, StaysOpen}
+use Rattle.cpi_sql_rows.specs.Shelf.{HasTables, IsCleanBook, IsKept, IsWhole, Looked, Looks, StaysOpen}
 use Rattle.cpi_sql_rows.specs.Tables.{office_schema}
 use Rattle.cpi_sql_rows.specs.Texts.{select, columns, by_columns}
 use Rattle.cpi_sql_rows.proofs.Found.{whole_read}
@@ -87,6 +87,12 @@ pub quiet : (Fits : Schema → Type 0) (text : List ℕ) (old new : State) (para
     → Survives old new (CommitsShowing text params old) → Survives old new (λ _. IsQuietOver Fits old)
 quiet Fits text old new params plain h = survives_weaker old new _ _
     (λ _ db may alone fits. never_commits text params old db (plain fits) may) h
+
+-- over the tables of the office nothing is committed
+pub quiet_office : (Fits : Schema → Type 0) → Fits office_schema → (old new : State)
+    → Survives old new (λ _. IsQuietOver Fits old) → Survives old new (λ _. HasTables old → ⊥)
+quiet_office Fits office old new h = survives_weaker old new _ _
+    (λ _ db silent has. silent has.alone (subst Fits (sym has.schema) office)) h
 
 -- a statement over a table of the office is a look
 pub looked : {A E : Type 0} (r : Result A E) (Fits : Schema → Type 0) (text : List ℕ) (old new : State) (params : Row)

@@ -13,10 +13,7 @@ use Rattle.sqlite.specs.Rowids.TheVariants.{Chosen, Given}
 use Rattle.sqlite.specs.Source.{Source}
 use Rattle.sqlite.specs.Table.{Table}
 use Rattle.sqlite.specs.Schema.{Schema}
-use Rattle.sqlite_value.specs.declared.keys.Order.{Order}
-use Rattle.sqlite_schema.specs.declared.schema.Column.{Column}
 use Rattle.sqlite_schema.specs.declared.schema.Keys.{Keys}
-use Rattle.sqlite_schema.specs.declared.schema.Reference.{Reference}
 use Rattle.cpi_sql_rows.specs.Tables.{plain_table}
 use Rattle.sqlite_schema.specs.declared.command.Conflict.TheVariants.{Abort}
 use Rattle.sqlite_schema.specs.declared.command.Upsert.{Upsert}
@@ -51,11 +48,13 @@ pub cast_null : cast Integer Null ≡ Null
 unfolding unary
 cast_null = either _ Null
 
-module _ (limit : Option ℕ) (keys : Keys) (schema : Schema) (name : List ℕ) (tree : ℕ) (columns : List Column)
-    (key : Option ℕ) (primary : List ℕ) (uniques : List (List ℕ)) (orders : List Order) (references : List Reference)
-    (params : Row) where
+-- the table with its columns, keys and foreign keys, and nothing else
+abbrev pub as_plain : Table → Table
+as_plain it = plain_table it.name it.tree it.columns it.key it.primary it.uniques it.orders it.references
+
+module _ (limit : Option ℕ) (keys : Keys) (schema : Schema) (it : Table) (params : Row) where
   abbrev pub table : Table
-  table = plain_table name tree columns key primary uniques orders references
+  table = as_plain it
 
   abbrev pub task : Task
   task = record { limit = limit; keys = keys; schema = schema; table = table; params = params }
@@ -64,7 +63,7 @@ module _ (limit : Option ℕ) (keys : Keys) (schema : Schema) (name : List ℕ) 
   base db = record { schema = schema; trees = db }
 
   abbrev pub new_row : Trees → Row → Row
-  new_row db source = with_rowid Chosen (db tree) (cast_row table source)
+  new_row db source = with_rowid Chosen (db it.tree) (cast_row table source)
 
   judged : (clauses : List Upsert) (new : Row) (db : Trees) (one : Written) (verdict : Option Refusal)
       → IsJudged table new verdict → Judged task Abort clauses new db verdict (Ok one)
@@ -102,7 +101,7 @@ module _ (limit : Option ℕ) (keys : Keys) (schema : Schema) (name : List ℕ) 
   put_alone new db one h =
       let edit = edit_of db table [] Given 0 (new ∷ []) in
       let made = went h in
-      let applied = one_step schema keys db made.0 edit (no_works schema keys 0 tree edit.news) made.1 in
+      let applied = one_step schema keys db made.0 edit (no_works schema keys 0 it.tree edit.news) made.1 in
       subst (Applies schema keys db edit) (sym (ap (λ (it : Written). it.trees) (same_value made.2))) applied
 
   cleared : (new : Row) (db : Trees) (one : Written) (found : List Row) → Clears task Abort new db found (Ok one)
@@ -112,15 +111,15 @@ module _ (limit : Option ℕ) (keys : Keys) (schema : Schema) (name : List ℕ) 
 
   -- The row has the key of no other, and goes in; or the clause updates the first that has it.
   pub data IsPut (target : List ℕ) (q : Program) (new : Row) (db next : Trees) : Type 0 where
-    added : AreConflicts (Some target) schema.indexes table (db tree) new []
+    added : AreConflicts (Some target) schema.indexes table (db it.tree) new []
         → Applies schema keys db (edit_of db table [] Given 0 (new ∷ [])) next → IsPut target q new db next
     updated : (there : Row) (more : List Row)
-        → AreConflicts (Some target) schema.indexes table (db tree) new (there ∷ more)
+        → AreConflicts (Some target) schema.indexes table (db it.tree) new (there ∷ more)
         → (rows : List Row) → Answers (base db) q (params ++ rowid there ∷ shown table new) rows
         → Edited schema keys db (edit_of db table (ids_of rows) Given 1 rows) (Ok next) → IsPut target q new db next
 
   met : (target : List ℕ) (q : Program) (new : Row) (db : Trees) (one : Written) (found : List Row)
-      → AreConflicts (Some target) schema.indexes table (db tree) new found
+      → AreConflicts (Some target) schema.indexes table (db it.tree) new found
       → Meets task (Upserts task Abort new db []) new db (record {
         target = Some target;
         update = Some q;
@@ -154,7 +153,7 @@ module _ (limit : Option ℕ) (keys : Keys) (schema : Schema) (name : List ℕ) 
       let counted = went (rw (one sourced.0 sourced.1) at sourced.2) in
       let edit = edit_of db table [] Chosen 0 (source ∷ []) in
       let made = went counted.2 in
-      let applied = one_step schema keys db made.0 edit (no_works schema keys 0 tree edit.news) made.1 in
+      let applied = one_step schema keys db made.0 edit (no_works schema keys 0 it.tree edit.news) made.1 in
       let kept = went made.2 in
       let trees : w.trees ≡ made.0 = ap (λ (it : Written). it.trees) (same_value kept.2) ∙ same_value kept.1 in
       subst (Applies schema keys db edit) (sym trees) applied

@@ -2,6 +2,7 @@
 use Rattle.std.proofs.Common.{◌≡◌, ℕ, zero, suc, ◌+◌, List, [], ◌∷◌, ◌++◌}
 use Rattle.std.proofs.Common.{None, Some, Option, refl, sym, ap, subst, ◌∙◌, arith}
 use Rattle.std.specs.Prelude.{filter_map}
+use Rattle.std.proofs.lemmas.List.Elements.{filter_map-append}
 use Rattle.std.specs.Option.{option_to_list}
 use Rattle.cpi_plan.specs.Plan.{Plan, IsPlan}
 use Rattle.cpi_plan.specs.Stored.{plan_from}
@@ -39,16 +40,6 @@ made_one : {X Y : Type 0} (f : X → Option Y) (o : Option Y) (x : X) → f x �
 made_one f None x e = rw e refl
 made_one f (Some y) x e = rw e refl
 
-made_append : {X Y : Type 0} (f : X → Option Y) (xs ys : List X) → filter_map f (xs ++ ys) ≡ filter_map f xs
-    ++ filter_map f ys
-made_append f [] ys = refl
-made_append f (x ∷ xs) ys = at (f x) refl (made_append f xs ys)
-  where
-    at : (o : Option _) → f x ≡ o → filter_map f (xs ++ ys) ≡ filter_map f xs ++ filter_map f ys
-        → filter_map f (x ∷ (xs ++ ys)) ≡ filter_map f (x ∷ xs) ++ filter_map f ys
-    at None e h = rw e h
-    at (Some y) e h = rw e (ap (λ zs. y ∷ zs) h)
-
 -- one year more
 pub plans_more : (nodes : List (ℕ × Node)) (places : List (ℕ × Place)) (references : List (ℕ × ReferenceMonth))
     (n : ℕ) (o : Option Plan)
@@ -57,6 +48,6 @@ pub plans_more : (nodes : List (ℕ × Node)) (places : List (ℕ × Place)) (re
 unfolding years
 plans_more nodes places references n o e =
     ap (filter_map (plan_at nodes places references)) (numbers_more 2000 n)
-    ∙ made_append (plan_at nodes places references) (numbers 2000 n) ((2000 + n) ∷ [])
+    ∙ filter_map-append (plan_at nodes places references) (numbers 2000 n) ((2000 + n) ∷ [])
     ∙ ap (λ zs. plans_of (numbers 2000 n) nodes places references ++ zs)
     (made_one (plan_at nodes places references) o (2000 + n) (sym e))

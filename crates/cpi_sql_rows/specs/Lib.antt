@@ -11,5 +11,4 @@ pub mod Steps
 pub mod Finding
 pub mod WholeTables
 pub mod HeldTables
-pub mod LevelTables
 pub mod ReleaseRows

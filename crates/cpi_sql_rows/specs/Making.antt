@@ -5,7 +5,6 @@ use Rattle.sqlite.specs.Schema.{Schema}
 use Rattle.sqlite.specs.Change.{next_tree}
 use Rattle.sqlite.specs.Effect.{IsDatabase}
 use Rattle.sqlite.specs.State.{State}
-use Rattle.std.specs.List.{AllByRecursion}
 use Rattle.sqlite.specs.Tree.{Trees}
 use Rattle.cpi_sql_rows.specs.Numbered.{IsVersion}
 use Rattle.cpi_store.specs.Office.{empty_office}
@@ -16,10 +15,6 @@ use Rattle.cpi_sql_rows.specs.Tables.{assignment_2, quote_2, release_2, frozen_2
 -- the schema of an empty database
 abbrev pub no_schema : Schema
 no_schema = record { tables = []; indexes = []; views = [] }
-
--- each of the tables holds nothing
-abbrev pub AreEmpty : List Table → Trees → Type 0
-AreEmpty tables trees = AllByRecursion (λ t. trees t.tree ≡ []) tables
 
 -- as it stands behind the tables of the schema
 abbrev pub placed : Schema → Table → Table

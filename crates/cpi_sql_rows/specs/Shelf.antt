@@ -1,5 +1,5 @@
 -- What contracts see of a book over a database, and what it keeps true.
-use Rattle.std.specs.Prelude.{◌≡◌, ℕ, Bool, false, List, [], Option, Some, IsSome, IsTrue, Result, OnOk, refl}
+use Rattle.std.specs.Prelude.{◌≡◌, ◌⊎◌, ℕ, Bool, false, List, [], Option, Some, IsSome, IsTrue, Result, OnOk, refl}
 use Rattle.std.specs.Coded.{Coded, code_by, coded×, coded_ℕ, coded_bool}
 use Rattle.std.specs.Ordering.{nat_cmp, is_eq}
 use Rattle.std.specs.declared.cmp.Ordering.{Ordering}
@@ -13,22 +13,17 @@ use Rattle.sqlite_rules.specs.Lists.{Has}
 use Rattle.sqlite.specs.State.{State, HasCleanDisk, Survives}
 use Rattle.sqlite.specs.Held.{Held, held_code, state}
 use Rattle.cpi_release.specs.State.{State as BookState}
-use Rattle.cpi_release.specs.Cached.{AreKept}
-use Rattle.cpi_release.specs.declared.cached.Cached.{Cached}
 use Rattle.cpi_release.specs.FrozenMonths.{release_cmp}
 use Rattle.cpi_rows.specs.Held.{held_cmp, held_key}
 use Rattle.cpi_survey.specs.Quote.{quote_cmp, quote_key}
 use Rattle.cpi_store.specs.Office.{Office, Change, changed, with_releases}
-use Rattle.cpi_store.specs.Sources.{office_sources}
 use Rattle.cpi_codes.specs.CodeOrder.{code_cmp}
 use Rattle.cpi_index.specs.Series.{frozen_serial, carried_serial}
 use Rattle.cpi_sql_rows.specs.Tables.{office_schema}
 use Rattle.cpi_sql_rows.specs.Lists.{office_in, collector_in, outlet_in, item_in, calendar_in, assignment_in}
 use Rattle.cpi_sql_rows.specs.Lists.{quote_in, node_in, place_in, reference_row, header_in, header_key, frozen_in}
 use Rattle.cpi_sql_rows.specs.Lists.{carried_in, level_in}
-use Rattle.cpi_sql_rows.specs.Lists.{headers_in, release_from_key}
-use Rattle.cpi_sql_rows.specs.LevelTables.{ReleaseLevels, AreTablesOf}
-use Rattle.cpi_sql_rows.specs.declared.release_rows.Header.{Header}
+use Rattle.cpi_sql_rows.specs.Lists.{release_from_key}
 
 -- what contracts see of a book over a database
 pub record Shelf (S : Type 0) : Type 0 where
@@ -37,25 +32,14 @@ pub record Shelf (S : Type 0) : Type 0 where
   pub is_read : Bool
   -- whether the headers of the releases were read, which are kept until the next release
   pub has_headers : Bool
-  -- whether the samples of a month are kept
-  pub has_samples : Bool
-  -- how many tables of earlier releases are kept
-  pub tables : ℕ
   pub failures : ℕ
 
 -- its code
 abbrev pub shelf_code : {S : Type 0} → Coded S → Coded (Shelf S)
-shelf_code {S} store = code_by (Held S × (Bool × (Bool × (Bool × (ℕ × ℕ)))))
-    (coded× (held_code store) (coded× coded_bool (coded× coded_bool (coded× coded_bool (coded× coded_ℕ coded_ℕ)))))
-    (λ b. (b.held, (b.is_read, (b.has_headers, (b.has_samples, (b.tables, b.failures))))))
-    (λ p. record {
-      held = p.0;
-      is_read = p.1.0;
-      has_headers = p.1.1.0;
-      has_samples = p.1.1.1.0;
-      tables = p.1.1.1.1.0;
-      failures = p.1.1.1.1.1;
-    })
+shelf_code {S} store = code_by (Held S × (Bool × (Bool × ℕ)))
+    (coded× (held_code store) (coded× coded_bool (coded× coded_bool coded_ℕ)))
+    (λ b. (b.held, (b.is_read, (b.has_headers, b.failures))))
+    (λ p. record { held = p.0; is_read = p.1.0; has_headers = p.1.1.0; failures = p.1.1.1 })
     (λ _. refl)
 
 -- as SQL compares
@@ -159,51 +143,40 @@ pub record Looked (old new : State) (Open : Type 0) : Type 0 where
 abbrev pub Looks : {A E : Type 0} → State → State → Result A E → Type 0
 Looks old new result = Looked old new (OnOk result (StaysOpen old new))
 
+-- each row was there, or stands for something
+unfoldable pub Takes : {X : Type 0} → (Row → Option X) → List Row → List Row → Type 0
+Takes entry old new = (r : Row) → Has new r → Has old r ⊎ IsSome (entry r)
+
+-- the types take each row that a write puts
+pub record WritesTaken (old new : Trees) : Type 0 where
+  pub collectors : Takes collector_in (old 1) (new 1)
+  pub outlets : Takes outlet_in (old 3) (new 3)
+  pub items : Takes item_in (old 4) (new 4)
+  pub nodes : Takes node_in (old 6) (new 6)
+  pub places : Takes place_in (old 8) (new 8)
+  pub references : Takes reference_row (old 34) (new 34)
+  pub calendar : Takes calendar_in (old 10) (new 10)
+  pub assignments : Takes assignment_in (old 22) (new 22)
+  pub quotes : Takes quote_in (old 24) (new 24)
+  pub headers : Takes header_in (old 26) (new 26)
+  pub frozen : Takes frozen_in (old 28) (new 28)
+  pub carried : Takes carried_in (old 30) (new 30)
+  pub levels : Takes level_in (old 32) (new 32)
+
 -- what the change makes of the office
 pub record IsDone (change : Change) (old new : State) : Type 0 where
   pub tables : HasTables new
   pub office : office_in new.now.trees ≡ changed change (office_in old.now.trees)
-
--- what is kept of the headers of the releases, where they were read
-abbrev pub HeadersStand : Trees → Bool → List Header → Type 0
-HeadersStand trees has_headers headers = IsTrue has_headers → headers ≡ headers_in (trees 26)
+  pub rows : WritesTaken old.now.trees new.now.trees
 
 -- an office but for its releases
 abbrev pub survey_of : Office → Office
 survey_of office = with_releases [] office
 
--- what is kept of the survey, where it was read
-abbrev pub SurveyStands : Trees → Bool → Office → Type 0
-SurveyStands trees is_read survey = IsTrue is_read → survey ≡ survey_of (office_in trees)
-
--- what a book keeps in memory of the releases, and the samples of the month that is being frozen
-pub record KeptReleases : Type 0 where
-  pub has_headers : Bool
-  pub headers : List Header
-  pub tables : List ReleaseLevels
-  pub samples : Option Cached
-
--- what is kept of the releases is what the tables hold
-pub record ReleasesStand (trees : Trees) (k : KeptReleases) : Type 0 where
-  pub headers : HeadersStand trees k.has_headers k.headers
-  pub tables : AreTablesOf (office_in trees).releases k.tables
-  pub samples : AreKept (office_sources (office_in trees)) k.samples
-
--- what a book keeps in memory of what it has read
-pub record Caches : Type 0 where
-  pub is_read : Bool
-  pub survey : Office
-  pub releases : KeptReleases
-
--- what is kept is what the tables hold
-pub record Stands (s : State) (c : Caches) : Type 0 where
-  pub tables : HasTables s
-  pub survey : SurveyStands s.now.trees c.is_read c.survey
-  pub releases : ReleasesStand s.now.trees c.releases
-
--- where the store is clean, what is kept is what the tables hold
-abbrev pub IsSound : State → Caches → Type 0
-IsSound s c = IsCleanBook s → Stands s c
+-- the survey that the tables hold, each of whose assignments and quotes the types take
+pub record IsSurveyOf (trees : Trees) (survey : Office) : Type 0 where
+  pub read : survey ≡ survey_of (office_in trees)
+  pub taken : AreTaken trees
 
 -- the office that the tables of a database hold, as a book over it shows that
 abbrev pub office_state : State → ℕ → BookState Office

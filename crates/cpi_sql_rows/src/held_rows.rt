@@ -1,6 +1,7 @@
 //! What all collectors have, each row beside the number of its collector, read whole from its table.
-ghost use Rattle.std.specs.Prelude.{◌≡◌, IfOk, IsPermutation, OnOk};
+ghost use Rattle.std.specs.Prelude.{◌≡◌, IfOk, IsPermutation, IsTrue, OnOk};
 ghost use Rattle.sqlite.specs.Held.{state};
+ghost use Rattle.sqlite.specs.State.{HasCleanDisk, Survives};
 ghost use Rattle.cpi_rows.specs.Held.{held_cmp, held_key};
 ghost use Rattle.cpi_rows.specs.Keyed.{IsInOrder};
 ghost use Rattle.cpi_survey.specs.Quote.{quote_cmp, quote_key};
@@ -96,6 +97,9 @@ pub fn all_quotes<S: Alter>(
     ensures order { IfOk result (λ xs. IsInOrder (held_cmp quote_cmp) (held_key quote_key) xs.items) }
     ensures stand { IsCleanBook (state S.Store conn.new) → HasTables (state S.Store conn.old) →
         OnOk result (AllStand quote_in ((state S.Store conn.old).now.trees quote_2.tree)) }
+    ensures open { HasCleanDisk (state S.Store conn.new) → OnOk result (IsTrue (state S.Store conn.new).is_open) }
+    ensures crash { Survives (state S.Store conn.old) (state S.Store conn.new)
+        (λ _. HasTables (state S.Store conn.old) → ⊥) }
 {
     let read = gather(conn, alloc, QUOTES, &[])?;
     in_place(read)

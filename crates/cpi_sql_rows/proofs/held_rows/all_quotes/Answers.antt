@@ -1,12 +1,20 @@
 use Rattle.std.proofs.Common.{refl}
 use Rattle.sqlite.specs.Held.{state}
+use Rattle.sqlite.specs.Order.{Row}
+use Rattle.sqlite.specs.State.{CommitsShowing, State, Survives}
 use Rattle.cpi_sql_rows.specs.Finding.{IsSecond}
 use Rattle.cpi_sql_rows.specs.Texts.{all_quotes_text}
 use Rattle.cpi_sql_rows.specs.WholeTables.{all_quotes_asked}
 use Rattle.cpi_sql_rows.proofs.FoundTables.{on_any}
-use Rattle.cpi_sql_rows.proofs.Whole.{both_ok, looked, looks_failed}
+use Rattle.cpi_sql_rows.specs.Shelf.{HasTables}
+use Rattle.cpi_sql_rows.proofs.Whole.{both_ok, looked, looks_failed, quiet, quiet_office}
 use Rattle.cpi_sql_rows.proofs.HeldReads.{all_quotes_read, all_quotes_stand}
 use Rattle.cpi_sql_rows.proofs.held_rows.all_quotes.Goals as goal
+
+left_alone : (a b : State) (params : Row) → Survives a b (CommitsShowing all_quotes_text params a)
+    → Survives a b (λ _. HasTables a → ⊥)
+left_alone a b params h = quiet_office IsSecond refl a b
+    (quiet IsSecond all_quotes_text a b params (λ is. (all_quotes_asked _ is).plain) h)
 
 pub returns-in_err-read-clause-look : goal.returns-in_err-read-clause-look
 returns-in_err-read-clause-look g c =
@@ -31,3 +39,14 @@ pub returns-clause-stand : goal.returns-clause-stand
 returns-clause-stand g c = λ clean has. let it = c.in_ok-read.ensures.read clean.disk in
     on_any c.in_place.result _
     (all_quotes_stand (state g.S.Store c.args.conn.now) (state g.S.Store c.gather.new.conn) it.0 _ has it.1 it.2)
+
+pub returns-clause-open : goal.returns-clause-open
+returns-clause-open g c = λ disk. on_any c.in_place.result _ (c.in_ok-read.ensures.open disk)
+
+pub returns-in_err-read-clause-crash : goal.returns-in_err-read-clause-crash
+returns-in_err-read-clause-crash g c =
+    left_alone (state g.S.Store c.args.conn.now) (state g.S.Store c.gather.new.conn) _ c.gather.ensures.crash
+
+pub returns-clause-crash : goal.returns-clause-crash
+returns-clause-crash g c =
+    left_alone (state g.S.Store c.args.conn.now) (state g.S.Store c.gather.new.conn) _ c.gather.ensures.crash
