@@ -1,27 +1,31 @@
 -- Looks at the rows, one after the other, and what the texts of a list ask for.
-use Rattle.std.proofs.Common.{◌≡◌, ℕ, ◌+◌, ◌<◌, List, [], ◌∷◌, length, get_or, map, inl, inr, IsTrue, All, arith}
+use Rattle.std.proofs.Common.{◌≡◌, ℕ, List, [], ◌∷◌, drop, get_or, take, length, map, inl, inr, IsTrue, arith, ◌≤◌}
+use Rattle.std.proofs.Common.{Result, Ok, Err, OnOk}
 use Rattle.std.proofs.Common.{◌-◌, ◌^◌, Bool, true, false, None, nat_le, slice_get, unwrap_or, if◌then◌else◌}
-use Rattle.std.proofs.Common.{refl, subst, below_more, ◌≤◌, zero, suc}
-use Rattle.std.proofs.lemmas.List.{get_or-map, get_or_default, length-map}
+use Rattle.std.proofs.Common.{refl, sym, subst}
+use Rattle.std.specs.List.{AllByRecursion}
 use Rattle.sqlite.specs.Effect.{Database}
 use Rattle.sqlite.specs.Order.{Row}
 use Rattle.sqlite.specs.Program.{overlay}
 use Rattle.sqlite.specs.Schema.{Schema}
-use Rattle.sqlite.specs.State.{State, HasCleanDisk, Survives}
+use Rattle.sqlite.specs.State.{State, HasCleanDisk, IsLive, Survives}
 use Rattle.sqlite.specs.Tree.{Trees}
 use Rattle.sqlite.proofs.StateLemmas.{survives_then, survives_weaker}
-use Rattle.cpi_sql_rows.specs.Finding.{AsksRowids, HaveFirstRowids, HavePlanRowids, HaveRowids, IsFirst, IsOfOffice}
-use Rattle.cpi_sql_rows.specs.Finding.{IsQuietOver, IsSecond}
+use Rattle.cpi_sql_rows.specs.Finding.{AreWhole, AsksRowids, HaveFirstRowids, HavePlanRowids, HaveRowids}
+use Rattle.cpi_sql_rows.specs.Finding.{IsOfOffice, IsQuietOver}
 use Rattle.cpi_sql_rows.specs.Shelf.{HasRowids, IsCleanBook, IsKept, StaysOpen}
+use Rattle.cpi_sql_rows.specs.Making.{second_tables}
+use Rattle.cpi_sql_rows.specs.Tables.{first_schema, office_schema}
 use Rattle.cpi_sql_rows.proofs.FoundTables.{schema_after, node_rowids, plan_item_rowids, calendar_rowids}
 use Rattle.cpi_sql_rows.proofs.FoundTables.{assignment_rowids, quote_rowids, reference_rowids, release_rowids}
 use Rattle.cpi_sql_rows.proofs.FoundTables.{frozen_rowids, carried_rowids, level_rowids, first_assignment_rowids}
 use Rattle.cpi_sql_rows.proofs.FoundTables.{first_quote_rowids, first_release_rowids, first_frozen_rowids}
-use Rattle.cpi_sql_rows.proofs.FoundTables.{first_carried_rowids, first_level_rowids}
-use Rattle.cpi_sql_rows.proofs.Kept.{kept_then}
-use Rattle.cpi_sql_open.specs.Looks.{AskEach, Looks}
-use Rattle.cpi_sql_open.proofs.Texts.{◌▸◌, Said, said, blank}
-use Rattle.cpi_sql_open.specs.declared.inspect.TheConstants.{SCANS, FIRST_SCANS}
+use Rattle.cpi_sql_rows.proofs.FoundTables.{first_carried_rowids, first_level_rowids, found_tables}
+use Rattle.cpi_sql_rows.proofs.Kept.{kept_tables, kept_then}
+use Rattle.cpi_sql_open.specs.Looks.{AreTestsOf, AskEach, Finds, FindsOffice, IsTest, Looks, first_trees, second_trees}
+use Rattle.cpi_sql_open.proofs.Making.{second_make, second_texts}
+use Rattle.cpi_sql_open.proofs.Texts.{◌▸◌, Said, blank, said, said_more}
+use Rattle.cpi_sql_open.specs.declared.inspect.TheConstants.{SECOND_SCANS, FIRST_SCANS}
 
 pub looks_weaker : (Fits Few : Schema → Type 0) → ((s : Schema) → Few s → Fits s) → (a b : State) → Looks Fits a b
     → Looks Few a b
@@ -31,23 +35,18 @@ looks_weaker Fits Few more a b look = record {
   crash = survives_weaker a b _ _ (λ _ db none alone has. none alone (more a.now.schema has)) look.crash;
 }
 
--- two looks in turn, the first of which left the rows
-pub looks_then : (Fits : Schema → Type 0) (a b c : State) → Looks Fits a b
-    → (HasCleanDisk b → a.in_transaction ≡ false → Fits a.now.schema → IsKept a b) → Looks Fits b c → Looks Fits a c
-looks_then Fits a b c one kept two = record {
+-- two looks in turn, the first of which left the connection open
+pub looks_on : (Fits : Schema → Type 0) (a b c : State) → Looks Fits a b → (HasCleanDisk b → IsTrue b.is_open)
+    → Looks Fits b c → Looks Fits a c
+looks_on Fits a b c one opened two = record {
   clean = λ clean. one.clean (two.clean clean);
   kept = λ clean alone has. let first = one.kept (two.clean clean) alone has in
       kept_then a b c first (two.kept clean first.alone (schema_after Fits a b first has));
   crash = survives_then a b c _ _ _ (λ _ db quiet. quiet) (λ clean db quiet alone has.
-      let first = kept (omega (arith, two.crash.clean)) alone has in
+      let disk : HasCleanDisk b = omega (arith, two.crash.clean) in
+      let first = one.kept (record { disk = disk; is_open = opened disk }) alone has in
       quiet first.alone (schema_after Fits a b first has)) one.crash two.crash;
 }
-
--- the first of which left the connection open
-pub looks_on : (Fits : Schema → Type 0) (a b c : State) → Looks Fits a b → (HasCleanDisk b → IsTrue b.is_open)
-    → Looks Fits b c → Looks Fits a c
-looks_on Fits a b c one opened two =
-    looks_then Fits a b c one (λ disk. one.kept (record { disk = disk; is_open = opened disk })) two
 
 pub looked : (a b : State) → (IsCleanBook b → IsCleanBook a)
     → (IsCleanBook b → a.in_transaction ≡ false → IsOfOffice a.now.schema → IsKept a b)
@@ -77,157 +76,192 @@ overlay_none db tree = go (nat_le (2 ^ 31) tree)
 
 -- ---- scans
 
-asks_length : (texts : List (List ℕ)) (trees : List ℕ) (schema : Schema) → AskEach texts trees schema
-    → length trees ≡ length texts
-asks_length [] [] schema asks = refl
-asks_length [] (tree ∷ trees) schema asks = absurd asks
-asks_length (text ∷ texts) [] schema asks = absurd asks
-asks_length (text ∷ texts) (tree ∷ trees) schema asks = let rest = asks_length texts trees schema asks.1 in cc
+-- what is asked of the first of the texts, and of those behind it
+asks_first : (text : List ℕ) (texts : List (List ℕ)) (trees : List ℕ) (s : Schema) → AskEach (text ∷ texts) trees s
+    → AsksRowids s text (get_or trees 0 0)
+asks_first text texts [] s asks = absurd asks
+asks_first text texts (tree ∷ trees) s asks = asks.0
 
-asks_at : (texts : List (List ℕ)) (trees : List ℕ) (schema : Schema) → AskEach texts trees schema → (k : ℕ)
-    → k < length texts → AsksRowids schema (get_or texts k []) (get_or trees k 0)
-asks_at [] trees schema asks k less = absurd (omega (arith, less))
-asks_at (text ∷ texts) [] schema asks k less = absurd asks
-asks_at (text ∷ texts) (tree ∷ trees) schema asks zero less = asks.0
-asks_at (text ∷ texts) (tree ∷ trees) schema asks (suc k) less = asks_at texts trees schema asks.1 k
-    (omega (arith, less))
+asks_later : (text : List ℕ) (texts : List (List ℕ)) (trees : List ℕ) (s : Schema) → AskEach (text ∷ texts) trees s
+    → AskEach texts (drop 1 trees) s
+asks_later text texts [] s asks = absurd asks
+asks_later text texts (tree ∷ trees) s asks = asks.1
 
--- the rowids that so many of the texts ask for were tested
-pub record Scans (texts : List Said) (trees : List ℕ) (count : ℕ) (old new : State) : Type 0 where
-  pub look : Looks (AskEach (said texts) trees) old new
-  pub kept : HasCleanDisk new → old.in_transaction ≡ false → AskEach (said texts) trees old.now.schema
-      → IsKept old new
-  pub stays : StaysOpen old new
-  pub rise : IsCleanBook new → old.in_transaction ≡ false → AskEach (said texts) trees old.now.schema → (k : ℕ)
-      → k < count → HasRowids (old.now.trees (get_or trees k 0))
+module _ (texts : List Said) (some : 1 ≤ length texts) (a b : State)
+    (one : (tree : ℕ) → Looks (λ s. AsksRowids s (get_or texts 0 blank).now tree) a b) where
+  abbrev later : List (List ℕ)
+  later = said (take (length texts - 1) (drop 1 texts))
 
-pub still : (a : State) (P : Trees → Type 0) → Survives a a P
-still a P = record {
-  clean = omega arith;
-  shield = λ is. is;
-  counts = omega arith;
-  limit = refl;
-  closes = λ disk was. inl was;
-  crash = λ disk db may. inl may;
-}
+  pub first_asked : (trees : List ℕ) → Looks (AskEach (said texts) trees) a b
+  first_asked trees = subst (λ l. Looks (AskEach l trees) a b) (sym (said_more texts some))
+      (looks_weaker _ _ (asks_first (get_or texts 0 blank).now later trees) a b (one (get_or trees 0 0)))
 
-pub no_scans : (texts : List Said) (trees : List ℕ) (a : State) → Scans texts trees 0 a a
-no_scans texts trees a = record {
-  look = record {
-    clean = λ clean. clean;
-    kept = λ clean alone asks. record { now = refl; alone = alone };
-    crash = still a _;
-  };
-  kept = λ disk alone asks. record { now = refl; alone = alone };
-  stays = λ disk was. was;
-  rise = λ clean alone asks k less. absurd (omega (arith, less));
-}
+  module _ (c : State) (rest : (trees : List ℕ) → Looks (AskEach later trees) b c) where
+    pub each_asked : (HasCleanDisk b → IsTrue b.is_open) → (trees : List ℕ) → Looks (AskEach (said texts) trees) a c
+    each_asked opened trees = looks_on (AskEach (said texts) trees) a b c (first_asked trees) opened
+        (subst (λ l. Looks (AskEach l trees) b c) (sym (said_more texts some))
+        (looks_weaker _ _ (asks_later (get_or texts 0 blank).now later trees) b c (rest (drop 1 trees))))
 
-asks_text : (texts : List Said) (trees : List ℕ) (i : ℕ) → i < length texts → (schema : Schema)
-    → AskEach (said texts) trees schema → AsksRowids schema (get_or texts i blank).now (get_or trees i 0)
-asks_text texts trees i less schema asks =
-    subst (λ text. AsksRowids schema text (get_or trees i 0)) (get_or-map (λ t. t.now) texts i blank [] less)
-    (asks_at (said texts) trees schema asks i (rw length-map less))
+    each_rises : (trees : List ℕ) → IsCleanBook c → a.in_transaction ≡ false
+        → AskEach ((get_or texts 0 blank).now ∷ later) trees a.now.schema
+        → ((tree : ℕ) → AsksRowids a.now.schema (get_or texts 0 blank).now tree
+        → HasRowids (overlay a.now.trees [] tree))
+        → (b.in_transaction ≡ false → (trees : List ℕ) → AskEach later trees b.now.schema
+        → AllByRecursion (λ tree. HasRowids (b.now.trees tree)) trees)
+        → AllByRecursion (λ tree. HasRowids (a.now.trees tree)) trees
+    each_rises [] clean alone asks here more = absurd asks
+    each_rises (tree ∷ trees) clean alone asks here more =
+        let kept = (one tree).kept ((rest trees).clean clean) alone asks.0 in (
+          subst HasRowids (overlay_none a.now.trees tree) (here tree asks.0),
+          subst (λ (d : Database). AllByRecursion (λ tree. HasRowids (d.trees tree)) trees) kept.now
+              (more kept.alone trees (schema_after (AskEach later trees) a b kept asks.1)),
+        )
 
-module _ (texts : List Said) (trees : List ℕ) (i : ℕ) (less : i < length texts) (a b c : State)
-    (before : Scans texts trees i a b)
-    (look : (tree : ℕ) → Looks (λ s. AsksRowids s (get_or texts i blank).now tree) b c) where
-  pub scan_looks : Looks (AskEach (said texts) trees) a c
-  scan_looks = looks_then _ a b c before.look before.kept
-      (looks_weaker _ _ (asks_text texts trees i less) b c (look (get_or trees i 0)))
-
-  pub next_scan : (HasCleanDisk c → IsTrue c.is_open)
-      → (IsCleanBook c → (tree : ℕ) → AsksRowids b.now.schema (get_or texts i blank).now tree
-      → HasRowids (overlay b.now.trees [] tree)) → Scans texts trees (i + 1) a c
-  next_scan opened rise =
-      let tree = get_or trees i 0 in
-      let one = look tree in
-      let disk_before : HasCleanDisk c → HasCleanDisk b = λ disk. omega (arith, one.crash.clean) in
-      let asks_after = λ (kept : IsKept a b) (asks : AskEach (said texts) trees a.now.schema).
-      asks_text texts trees i less b.now.schema (schema_after (AskEach (said texts) trees) a b kept asks) in
-      record {
-        look = scan_looks;
-        kept = λ disk alone asks. let first = before.kept (disk_before disk) alone asks in
-            kept_then a b c first (one.kept (record { disk = disk; is_open = opened disk }) first.alone
-            (asks_after first asks));
-        stays = λ disk was. opened disk;
-        rise = λ clean alone asks. let first = before.kept (disk_before clean.disk) alone asks in
-            below_more (λ k. HasRowids (a.now.trees (get_or trees k 0))) i
-            (before.rise (one.clean clean) alone asks)
-            (subst (λ (d : Database). HasRowids (d.trees tree)) first.now
-            (subst HasRowids (overlay_none b.now.trees tree) (rise clean tree (asks_after first asks))));
-      }
-
-pub all_rise : (texts : List Said) (trees : List ℕ) (count : ℕ) (a b : State) → length texts ≤ count
-    → Scans texts trees count a b → IsCleanBook b → a.in_transaction ≡ false
-    → AskEach (said texts) trees a.now.schema → All (λ tree. HasRowids (a.now.trees tree)) trees
-all_rise texts trees count a b most scans clean alone asks k d less =
-    subst (λ tree. HasRowids (a.now.trees tree)) (get_or_default trees k 0 d less)
-    (scans.rise clean alone asks k
-    (omega (arith, asks_length (said texts) trees a.now.schema asks, length-map texts (λ (t : Said). t.now))))
+    pub all_rise : (IsCleanBook b → (tree : ℕ) → AsksRowids a.now.schema (get_or texts 0 blank).now tree
+        → HasRowids (overlay a.now.trees [] tree))
+        → (IsCleanBook c → b.in_transaction ≡ false → (trees : List ℕ) → AskEach later trees b.now.schema
+        → AllByRecursion (λ tree. HasRowids (b.now.trees tree)) trees)
+        → IsCleanBook c → a.in_transaction ≡ false → (trees : List ℕ) → AskEach (said texts) trees a.now.schema
+        → AllByRecursion (λ tree. HasRowids (a.now.trees tree)) trees
+    all_rise here more clean alone trees asks = each_rises trees clean alone
+        (subst (λ l. AskEach l trees a.now.schema) (said_more texts some) asks) (here ((rest []).clean clean))
+        (more clean)
 
 -- ---- the scans of each schema
 
-abbrev pub second_trees : List ℕ
-second_trees = 6 ∷ 8 ∷ 10 ∷ 22 ∷ 24 ∷ 34 ∷ 26 ∷ 28 ∷ 30 ∷ 32 ∷ []
+pub second_tests : AreTestsOf office_schema second_trees second_texts (map (λ t. t.now) SECOND_SCANS)
+second_tests = record {
+  tables = second_tables;
+  makes = second_make;
+  office = inr refl;
+  asks =
+      node_rowids office_schema (inr refl) ▸
+      plan_item_rowids office_schema (inr refl) ▸
+      calendar_rowids office_schema (inr refl) ▸
+      assignment_rowids office_schema refl ▸
+      quote_rowids office_schema refl ▸
+      reference_rowids office_schema refl ▸
+      release_rowids office_schema refl ▸
+      frozen_rowids office_schema refl ▸
+      carried_rowids office_schema refl ▸
+      level_rowids office_schema refl ▸
+      tt;
+}
 
-pub second_asks : (s : Schema) → IsSecond s → AskEach (map (λ t. t.now) SCANS) second_trees s
-second_asks s has =
-    node_rowids s (inr has) ▸
-    plan_item_rowids s (inr has) ▸
-    calendar_rowids s (inr has) ▸
-    assignment_rowids s has ▸
-    quote_rowids s has ▸
-    reference_rowids s has ▸
-    release_rowids s has ▸
-    frozen_rowids s has ▸
-    carried_rowids s has ▸
-    level_rowids s has ▸
-    tt
+pub first_tests : AreTestsOf first_schema first_trees [] (map (λ t. t.now) FIRST_SCANS)
+first_tests = record {
+  tables = [];
+  makes = refl;
+  office = inl refl;
+  asks =
+      node_rowids first_schema (inl refl) ▸
+      plan_item_rowids first_schema (inl refl) ▸
+      calendar_rowids first_schema (inl refl) ▸
+      first_assignment_rowids first_schema refl ▸
+      first_quote_rowids first_schema refl ▸
+      first_release_rowids first_schema refl ▸
+      first_frozen_rowids first_schema refl ▸
+      first_carried_rowids first_schema refl ▸
+      first_level_rowids first_schema refl ▸
+      tt;
+}
 
-abbrev pub first_trees : List ℕ
-first_trees = 6 ∷ 8 ∷ 10 ∷ 11 ∷ 13 ∷ 15 ∷ 16 ∷ 18 ∷ 20 ∷ []
-
-pub first_asks : (s : Schema) → IsFirst s → AskEach (map (λ t. t.now) FIRST_SCANS) first_trees s
-first_asks s has =
-    node_rowids s (inl has) ▸
-    plan_item_rowids s (inl has) ▸
-    calendar_rowids s (inl has) ▸
-    first_assignment_rowids s has ▸
-    first_quote_rowids s has ▸
-    first_release_rowids s has ▸
-    first_frozen_rowids s has ▸
-    first_carried_rowids s has ▸
-    first_level_rowids s has ▸
-    tt
-
-pub second_rise : (trees : Trees) → All (λ tree. HasRowids (trees tree)) second_trees → HaveRowids trees
-second_rise trees rise = record {
-  plans = record { nodes = rise 0 0 (omega arith); places = rise 1 0 (omega arith); calendar = rise 2 0 (omega arith) };
-  survey = record {
-    assignments = rise 3 0 (omega arith);
-    quotes = rise 4 0 (omega arith);
-    references = rise 5 0 (omega arith);
-  };
+pub second_rise : (trees : Trees) → AllByRecursion (λ tree. HasRowids (trees tree)) second_trees → HaveRowids trees
+second_rise trees rise = let survey = rise.1.1.1 in let releases = survey.1.1.1 in record {
+  plans = record { nodes = rise.0; places = rise.1.0; calendar = rise.1.1.0 };
+  survey = record { assignments = survey.0; quotes = survey.1.0; references = survey.1.1.0 };
   releases = record {
-    headers = rise 6 0 (omega arith);
-    frozen = rise 7 0 (omega arith);
-    carried = rise 8 0 (omega arith);
-    levels = rise 9 0 (omega arith);
+    headers = releases.0;
+    frozen = releases.1.0;
+    carried = releases.1.1.0;
+    levels = releases.1.1.1.0;
   };
 }
 
-pub first_rise : (trees : Trees) → All (λ tree. HasRowids (trees tree)) first_trees
+pub first_rise : (trees : Trees) → AllByRecursion (λ tree. HasRowids (trees tree)) first_trees
     → HavePlanRowids trees × HaveFirstRowids trees
-first_rise trees rise = (
-  record { nodes = rise 0 0 (omega arith); places = rise 1 0 (omega arith); calendar = rise 2 0 (omega arith) },
+first_rise trees rise = let survey = rise.1.1.1 in let releases = survey.1.1 in (
+  record { nodes = rise.0; places = rise.1.0; calendar = rise.1.1.0 },
   record {
-    survey = record { assignments = rise 3 0 (omega arith); quotes = rise 4 0 (omega arith) };
+    survey = record { assignments = survey.0; quotes = survey.1.0 };
     releases = record {
-      headers = rise 5 0 (omega arith);
-      frozen = rise 6 0 (omega arith);
-      carried = rise 7 0 (omega arith);
-      levels = rise 8 0 (omega arith);
+      headers = releases.0;
+      frozen = releases.1.0;
+      carried = releases.1.1.0;
+      levels = releases.1.1.1.0;
     };
   },
 )
+
+-- ---- a test of the tables
+
+pub on_two : {A E : Type 0} (r : Result A E) (P Q R : Type 0) → OnOk r P → OnOk r Q → (P → Q → R) → OnOk r R
+on_two (Ok a) P Q R h k f = f h k
+on_two (Err e) P Q R h k f = tt
+
+-- what a look leaves over a schema that fits
+pub look_tests : (Fits : Schema → Type 0) (a b : State) → Looks Fits a b → a.in_transaction ≡ false
+    → Fits a.now.schema → IsTest a b
+look_tests Fits a b look alone fits = record {
+  clean = look.clean;
+  kept = λ clean. look.kept clean alone fits;
+  crash = survives_weaker a b _ _ (λ _ db quiet. quiet alone fits) look.crash;
+}
+
+module _ (schema : Schema) (trees : List ℕ) (more scans : List (List ℕ)) (is : AreTestsOf schema trees more scans)
+    (a b : State) (alone : a.in_transaction ≡ false) (same : a.now.schema ≡ schema) (small : Looks IsOfOffice a b) where
+  office : IsOfOffice a.now.schema
+  office = subst IsOfOffice (sym same) is.office
+
+  asks : AskEach scans trees a.now.schema
+  asks = subst (AskEach scans trees) (sym same) is.asks
+
+  pub small_tests : IsTest a b
+  small_tests = look_tests IsOfOffice a b small alone office
+
+  module _ (c : State) (opened : HasCleanDisk b → IsTrue b.is_open) (scan : Looks (AskEach scans trees) b c) where
+    abbrev Both : Schema → Type 0
+    Both s = IsOfOffice s × AskEach scans trees s
+
+    pub all_tests : IsTest a c
+    all_tests = look_tests Both a c (looks_on Both a b c (looks_weaker IsOfOffice Both (λ s both. both.0) a b small)
+        opened (looks_weaker (AskEach scans trees) Both (λ s both. both.1) b c scan)) alone (office, asks)
+
+    -- what they find, where none failed
+    pub all_finds : IsLive a
+        → (IsCleanBook b → a.in_transaction ≡ false → IsOfOffice a.now.schema → AreWhole a.now.trees)
+        → (IsCleanBook c → b.in_transaction ≡ false → (trees : List ℕ) → AskEach scans trees b.now.schema
+        → AllByRecursion (λ tree. HasRowids (b.now.trees tree)) trees) → StaysOpen b c → Finds schema trees a c
+    all_finds live whole rise stays = record {
+      is = same;
+      live = live;
+      whole = λ clean. whole (scan.clean clean) alone office;
+      rise = λ clean. let kept = small_tests.kept (scan.clean clean) in
+          subst (λ (d : Database). AllByRecursion (λ tree. HasRowids (d.trees tree)) trees) kept.now
+          (rise clean kept.alone trees (schema_after (AskEach scans trees) a b kept asks));
+      is_open = λ disk. stays disk (opened (omega (arith, scan.crash.clean)));
+    }
+
+-- what was found of schema 2 are the tables of an office
+pub second_found : (a b : State) → a.in_transaction ≡ false → IsTest a b → Finds office_schema second_trees a b
+    → FindsOffice a b
+second_found a b alone test finds = record {
+  schema = finds.is;
+  tables = λ clean. kept_tables a b (test.kept clean) (found_tables a alone finds.is (test.clean clean).is_open
+      finds.live (finds.whole clean) (second_rise a.now.trees (finds.rise clean)));
+  whole = λ clean. subst (λ (d : Database). AreWhole d.trees) (sym (test.kept clean).now) (finds.whole clean);
+  is_open = finds.is_open;
+}
+
+-- what was found of schema 1 is so of what is there
+pub record IsFound (db : Database) : Type 0 where
+  pub schema : db.schema ≡ first_schema
+  pub whole : AreWhole db.trees
+  pub plans : HavePlanRowids db.trees
+  pub rowids : HaveFirstRowids db.trees
+
+pub first_found : (a b : State) → IsTest a b → Finds first_schema first_trees a b → IsCleanBook b → IsFound b.now
+first_found a b test finds clean =
+    let rise = first_rise a.now.trees (finds.rise clean) in
+    subst IsFound (sym (test.kept clean).now)
+    (record { schema = finds.is; whole = finds.whole clean; plans = rise.0; rowids = rise.1 })

@@ -1,11 +1,13 @@
 -- Tables that hold nothing.
-use Rattle.std.proofs.Common.{◌≡◌, ℕ, false, List, [], ◌∷◌, IsTrue, arith, refl, sym, subst, ◌∙◌}
+use Rattle.std.proofs.Common.{◌≡◌, ℕ, true, false, List, [], ◌∷◌, IsTrue, arith, refl, sym, subst, ◌∙◌}
+use Rattle.std.proofs.lemmas.Bool.{and_parts}
 use Rattle.std.specs.Ordering.{nat_cmp}
 use Rattle.sqlite.specs.Schema.{Schema}
 use Rattle.sqlite.specs.Table.{Table}
 use Rattle.sqlite.specs.Tree.{Trees}
 use Rattle.sqlite.specs.State.{State, Survives, HasCleanDisk}
 use Rattle.sqlite.proofs.StateLemmas.{survives_then}
+use Rattle.cpi_sql_rows.specs.Steps.{is_beside}
 use Rattle.cpi_sql_rows.specs.Tables.{first_tables, first_schema, office_schema}
 use Rattle.cpi_sql_rows.specs.Making.{HoldsNothing, IsBlank, IsNew, no_schema, second_tables}
 use Rattle.cpi_sql_rows.specs.Lists.{plans_of, years, releases_in}
@@ -16,8 +18,9 @@ use Rattle.cpi_sql_rows.specs.Texts.{put_version_text}
 use Rattle.cpi_sql_rows.proofs.Found.{none_whole}
 use Rattle.cpi_sql_open.specs.Making.{MakeEach}
 use Rattle.cpi_sql_open.specs.Stages.{Ran, RanEach, Stage, stage_of}
-use Rattle.cpi_sql_open.proofs.ClearSteps.{version_put}
-use Rattle.cpi_sql_open.proofs.CopySteps.{no_rowids}
+use Rattle.cpi_sql_open.proofs.CopiedRows.{no_rowids}
+use Rattle.cpi_sql_open.proofs.Frames.{at_tree}
+use Rattle.cpi_sql_open.proofs.Numbered.{all_there, version_put}
 use Rattle.cpi_sql_open.proofs.Making.{Made, first_make, made_each, made_then, second_make}
 use Rattle.cpi_sql_open.proofs.Making.{first_texts, second_texts}
 
@@ -26,25 +29,27 @@ use Rattle.cpi_sql_open.proofs.Making.{first_texts, second_texts}
 blank_made : (a b : Stage) (new : State) → Made no_schema office_schema office_schema.tables a b
     → Ran put_version_text b (stage_of new) → IsBlank new
 blank_made a b new m ran =
-    let put = version_put b (stage_of new) ran m.inside m.schema m.empty.0 in
-    let others = put.0.others in
+    let empty = at_tree (λ n. b.now.trees n ≡ []) office_schema.tables m.empty in
+    let put = version_put b (stage_of new) ran m.inside m.schema (empty 0 refl) in
+    let none = λ (n : ℕ) (other : is_beside (0 ∷ []) n ≡ true).
+    put.left.others n other ∙ empty n (and_parts _ _ other).0 in
     record {
-      schema = put.0.schema;
-      tables = put.2;
-      version = put.1;
-      collectors = others 1 refl ∙ m.empty.1.0;
-      outlets = others 3 refl ∙ m.empty.1.1.0;
-      items = others 4 refl ∙ m.empty.1.1.1.0;
-      nodes = others 6 refl ∙ m.empty.1.1.1.1.0;
-      places = others 8 refl ∙ m.empty.1.1.1.1.1.0;
-      calendar = others 10 refl ∙ m.empty.1.1.1.1.1.1.0;
-      assignments = others 22 refl ∙ m.empty.1.1.1.1.1.1.1.1.1.1.1.1.1.0;
-      quotes = others 24 refl ∙ m.empty.1.1.1.1.1.1.1.1.1.1.1.1.1.1.0;
-      releases = others 26 refl ∙ m.empty.1.1.1.1.1.1.1.1.1.1.1.1.1.1.1.0;
-      frozen = others 28 refl ∙ m.empty.1.1.1.1.1.1.1.1.1.1.1.1.1.1.1.1.0;
-      carried = others 30 refl ∙ m.empty.1.1.1.1.1.1.1.1.1.1.1.1.1.1.1.1.1.0;
-      levels = others 32 refl ∙ m.empty.1.1.1.1.1.1.1.1.1.1.1.1.1.1.1.1.1.1.0;
-      references = others 34 refl ∙ m.empty.1.1.1.1.1.1.1.1.1.1.1.1.1.1.1.1.1.1.1.0;
+      schema = put.left.schema;
+      tables = all_there new.now.trees put.sound;
+      version = put.version;
+      collectors = none 1 refl;
+      outlets = none 3 refl;
+      items = none 4 refl;
+      nodes = none 6 refl;
+      places = none 8 refl;
+      calendar = none 10 refl;
+      assignments = none 22 refl;
+      quotes = none 24 refl;
+      releases = none 26 refl;
+      frozen = none 28 refl;
+      carried = none 30 refl;
+      levels = none 32 refl;
+      references = none 34 refl;
     }
 
 pub all_blank : (a b c : Stage) (new : State) → RanEach first_texts a b

@@ -1,15 +1,17 @@
 -- The tables that lists of CREATE TABLEs make.
-use Rattle.std.proofs.Common.{◌≡◌, ℕ, List, [], ◌∷◌, ◌++◌, map, false, None, Ok, IsTrue, refl, sym, ap, subst, ◌∙◌}
-use Rattle.sqlite.specs.Change.{created, next_tree, KeepsRows}
+use Rattle.std.proofs.Common.{◌≡◌, ℕ, List, [], ◌∷◌, ◌++◌, map, inl, inr, false, None, Ok, IsTrue, refl, sym, ap}
+use Rattle.std.proofs.Common.{subst, ◌∙◌}
+use Rattle.sqlite.specs.Change.{created, next_tree}
 use Rattle.sqlite.specs.Command.TheVariants.{CreateTable}
 use Rattle.sqlite.specs.Does.{Tally, Does, lacks_sequence}
 use Rattle.sqlite.specs.Effect.{Database}
 use Rattle.sqlite.specs.Listing.{understood}
 use Rattle.sqlite.specs.Schema.{Schema}
 use Rattle.sqlite.specs.Table.{Table}
-use Rattle.sqlite.specs.Tree.{Trees}
+use Rattle.sqlite_rules.specs.Lists.{Has}
+use Rattle.sqlite_rules.proofs.ListLemmas.{all_has, has_either, has_left, has_right}
 use Rattle.sqlite_tied.specs.Compute.{everything}
-use Rattle.cpi_sql_rows.specs.Making.{AreEmpty, no_schema, second_tables}
+use Rattle.cpi_sql_rows.specs.Making.{no_schema, second_tables}
 use Rattle.cpi_sql_rows.specs.Tables.{first_tables, first_schema, office_schema}
 use Rattle.cpi_sql_rows.proofs.Writing.{went, same_value}
 use Rattle.cpi_sql_open.specs.Making.{MakeEach, MakesTable}
@@ -61,41 +63,21 @@ second_make =
 pub record Made (from to : Schema) (tables : List Table) (old new : Stage) : Type 0 where
   pub inside : IsTrue new.in_transaction
   pub schema : new.now.schema ≡ to
-  pub empty : AreEmpty tables new.now.trees
-  pub others : KeepsRows from.tables old.now.trees new.now.trees
-
-kept_parts : (ts us : List Table) (old new : Trees) → KeepsRows (ts ++ us) old new
-    → KeepsRows ts old new × KeepsRows us old new
-kept_parts [] us old new k = (tt, k)
-kept_parts (t ∷ ts) us old new k = let rest = kept_parts ts us old new k.1 in ((k.0, rest.0), rest.1)
-
-same_rows : (ts : List Table) (trees : Trees) → KeepsRows ts trees trees
-same_rows [] trees = tt
-same_rows (t ∷ ts) trees = (refl, same_rows ts trees)
-
-kept_rows : (ts : List Table) (a b c : Trees) → KeepsRows ts a b → KeepsRows ts b c → KeepsRows ts a c
-kept_rows [] a b c h k = tt
-kept_rows (t ∷ ts) a b c h k = (k.0 ∙ h.0, kept_rows ts a b c h.1 k.1)
-
-still_empty : (tables : List Table) (old new : Trees) → AreEmpty tables old → KeepsRows tables old new
-    → AreEmpty tables new
-still_empty [] old new e k = tt
-still_empty (t ∷ tables) old new e k = (k.0 ∙ e.0, still_empty tables old new e.1 k.1)
-
-both_empty : (ts us : List Table) (trees : Trees) → AreEmpty ts trees → AreEmpty us trees → AreEmpty (ts ++ us) trees
-both_empty [] us trees e h = h
-both_empty (t ∷ ts) us trees e h = (e.0, both_empty ts us trees e.1 h)
+  pub empty : (t : Table) → Has tables t → new.now.trees t.tree ≡ []
+  pub others : (t : Table) → Has from.tables t → new.now.trees t.tree ≡ old.now.trees t.tree
 
 pub made_then : (from mid to : Schema) (ts us : List Table) (a b c : Stage) → mid.tables ≡ from.tables ++ ts
     → Made from mid ts a b → Made mid to us b c → Made from to (ts ++ us) a c
 made_then from mid to ts us a b c is one two =
-    let kept = kept_parts from.tables ts b.now.trees c.now.trees
-    (subst (λ l. KeepsRows l b.now.trees c.now.trees) is two.others) in
+    let kept = λ (t : Table) (h : Has (from.tables ++ ts) t). two.others t (subst (λ l. Has l t) (sym is) h) in
     record {
       inside = two.inside;
       schema = two.schema;
-      empty = both_empty ts us c.now.trees (still_empty ts b.now.trees c.now.trees one.empty kept.1) two.empty;
-      others = kept_rows from.tables a.now.trees b.now.trees c.now.trees one.others kept.0;
+      empty = λ t h. elim (has_either ts us t h) [
+        | inl early ↦ kept t (has_right from.tables ts t early) ∙ one.empty t early
+        | inr late ↦ two.empty t late
+      ];
+      others = λ t h. kept t (has_left from.tables ts t h) ∙ one.others t h;
     }
 
 table_made : (schema : Schema) (text : List ℕ) (table : Table) (old new : Stage) → MakesTable schema text table
@@ -118,8 +100,13 @@ table_made schema text table old new m ran inside has =
     record {
       inside = d.mode ∙ inside;
       schema = ap (λ (d : Database). d.schema) now ∙ is;
-      empty = (ap (λ (d : Database). d.trees table.tree) now ∙ subst (λ n. first.0.trees n ≡ []) tree made.empty, tt);
-      others = subst (λ (d : Database). KeepsRows schema.tables old.now.trees d.trees) (sym now) made.others;
+      empty = λ t h. elim h [
+        | inl one ↦ ap (λ (t : Table). new.now.trees t.tree) one ∙ ap (λ (d : Database). d.trees table.tree) now
+            ∙ subst (λ n. first.0.trees n ≡ []) tree made.empty
+        | inr none ↦ absurd none
+      ];
+      others = λ t h. ap (λ (d : Database). d.trees t.tree) now
+          ∙ all_has (λ (t : Table). first.0.trees t.tree ≡ old.now.trees t.tree) schema.tables t made.others h;
     }
 
 pub made_each : (texts : List (List ℕ)) (tables : List Table) (from to : Schema) (a b : Stage)
@@ -128,8 +115,8 @@ pub made_each : (texts : List (List ℕ)) (tables : List Table) (from to : Schem
 made_each [] [] from to a b each ran inside has = subst (Made from to [] a) ran (record {
   inside = inside;
   schema = has ∙ each;
-  empty = tt;
-  others = same_rows from.tables a.now.trees;
+  empty = λ t none. absurd none;
+  others = λ t h. refl;
 })
 made_each [] (table ∷ tables) from to a b each ran inside has = absurd each
 made_each (text ∷ texts) [] from to a b each ran inside has = absurd each

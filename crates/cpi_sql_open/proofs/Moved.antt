@@ -1,168 +1,172 @@
 -- The steps of the migration, taken together.
-use Rattle.std.proofs.Common.{◌≡◌, ℕ, List, [], ◌∷◌, ◌++◌, IsTrue, refl, sym, ap}
-use Rattle.std.proofs.Common.{subst, ◌∙◌, arith}
+use Rattle.std.proofs.Common.{◌≡◌, ℕ, List, [], ◌∷◌, ◌++◌, map, true, IsTrue, refl, sym, ap, subst, ◌∙◌, arith}
+use Rattle.std.proofs.lemmas.Cmp.{nat_cmp_total}
+use Rattle.std.specs.List.{AllByRecursion}
 use Rattle.sqlite.specs.Order.{Row}
 use Rattle.sqlite.specs.Tree.{Trees}
 use Rattle.sqlite.specs.Effect.{Database}
 use Rattle.sqlite.specs.State.{State, HasCleanDisk, Shown, Survives}
 use Rattle.sqlite.proofs.StateLemmas.{survives_then}
-use Rattle.cpi_sql_rows.specs.Tables.{first_schema, office_schema}
-use Rattle.cpi_sql_rows.specs.Lists.{office_in}
+use Rattle.cpi_codes.specs.contracts.codes.CodeOrd.TheImpl.Laws.{total-law}
+use Rattle.cpi_index.specs.Series.{frozen_serial, carried_serial}
+use Rattle.cpi_release.specs.declared.level.Level.{Level}
+use Rattle.cpi_rows.specs.Held.{held_key}
+use Rattle.cpi_store.proofs.Released.{release_total}
+use Rattle.cpi_store.specs.declared.given.Given.{Given}
+use Rattle.cpi_survey.specs.Quote.{quote_key}
+use Rattle.cpi_sql_rows.specs.Steps.{is_beside}
+use Rattle.cpi_sql_rows.specs.Tables.{first_schema, first_tables, office_schema}
+use Rattle.cpi_sql_rows.specs.Lists.{assignment_in, carried_in, frozen_in, header_in, header_key, level_in}
+use Rattle.cpi_sql_rows.specs.Lists.{office_in, quote_in, releases_in}
 use Rattle.cpi_sql_rows.specs.FirstSchema.{first_office_in, first_releases_in}
-use Rattle.cpi_sql_rows.specs.Finding.{AreCleared, HaveFirstRowids, HaveReleaseRowids, HaveSurveyRowids}
+use Rattle.cpi_sql_rows.specs.Finding.{HaveFirstRowids, HaveReleaseRowids, HaveSurveyRowids}
 use Rattle.cpi_sql_rows.specs.Finding.{IsMigrated, IsMoved, KeepsLists}
 use Rattle.cpi_sql_rows.specs.Making.{second_tables}
 use Rattle.cpi_sql_rows.specs.Numbered.{IsVersion, version_text}
-use Rattle.cpi_sql_open.proofs.Copies.{HasCopied, IsLeft, IsNumbered, KeepsBut}
 use Rattle.cpi_sql_rows.specs.Shelf.{HasRowids}
+use Rattle.cpi_sql_rows.proofs.Found.{assignments_keyed, quotes_keyed}
+use Rattle.cpi_sql_rows.proofs.FoundReleases.{headers_keyed, frozen_keyed, carried_keyed, levels_keyed}
+use Rattle.cpi_sql_rows.proofs.Lists.{held_total, quote_total}
 use Rattle.cpi_sql_open.specs.Stages.{RanEach, Stage, stage_of}
-use Rattle.cpi_sql_open.proofs.ClearSteps.{cleared_trees, numbered, rows_cleared}
-use Rattle.cpi_sql_open.proofs.CopiedTables.{left_then}
-use Rattle.cpi_sql_open.proofs.CopySteps.{all_copied}
-use Rattle.cpi_sql_open.proofs.Making.{Made, made_each, second_make}
-use Rattle.cpi_sql_open.proofs.FirstNumber.{first_seen}
-use Rattle.cpi_sql_rows.proofs.Unchanged.{same_releases}
-use Rattle.cpi_sql_open.proofs.Making.{second_texts}
-use Rattle.cpi_sql_open.proofs.CopyTexts.{copy_texts, clear_texts, number_texts}
+use Rattle.cpi_sql_open.proofs.CopiedOffice.{assignments_stand, quotes_stand, releases_stand, frozen_stand}
+use Rattle.cpi_sql_open.proofs.CopiedOffice.{carried_stand, levels_stand}
+use Rattle.cpi_sql_open.proofs.CopiedRows.{copied_list, copied_rowids, no_rowids}
+use Rattle.cpi_sql_open.proofs.Frames.{IsLeft, at_tree, has_tree, left_then}
+use Rattle.cpi_sql_open.proofs.Making.{Made, made_each, second_make, second_texts}
+use Rattle.cpi_sql_open.proofs.Moves.{assignments, carried, clear_texts, copy_texts, frozen, levels, number_texts}
+use Rattle.cpi_sql_open.proofs.Moves.{quotes, releases, steps, steps_are, tree_of}
+use Rattle.cpi_sql_open.proofs.Numbered.{IsNumbered, all_there, numbered}
+use Rattle.cpi_sql_open.proofs.NumberedLemmas.{first_seen}
+use Rattle.cpi_sql_open.proofs.Stages.{ran_then}
+use Rattle.cpi_sql_open.proofs.Steps.{AreTaken, IsReady, numbers, steps_taken, still_taken}
+use Rattle.cpi_sql_open.proofs.Texts.{◌▸◌}
 
-abbrev rest_trees : List ℕ
-rest_trees = cleared_trees ++ 0 ∷ 0 ∷ []
+-- the tables that are written
+abbrev written : List ℕ
+written = map tree_of steps
 
--- the tables that tell of the office are left
-same_office : (old new : Trees) → KeepsBut rest_trees old new → office_in new ≡ office_in old
-same_office old new k = rw (
-  k 1 refl,
-  k 3 refl,
-  k 4 refl,
-  k 6 refl,
-  k 8 refl,
-  k 10 refl,
-  k 22 refl,
-  k 24 refl,
-  k 34 refl,
-  same_releases old new (record {
-    releases = k 26 refl;
-    frozen = k 28 refl;
-    carried = k 30 refl;
-    levels = k 32 refl;
-  }),
-) refl
+module _ (a b : Stage) (m : Made first_schema office_schema second_tables a b) where
+  -- a table of schema 1, as it was made beside
+  was : (n : ℕ) → has_tree first_tables n ≡ true → b.now.trees n ≡ a.now.trees n
+  was n first = at_tree (λ n. b.now.trees n ≡ a.now.trees n) first_tables m.others n first
 
-module _ (old : State) (b : Stage) (was : IsVersion 1 (old.now.trees 0))
-    (m : Made first_schema office_schema second_tables (stage_of old) b) where
-  abbrev a : Stage
-  a = stage_of old
+  none : (n : ℕ) → has_tree second_tables n ≡ true → b.now.trees n ≡ []
+  none n second = at_tree (λ n. b.now.trees n ≡ []) second_tables m.empty n second
 
-  first_releases : first_releases_in b.now.trees ≡ first_releases_in a.now.trees
-  unfolding first_releases_in
-  first_releases = rw (
-    m.others.1.1.1.1.1.1.1.1.1.0,
-    m.others.1.1.1.1.1.1.1.1.1.1.0,
-    m.others.1.1.1.1.1.1.1.1.1.1.1.0,
-    m.others.1.1.1.1.1.1.1.1.1.1.1.1.0,
-  ) refl
+  -- the tables of schema 1 are read as they were, and those of schema 2 are empty
+  ready : AllByRecursion (IsReady a.now.trees b.now.trees) steps
+  ready =
+      (was 11 refl, none 22 refl) ▸ (was 13 refl, none 24 refl) ▸ (was 15 refl, none 26 refl) ▸
+      (was 16 refl, none 28 refl) ▸ (was 18 refl, none 30 refl) ▸ (was 20 refl, none 32 refl) ▸ (was 20 refl, tt) ▸
+      (was 18 refl, tt) ▸ (was 16 refl, tt) ▸ (was 15 refl, tt) ▸ (was 13 refl, tt) ▸ (was 11 refl, tt) ▸ tt
 
-  -- the new tables are made beside the old ones
-  first_office : first_office_in b.now.trees ≡ first_office_in a.now.trees
-  first_office = rw (
-    m.others.1.0,
-    m.others.1.1.0,
-    m.others.1.1.1.0,
-    m.others.1.1.1.1.0,
-    m.others.1.1.1.1.1.0,
-    m.others.1.1.1.1.1.1.0,
-    m.others.1.1.1.1.1.1.1.0,
-    m.others.1.1.1.1.1.1.1.1.0,
-    first_releases,
-  ) refl
+  module _ (d e : Stage) (left : IsLeft written b d) (n : IsNumbered (0 ∷ 0 ∷ []) d e)
+      (taken : AreTaken a.now.trees e.now.trees steps) where
+    abbrev old : Trees
+    old = a.now.trees
 
-  -- the rowids of the old tables are those that were there
-  first_rowids : (c : Stage) → HasCopied b c → HaveFirstRowids a.now.trees → HaveFirstRowids c.now.trees
-  first_rowids c copied ids = record {
+    abbrev new : Trees
+    new = e.now.trees
+
+    -- a table that no step writes
+    still : (t : ℕ) → is_beside (written ++ 0 ∷ 0 ∷ []) t ≡ true → new t ≡ b.now.trees t
+    still = (left_then written (0 ∷ 0 ∷ []) b d e left n.left).others
+
+    same : (t : ℕ) → is_beside (written ++ 0 ∷ 0 ∷ []) t ≡ true → has_tree first_tables t ≡ true → new t ≡ old t
+    same t other first = still t other ∙ was t first
+
+    references : new 34 ≡ []
+    references = still 34 refl ∙ none 34 refl
+
+    survey : HaveSurveyRowids new
     survey = record {
-      assignments = subst HasRowids (sym (copied.left.others 11 refl ∙ m.others.1.1.1.1.1.1.1.0))
-          ids.survey.assignments;
-      quotes = subst HasRowids (sym (copied.left.others 13 refl ∙ m.others.1.1.1.1.1.1.1.1.0)) ids.survey.quotes;
-    };
-    releases = record {
-      headers = subst HasRowids (sym (copied.left.others 15 refl ∙ m.others.1.1.1.1.1.1.1.1.1.0))
-          ids.releases.headers;
-      frozen = subst HasRowids (sym (copied.left.others 16 refl ∙ m.others.1.1.1.1.1.1.1.1.1.1.0))
-          ids.releases.frozen;
-      carried = subst HasRowids (sym (copied.left.others 18 refl ∙ m.others.1.1.1.1.1.1.1.1.1.1.1.0))
-          ids.releases.carried;
-      levels = subst HasRowids (sym (copied.left.others 20 refl ∙ m.others.1.1.1.1.1.1.1.1.1.1.1.1.0))
-          ids.releases.levels;
-    };
-  }
-
-  module _ (c d : Stage) (new : State) (copied : HasCopied b c) (cleared : IsLeft cleared_trees c d)
-      (gone : AreCleared d.now.trees) (n : IsNumbered d (stage_of new)) where
-    abbrev e : Stage
-    e = stage_of new
-
-    rest : KeepsBut rest_trees c.now.trees e.now.trees
-    rest = (left_then cleared_trees (0 ∷ 0 ∷ []) c d e cleared n.left).others
-
-    still_gone : AreCleared e.now.trees
-    still_gone = record {
-      assignments = n.left.others 11 refl ∙ gone.assignments;
-      quotes = n.left.others 13 refl ∙ gone.quotes;
-      headers = n.left.others 15 refl ∙ gone.headers;
-      frozen = n.left.others 16 refl ∙ gone.frozen;
-      carried = n.left.others 18 refl ∙ gone.carried;
-      levels = n.left.others 20 refl ∙ gone.levels;
+      assignments = copied_rowids assignments (old 11) (new 22) taken.0;
+      quotes = copied_rowids quotes (old 13) (new 24) taken.1.0;
+      references = subst HasRowids (sym references) no_rowids;
     }
 
-    office : office_in e.now.trees ≡ first_office_in a.now.trees
-    office = same_office c.now.trees e.now.trees rest ∙ copied.office ∙ first_office
+    rowids : HaveReleaseRowids new
+    rowids = record {
+      headers = copied_rowids releases (old 15) (new 26) taken.1.1.0;
+      frozen = copied_rowids frozen (old 16) (new 28) taken.1.1.1.0;
+      carried = copied_rowids carried (old 18) (new 30) taken.1.1.1.1.0;
+      levels = copied_rowids levels (old 20) (new 32) taken.1.1.1.1.1.0;
+    }
 
-    moved : IsMoved old new
-    moved = record {
-      schema = n.left.schema;
-      migrated = record {
-        was = was;
-        tables = n.tables;
-        office = office;
-        version = n.version;
-        cleared = still_gone;
-      };
-      lists = record {
-        collectors = rest 1 refl ∙ copied.left.others 1 refl ∙ m.others.1.0;
-        outlets = rest 3 refl ∙ copied.left.others 3 refl ∙ m.others.1.1.0;
-        items = rest 4 refl ∙ copied.left.others 4 refl ∙ m.others.1.1.1.0;
-        nodes = rest 6 refl ∙ copied.left.others 6 refl ∙ m.others.1.1.1.1.0;
-        places = rest 8 refl ∙ copied.left.others 8 refl ∙ m.others.1.1.1.1.1.0;
-        calendar = rest 10 refl ∙ copied.left.others 10 refl ∙ m.others.1.1.1.1.1.1.0;
-      };
-      survey = record {
-        assignments = subst HasRowids (sym (rest 22 refl)) copied.survey.assignments;
-        quotes = subst HasRowids (sym (rest 24 refl)) copied.survey.quotes;
-        references = subst HasRowids (sym (rest 34 refl)) copied.survey.references;
-      };
-      releases = record {
-        headers = subst HasRowids (sym (rest 26 refl)) copied.releases.headers;
-        frozen = subst HasRowids (sym (rest 28 refl)) copied.releases.frozen;
-        carried = subst HasRowids (sym (rest 30 refl)) copied.releases.carried;
-        levels = subst HasRowids (sym (rest 32 refl)) copied.releases.levels;
+    same_releases : releases_in new ≡ first_releases_in old
+    unfolding releases_in first_releases_in
+    same_releases = rw (
+      copied_list release_total header_key header_in releases releases_stand (old 15) (new 26) taken.1.1.0
+          (headers_keyed new n.sound rowids.headers),
+      copied_list (held_total nat_cmp_total) (held_key frozen_serial) frozen_in frozen frozen_stand (old 16) (new 28)
+          taken.1.1.1.0 (frozen_keyed new n.sound rowids.frozen),
+      copied_list (held_total nat_cmp_total) (held_key carried_serial) carried_in carried carried_stand (old 18)
+          (new 30) taken.1.1.1.1.0 (carried_keyed new n.sound rowids.carried),
+      copied_list (held_total total-law) (held_key (λ (l : Level). l.code)) level_in levels levels_stand (old 20)
+          (new 32) taken.1.1.1.1.1.0 (levels_keyed new n.sound rowids.levels),
+    ) refl
+
+    office : office_in new ≡ first_office_in old
+    office = rw (
+      same 1 refl refl,
+      same 3 refl refl,
+      same 4 refl refl,
+      same 6 refl refl,
+      same 8 refl refl,
+      same 10 refl refl,
+      references,
+      copied_list (held_total nat_cmp_total) (held_key (λ (g : Given). g.assignment.slot)) assignment_in assignments
+          assignments_stand (old 11) (new 22) taken.0 (assignments_keyed new n.sound survey.assignments),
+      copied_list (held_total quote_total) (held_key quote_key) quote_in quotes quotes_stand (old 13) (new 24)
+          taken.1.0 (quotes_keyed new n.sound survey.quotes),
+      same_releases,
+    ) refl
+
+    migrated : IsVersion 1 (old 0) → HaveFirstRowids old → IsMigrated old new
+    migrated one ids = let gone = taken.1.1.1.1.1.1 in record {
+      was = one;
+      tables = all_there new n.sound;
+      office = office;
+      version = n.version;
+      cleared = record {
+        assignments = gone.1.1.1.1.1.0 (numbers (old 11) ids.survey.assignments);
+        quotes = gone.1.1.1.1.0 (numbers (old 13) ids.survey.quotes);
+        headers = gone.1.1.1.0 (numbers (old 15) ids.releases.headers);
+        frozen = gone.1.1.0 (numbers (old 16) ids.releases.frozen);
+        carried = gone.1.0 (numbers (old 18) ids.releases.carried);
+        levels = gone.0 (numbers (old 20) ids.releases.levels);
       };
     }
 
--- each step by what its call ensures
-pub all_moved : (old new : State) (b c d : Stage) → RanEach second_texts (stage_of old) b
-    → RanEach copy_texts b c → RanEach clear_texts c d
-    → RanEach number_texts d (stage_of new) → IsTrue old.in_transaction
+    lists : KeepsLists old new
+    lists = record {
+      collectors = same 1 refl refl;
+      outlets = same 3 refl refl;
+      items = same 4 refl refl;
+      nodes = same 6 refl refl;
+      places = same 8 refl refl;
+      calendar = same 10 refl refl;
+    }
+
+pub all_moved : (old new : State) (b c d : Stage) → RanEach second_texts (stage_of old) b → RanEach copy_texts b c
+    → RanEach clear_texts c d → RanEach number_texts d (stage_of new) → IsTrue old.in_transaction
     → old.now.schema ≡ first_schema → IsVersion 1 (old.now.trees 0) → HaveFirstRowids old.now.trees → IsMoved old new
 all_moved old new b c d makes copies clears numbers inside first one ids =
     let a = stage_of old in
+    let e = stage_of new in
     let m = made_each second_texts second_tables first_schema office_schema a b second_make makes inside first in
-    let copied = all_copied b c (record { inside = m.inside; schema = m.schema; empty = m.empty }) copies in
-    let cleared = rows_cleared c d clears copied.left.inside copied.left.schema
-    (first_rowids old b one m c copied ids) in
-    let left = cleared.0 in
-    let number : d.now.trees 0 ≡ a.now.trees 0 = left.others 0 refl ∙ copied.left.others 0 refl ∙ m.others.0 in
-    moved old b one m c d new copied left cleared.1
-    (numbered d (stage_of new) numbers left.inside left.schema (subst (IsVersion 1) (sym number) one))
+    let done = steps_taken (copy_texts ++ clear_texts) steps a.now.trees b d steps_are refl
+    (ran_then copy_texts clear_texts b c d copies clears) m.inside m.schema (ready a b m) in
+    let number : d.now.trees 0 ≡ a.now.trees 0 = done.0.others 0 refl ∙ was a b m 0 refl in
+    let n = numbered d e numbers done.0.inside done.0.schema (subst (IsVersion 1) (sym number) one) in
+    let taken = still_taken a.now.trees steps (0 ∷ 0 ∷ []) d.now.trees e.now.trees n.left.others refl done.1 in
+    record {
+      schema = n.left.schema;
+      migrated = migrated a b m d e done.0 n taken one ids;
+      lists = lists a b m d e done.0 n taken;
+      survey = survey a b m d e done.0 n taken;
+      releases = rowids a b m d e done.0 n taken;
+    }
 
 -- ---- after the look at the number
 

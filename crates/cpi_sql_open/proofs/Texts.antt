@@ -1,7 +1,6 @@
--- Lists of texts that a loop goes through.
-use Rattle.std.proofs.Common.{◌≡◌, ℕ, ◌+◌, ◌<◌, ◌≤◌, List, [], ◌∷◌, length, drop, get_or, map, add-one, drop-cons, refl}
-use Rattle.std.proofs.Common.{ap, Bor}
-use Rattle.std.proofs.lemmas.List.{drop_all}
+-- Lists of texts.
+use Rattle.std.proofs.Common.{◌≡◌, ℕ, ◌≤◌, ◌-◌, List, [], ◌∷◌, length, drop, get_or, map, take, Bor, sym, ap, arith}
+use Rattle.std.proofs.lemmas.List.{take_all}
 
 abbrev pub Said : Type 0
 Said = Bor (List ℕ)
@@ -12,12 +11,12 @@ said texts = map (λ t. t.now) texts
 abbrev pub blank : Said
 blank = record { ref_ptr = (0, 0); now = [] }
 
-pub next_said : (texts : List Said) (i : ℕ) → i < length texts
-    → said (drop i texts) ≡ (get_or texts i blank).now ∷ said (drop (i + 1) texts)
-next_said texts i less = rw (add-one, drop-cons texts i blank less) refl
-
-pub none_said : (texts : List Said) (i : ℕ) → length texts ≤ i → said (drop i texts) ≡ []
-none_said texts i most = ap said (drop_all i texts most)
+-- the first of the texts, and those behind it
+pub said_more : (texts : List Said) → 1 ≤ length texts
+    → said texts ≡ (get_or texts 0 blank).now ∷ said (take (length texts - 1) (drop 1 texts))
+said_more [] some = absurd (omega (arith, some))
+said_more (text ∷ texts) some =
+    ap (λ l. text.now ∷ said l) (sym (take_all (length (text ∷ texts) - 1) texts (omega arith)))
 
 infixr 3 ◌▸◌
 -- what is shown of one text, and of those behind it

@@ -1,80 +1,47 @@
 //! What is tested of the tables that an open finds.
-ghost use Rattle.std.specs.Prelude.{◌≡◌, ℕ, List, false, map, All, IfSome, OnOk, IsTrue};
+ghost use Rattle.std.specs.Prelude.{◌≡◌, ℕ, List, false, map, IfOk, OnOk, IsTrue};
+ghost use Rattle.std.specs.List.{AllByRecursion};
 ghost use Rattle.sqlite.specs.Held.{state};
 ghost use Rattle.sqlite.specs.State.{HasCleanDisk, IsLive};
-ghost use Rattle.sqlite.specs.Steps.{over_memory, IsEmpty};
-ghost use Rattle.cpi_sql_rows.specs.Shelf.{HasRowids, HasTables, IsCleanBook, StaysOpen};
-ghost use Rattle.cpi_sql_rows.specs.Tables.{first_schema, office_schema};
-ghost use Rattle.cpi_sql_rows.specs.Finding.{AreWhole, HaveFirstRowids, HavePlanRowids, IsFirst, IsOfOffice, IsSecond};
-ghost use Rattle.cpi_sql_open.specs.Looks.{AskEach, Looks};
+ghost use Rattle.sqlite.specs.Steps.{over_memory};
+ghost use Rattle.cpi_sql_rows.specs.Shelf.{HasRowids, IsCleanBook, StaysOpen};
+ghost use Rattle.cpi_sql_rows.specs.Tables.{first_schema};
+ghost use Rattle.cpi_sql_rows.specs.Finding.{AreWhole, IsOfOffice};
+ghost use Rattle.cpi_sql_open.specs.Looks.{AreTestsOf, AskEach, Finds, FindsOffice, IsTest, Looks, first_trees};
 ghost use Rattle.cpi_sql_open.specs.Making.{MakeEach};
 
 use crate::make::{SECOND_TABLES, make_unnumbered};
 use crate::same::Same;
 use cpi_sql_rows::{Unread, bearers, calendar, items, outlets, scan};
-use sqlite::{Alter, Connection};
+use sqlite::{Alter, Connection, Error};
 use sqlite_trees::memory::MemStore;
 use std::alloc::Global;
 
-fn filled(conn: Connection<MemStore>, more: &[&str]) -> Option<Connection<MemStore>>
-    requires { IsEmpty (state over_memory conn) }
-    ensures { (tables : _) (to : _) → MakeEach (map (λ t. t.now) more.now) tables first_schema to
-        → IfSome result (λ c. (state over_memory c).now.schema ≡ to) }
-{
-    let mut conn = conn;
-    match make_unnumbered(&mut conn, more) {
-        Ok(()) => Some(conn),
-        Err(_) => None,
-    }
-}
-
 // The tables of schema 1 and those behind them, made in memory by the statements that make them in a file.
-fn model(alloc: Global, more: &[&str]) -> Option<Connection<MemStore>>
+fn model(alloc: Global, more: &[&str]) -> Result<Connection<MemStore>, Error>
     ensures { (tables : _) (to : _) → MakeEach (map (λ t. t.now) more.now) tables first_schema to
-        → IfSome result (λ c. (state over_memory c).now.schema ≡ to) }
+        → IfOk result (λ c. (state over_memory c).now.schema ≡ to) }
 {
-    match Connection::open_in_memory(alloc) {
-        Ok(conn) => filled(conn, more),
-        Err(_) => None,
-    }
+    let mut conn = Connection::open_in_memory(alloc)?;
+    make_unnumbered(&mut conn, more)?;
+    Ok(conn)
 }
 
-/// Whether the tables are those of the office. None where memory was refused.
-pub fn has_tables<S: Alter>(conn: &Connection<S>, alloc: Global) -> Option<bool>
-    ensures same { IfSome result (λ b. IsTrue b → (state S.Store conn.now).now.schema ≡ office_schema) }
+// Whether the tables are those of schema 1 and, behind them, those that the texts make. Their rows obey them.
+fn has_tables<S: Alter>(conn: &Connection<S>, alloc: Global, more: &[&str]) -> Result<bool, Error>
+    ensures same { (tables : _) (to : _) → MakeEach (map (λ t. t.now) more.now) tables first_schema to
+        → IfOk result (λ b. IsTrue b → (state S.Store conn.now).now.schema ≡ to) }
     ensures live { IsLive (state S.Store conn.now) }
 {
     let schema = conn.schema();
-    let model = model(alloc, &SECOND_TABLES)?;
-    Some(schema.same(model.schema()))
+    let model = model(alloc, more)?;
+    Ok(schema.same(model.schema()))
 }
 
-/// Whether the tables are those of schema 1. None where memory was refused.
-pub fn has_first_tables<S: Alter>(conn: &Connection<S>, alloc: Global) -> Option<bool>
-    ensures { IfSome result (λ b. IsTrue b → (state S.Store conn.now).now.schema ≡ first_schema) }
-{
-    let schema = conn.schema();
-    let model = model(alloc, &[])?;
-    Some(schema.same(model.schema()))
-}
-
-/// The rows that are there obey their schema.
-pub fn obeys<S: Alter>(conn: &Connection<S>)
-    ensures { IsLive (state S.Store conn.now) }
-{
-    let _schema = conn.schema();
-}
-
-const NODES: &str = "SELECT rowid FROM node ORDER BY rowid";
-
-const PLACES: &str = "SELECT rowid FROM plan_item ORDER BY rowid";
-
-const DAYS: &str = "SELECT rowid FROM calendar ORDER BY rowid";
-
-const SCANS: [&str; 10] = [
-    NODES,
-    PLACES,
-    DAYS,
+const SECOND_SCANS: [&str; 10] = [
+    "SELECT rowid FROM node ORDER BY rowid",
+    "SELECT rowid FROM plan_item ORDER BY rowid",
+    "SELECT rowid FROM calendar ORDER BY rowid",
     "SELECT rowid FROM assignment_2 ORDER BY rowid",
     "SELECT rowid FROM quote_2 ORDER BY rowid",
     "SELECT rowid FROM plan_ref ORDER BY rowid",
@@ -85,9 +52,9 @@ const SCANS: [&str; 10] = [
 ];
 
 const FIRST_SCANS: [&str; 9] = [
-    NODES,
-    PLACES,
-    DAYS,
+    "SELECT rowid FROM node ORDER BY rowid",
+    "SELECT rowid FROM plan_item ORDER BY rowid",
+    "SELECT rowid FROM calendar ORDER BY rowid",
     "SELECT rowid FROM assignment ORDER BY rowid",
     "SELECT rowid FROM quote ORDER BY rowid",
     "SELECT rowid FROM release ORDER BY rowid",
@@ -105,14 +72,15 @@ fn scan_each<S: Alter>(
     ensures look { (trees : List ℕ) → Looks (AskEach (map (λ t. t.now) texts.now) trees)
         (state S.Store conn.old) (state S.Store conn.new) }
     ensures stays { OnOk result (StaysOpen (state S.Store conn.old) (state S.Store conn.new)) }
-    ensures rise { IsCleanBook (state S.Store conn.new) → (state S.Store conn.old).in_transaction ≡ false
+    ensures rise { OnOk result (IsCleanBook (state S.Store conn.new) → (state S.Store conn.old).in_transaction ≡ false
         → (trees : List ℕ) → AskEach (map (λ t. t.now) texts.now) trees (state S.Store conn.old).now.schema
-        → OnOk result (All (λ tree. HasRowids ((state S.Store conn.old).now.trees tree)) trees) }
+        → AllByRecursion (λ tree. HasRowids ((state S.Store conn.old).now.trees tree)) trees) }
 {
-    for text in texts {
-        scan(conn, alloc, text)?;
-    }
-    Ok(())
+    let [text, later @ ..] = texts else {
+        return Ok(());
+    };
+    scan(conn, alloc, text)?;
+    scan_each(conn, alloc, later)
 }
 
 // Reads the tables that are small and that both schemas have.
@@ -129,33 +97,41 @@ fn read_all_small<S: Alter>(conn: &mut Connection<S>, alloc: Global) -> Result<(
     Ok(())
 }
 
-/// Tests what the office asks of all rows, which are as they were.
-pub fn test_rows<S: Alter>(conn: &mut Connection<S>, alloc: Global) -> Result<(), Unread>
-    ensures look { Looks IsSecond (state S.Store conn.old) (state S.Store conn.new) }
-    ensures whole { IsCleanBook (state S.Store conn.new) → (state S.Store conn.old).in_transaction ≡ false
-        → IsSecond (state S.Store conn.old).now.schema → OnOk result (AreWhole (state S.Store conn.old).now.trees) }
-    ensures tables { IsCleanBook (state S.Store conn.new) → (state S.Store conn.old).in_transaction ≡ false
-        → IsSecond (state S.Store conn.old).now.schema
-        → IsLive (state S.Store conn.old) → OnOk result (HasTables (state S.Store conn.old)) }
-    ensures open { HasCleanDisk (state S.Store conn.new) → OnOk result (IsTrue (state S.Store conn.new).is_open) }
+// Tests that the tables are those of schema 1 and, behind them, those that the texts make, and what is asked of all
+// their rows, which are as they were.
+fn test_tables<S: Alter>(
+    conn: &mut Connection<S>,
+    alloc: Global,
+    more: &[&str],
+    scans: &[&str],
+) -> Result<(), Unread>
+    requires { (state S.Store conn.old).in_transaction ≡ false }
+    ensures test { (to : _) (trees : _) → AreTestsOf to trees (map (λ t. t.now) more.now) (map (λ t. t.now) scans.now)
+        → IsTest (state S.Store conn.old) (state S.Store conn.new) }
+    ensures found { (to : _) (trees : _) → AreTestsOf to trees (map (λ t. t.now) more.now) (map (λ t. t.now) scans.now)
+        → OnOk result (Finds to trees (state S.Store conn.old) (state S.Store conn.new)) }
 {
+    if !has_tables(conn, alloc, more)? {
+        return Err(Unread);
+    }
     read_all_small(conn, alloc)?;
-    scan_each(conn, alloc, &SCANS)
+    scan_each(conn, alloc, scans)
 }
 
-/// Tests what a migration asks of the rows of schema 1, which are as they were.
-pub fn test_first_rows<S: Alter>(conn: &mut Connection<S>, alloc: Global) -> Result<(), Unread>
-    ensures look { Looks IsFirst (state S.Store conn.old) (state S.Store conn.new) }
-    ensures whole { IsCleanBook (state S.Store conn.new) → (state S.Store conn.old).in_transaction ≡ false
-        → IsFirst (state S.Store conn.old).now.schema → OnOk result (AreWhole (state S.Store conn.old).now.trees) }
-    ensures rise { IsCleanBook (state S.Store conn.new) → (state S.Store conn.old).in_transaction ≡ false
-        → IsFirst (state S.Store conn.old).now.schema →
-        OnOk result (HavePlanRowids (state S.Store conn.old).now.trees) }
-    ensures first { IsCleanBook (state S.Store conn.new) → (state S.Store conn.old).in_transaction ≡ false
-        → IsFirst (state S.Store conn.old).now.schema →
-        OnOk result (HaveFirstRowids (state S.Store conn.old).now.trees) }
-    ensures open { HasCleanDisk (state S.Store conn.new) → OnOk result (IsTrue (state S.Store conn.new).is_open) }
+/// Tests the tables of schema 2, which are as they were.
+pub fn test_second<S: Alter>(conn: &mut Connection<S>, alloc: Global) -> Result<(), Unread>
+    requires { (state S.Store conn.old).in_transaction ≡ false }
+    ensures test { IsTest (state S.Store conn.old) (state S.Store conn.new) }
+    ensures found { OnOk result (FindsOffice (state S.Store conn.old) (state S.Store conn.new)) }
 {
-    read_all_small(conn, alloc)?;
-    scan_each(conn, alloc, &FIRST_SCANS)
+    test_tables(conn, alloc, &SECOND_TABLES, &SECOND_SCANS)
+}
+
+/// Tests the tables of schema 1, which are as they were.
+pub fn test_first<S: Alter>(conn: &mut Connection<S>, alloc: Global) -> Result<(), Unread>
+    requires { (state S.Store conn.old).in_transaction ≡ false }
+    ensures test { IsTest (state S.Store conn.old) (state S.Store conn.new) }
+    ensures found { OnOk result (Finds first_schema first_trees (state S.Store conn.old) (state S.Store conn.new)) }
+{
+    test_tables(conn, alloc, &[], &FIRST_SCANS)
 }

@@ -3,7 +3,6 @@ ghost use Rattle.std.specs.Prelude.{◌≡◌, false, IsTrue, OnOk, OnErr};
 ghost use Rattle.sqlite.specs.Held.{state};
 ghost use Rattle.sqlite.specs.State.{HasCleanDisk, KeepsCommit, Survives};
 ghost use Rattle.cpi_sql_rows.specs.Finding.{HaveFirstRowids, IsMigrated, IsMoved};
-ghost use Rattle.cpi_sql_rows.specs.Numbered.{IsVersion};
 ghost use Rattle.cpi_sql_rows.specs.Shelf.{IsCleanBook};
 ghost use Rattle.cpi_sql_rows.specs.Tables.{first_schema};
 
@@ -11,7 +10,7 @@ use crate::make::{NUMBER, SECOND_TABLES};
 use crate::perform::perform_each;
 use crate::version::{Version, look};
 use cpi_sql_rows::Unread;
-use sqlite::{Alter, Connection, Error, Transaction};
+use sqlite::{Alter, Connection, Transaction};
 
 // The rows of each table of schema 1 that schema 2 has anew are copied.
 const COPIES: [&str; 6] = [
@@ -45,26 +44,7 @@ const CLEARS: [&str; 6] = [
 // The number of schema 2 is put in place of that of schema 1.
 const NUMBERS: [&str; 2] = ["DELETE FROM version", NUMBER];
 
-// The new tables, their rows, and the number.
-fn rewrite<S: Alter>(tx: &mut Transaction<'_, S>) -> Result<(), Error>
-    ensures same_reference { tx.new.conn.ghost_name ≡ tx.old.conn.ghost_name }
-    ensures moved { HasCleanDisk (state S.Store tx.new.conn.now) →
-        IsTrue (state S.Store tx.old.conn.now).in_transaction →
-        (state S.Store tx.old.conn.now).now.schema ≡ first_schema →
-        IsVersion 1 ((state S.Store tx.old.conn.now).now.trees 0) →
-        HaveFirstRowids (state S.Store tx.old.conn.now).now.trees →
-        OnOk result (IsMoved (state S.Store tx.old.conn.now) (state S.Store tx.new.conn.now)) }
-    ensures kept { HasCleanDisk (state S.Store tx.new.conn.now) →
-        KeepsCommit (state S.Store tx.old.conn.now) (state S.Store tx.new.conn.now) }
-    ensures survives { Survives (state S.Store tx.old.conn.now) (state S.Store tx.new.conn.now) (λ _. ⊥) }
-{
-    perform_each(tx, &SECOND_TABLES)?;
-    perform_each(tx, &COPIES)?;
-    perform_each(tx, &CLEARS)?;
-    perform_each(tx, &NUMBERS)
-}
-
-// The same, once the number is seen to be that of schema 1.
+// The new tables, their rows, and the number, once that is seen to be the number of schema 1.
 fn move_rows<S: Alter>(tx: &mut Transaction<'_, S>) -> Result<(), Unread>
     ensures same_reference { tx.new.conn.ghost_name ≡ tx.old.conn.ghost_name }
     ensures moved { HasCleanDisk (state S.Store tx.new.conn.now) →
@@ -78,11 +58,15 @@ fn move_rows<S: Alter>(tx: &mut Transaction<'_, S>) -> Result<(), Unread>
     ensures survives { Survives (state S.Store tx.old.conn.now) (state S.Store tx.new.conn.now) (λ _. ⊥) }
 {
     match look(tx)? {
-        Version::First => {}
-        Version::Second | Version::Other => return Err(Unread),
+        Version::First => {
+            perform_each(tx, &SECOND_TABLES)?;
+            perform_each(tx, &COPIES)?;
+            perform_each(tx, &CLEARS)?;
+            perform_each(tx, &NUMBERS)?;
+            Ok(())
+        }
+        Version::Second | Version::Other => Err(Unread),
     }
-    rewrite(tx)?;
-    Ok(())
 }
 
 /// Brings the rows of a file of schema 1 into the tables of schema 2: all of them, or none.
@@ -106,8 +90,6 @@ pub fn migrate<S: Alter>(conn: &mut Connection<S>) -> Result<(), Unread>
     move_rows(&mut tx)?;
     let done = tx.commit();
     let _settled_again = conn.is_autocommit();
-    match done {
-        Ok(()) => Ok(()),
-        Err(_) => Err(Unread),
-    }
+    done?;
+    Ok(())
 }

@@ -3,13 +3,12 @@ ghost use Rattle.std.specs.Prelude.{◌≡◌, false, Err, OnOk, OnErr, IsTrue};
 ghost use Rattle.sqlite.specs.Held.{state};
 ghost use Rattle.sqlite.specs.State.{HasCleanDisk, Survives};
 ghost use Rattle.cpi_sql_rows.specs.Shelf.{IsCleanBook, IsKept, HasTables, StaysOpen};
-ghost use Rattle.cpi_sql_rows.specs.Tables.{first_schema, office_schema};
-ghost use Rattle.cpi_sql_rows.specs.Finding.{AreWhole, HaveFirstRowids, HavePlanRowids, IsMigrated, IsOpened};
-ghost use Rattle.cpi_sql_rows.specs.Finding.{MayBeMade};
+ghost use Rattle.cpi_sql_rows.specs.Tables.{first_schema};
+ghost use Rattle.cpi_sql_rows.specs.Finding.{AreWhole, IsMigrated, IsOpened, MayBeMade};
 ghost use Rattle.cpi_sql_rows.specs.Numbered.{ShowsOther};
 ghost use Rattle.cpi_store.specs.declared.open_fault.OpenFault.TheVariants.{UnknownSchema};
 
-use crate::inspect::{has_first_tables, has_tables, obeys, test_first_rows, test_rows};
+use crate::inspect::{test_first, test_second};
 use crate::make::{is_blank, make_tables};
 use crate::migrate::migrate;
 use crate::version::{Version, read_version};
@@ -17,49 +16,6 @@ use cpi_sql_rows::Unread;
 use cpi_store::OpenFault;
 use sqlite::{Alter, Connection};
 use std::alloc::Global;
-
-// Tests the tables of schema 2, which are as they were.
-fn test_second<S: Alter>(conn: &mut Connection<S>, alloc: Global) -> Result<(), Unread>
-    requires { (state S.Store conn.old).in_transaction ≡ false }
-    ensures clean { IsCleanBook (state S.Store conn.new) → IsCleanBook (state S.Store conn.old) }
-    ensures kept { IsCleanBook (state S.Store conn.new) → IsKept (state S.Store conn.old) (state S.Store conn.new) }
-    ensures schema { OnOk result ((state S.Store conn.old).now.schema ≡ office_schema) }
-    ensures ready { IsCleanBook (state S.Store conn.new) → OnOk result (HasTables (state S.Store conn.new)) }
-    ensures whole { IsCleanBook (state S.Store conn.new) → OnOk result (AreWhole (state S.Store conn.new).now.trees) }
-    ensures open { HasCleanDisk (state S.Store conn.new) → OnOk result (IsTrue (state S.Store conn.new).is_open) }
-    ensures crash { Survives (state S.Store conn.old) (state S.Store conn.new) (λ _. ⊥) }
-{
-    let Some(same) = has_tables(conn, alloc) else {
-        return Err(Unread);
-    };
-    if !same {
-        return Err(Unread);
-    }
-    test_rows(conn, alloc)
-}
-
-// Tests the tables of schema 1, which are as they were.
-fn test_first<S: Alter>(conn: &mut Connection<S>, alloc: Global) -> Result<(), Unread>
-    requires { (state S.Store conn.old).in_transaction ≡ false }
-    ensures clean { IsCleanBook (state S.Store conn.new) → IsCleanBook (state S.Store conn.old) }
-    ensures kept { IsCleanBook (state S.Store conn.new) → IsKept (state S.Store conn.old) (state S.Store conn.new) }
-    ensures schema { OnOk result ((state S.Store conn.old).now.schema ≡ first_schema) }
-    ensures whole { IsCleanBook (state S.Store conn.new) → OnOk result (AreWhole (state S.Store conn.old).now.trees) }
-    ensures rise { IsCleanBook (state S.Store conn.new)
-        → OnOk result (HavePlanRowids (state S.Store conn.old).now.trees) }
-    ensures first { IsCleanBook (state S.Store conn.new)
-        → OnOk result (HaveFirstRowids (state S.Store conn.old).now.trees) }
-    ensures open { HasCleanDisk (state S.Store conn.new) → OnOk result (IsTrue (state S.Store conn.new).is_open) }
-    ensures crash { Survives (state S.Store conn.old) (state S.Store conn.new) (λ _. ⊥) }
-{
-    let Some(same) = has_first_tables(conn, alloc) else {
-        return Err(Unread);
-    };
-    if !same {
-        return Err(Unread);
-    }
-    test_first_rows(conn, alloc)
-}
 
 // The tables of schema 1, tested and then migrated.
 fn migrate_first<S: Alter>(conn: &mut Connection<S>, alloc: Global) -> Result<(), Unread>
@@ -82,38 +38,8 @@ fn migrate_first<S: Alter>(conn: &mut Connection<S>, alloc: Global) -> Result<()
         return Err(Unread);
     }
     migrate(conn)?;
-    obeys(conn);
+    let _schema = conn.schema();
     Ok(())
-}
-
-// The tables that are there.
-fn open_tables<S: Alter>(conn: &mut Connection<S>, alloc: Global) -> Result<(), OpenFault>
-    requires { (state S.Store conn.old).in_transaction ≡ false }
-    ensures clean { IsCleanBook (state S.Store conn.new) → IsCleanBook (state S.Store conn.old) }
-    ensures kept { IsCleanBook (state S.Store conn.new) →
-        OnErr result (IsKept (state S.Store conn.old) (state S.Store conn.new)) }
-    ensures ready { IsCleanBook (state S.Store conn.new) → OnOk result (HasTables (state S.Store conn.new)) }
-    ensures whole { IsCleanBook (state S.Store conn.new) → OnOk result (AreWhole (state S.Store conn.new).now.trees) }
-    ensures opened { IsCleanBook (state S.Store conn.new) →
-        OnOk result (IsOpened (state S.Store conn.old) (state S.Store conn.new)) }
-    ensures stays { OnOk result (StaysOpen (state S.Store conn.old) (state S.Store conn.new)) }
-    ensures unknown { IsCleanBook (state S.Store conn.new) →
-        result ≡ Err UnknownSchema → ShowsOther S.Store conn.old }
-    ensures crash { Survives (state S.Store conn.old) (state S.Store conn.new)
-        (λ db. MayBeMade (state S.Store conn.old) db) }
-{
-    match read_version(conn) {
-        Ok(Version::Second) => match test_second(conn, alloc) {
-            Ok(()) => Ok(()),
-            Err(_) => Err(OpenFault::Store),
-        },
-        Ok(Version::First) => match migrate_first(conn, alloc) {
-            Ok(()) => Ok(()),
-            Err(_) => Err(OpenFault::Store),
-        },
-        Ok(Version::Other) => Err(OpenFault::UnknownSchema),
-        Err(_) => Err(OpenFault::Store),
-    }
 }
 
 /// Makes the tables of an empty database, or tests those that are there. Those of schema 2 are then as they were, and
@@ -138,5 +64,16 @@ pub fn open_office<S: Alter>(conn: &mut Connection<S>, alloc: Global) -> Result<
             Err(_) => return Err(OpenFault::Store),
         }
     }
-    open_tables(conn, alloc)
+    match read_version(conn) {
+        Ok(Version::Second) => match test_second(conn, alloc) {
+            Ok(()) => Ok(()),
+            Err(_) => Err(OpenFault::Store),
+        },
+        Ok(Version::First) => match migrate_first(conn, alloc) {
+            Ok(()) => Ok(()),
+            Err(_) => Err(OpenFault::Store),
+        },
+        Ok(Version::Other) => Err(OpenFault::UnknownSchema),
+        Err(_) => Err(OpenFault::Store),
+    }
 }

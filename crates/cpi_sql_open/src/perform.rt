@@ -15,8 +15,9 @@ pub fn perform_each<S: Alter>(tx: &mut Transaction<'_, S>, texts: &[&str]) -> Re
         KeepsCommit (state S.Store tx.old.conn.now) (state S.Store tx.new.conn.now) }
     ensures survives { Survives (state S.Store tx.old.conn.now) (state S.Store tx.new.conn.now) (λ _. ⊥) }
 {
-    for text in texts {
-        let _count = tx.execute(text, &[])?;
-    }
-    Ok(())
+    let [text, later @ ..] = texts else {
+        return Ok(());
+    };
+    let _count = tx.execute(text, &[])?;
+    perform_each(tx, later)
 }

@@ -1,4 +1,4 @@
-use Rattle.std.proofs.Common.{inl}
+use Rattle.std.proofs.Common.{inl, rules}
 use Rattle.sqlite.specs.Held.{state}
 use Rattle.sqlite.proofs.StateLemmas.{survives_weaker}
 use Rattle.cpi_sql_open.proofs.MakeLemmas.{blank_tables, blank_whole, blank_office}
@@ -18,9 +18,6 @@ returns-in-Err-clause-crash g c = let none = c.is_blank.ensures c.if-is_blank.tr
     survives_weaker (state g.S.Store c.args.conn.now) (state g.S.Store c.make_tables.new.conn) _ _
     (λ _ db made. inl (none, made none)) c.make_tables.ensures.crash
 
-pub returns-clause-crash : goal.returns-clause-crash
-returns-clause-crash g c = c.open_tables.ensures.crash
-
 pub returns-in-Ok-clause-opened : goal.returns-in-Ok-clause-opened
 returns-in-Ok-clause-opened g c = λ clean.
     let none = c.is_blank.ensures c.if-is_blank.true in
@@ -30,3 +27,6 @@ returns-in-Ok-clause-opened g c = λ clean.
 pub returns-in-Ok-clause-whole : goal.returns-in-Ok-clause-whole
 returns-in-Ok-clause-whole g c = λ clean. blank_whole (state g.S.Store c.make_tables.new.conn)
     (c.in-Ok.ensures.made clean.disk (c.is_blank.ensures c.if-is_blank.true))
+
+pub returns-in-Ok-Other-clause-unknown : goal.returns-in-Ok-Other-clause-unknown
+returns-in-Ok-Other-clause-unknown g c = λ clean _. c.in-Ok-Other.ensures.other clean.disk (search rules)
