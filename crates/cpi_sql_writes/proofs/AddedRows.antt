@@ -1,60 +1,28 @@
 -- Rows added to those of a holder one by one, and rows dropped before.
-use Rattle.std.proofs.Common.{◌≡◌, inl, inr, ℕ, List, [], ◌∷◌, ◌++◌, Bool, true, false, Some, Option}
+use Rattle.std.proofs.Common.{◌≡◌, ◌⊎◌, inl, inr, ℕ, List, [], ◌∷◌, ◌++◌, Bool, true, false, Some, Option}
 use Rattle.std.proofs.Common.{Result, refl, sym, ap, subst, ◌∙◌, ◌+◌, ◌<◌, length, take, get_or}
 use Rattle.std.proofs.lemmas.Bool.{cases_Bool}
 use Rattle.std.proofs.lemmas.List.{take_more}
+use Rattle.std.specs.Prelude.{is_some}
 use Rattle.std.specs.declared.cmp.Ordering.{Ordering}
 use Rattle.std.specs.Cmp.{IsTotalOrder}
 use Rattle.sqlite.specs.Order.{Row}
-use Rattle.sqlite.specs.Tree.{Trees, put_row}
+use Rattle.sqlite.specs.Tree.{put_row}
 use Rattle.sqlite.specs.State.{State}
 use Rattle.sqlite_rules.specs.Lists.{Has}
 use Rattle.sqlite_rules.proofs.ListLemmas.{has_left, has_right, has_either}
 use Rattle.sqlite_rules.proofs.TableLemmas.{has_put as has_put_row, put_has as put_row_has}
-use Rattle.cpi_sql_rows.specs.Steps.{IsStep, SameBut}
+use Rattle.cpi_rows.specs.Keyed.{IsInOrder}
+use Rattle.cpi_rows.specs.Held.{held_cmp, held_key}
+use Rattle.cpi_sql_rows.specs.Steps.{IsStep}
+use Rattle.cpi_sql_rows.specs.Shelf.{IsKeyed, Takes}
 use Rattle.cpi_sql_writes.specs.Within.{Adds, AddsTo, Changes, Drops, Inside, IsReady, Replaces, Within}
-use Rattle.cpi_sql_writes.proofs.Replaced.{ReplacesRows}
+use Rattle.cpi_sql_writes.proofs.Replaced.{Replaced, replaced}
 use Rattle.cpi_sql_writes.proofs.Withins.{inside_here, inside_then, on_given, on_then}
-
-some_is : {X : Type 0} {p q : X} → ◌≡◌ {A = Option X} (Some p) (Some q) → p ≡ q
-some_is e = cc
+use Rattle.cpi_sql_rows.proofs.Lists.{some_is}
 
 true_false : true ≡ false → ⊥
 true_false e = cc
-
-pub same_then : (tree : ℕ) (a b c : Trees) → SameBut tree a b → SameBut tree b c → SameBut tree a c
-same_then tree a b c p q = record {
-  collectors = λ apart. q.collectors apart ∙ p.collectors apart;
-  outlets = λ apart. q.outlets apart ∙ p.outlets apart;
-  items = λ apart. q.items apart ∙ p.items apart;
-  nodes = λ apart. q.nodes apart ∙ p.nodes apart;
-  places = λ apart. q.places apart ∙ p.places apart;
-  calendar = λ apart. q.calendar apart ∙ p.calendar apart;
-  assignments = λ apart. q.assignments apart ∙ p.assignments apart;
-  quotes = λ apart. q.quotes apart ∙ p.quotes apart;
-  releases = λ apart. q.releases apart ∙ p.releases apart;
-  frozen = λ apart. q.frozen apart ∙ p.frozen apart;
-  carried = λ apart. q.carried apart ∙ p.carried apart;
-  levels = λ apart. q.levels apart ∙ p.levels apart;
-  references = λ apart. q.references apart ∙ p.references apart;
-}
-
-same_here : (tree : ℕ) (a : Trees) → SameBut tree a a
-same_here tree a = record {
-  collectors = λ _. refl;
-  outlets = λ _. refl;
-  items = λ _. refl;
-  nodes = λ _. refl;
-  places = λ _. refl;
-  calendar = λ _. refl;
-  assignments = λ _. refl;
-  quotes = λ _. refl;
-  releases = λ _. refl;
-  frozen = λ _. refl;
-  carried = λ _. refl;
-  levels = λ _. refl;
-  references = λ _. refl;
-}
 
 -- a step leaves the table ready for the next
 pub step_ready : (tree : ℕ) (Rows : List Row → List Row → Type 0) (a b : State) → IsStep tree Rows a b → IsReady tree b
@@ -69,7 +37,7 @@ step_then tree P Q R f a b c p q = record {
   schema = q.schema;
   rows = f (a.now.trees tree) (b.now.trees tree) (c.now.trees tree) p.rows q.rows;
   rowids = q.rowids;
-  others = same_then tree a.now.trees b.now.trees c.now.trees p.others q.others;
+  others = λ n e. q.others n e ∙ p.others n e;
 }
 
 module _ {X : Type 0} (entry : Row → Option (ℕ × X)) where
@@ -124,7 +92,7 @@ module _ {X : Type 0} (entry : Row → Option (ℕ × X)) where
       schema = ready.schema;
       rows = λ number is. added_none number (a.now.trees tree);
       rowids = ready.rowids;
-      others = same_here tree a.now.trees;
+      others = λ n e. refl;
     })
 
     -- one row more of a list
@@ -157,11 +125,18 @@ module _ {X : Type 0} (entry : Row → Option (ℕ × X)) where
       (GoesBy : ℕ → Type 0) (number : ℕ) (named : GoesBy number)
       (only : (r : Row) (n : ℕ) (x : X) → entry r ≡ Some (n, x) → is_of r ≡ true → n ≡ number)
       (each : (r : Row) (x : X) → entry r ≡ Some (number, x) → is_of r ≡ true) where
-    pub list_replaced : (xs : List X) (old new : List Row) → Replaces entry is_of GoesBy xs old new
-        → ReplacesRows o key entry number xs old new
-    list_replaced xs old new p =
+    -- each row was there, or stands for one of the list
+    taken : (xs : List X) (old new : List Row) (p : Replaces entry is_of GoesBy xs old new)
+        → ((r : Row) → Has new r → Has p.0 r ⊎ ((x : X) × Has xs x × (entry r ≡ Some (number, x))))
+        → Takes entry old new
+    unfolding Takes
+    taken xs old new p from r h = elim (from r h) [ inl was ↦ inl ((p.1 r).0 was).0 | inr it ↦ inr (ap is_some it.2) ]
+
+    pub list_replaced : (xs : List X) (old new : List Row) → IsKeyed (held_cmp R) (held_key key) entry old
+        → IsInOrder R key xs → Replaces entry is_of GoesBy xs old new → Replaced o key entry number xs old new
+    list_replaced xs old new keyed sorted p =
         let adds = p.2 number named in
-        record {
+        replaced o key entry number xs old new keyed sorted (record {
           others = λ r n x h e. elim (adds.others r h) [
             | inl was ↦
                 let it = (p.1 r).0 was in
@@ -178,4 +153,5 @@ module _ {X : Type 0} (entry : Row → Option (ℕ × X)) where
             ],
           ));
           there = adds.there;
-        }
+          takes = taken xs old new p adds.others;
+        })

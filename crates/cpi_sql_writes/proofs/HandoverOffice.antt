@@ -1,10 +1,10 @@
 -- A series that is handed over: the former row ends and the new one is put, as a change of the office.
-use Rattle.std.proofs.Common.{◌≡◌, ◌≢◌, ◌⊎◌, inl, inr, ℕ, Bool, true, false, eqb, List, [], ◌∷◌, Some, None}
-use Rattle.std.proofs.Common.{Option, refl, sym, ap, subst, ◌∙◌, arith}
-use Rattle.std.specs.Prelude.{option_map, if◌then◌else◌}
+use Rattle.std.proofs.Common.{◌≡◌, ◌≢◌, ◌⊎◌, inl, inr, ℕ, true, false, eqb, List, [], ◌∷◌, Some, None}
+use Rattle.std.proofs.Common.{Option, refl, sym, ap, subst, ◌∙◌}
+use Rattle.std.specs.Prelude.{option_map}
 use Rattle.std.specs.List.{AllByRecursion}
 use Rattle.std.specs.List.Sorted.{IsStrictlySortedBy}
-use Rattle.std.specs.Ordering.{nat_cmp, is_eq}
+use Rattle.std.specs.Ordering.{nat_cmp}
 use Rattle.std.specs.declared.cmp.Ordering.TheVariants.{Less, Equal}
 use Rattle.std.specs.Cmp.{tied_itself}
 use Rattle.std.proofs.lemmas.Bool.Decides.{eqb_tells}
@@ -20,17 +20,17 @@ use Rattle.cpi_store.specs.declared.given.Given.{Given}
 use Rattle.cpi_store.specs.declared.series_move.SeriesMove.{SeriesMove}
 use Rattle.cpi_store.specs.Office.{HandsOver, put_given, given_until, row_until, end_given, given_over}
 use Rattle.cpi_store.specs.Office.{hand_over}
-use Rattle.cpi_sql_rows.specs.Lists.{office_in, assignments_in, assignment_in}
+use Rattle.cpi_sql_rows.specs.Lists.{office_in, assignments_in, assignment_in, releases_in}
 use Rattle.cpi_sql_writes.specs.GivenColumns.{CanHandOver, IsFree, PutsGiven}
-use Rattle.cpi_sql_rows.specs.Shelf.{HasTables, HasRowids, IsDone, IsKeyed}
+use Rattle.cpi_sql_rows.specs.Shelf.{HasTables, IsDone, IsKeyed, Takes}
 use Rattle.cpi_sql_rows.specs.Steps.{IsStep, SameBut, outside}
+use Rattle.cpi_sql_rows.proofs.Found.{in_order_same}
 use Rattle.cpi_sql_rows.proofs.Listed.{same_in_order, listed_in_order, has_put, put_has, put_keeps}
-use Rattle.cpi_sql_rows.proofs.Lists.{held_total, held_has}
+use Rattle.cpi_sql_rows.proofs.Lists.{first_tied, held_has, held_total, second_tied}
 use Rattle.cpi_sql_writes.proofs.AddPremises.{slot_apart}
-use Rattle.cpi_sql_rows.proofs.QuoteOffice.{first_tied, second_tied}
-use Rattle.cpi_sql_writes.proofs.AddedRows.{same_then}
-use Rattle.cpi_sql_writes.proofs.Replaced.{one_of}
-use Rattle.cpi_sql_rows.proofs.Unchanged.{same_plans, releases_after, same_releases, releases_kept}
+use Rattle.cpi_sql_rows.proofs.Frame.{Assignments}
+use Rattle.cpi_sql_rows.proofs.Members.{has_row}
+use Rattle.cpi_sql_writes.proofs.Beside.{tables_written}
 
 abbrev slot_of : Given → ℕ
 slot_of g = g.assignment.slot
@@ -77,15 +77,6 @@ ended_in_order n slot last (r ∷ rows) sorted = (above rows sorted.0, ended_in_
       above rs all.1,
     )
 
-row_has : (slot : ℕ) (g : Given) (xs : List Given) → at slot_of slot xs ≡ Some g → Has xs g
-row_has slot g [] e = absurd (let no : ◌≡◌ {A = Option Given} None (Some g) = e in cc)
-row_has slot g (x ∷ xs) e = by (is_eq (nat_cmp (slot_of x) slot)) e (row_has slot g xs)
-  where
-    by : (b : Bool) → (if b then Some x else at slot_of slot xs) ≡ Some g → (at slot_of slot xs ≡ Some g → Has xs g)
-        → Has (x ∷ xs) g
-    by true e rest = inl (let is : ◌≡◌ {A = Option Given} (Some x) (Some g) = e in cc)
-    by false e rest = inr (rest e)
-
 record IsThere (n slot last : ℕ) (g : Given) (rows : List (ℕ × Given)) : Type 0 where
   pub found : Given
   pub has : Has rows (n, found)
@@ -101,7 +92,7 @@ there n slot last g rows e = by (at slot_of slot (held_by n rows)) refl e
     by None f e = absurd (let no : ◌≡◌ {A = Option Given} None (Some g) = e in cc)
     by (Some x) f e = record {
       found = x;
-      has = held_has nat_cmp_total slot_of n x rows (row_has slot x (held_by n rows) f);
+      has = held_has nat_cmp_total slot_of n x rows (has_row nat_cmp slot_of slot (held_by n rows) x f);
       slot_is = at_key slot_of slot x (held_by n rows) f;
       ends = let is : ◌≡◌ {A = Option Given} (Some (given_until last x)) (Some g) = e in cc;
     }
@@ -116,7 +107,7 @@ module _ (n : ℕ) (g : Given) (rows : List (ℕ × Given)) (sorted : AreInOrder
 
   -- the one row of the slot
   one : (r : ℕ × Given) → Has rows r → r.0 ≡ n → slot_of r.1 ≡ slot_of g → r ≡ (n, it.found)
-  one r h mine slot = one_of (held_total nat_cmp_total) key rows r (n, it.found) sorted h it.has
+  one r h mine slot = in_order_same (held_total nat_cmp_total) key rows r (n, it.found) sorted h it.has
       (rw (mine, slot, it.slot_is) (tied_itself (held_total nat_cmp_total) (n, slot_of g)))
 
   apart : (r : ℕ × Given) → ((r.0 ≡ n) × (slot_of r.1 ≡ slot_of g) → ⊥) →
@@ -169,7 +160,8 @@ none_of n slot rows none = by (at slot_of slot (held_by n rows)) refl
   where
     by : (o : Option Given) → at slot_of slot (held_by n rows) ≡ o → IsFree n slot rows
     by None e = e
-    by (Some g) e = absurd (none g (held_has nat_cmp_total slot_of n g rows (row_has slot g (held_by n rows) e))
+    by (Some g) e = absurd (none g
+        (held_has nat_cmp_total slot_of n g rows (has_row nat_cmp slot_of slot (held_by n rows) g e))
         (at_key slot_of slot g (held_by n rows) e))
 
 module _ (h : SeriesMove) (rows : List (ℕ × Given)) (can : CanHandOver h rows) where
@@ -201,10 +193,12 @@ module _ (h : SeriesMove) (a b c : State) (has : HasTables (outside a))
     (two : IsStep 22 (PutsGiven h.taker.number (given_over h)) b c) where
   first : (assignments_in (b.now.trees 22) ≡ put_given h.former.number h.ended (assignments_in (a.now.trees 22)))
       × IsKeyed (held_cmp nat_cmp) key assignment_in (b.now.trees 22)
+      × Takes assignment_in (a.now.trees 22) (b.now.trees 22)
   first = one.rows has.assignments
 
   second : (assignments_in (c.now.trees 22) ≡ put_given h.taker.number (given_over h) (assignments_in (b.now.trees 22)))
       × IsKeyed (held_cmp nat_cmp) key assignment_in (c.now.trees 22)
+      × Takes assignment_in (b.now.trees 22) (c.now.trees 22)
   second = two.rows first.1
 
   rows_now : assignments_in (c.now.trees 22) ≡ hand_over h (assignments_in (a.now.trees 22))
@@ -212,39 +206,15 @@ module _ (h : SeriesMove) (a b c : State) (has : HasTables (outside a))
       ∙ sym (ended_put h.former.number h.ended (assignments_in (a.now.trees 22))
       (listed_in_order (held_total nat_cmp_total) key assignment_in (a.now.trees 22)) can.stands))
 
-  others : SameBut 22 a.now.trees c.now.trees
-  others = same_then 22 a.now.trees b.now.trees c.now.trees one.others two.others
+  both : Takes assignment_in (a.now.trees 22) (c.now.trees 22)
+  unfolding Takes
+  both r h = elim (second.2 r h) [ inl was ↦ first.2 r was | inr stands ↦ inr stands ]
+
+  others : SameBut (22 ∷ []) a.now.trees c.now.trees
+  others n e = two.others n e ∙ one.others n e
 
   pub handed_over : IsDone (HandsOver h) (outside a) (outside c)
-  handed_over = record {
-    tables = record {
-      schema = two.schema;
-      alone = refl;
-      plans = same_plans a.now.trees c.now.trees (others.nodes (λ e. absurd (omega (arith, e))))
-          (others.places (λ e. absurd (omega (arith, e))))
-          (others.references (λ e. absurd (omega (arith, e)))) has.plans;
-      releases = releases_kept a.now.trees c.now.trees (releases_after 22 a.now.trees c.now.trees refl others)
-          has.releases;
-      rowids = subst HasRowids (sym (others.quotes (λ e. absurd (omega (arith, e))))) has.rowids;
-      days = subst HasRowids (sym (others.calendar (λ e. absurd (omega (arith, e))))) has.days;
-      assignment_ids = two.rowids;
-      collectors = rw (others.collectors (λ e. absurd (omega (arith, e)))) has.collectors;
-      outlets = rw (others.outlets (λ e. absurd (omega (arith, e)))) has.outlets;
-      items = rw (others.items (λ e. absurd (omega (arith, e)))) has.items;
-      calendar = rw (others.calendar (λ e. absurd (omega (arith, e)))) has.calendar;
-      assignments = second.1;
-      quotes = rw (others.quotes (λ e. absurd (omega (arith, e)))) has.quotes;
-    };
-    office = rw (
-      others.collectors (λ e. absurd (omega (arith, e))),
-      others.outlets (λ e. absurd (omega (arith, e))),
-      others.items (λ e. absurd (omega (arith, e))),
-      others.calendar (λ e. absurd (omega (arith, e))),
-      others.quotes (λ e. absurd (omega (arith, e))),
-      others.nodes (λ e. absurd (omega (arith, e))),
-      others.places (λ e. absurd (omega (arith, e))),
-      others.references (λ e. absurd (omega (arith, e))),
-      same_releases a.now.trees c.now.trees (releases_after 22 a.now.trees c.now.trees refl others),
-      rows_now,
-    ) refl;
-  }
+  unfolding releases_in
+  handed_over = tables_written (HandsOver h) (outside a) (outside c) has two.schema refl (Assignments ∷ []) others
+      (record { rows = record { keyed = λ _. second.1; takes = both }; rowids = λ _. two.rowids }, tt)
+      (ap (λ rows. record (office_in a.now.trees) { assignments = rows }) rows_now)

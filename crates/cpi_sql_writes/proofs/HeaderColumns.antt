@@ -1,28 +1,9 @@
--- The columns that stand for the header of a release.
-use Rattle.std.proofs.Common.{◌≡◌, ℕ, pos, List, [], ◌∷◌, ◌++◌, Some, take, length, get_or, ◌<◌, ◌+◌, refl, sym}
-use Rattle.std.proofs.Common.{ap, ◌∙◌}
+-- The codes that a release may carry, one after the other.
+use Rattle.std.proofs.Common.{◌≡◌, ℕ, List, [], ◌∷◌, ◌++◌, take, length, get_or, ◌<◌, ◌+◌, refl, sym, ap, ◌∙◌}
 use Rattle.std.proofs.lemmas.List.{take_more, append_assoc}
-use Rattle.sqlite.specs.declared.types.Value.TheVariants.{Null, Int, Text}
 use Rattle.cpi_codes.specs.CodeText.{text}
 use Rattle.cpi_codes.specs.declared.codes.Code.{Code}
-use Rattle.cpi_sql_rows.specs.declared.release_rows.Header.{Header}
-use Rattle.cpi_sql_rows.specs.Lists.{ranged, month_at, codes_of, header_in, revision_from}
 use Rattle.cpi_sql_rows.specs.ReleaseRows.{carry_text}
-
-pub header_row : (number v f p : ℕ) (c : List ℕ) (h : Header) → month_at number ≡ Some h.month
-    → revision_from (Int (pos v)) ≡ Some h.revision → h.frozen_at ≡ f → h.publishes ≡ p
-    → ranged 0 9999999999 (Int (pos f)) ≡ Some f → ranged 0 9999999999 (Int (pos p)) ≡ Some p
-    → codes_of c ≡ Some h.carry
-    → header_in (Null ∷ Int (pos number) ∷ Int (pos v) ∷ Int (pos f) ∷ Int (pos p) ∷ Text c ∷ []) ≡ Some h
-header_row number v f p c h month revision at_f at_p frozen published carry = rw (
-  month,
-  revision,
-  frozen,
-  published,
-  carry,
-  sym at_f,
-  sym at_p,
-) refl
 
 -- a code more, after a space
 pub carry_push : (c : Code) (cs : List Code) (d : Code) → carry_text (c ∷ cs ++ d ∷ []) ≡ carry_text (c ∷ cs)

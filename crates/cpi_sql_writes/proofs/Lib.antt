@@ -1,4 +1,6 @@
-pub mod AddStatements
+pub mod Alone
+pub mod Beside
+pub mod RowWrites
 pub mod AddPremises
 pub mod CalendarRows
 pub mod CalendarOffice
@@ -15,7 +17,6 @@ pub mod PlanSteps
 pub mod PlanOffice
 pub mod HandoverOffice
 pub mod ReleaseSteps
-pub mod ReleaseColumns
 pub mod HeaderColumns
 pub mod ReleaseReplaced
 pub mod MappedPut

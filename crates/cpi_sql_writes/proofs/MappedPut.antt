@@ -7,11 +7,6 @@ use Rattle.sqlite_rules.specs.Lists.{Has}
 use Rattle.cpi_rows.specs.Keyed.{put}
 
 module _ {X Y : Type 0} (f : X → Y) where
-  pub has_map : (xs : List X) (x : X) → Has xs x → Has (map f xs) (f x)
-  has_map [] x h = absurd h
-  has_map (y ∷ xs) x (inl same) = inl (ap f same)
-  has_map (y ∷ xs) x (inr more) = inr (has_map xs x more)
-
   map_around : (xs ys : List X) (x : X) → map f (xs ++ x ∷ ys) ≡ map f xs ++ f x ∷ map f ys
   map_around [] ys x = refl
   map_around (y ∷ xs) ys x = ap (λ l. f y ∷ l) (map_around xs ys x)

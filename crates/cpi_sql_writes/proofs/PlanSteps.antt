@@ -1,10 +1,9 @@
 -- The statements on the tables of plans: a row added, and the rows of a year dropped.
-use Rattle.std.proofs.Common.{◌≡◌, ℕ, ◌≤◌, pos, List, [], ◌∷◌, Some, Option, Result, refl, ap, ◌∙◌}
+use Rattle.std.proofs.Common.{◌≡◌, ℕ, ◌≤◌, pos, List, [], ◌∷◌, ◌++◌, Some, Option, Result, refl, ap, ◌∙◌}
 use Rattle.std.proofs.lemmas.Bool.{le-leb}
 use Rattle.std.specs.declared.cmp.Ordering.{Ordering}
 use Rattle.std.specs.Cmp.{IsTotalOrder}
 use Rattle.sqlite.specs.declared.types.Value.TheVariants.{Null, Int, Text}
-use Rattle.sqlite.specs.Edit.{next_rowid}
 use Rattle.sqlite.specs.Order.{Row, column}
 use Rattle.sqlite.specs.Source.TheVariants.{Values}
 use Rattle.sqlite.specs.State.{State}
@@ -13,13 +12,15 @@ use Rattle.cpi_codes.specs.CodeOf.{code_of}
 use Rattle.cpi_codes.specs.ItemCode.{item_code_of}
 use Rattle.cpi_plan.specs.declared.plan_rows.Place.{Place}
 use Rattle.cpi_plan.specs.declared.plan_rows.Node.{Node}
+use Rattle.cpi_rows.specs.Keyed.{IsInOrder}
+use Rattle.cpi_rows.specs.Held.{held_cmp, held_key}
+use Rattle.cpi_sql_rows.specs.Shelf.{IsKeyed}
 use Rattle.cpi_sql_rows.specs.Tables.{node, plan_item, plan_ref}
 use Rattle.cpi_sql_rows.specs.declared.reference_months.ReferenceMonth.{ReferenceMonth}
 use Rattle.cpi_sql_rows.specs.Texts.{drop_places_text, drop_nodes_text, drop_references_text, add_reference_text}
 use Rattle.cpi_sql_rows.specs.Texts.{add_place_text, add_node_text, given_pair, is_first}
 use Rattle.cpi_sql_rows.specs.Lists.{place_in, node_in, reference_row, month_from, ranged, name_of, and_then}
-use Rattle.cpi_sql_rows.specs.Lists.{node_at, node_from, place_at, place_from, reference_at, reference_from}
-use Rattle.cpi_sql_rows.proofs.Lists.{bound_is, ranged_is, same_number, equal_number}
+use Rattle.cpi_sql_rows.proofs.Lists.{bound_is, ranged_is, same_number, equal_number, some_is}
 use Rattle.cpi_sql_rows.proofs.Reading.{equality}
 use Rattle.cpi_sql_rows.proofs.Texts.{drop_places_is, drop_nodes_is, add_place_is, add_node_is, drop_references_is}
 use Rattle.cpi_sql_rows.proofs.Texts.{add_reference_is}
@@ -27,66 +28,57 @@ use Rattle.cpi_sql_rows.proofs.Writing.{cast_int, cast_null}
 use Rattle.cpi_sql_writes.specs.PlanSteps.{is_of_year, IsYearNumber}
 use Rattle.cpi_sql_writes.specs.Within.{AddsTo, Changes, Drops, Ran, Replaces, Within}
 use Rattle.cpi_sql_writes.proofs.AddedRows.{list_replaced}
-use Rattle.cpi_sql_writes.proofs.Replaced.{ReplacesRows}
-use Rattle.cpi_sql_writes.proofs.TableSteps.{adds_row, drops_rows}
+use Rattle.cpi_sql_writes.proofs.Replaced.{Replaced}
+use Rattle.cpi_sql_writes.proofs.TableSteps.{adds_numbered, adds_row, drops_rows}
 
 module _ {A E : Type 0} (old new : State) (result : Result A E) (year : ℕ) where
-  pub nodes_dropped : Within old new result (Ran drop_nodes_text (Int (pos year) ∷ []))
+  abbrev key : Row
+  key = Int (pos year) ∷ []
+
+  pub nodes_dropped : Within old new result (Ran drop_nodes_text key)
       → Within old new result (Changes node.tree (Drops (is_of_year 1 year)))
-  nodes_dropped ran = drops_rows node 4 refl drop_nodes_text (Int (pos year) ∷ []) old new result ran (is_first 1)
-      (is_of_year 1 year) drop_nodes_is (λ r. equality (column r 1) (pos year)) (λ s olds. refl) (λ db. refl)
+  nodes_dropped ran = drops_rows node 4 refl drop_nodes_text key old new result ran (is_first 1) (is_of_year 1 year)
+      drop_nodes_is (λ r. equality (column r 1) (pos year)) (λ db. refl)
 
-  pub places_dropped : Within old new result (Ran drop_places_text (Int (pos year) ∷ []))
+  pub places_dropped : Within old new result (Ran drop_places_text key)
       → Within old new result (Changes plan_item.tree (Drops (is_of_year 1 year)))
-  places_dropped ran = drops_rows plan_item 5 refl drop_places_text (Int (pos year) ∷ []) old new result ran
-      (is_first 1) (is_of_year 1 year) drop_places_is (λ r. equality (column r 1) (pos year)) (λ s olds. refl)
-      (λ db. refl)
+  places_dropped ran = drops_rows plan_item 5 refl drop_places_text key old new result ran (is_first 1)
+      (is_of_year 1 year) drop_places_is (λ r. equality (column r 1) (pos year)) (λ db. refl)
 
-  pub references_dropped : Within old new result (Ran drop_references_text (Int (pos year) ∷ []))
+  pub references_dropped : Within old new result (Ran drop_references_text key)
       → Within old new result (Changes plan_ref.tree (Drops (is_of_year 0 year)))
-  references_dropped ran = drops_rows plan_ref 19 refl drop_references_text (Int (pos year) ∷ []) old new result ran
-      (is_first 0) (is_of_year 0 year) drop_references_is (λ r. equality (column r 0) (pos year)) (λ s olds. refl)
-      (λ db. refl)
+  references_dropped ran = drops_rows plan_ref 19 refl drop_references_text key old new result ran (is_first 0)
+      (is_of_year 0 year) drop_references_is (λ r. equality (column r 0) (pos year)) (λ db. refl)
 
   pub node_added : (c t : List ℕ) (n : Node) → code_of c ≡ Some n.code → name_of t ≡ Some n.title
-      → Within old new result (Ran add_node_text (Int (pos year) ∷ Text c ∷ Text t ∷ Int (pos n.weight) ∷ []))
+      → Within old new result (Ran add_node_text (key ++ Text c ∷ Text t ∷ Int (pos n.weight) ∷ []))
       → Within old new result (Changes node.tree (AddsTo node_in (IsYearNumber year) (n ∷ [])))
   node_added c t n code title ran =
-      let columns = Int (pos year) ∷ Text c ∷ Text t ∷ Int (pos n.weight) ∷ [] in
-      adds_row node 4 refl add_node_text columns old new result ran
-      (Values (lit Null ∷ col 0 0 ∷ col 0 1 ∷ col 0 2 ∷ col 0 3 ∷ []) 5) (Null ∷ columns)
-      (λ db. Int (next_rowid (db node.tree)) ∷ columns) add_node_is (λ limit db rows h. h.1)
-      (λ db. rw (cast_null, cast_int (pos year), cast_int (pos n.weight)) refl) node_in (IsYearNumber year) n
-      (λ number is. rw (is, code, title) refl)
+      adds_numbered node 4 refl add_node_text _ old new result ran
+      (Values (lit Null ∷ col 0 0 ∷ col 0 1 ∷ col 0 2 ∷ col 0 3 ∷ []) 5) add_node_is (λ limit db rows h. h.1)
+      (λ db. simp (cast_null, cast_int)) node_in (IsYearNumber year) n (λ id number is. rw (is, code, title) refl)
 
   pub place_added : (i c : List ℕ) (p : Place) → item_code_of i ≡ Some p.item → code_of c ≡ Some p.aggregate
-      → Within old new result (Ran add_place_text (Int (pos year) ∷ Text i ∷ Text c ∷ []))
+      → Within old new result (Ran add_place_text (key ++ Text i ∷ Text c ∷ []))
       → Within old new result (Changes plan_item.tree (AddsTo place_in (IsYearNumber year) (p ∷ [])))
   place_added i c p item code ran =
-      let columns = Int (pos year) ∷ Text i ∷ Text c ∷ [] in
-      adds_row plan_item 5 refl add_place_text columns old new result ran
-      (Values (lit Null ∷ col 0 0 ∷ col 0 1 ∷ col 0 2 ∷ []) 4) (Null ∷ columns)
-      (λ db. Int (next_rowid (db plan_item.tree)) ∷ columns) add_place_is (λ limit db rows h. h.1)
-      (λ db. rw (cast_null, cast_int (pos year)) refl) place_in (IsYearNumber year) p
-      (λ number is. rw (is, item, code) refl)
+      adds_numbered plan_item 5 refl add_place_text _ old new result ran
+      (Values (lit Null ∷ col 0 0 ∷ col 0 1 ∷ col 0 2 ∷ []) 4) add_place_is (λ limit db rows h. h.1)
+      (λ db. simp (cast_null, cast_int)) place_in (IsYearNumber year) p (λ id number is. rw (is, item, code) refl)
 
   pub reference_added : (m : ℕ) (r : ReferenceMonth) → month_from (Int (pos m)) ≡ Some r.month
-      → Within old new result (Ran add_reference_text (Int (pos year) ∷ Int (pos m) ∷ []))
+      → Within old new result (Ran add_reference_text (key ++ Int (pos m) ∷ []))
       → Within old new result (Changes plan_ref.tree (AddsTo reference_row (IsYearNumber year) (r ∷ [])))
   reference_added m r month ran =
       let row = Int (pos year) ∷ Null ∷ Int (pos m) ∷ [] in
-      adds_row plan_ref 19 refl add_reference_text (Int (pos year) ∷ Int (pos m) ∷ []) old new result ran
-      (Values given_pair 3) row (λ db. row) add_reference_is (λ limit db rows h. h.1)
-      (λ db. rw (cast_null, cast_int (pos year), cast_int (pos m)) refl) reference_row (IsYearNumber year) r
-      (λ number is. rw (is, month) refl)
+      adds_row plan_ref 19 refl add_reference_text (key ++ Int (pos m) ∷ []) old new result ran (Values given_pair 3)
+      row (λ db. row) add_reference_is (λ limit db rows h. h.1) (λ db. simp (cast_null, cast_int)) reference_row
+      (IsYearNumber year) r (λ number is. rw (is, month) refl)
 
 -- ---- so they replace those of the year
 
 pub year_read : (year : ℕ) → 2000 ≤ year → year ≤ 2199 → IsYearNumber year year
 year_read year low high = rw (le-leb 2000 year low, le-leb year 2199 high) refl
-
-pair_is : {X : Type 0} {p q : X} → ◌≡◌ {A = Option X} (Some p) (Some q) → p ≡ q
-pair_is e = cc
 
 -- what a row stands for, beside the year that is in one of its columns
 abbrev beside_year : {X : Type 0} → ℕ → (Row → Option X) → Row → Option (ℕ × X)
@@ -99,12 +91,13 @@ module _ {X K : Type 0} {R : K → K → Ordering} (o : IsTotalOrder R) (key : X
     numbered r n x e =
         let one = bound_is (ranged 2000 2199 (column r place)) _ _ e in
         let two = bound_is (from r) _ _ one.2 in
-        let pair : ◌≡◌ {A = ℕ × X} (one.0, two.0) (n, x) = pair_is two.2 in
+        let pair : ◌≡◌ {A = ℕ × X} (one.0, two.0) (n, x) = some_is two.2 in
         ranged_is 2000 2199 (column r place) one.0 one.1 ∙ ap (λ (p : ℕ × X). Int (pos p.0)) pair
 
     pub year_replaced : (year : ℕ) → 2000 ≤ year → year ≤ 2199 → (xs : List X) (old new : List Row)
+        → IsKeyed (held_cmp R) (held_key key) (beside_year place from) old → IsInOrder R key xs
         → Replaces (beside_year place from) (is_of_year place year) (IsYearNumber year) xs old new
-        → ReplacesRows o key (beside_year place from) year xs old new
+        → Replaced o key (beside_year place from) year xs old new
     year_replaced year low high = list_replaced (beside_year place from) o key (is_of_year place year)
         (IsYearNumber year) year (year_read year low high)
         (λ r n x e hit. same_number (column r place) n year (numbered r n x e) hit)

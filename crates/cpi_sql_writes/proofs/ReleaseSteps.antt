@@ -1,12 +1,15 @@
 -- The statements on the tables of releases: a row added, and the rows of a release dropped.
-use Rattle.std.proofs.Common.{◌≡◌, ℕ, ℤ, pos, List, [], ◌∷◌, Some, None, Option, Result, refl, ◌∙◌}
+use Rattle.std.proofs.Common.{◌≡◌, ℕ, ℤ, pos, List, [], ◌∷◌, ◌++◌, Some, None, Option, Result, refl, ◌∙◌}
 use Rattle.sqlite.specs.declared.types.Value.TheVariants.{Null, Int, Text}
 use Rattle.sqlite.specs.Cast.{cast}
 use Rattle.sqlite.specs.Kind.TheVariants.{Integer}
 use Rattle.sqlite.specs.Values.{bound_value}
 use Rattle.sqlite.specs.Edit.{next_rowid}
 use Rattle.sqlite.specs.Source.TheVariants.{Values}
+use Rattle.sqlite.specs.Order.{Row}
 use Rattle.sqlite.specs.State.{State}
+use Rattle.cpi_codes.specs.CodeOf.{code_of}
+use Rattle.cpi_codes.specs.ItemCode.{item_code_of}
 use Rattle.cpi_index.specs.Frozen.{Frozen}
 use Rattle.cpi_index.specs.Carried.{Carried}
 use Rattle.cpi_release.specs.declared.level.Level.{Level}
@@ -15,132 +18,104 @@ use Rattle.cpi_sql_rows.specs.Tables.{release_2, frozen_2, carried_2, level_2}
 use Rattle.cpi_sql_rows.specs.Texts.{add_header_text, add_header_terms, add_frozen_text, add_frozen_terms}
 use Rattle.cpi_sql_rows.specs.Texts.{add_carried_text, add_carried_terms, add_level_text, add_level_terms}
 use Rattle.cpi_sql_rows.specs.Texts.{drop_frozen_text, drop_carried_text, drop_level_text, is_release}
-use Rattle.cpi_sql_rows.specs.Lists.{header_in, frozen_in, carried_in, level_in, month_at, revision_from}
-use Rattle.cpi_sql_rows.specs.ReleaseRows.{annual, frozen_after, carried_after, level_after}
+use Rattle.cpi_sql_rows.specs.Lists.{ranged, month_at, mark_from, flag_in, name_of, codes_of, frozen_in}
+use Rattle.cpi_sql_rows.specs.Lists.{carried_in, level_in, whole_or_none}
+use Rattle.cpi_sql_rows.specs.ReleaseRows.{annual}
 use Rattle.cpi_sql_rows.proofs.ReleaseRows.{release_tested}
 use Rattle.cpi_sql_rows.proofs.Texts.{add_header_is, add_frozen_is, add_carried_is, add_level_is, drop_frozen_is}
 use Rattle.cpi_sql_rows.proofs.Texts.{drop_carried_is, drop_level_is}
 use Rattle.cpi_sql_rows.proofs.Writing.{cast_int, cast_null}
-use Rattle.cpi_sql_writes.specs.ReleaseSteps.{beside_release, is_of_release, IsReleaseNumber, PutsHeader}
+use Rattle.cpi_sql_writes.specs.ReleaseSteps.{is_of_release, IsReleaseNumber, PutsHeader}
 use Rattle.cpi_sql_writes.specs.Within.{AddsTo, Changes, Drops, Ran, Within}
-use Rattle.cpi_sql_writes.proofs.TableSteps.{adds_row, drops_rows, one_added}
+use Rattle.cpi_sql_rows.proofs.TableRows.{adds_one}
+use Rattle.cpi_sql_writes.proofs.TableSteps.{adds_numbered, drops_rows}
 use Rattle.cpi_sql_writes.proofs.Withins.{within_as}
 
 cast_annual : (y : Option ℤ) → cast Integer (annual y) ≡ annual y
 cast_annual None = cast_null
 cast_annual (Some z) = cast_int z
 
+annual_read : (y : Option ℤ) → whole_or_none (annual y) ≡ Some y
+annual_read None = refl
+annual_read (Some z) = refl
+
 pub bound_annual : (y : Option ℤ) → bound_value (annual y) ≡ annual y
 bound_annual None = refl
 bound_annual (Some z) = refl
 
 module _ {A E : Type 0} (old new : State) (result : Result A E) (m v : ℕ) where
-  pub frozen_dropped : Within old new result (Ran drop_frozen_text (Int (pos m) ∷ Int (pos v) ∷ []))
+  abbrev key : Row
+  key = Int (pos m) ∷ Int (pos v) ∷ []
+
+  pub frozen_dropped : Within old new result (Ran drop_frozen_text key)
       → Within old new result (Changes frozen_2.tree (Drops (is_of_release m v)))
-  frozen_dropped ran = drops_rows frozen_2 16 refl drop_frozen_text (Int (pos m) ∷ Int (pos v) ∷ []) old new result ran
-      is_release (is_of_release m v) drop_frozen_is (λ r. release_tested r m v) (λ s olds. refl) (λ db. refl)
+  frozen_dropped ran = drops_rows frozen_2 16 refl drop_frozen_text key old new result ran is_release
+      (is_of_release m v) drop_frozen_is (λ r. release_tested r m v) (λ db. refl)
 
-  pub carried_dropped : Within old new result (Ran drop_carried_text (Int (pos m) ∷ Int (pos v) ∷ []))
+  pub carried_dropped : Within old new result (Ran drop_carried_text key)
       → Within old new result (Changes carried_2.tree (Drops (is_of_release m v)))
-  carried_dropped ran = drops_rows carried_2 17 refl drop_carried_text (Int (pos m) ∷ Int (pos v) ∷ []) old new result
-      ran is_release (is_of_release m v) drop_carried_is (λ r. release_tested r m v) (λ s olds. refl) (λ db. refl)
+  carried_dropped ran = drops_rows carried_2 17 refl drop_carried_text key old new result ran is_release
+      (is_of_release m v) drop_carried_is (λ r. release_tested r m v) (λ db. refl)
 
-  pub level_dropped : Within old new result (Ran drop_level_text (Int (pos m) ∷ Int (pos v) ∷ []))
+  pub level_dropped : Within old new result (Ran drop_level_text key)
       → Within old new result (Changes level_2.tree (Drops (is_of_release m v)))
-  level_dropped ran = drops_rows level_2 18 refl drop_level_text (Int (pos m) ∷ Int (pos v) ∷ []) old new result ran
-      is_release (is_of_release m v) drop_level_is (λ r. release_tested r m v) (λ s olds. refl) (λ db. refl)
+  level_dropped ran = drops_rows level_2 18 refl drop_level_text key old new result ran is_release
+      (is_of_release m v) drop_level_is (λ r. release_tested r m v) (λ db. refl)
 
   pub frozen_added : (c s : ℕ) (i : List ℕ) (l : ℕ) (k : List ℕ) (w : ℕ) (x : Frozen)
-      → ((number : ℕ) → IsReleaseNumber m v number → frozen_in (Null ∷ Int (pos m) ∷ Int (pos v) ∷ Int (pos c)
-      ∷ Int (pos s) ∷ Text i ∷ Int (pos l) ∷ Text k ∷ Int (pos w) ∷ []) ≡ Some (number, x))
-      → Within old new result (Ran add_frozen_text (Int (pos m) ∷ Int (pos v) ∷ Int (pos c) ∷ Int (pos s) ∷ Text i
-      ∷ Int (pos l) ∷ Text k ∷ Int (pos w) ∷ []))
-      → Within old new result (Changes frozen_2.tree (AddsTo (beside_release frozen_after) (IsReleaseNumber m v)
-      (x ∷ [])))
-  frozen_added c s i l k w x reads ran =
-      let columns = Int (pos m) ∷ Int (pos v) ∷ Int (pos c) ∷ Int (pos s) ∷ Text i ∷ Int (pos l) ∷ Text k
-      ∷ Int (pos w) ∷ [] in
-      adds_row frozen_2 16 refl add_frozen_text columns old new result ran (Values add_frozen_terms 9) (Null ∷ columns)
-      (λ db. Int (next_rowid (db frozen_2.tree)) ∷ columns) add_frozen_is (λ limit db rows h. h.1) (λ db. rw (
-        cast_null,
-        cast_int (pos m),
-        cast_int (pos v),
-        cast_int (pos c),
-        cast_int (pos s),
-        cast_int (pos l),
-        cast_int (pos w),
-      ) refl) (beside_release frozen_after) (IsReleaseNumber m v) x reads
+      → ranged 1 9999 (Int (pos c)) ≡ Some x.series.collector → ranged 1 400 (Int (pos s)) ≡ Some x.series.slot
+      → item_code_of i ≡ Some x.item → month_at l ≡ Some x.last_month → mark_from k w ≡ Some x.mark
+      → Within old new result (Ran add_frozen_text (key ++ Int (pos c) ∷ Int (pos s) ∷ Text i ∷ Int (pos l) ∷ Text k
+      ∷ Int (pos w) ∷ []))
+      → Within old new result (Changes frozen_2.tree (AddsTo frozen_in (IsReleaseNumber m v) (x ∷ [])))
+  frozen_added c s i l k w x collector slot item last mark ran =
+      adds_numbered frozen_2 16 refl add_frozen_text _ old new result ran (Values add_frozen_terms 9) add_frozen_is
+      (λ limit db rows h. h.1) (λ db. simp (cast_null, cast_int)) frozen_in (IsReleaseNumber m v) x
+      (λ id number is. rw (is, collector, slot, item, last, mark) refl)
 
   pub carried_added : (c s : ℕ) (i : List ℕ) (l t n d o u : ℕ) (x : Carried)
-      → ((number : ℕ) → IsReleaseNumber m v number → carried_in (Null ∷ Int (pos m) ∷ Int (pos v) ∷ Int (pos c)
-      ∷ Int (pos s) ∷ Text i ∷ Int (pos l) ∷ Int (pos t) ∷ Int (pos n) ∷ Int (pos d) ∷ Int (pos o) ∷ Int (pos u) ∷ [])
-      ≡ Some (number, x))
-      → Within old new result (Ran add_carried_text (Int (pos m) ∷ Int (pos v) ∷ Int (pos c) ∷ Int (pos s) ∷ Text i
-      ∷ Int (pos l) ∷ Int (pos t) ∷ Int (pos n) ∷ Int (pos d) ∷ Int (pos o) ∷ Int (pos u) ∷ []))
-      → Within old new result (Changes carried_2.tree (AddsTo (beside_release carried_after) (IsReleaseNumber m v)
-      (x ∷ [])))
-  carried_added c s i l t n d o u x reads ran =
-      let columns = Int (pos m) ∷ Int (pos v) ∷ Int (pos c) ∷ Int (pos s) ∷ Text i ∷ Int (pos l) ∷ Int (pos t)
-      ∷ Int (pos n) ∷ Int (pos d) ∷ Int (pos o) ∷ Int (pos u) ∷ [] in
-      adds_row carried_2 17 refl add_carried_text columns old new result ran (Values add_carried_terms 12)
-      (Null ∷ columns) (λ db. Int (next_rowid (db carried_2.tree)) ∷ columns) add_carried_is (λ limit db rows h. h.1)
-      (λ db. rw (
-        cast_null,
-        cast_int (pos m),
-        cast_int (pos v),
-        cast_int (pos c),
-        cast_int (pos s),
-        cast_int (pos l),
-        cast_int (pos t),
-        cast_int (pos n),
-        cast_int (pos d),
-        cast_int (pos o),
-        cast_int (pos u),
-      ) refl) (beside_release carried_after) (IsReleaseNumber m v) x reads
+      → ranged 1 9999 (Int (pos c)) ≡ Some x.series.collector → ranged 1 400 (Int (pos s)) ≡ Some x.series.slot
+      → item_code_of i ≡ Some x.item → month_at l ≡ Some x.last_month
+      → ranged 1 1000000000000000 (Int (pos t)) ≡ Some x.ticks → ranged 1 1000000000000000 (Int (pos n)) ≡ Some x.knum
+      → ranged 1 100000000 (Int (pos d)) ≡ Some x.kden → flag_in (Int (pos o)) ≡ Some x.observed
+      → flag_in (Int (pos u)) ≡ Some x.imputed
+      → Within old new result (Ran add_carried_text (key ++ Int (pos c) ∷ Int (pos s) ∷ Text i ∷ Int (pos l)
+      ∷ Int (pos t) ∷ Int (pos n) ∷ Int (pos d) ∷ Int (pos o) ∷ Int (pos u) ∷ []))
+      → Within old new result (Changes carried_2.tree (AddsTo carried_in (IsReleaseNumber m v) (x ∷ [])))
+  carried_added c s i l t n d o u x collector slot item last ticks knum kden observed imputed ran =
+      adds_numbered carried_2 17 refl add_carried_text _ old new result ran (Values add_carried_terms 12) add_carried_is
+      (λ limit db rows h. h.1) (λ db. simp (cast_null, cast_int)) carried_in (IsReleaseNumber m v) x
+      (λ id number is. rw (is, collector, slot, item, last, ticks, knum, kden, observed, imputed) refl)
 
-  pub level_added : (c t : List ℕ) (w i l : ℕ) (z : ℤ) (y : Option ℤ) (u : ℕ) (x : Level)
-      → ((number : ℕ) → IsReleaseNumber m v number → level_in (Null ∷ Int (pos m) ∷ Int (pos v) ∷ Text c ∷ Text t
-      ∷ Int (pos w) ∷ Int (pos i) ∷ Int (pos l) ∷ Int z ∷ annual y ∷ Int (pos u) ∷ []) ≡ Some (number, x))
-      → Within old new result (Ran add_level_text (Int (pos m) ∷ Int (pos v) ∷ Text c ∷ Text t ∷ Int (pos w)
-      ∷ Int (pos i) ∷ Int (pos l) ∷ Int z ∷ annual y ∷ Int (pos u) ∷ []))
-      → Within old new result (Changes level_2.tree (AddsTo (beside_release level_after) (IsReleaseNumber m v)
-      (x ∷ [])))
-  level_added c t w i l z y u x reads ran =
-      let columns = Int (pos m) ∷ Int (pos v) ∷ Text c ∷ Text t ∷ Int (pos w) ∷ Int (pos i) ∷ Int (pos l) ∷ Int z
-      ∷ annual y ∷ Int (pos u) ∷ [] in
-      adds_row level_2 18 refl add_level_text columns old new result ran (Values add_level_terms 11) (Null ∷ columns)
-      (λ db. Int (next_rowid (db level_2.tree)) ∷ columns) add_level_is (λ limit db rows h. h.1) (λ db. rw (
-        cast_null,
-        cast_int (pos m),
-        cast_int (pos v),
-        cast_int (pos w),
-        cast_int (pos i),
-        cast_int (pos l),
-        cast_int z,
-        cast_annual y,
-        cast_int (pos u),
-      ) refl) (beside_release level_after) (IsReleaseNumber m v) x reads
+  pub level_added : (c t : List ℕ) (u : ℕ) (x : Level) → code_of c ≡ Some x.code → name_of t ≡ Some x.title
+      → ranged 1 1000000000000000 (Int (pos x.weight)) ≡ Some x.weight
+      → ranged 1 10000000000000 (Int (pos x.within)) ≡ Some x.within
+      → ranged 1 1000000000000000 (Int (pos x.chained)) ≡ Some x.chained → flag_in (Int (pos u)) ≡ Some x.imputed
+      → Within old new result (Ran add_level_text (key ++ Text c ∷ Text t ∷ Int (pos x.weight) ∷ Int (pos x.within)
+      ∷ Int (pos x.chained) ∷ Int x.month_change ∷ annual x.year_change ∷ Int (pos u) ∷ []))
+      → Within old new result (Changes level_2.tree (AddsTo level_in (IsReleaseNumber m v) (x ∷ [])))
+  level_added c t u x code title weight within chained imputed ran =
+      adds_numbered level_2 18 refl add_level_text _ old new result ran (Values add_level_terms 11) add_level_is
+      (λ limit db rows h. h.1) (λ db. simp (cast_null, cast_int, cast_annual)) level_in (IsReleaseNumber m v) x
+      (λ id number is. rw (is, code, title, weight, within, chained, annual_read x.year_change, imputed) refl)
 
-  pub header_added : (f p : ℕ) (c : List ℕ) (h : Header)
-      → (month_at m ≡ Some h.month → revision_from (Int (pos v)) ≡ Some h.revision
-      → header_in (Null ∷ Int (pos m) ∷ Int (pos v) ∷ Int (pos f) ∷ Int (pos p) ∷ Text c ∷ []) ≡ Some h)
-      → Within old new result (Ran add_header_text (Int (pos m) ∷ Int (pos v) ∷ Int (pos f) ∷ Int (pos p) ∷ Text c
-      ∷ []))
+  pub header_added : (c : List ℕ) (h : Header) → ranged 0 9999999999 (Int (pos h.frozen_at)) ≡ Some h.frozen_at
+      → ranged 0 9999999999 (Int (pos h.publishes)) ≡ Some h.publishes → codes_of c ≡ Some h.carry
+      → Within old new result (Ran add_header_text (key ++ Int (pos h.frozen_at) ∷ Int (pos h.publishes) ∷ Text c ∷ []))
       → Within old new result (PutsHeader m v h)
-  header_added f p c h reads ran =
-      let columns = Int (pos m) ∷ Int (pos v) ∷ Int (pos f) ∷ Int (pos p) ∷ Text c ∷ [] in
+  header_added c h frozen published carry ran =
+      let columns = key ++ Int (pos h.frozen_at) ∷ Int (pos h.publishes) ∷ Text c ∷ [] in
       within_as old new result (Ran add_header_text columns) (PutsHeader m v h) ran
       (λ inside run schema month revision.
-      let done = one_added release_2 15 refl add_header_text columns (Values add_header_terms 6) (Null ∷ columns)
-      (λ db. Int (next_rowid (db release_2.tree)) ∷ columns) add_header_is (λ limit db rows h. h.1)
-      (λ db. rw (cast_null, cast_int (pos m), cast_int (pos v), cast_int (pos f), cast_int (pos p)) refl)
-      old new schema run in
+      let done = (adds_one release_2 15 refl columns (Values add_header_terms 6) (Null ∷ columns)
+      (λ db. Int (next_rowid (db release_2.tree)) ∷ columns) (λ limit db rows h. h.1)
+      (λ db. simp (cast_null, cast_int)) add_header_text add_header_is).ran old new run.0 schema run.1 in
       record {
         inside = done.1 ∙ inside;
         schema = done.0.schema;
         rows = record {
           row = Int (next_rowid (old.now.trees release_2.tree)) ∷ columns;
-          is = reads month revision;
+          is = rw (month, revision, frozen, published, carry) refl;
           rows = done.0.rows;
           kept = done.0.kept;
         };

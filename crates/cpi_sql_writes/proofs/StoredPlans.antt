@@ -5,13 +5,12 @@ use Rattle.std.specs.Prelude.{filter, is_some, if◌then◌else◌}
 use Rattle.std.specs.declared.cmp.Ordering.TheVariants.{Less, Equal}
 use Rattle.std.specs.Ordering.{nat_cmp}
 use Rattle.std.specs.Cmp.{tied_itself}
-use Rattle.std.specs.List.{list_any, list_all}
 use Rattle.std.specs.List.Sorted.{IsStrictlySortedBy}
 use Rattle.std.proofs.lemmas.Cmp.{nat_cmp_total}
 use Rattle.std.proofs.lemmas.Map.Keys.{sorted_tail}
 use Rattle.sqlite.specs.Tree.{Trees}
 use Rattle.sqlite_rules.specs.Lists.{Has}
-use Rattle.sqlite_rules.proofs.ListLemmas.{all_from}
+use Rattle.sqlite_rules.proofs.ListLemmas.{all_from, has_filtered, has_kept, some_from, some_has, test_has}
 use Rattle.sqlite_rules.proofs.ProbeLemmas.{has_mapped, mapped_has}
 use Rattle.cpi_codes.specs.CodeOrder.{code_cmp, is_same, is_elementary}
 use Rattle.cpi_codes.specs.CodeText.{is_at_or_below}
@@ -22,7 +21,7 @@ use Rattle.cpi_codes.proofs.CodeBytes.{absent_below}
 use Rattle.cpi_codes.proofs.CodeBelow.{fits}
 use Rattle.cpi_codes.proofs.CodeIs.{same_code_is}
 use Rattle.cpi_rows.specs.Keyed.{IsInOrder, put_by}
-use Rattle.cpi_rows.specs.Held.{held_by, held_cmp, held_key}
+use Rattle.cpi_rows.specs.Held.{held_by}
 use Rattle.cpi_plan.specs.Sums.{weight_under, is_node}
 use Rattle.cpi_plan.specs.Plan.{Plan, IsPlan}
 use Rattle.cpi_plan.specs.Stored.{weight_of, weights_of, plan_from, is_whole}
@@ -31,21 +30,18 @@ use Rattle.cpi_plan.specs.declared.plan_rows.Node.{Node}
 use Rattle.cpi_plan.specs.declared.plan_rows.Place.{Place}
 use Rattle.cpi_plan.proofs.FaultLemmas.{equal_is}
 use Rattle.cpi_plan.proofs.UnderLemmas.{number_is, and_first, and_second, under_cons}
-use Rattle.cpi_plan.proofs.StoredLemmas.{below_itself, same_itself, or_left, or_right}
+use Rattle.cpi_plan.proofs.StoredLemmas.{below_itself, same_itself}
 use Rattle.cpi_sql_rows.specs.Lists.{years, if_whole, plan_at, plans_in, nodes_in, places_in, node_in, place_in}
 use Rattle.cpi_sql_rows.specs.Lists.{reference_of, reference_row, references_for, references_in}
 use Rattle.cpi_sql_rows.specs.declared.reference_months.ReferenceMonth.{ReferenceMonth}
-use Rattle.cpi_sql_rows.specs.Shelf.{HasPlans, IsKeyed}
-use Rattle.cpi_sql_rows.proofs.Listed.{same_in_order, kept_has, has_kept, head_in}
-use Rattle.cpi_sql_writes.proofs.Replaced.{ReplacesRows, replaced_here, replaced_keyed, replaced_there}
+use Rattle.cpi_sql_rows.proofs.Listed.{same_in_order, head_in}
+use Rattle.cpi_sql_writes.proofs.Replaced.{Replaced}
 use Rattle.cpi_sql_writes.proofs.PlanLists.{made_put}
 use Rattle.cpi_sql_rows.proofs.YearLemmas.{stored_is}
+use Rattle.cpi_sql_rows.proofs.Lists.{some_is}
 
 true_false : true ≡ false → ⊥
 true_false e = cc
-
-some_is : {X : Type 0} {x y : X} → ◌≡◌ {A = Option X} (Some x) (Some y) → x ≡ y
-some_is e = cc
 
 -- ---- elementary codes
 none_below : (c : Code) → is_elementary c ≡ true → c.aggregate ≡ None → ⊥
@@ -88,27 +84,6 @@ below_elementary c d e h = at (c.division == 0) refl (sym (at_or_below-parts c d
         (fits_same c.subclass d.subclass subclass (and_first (fits c.subclass d.subclass) _ s))
         (fits_same c.aggregate d.aggregate (none_below c e) (and_second (fits c.subclass d.subclass) _ s))
 
--- ---- members by tests
-module _ {X : Type 0} (q : X → Bool) where
-  any_from : (xs : List X) (x : X) → Has xs x → q x ≡ true → list_any q xs ≡ true
-  any_from [] x h e = absurd h
-  any_from (y ∷ xs) x (inl is) e = or_left (q y) (list_any q xs) (ap q (sym is) ∙ e)
-  any_from (y ∷ xs) x (inr h) e = or_right (q y) (list_any q xs) (any_from xs x h e)
-
-  any_to : (xs : List X) → list_any q xs ≡ true → (x : X) × Has xs x × (q x ≡ true)
-  any_to [] e = cc
-  any_to (y ∷ xs) e = at (q y) refl e (any_to xs)
-    where
-      at : (b : Bool) → q y ≡ b → (b || list_any q xs) ≡ true
-          → (list_any q xs ≡ true → (x : X) × Has xs x × (q x ≡ true)) → (x : X) × Has (y ∷ xs) x × (q x ≡ true)
-      at true f e later = (y, inl refl, f)
-      at false f e later = let it = later e in (it.0, inr it.1, it.2)
-
-  all_to : (xs : List X) (x : X) → list_all q xs ≡ true → Has xs x → q x ≡ true
-  all_to [] x e h = absurd h
-  all_to (y ∷ xs) x e (inl is) = ap q is ∙ and_first (q y) (list_all q xs) e
-  all_to (y ∷ xs) x e (inr h) = all_to xs x (and_second (q y) (list_all q xs) e) h
-
 -- ---- the weight of an elementary aggregate
 module _ (c : Code) (elementary : is_elementary c ≡ true) where
   nothing : (xs : List Weight) → ((z : Weight) → Has xs z → is_at_or_below c z.code ≡ false) → weight_under c xs ≡ 0
@@ -149,7 +124,7 @@ weights_has : (ns : List Node) (w : Weight) → Has (weights_of ns) w → (n : N
     × (is_elementary n.code ≡ true) × (w ≡ weight_of n)
 weights_has ns w h =
     let it = has_mapped weight_of (filter (λ n. is_elementary n.code) ns) w h in
-    let kept = kept_has (λ (n : Node). is_elementary n.code) ns it.0 it.1 in
+    let kept = has_filtered (λ (n : Node). is_elementary n.code) ns it.0 it.1 in
     (it.0, kept.0, kept.1, it.2)
 
 has_weights : (ns : List Node) (n : Node) → Has ns n → is_elementary n.code ≡ true → Has (weights_of ns) (weight_of n)
@@ -179,7 +154,7 @@ module _ (p : Plan) (v : IsPlan p) where
       → n.code ≡ u.code → weight_of n ≡ u
   same_weight n u h k e same =
       let sum : n.weight ≡ weight_under n.code p.weights =
-      number_is n.weight _ (all_to
+      number_is n.weight _ (test_has
       (λ (n : Node). n.weight == weight_under n.code p.weights) p.nodes n v.weighed h) in
       let parts : n.weight ≡ u.parts = sum ∙ alone n.code e p.weights u v.weights_in_order k same in
       λ i. record { code = same i; parts = parts i }
@@ -192,16 +167,16 @@ module _ (p : Plan) (v : IsPlan p) where
       (λ w h.
       let it = weights_has p.nodes w h in
       let node : is_node p.weights it.0.code ≡ true = v.complete it.0.code
-      ∙ any_from (λ (m : Node). is_same m.code it.0.code) p.nodes it.0 it.1 (same_itself it.0.code) in
-      let u = any_to (λ (w : Weight). is_at_or_below it.0.code w.code) p.weights node in
+      ∙ some_from (λ (m : Node). is_same m.code it.0.code) p.nodes it.0 it.1 (same_itself it.0.code) in
+      let u = some_has (λ (w : Weight). is_at_or_below it.0.code w.code) p.weights node in
       subst (Has p.weights) (sym (it.3
       ∙ same_weight it.0 u.0 it.1 u.1 it.2 (below_elementary it.0.code u.0.code it.2 u.2))) u.1)
       (λ w h.
-      let elementary : is_elementary w.code ≡ true = all_to
+      let elementary : is_elementary w.code ≡ true = test_has
       (λ (w : Weight). is_elementary w.code) p.weights w v.elementary h in
-      let node : is_node p.weights w.code ≡ true = any_from
+      let node : is_node p.weights w.code ≡ true = some_from
       (λ (u : Weight). is_at_or_below w.code u.code) p.weights w h (below_itself w.code) in
-      let n = any_to (λ (m : Node). is_same m.code w.code) p.nodes (sym (v.complete w.code) ∙ node) in
+      let n = some_has (λ (m : Node). is_same m.code w.code) p.nodes (sym (v.complete w.code) ∙ node) in
       let same = equal_is n.0.code w.code n.2 in
       let mine : is_elementary n.0.code ≡ true = ap is_elementary same ∙ elementary in
       subst (Has (weights_of p.nodes)) (same_weight n.0 w n.1 h mine same) (has_weights p.nodes n.0 n.1 mine))
@@ -234,50 +209,28 @@ says_reference : (o : Option ℕ) → reference_of (references_for o) ≡ o
 says_reference None = refl
 says_reference (Some month) = refl
 
-one_in_order : (o : Option ℕ) → IsInOrder nat_cmp (λ (m : ReferenceMonth). m.month) (references_for o)
+pub one_in_order : (o : Option ℕ) → IsInOrder nat_cmp (λ (m : ReferenceMonth). m.month) (references_for o)
 unfolding IsStrictlySortedBy
 one_in_order None = tt
 one_in_order (Some month) = (tt, tt)
 
-module _ (p : Plan) (v : IsPlan p) (old new : Trees) (has : HasPlans old)
-    (nodes : ReplacesRows total-law (λ (n : Node). n.code) node_in p.year p.nodes (old 6) (new 6))
-    (places : ReplacesRows nat_cmp_total (λ (q : Place). q.item) place_in p.year p.places (old 8) (new 8))
-    (references : ReplacesRows nat_cmp_total (λ (m : ReferenceMonth). m.month) reference_row p.year
+module _ (p : Plan) (v : IsPlan p) (old new : Trees)
+    (nodes : Replaced total-law (λ (n : Node). n.code) node_in p.year p.nodes (old 6) (new 6))
+    (places : Replaced nat_cmp_total (λ (q : Place). q.item) place_in p.year p.places (old 8) (new 8))
+    (references : Replaced nat_cmp_total (λ (m : ReferenceMonth). m.month) reference_row p.year
     (references_for p.reference) (old 34) (new 34)) where
   abbrev plan_in : Trees → ℕ → Option Plan
   plan_in trees y = plan_at (nodes_in (trees 6)) (places_in (trees 8)) (references_in (trees 34)) y
 
   here : plan_in new p.year ≡ Some p
   here =
-      ap (λ xs. if_whole (plan_from p.year xs (held_by p.year (places_in (new 8)))
-      (reference_of (held_by p.year (references_in (new 34)))))) (replaced_here total-law
-      (λ (n : Node). n.code) node_in p.year p.nodes (old 6) (new 6) has.nodes v.nodes_in_order nodes)
-      ∙ ap (λ ys. if_whole (plan_from p.year p.nodes ys
-      (reference_of (held_by p.year (references_in (new 34)))))) (replaced_here nat_cmp_total
-      (λ (q : Place). q.item) place_in p.year p.places (old 8) (new 8) has.places v.places_in_order places)
-      ∙ ap (λ zs. if_whole (plan_from p.year p.nodes p.places (reference_of zs))) (replaced_here nat_cmp_total
-      (λ (m : ReferenceMonth). m.month) reference_row p.year (references_for p.reference) (old 34) (new 34)
-      has.references (one_in_order p.reference) references)
+      (λ i. if_whole (plan_from p.year (nodes.here i) (places.here i) (reference_of (references.here i))))
       ∙ ap (λ o. if_whole (plan_from p.year p.nodes p.places o)) (says_reference p.reference)
       ∙ sym (stored_is p (plan_from p.year p.nodes p.places p.reference) v (plan_again p v))
 
   there : (y : ℕ) → y ≢ p.year → plan_in new y ≡ plan_in old y
-  there y apart =
-      ap (λ xs. if_whole (plan_from y xs (held_by y (places_in (new 8)))
-      (reference_of (held_by y (references_in (new 34)))))) (replaced_there total-law
-      (λ (n : Node). n.code) node_in p.year p.nodes (old 6) (new 6) has.nodes v.nodes_in_order nodes y apart)
-      ∙ ap (λ ys. if_whole (plan_from y (held_by y (nodes_in (old 6))) ys
-      (reference_of (held_by y (references_in (new 34)))))) (replaced_there nat_cmp_total
-      (λ (q : Place). q.item) place_in p.year p.places (old 8) (new 8) has.places v.places_in_order places y apart)
-      ∙ ap (λ zs. if_whole (plan_from y (held_by y (nodes_in (old 6))) (held_by y (places_in (old 8)))
-      (reference_of zs))) (replaced_there nat_cmp_total
-      (λ (m : ReferenceMonth). m.month) reference_row p.year (references_for p.reference) (old 34) (new 34)
-      has.references (one_in_order p.reference) references y apart)
-
-  pub references_hold : IsKeyed (held_cmp nat_cmp) (held_key (λ m. m.month)) reference_row (new 34)
-  references_hold =
-      replaced_keyed nat_cmp_total (λ (m : ReferenceMonth). m.month) reference_row p.year (references_for p.reference)
-      (old 34) (new 34) has.references (one_in_order p.reference) references
+  there y apart = λ i. if_whole (plan_from y (nodes.there y apart i) (places.there y apart i)
+      (reference_of (references.there y apart i)))
 
   -- the plan is put among the plans
   pub plans_put : plans_in new ≡ put_by (λ q. q.year) p (plans_in old)

@@ -11,7 +11,7 @@ use Rattle.cpi_store.specs.declared.given.Given.{Given}
 use Rattle.cpi_store.specs.declared.series_move.SeriesMove.{SeriesMove}
 use Rattle.cpi_store.specs.Office.{put_given, given_until}
 use Rattle.cpi_sql_rows.specs.Lists.{given_from, assignment_in, assignments_in}
-use Rattle.cpi_sql_rows.specs.Shelf.{IsKeyed}
+use Rattle.cpi_sql_rows.specs.Shelf.{IsKeyed, Takes}
 use Rattle.cpi_sql_writes.specs.declared.given_columns.GivenColumns.{GivenColumns}
 
 -- a copied price, or NULL where there is none
@@ -37,6 +37,7 @@ abbrev pub PutsGiven : ℕ → Given → List Row → List Row → Type 0
 PutsGiven number g old new = IsKeyed (held_cmp nat_cmp) (held_key (λ g. g.assignment.slot)) assignment_in old →
     (assignments_in new ≡ put_given number g (assignments_in old))
     × IsKeyed (held_cmp nat_cmp) (held_key (λ g. g.assignment.slot)) assignment_in new
+    × Takes assignment_in old new
 
 -- no slot of the collector has the number
 abbrev pub IsFree : ℕ → ℕ → List (ℕ × Given) → Type 0

@@ -1,4 +1,5 @@
 pub mod GivenColumns
 pub mod ReleaseSteps
 pub mod Within
+pub mod Written
 pub mod PlanSteps

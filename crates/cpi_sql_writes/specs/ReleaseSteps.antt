@@ -1,9 +1,9 @@
 -- The steps of putting a release, on the rows of its tables.
-use Rattle.std.specs.Prelude.{◌≡◌, ◌&&◌, ℕ, pos, Bool, List, Option, Some, None, IsTrue}
+use Rattle.std.specs.Prelude.{◌≡◌, ◌&&◌, ℕ, pos, Bool, List, [], ◌∷◌, Option, Some, None, IsTrue}
 use Rattle.std.specs.Ordering.{nat_cmp}
 use Rattle.sqlite.specs.declared.types.Value.TheVariants.{Int}
 use Rattle.sqlite.specs.Order.{Row, column}
-use Rattle.sqlite.specs.Tree.{Trees, put_row}
+use Rattle.sqlite.specs.Tree.{put_row}
 use Rattle.sqlite.specs.State.{State}
 use Rattle.sqlite_rules.specs.Lists.{Has}
 use Rattle.cpi_codes.specs.CodeOrder.{code_cmp}
@@ -13,11 +13,9 @@ use Rattle.cpi_release.specs.declared.release.Release.{Release}
 use Rattle.cpi_release.specs.FrozenMonths.{release_cmp, release_key}
 use Rattle.cpi_store.specs.Office.{Office}
 use Rattle.cpi_sql_rows.specs.declared.release_rows.Header.{Header}
-use Rattle.cpi_sql_rows.specs.Tables.{office_schema, collector, outlet, item, node, plan_item, calendar}
-use Rattle.cpi_sql_rows.specs.Tables.{assignment_2, quote_2, release_2, frozen_2, carried_2, level_2, plan_ref}
+use Rattle.cpi_sql_rows.specs.Tables.{office_schema, release_2}
 use Rattle.cpi_sql_rows.specs.Lists.{and_then, month_at, release_from_key, revision_from, header_in}
-use Rattle.cpi_sql_rows.specs.ReleaseRows.{frozen_after, carried_after, level_after}
-use Rattle.cpi_sql_rows.specs.Shelf.{HasRowids, equals}
+use Rattle.cpi_sql_rows.specs.Shelf.{equals}
 use Rattle.cpi_sql_rows.specs.Steps.{SameBut}
 use Rattle.cpi_sql_writes.specs.Within.{Replaces}
 
@@ -51,7 +49,7 @@ pub record IsHeaderStep (h : Header) (old new : State) : Type 0 where
   pub inside : IsTrue new.in_transaction
   pub schema : new.now.schema ≡ office_schema
   pub rows : AddsHeader h (old.now.trees release_2.tree) (new.now.trees release_2.tree)
-  pub others : SameBut release_2.tree old.now.trees new.now.trees
+  pub others : SameBut (release_2.tree ∷ []) old.now.trees new.now.trees
 
 -- The header is added, where its columns are these.
 abbrev pub PutsHeader : ℕ → ℕ → Header → State → State → Type 0
@@ -77,32 +75,3 @@ pub record FitsTables (r : Release) : Type 0 where
   pub frozen : IsInOrder nat_cmp frozen_serial r.frozen
   pub carried : IsInOrder nat_cmp carried_serial r.carried
   pub levels : IsInOrder code_cmp (λ l. l.code) r.levels
-
--- the tables that tell nothing of releases are as they were
-pub record SameBeside (old new : Trees) : Type 0 where
-  pub collectors : new collector.tree ≡ old collector.tree
-  pub outlets : new outlet.tree ≡ old outlet.tree
-  pub items : new item.tree ≡ old item.tree
-  pub nodes : new node.tree ≡ old node.tree
-  pub places : new plan_item.tree ≡ old plan_item.tree
-  pub calendar : new calendar.tree ≡ old calendar.tree
-  pub assignments : new assignment_2.tree ≡ old assignment_2.tree
-  pub quotes : new quote_2.tree ≡ old quote_2.tree
-  pub references : new plan_ref.tree ≡ old plan_ref.tree
-
--- the rows of a release are written
-pub record IsWritten (r : Release) (old new : State) : Type 0 where
-  pub schema : new.now.schema ≡ office_schema
-  pub number : ℕ
-  pub month : month_at number ≡ Some r.month
-  pub header : AddsHeader (header_of r) (old.now.trees release_2.tree) (new.now.trees release_2.tree)
-  pub frozen : ReplacesList frozen_after number r.revision r.frozen
-      (old.now.trees frozen_2.tree) (new.now.trees frozen_2.tree)
-  pub carried : ReplacesList carried_after number r.revision r.carried
-      (old.now.trees carried_2.tree) (new.now.trees carried_2.tree)
-  pub levels : ReplacesList level_after number r.revision r.levels
-      (old.now.trees level_2.tree) (new.now.trees level_2.tree)
-  pub frozen_ids : HasRowids (new.now.trees frozen_2.tree)
-  pub carried_ids : HasRowids (new.now.trees carried_2.tree)
-  pub level_ids : HasRowids (new.now.trees level_2.tree)
-  pub others : SameBeside old.now.trees new.now.trees

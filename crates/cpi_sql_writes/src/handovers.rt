@@ -1,14 +1,14 @@
 //! A series is handed over: the former slot's row ends, and the new slot's row is put, both or neither.
-ghost use Rattle.std.specs.Prelude.{◌≡◌, ℕ, IsTrue, OnErr, OnOk, Some};
+ghost use Rattle.std.specs.Prelude.{◌≡◌, ℕ, IsTrue, OnOk, Some};
 ghost use Rattle.sqlite.specs.Held.{state};
-ghost use Rattle.sqlite.specs.State.{HasCleanDisk, Survives};
+ghost use Rattle.sqlite.specs.State.{HasCleanDisk};
 ghost use Rattle.cpi_store.specs.declared.given.Given.{Given};
-ghost use Rattle.cpi_store.specs.Office.{changed, HandsOver};
-ghost use Rattle.cpi_sql_rows.specs.Lists.{assignments_in, office_in};
-ghost use Rattle.cpi_sql_rows.specs.Shelf.{HasTables, IsCleanBook, IsDone, IsKept};
+ghost use Rattle.cpi_store.specs.Office.{HandsOver};
+ghost use Rattle.cpi_sql_rows.specs.Lists.{assignments_in};
 ghost use Rattle.cpi_sql_rows.specs.Tables.{assignment_2};
 ghost use Rattle.cpi_sql_writes.specs.GivenColumns.{columns_of, given_of, CanHandOver, IsFree, PutsGiven};
 ghost use Rattle.cpi_sql_writes.specs.Within.{Changes, Ran, Within};
+ghost use Rattle.cpi_sql_writes.specs.Written.{Written};
 
 use crate::given_columns::{GivenColumns, given_columns};
 use crate::inside::run_inside;
@@ -105,17 +105,9 @@ pub fn put_handover<S: Alter>(
     alloc: Global,
     handover: &SeriesMove,
 ) -> Result<(), Unread>
-    ensures clean { IsCleanBook (state S.Store conn.new) → IsCleanBook (state S.Store conn.old) }
+    ensures written { Written (HandsOver handover.now) (λ office. CanHandOver handover.now office.assignments)
+        (state S.Store conn.old) (state S.Store conn.new) result }
     ensures open { HasCleanDisk (state S.Store conn.new) → OnOk result (IsTrue (state S.Store conn.new).is_open) }
-    ensures done { IsCleanBook (state S.Store conn.new) → HasTables (state S.Store conn.old) →
-        CanHandOver handover.now (office_in (state S.Store conn.old).now.trees).assignments →
-        OnOk result (IsDone (HandsOver handover.now) (state S.Store conn.old) (state S.Store conn.new)) }
-    ensures kept { IsCleanBook (state S.Store conn.new) → HasTables (state S.Store conn.old) →
-        OnErr result (IsKept (state S.Store conn.old) (state S.Store conn.new)) }
-    ensures crash { Survives (state S.Store conn.old) (state S.Store conn.new) (λ db.
-        HasTables (state S.Store conn.old) →
-        CanHandOver handover.now (office_in (state S.Store conn.old).now.trees).assignments →
-        office_in db ≡ changed (HandsOver handover.now) (office_in (state S.Store conn.old).now.trees)) }
 {
     make_change(conn, alloc, handover)
 }

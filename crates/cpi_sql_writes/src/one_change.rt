@@ -4,8 +4,9 @@ ghost use Rattle.sqlite.specs.Held.{state};
 ghost use Rattle.sqlite.specs.State.{HasCleanDisk, Survives};
 ghost use Rattle.cpi_store.specs.Office.{Change, Office, changed};
 ghost use Rattle.cpi_sql_rows.specs.Lists.{office_in};
-ghost use Rattle.cpi_sql_rows.specs.Shelf.{HasTables, IsCleanBook, IsDone, IsKept};
+ghost use Rattle.cpi_sql_rows.specs.Shelf.{HasTables, IsCleanBook, IsDone};
 ghost use Rattle.cpi_sql_writes.specs.Within.{ChangesOffice, Within};
+ghost use Rattle.cpi_sql_writes.specs.Written.{Written};
 
 use cpi_sql_rows::Unread;
 use sqlite::{Alter, Connection, Transaction};
@@ -62,16 +63,9 @@ pub fn make_change<S: Alter, C: OneChange>(
     alloc: Global,
     change: &C,
 ) -> Result<(), Unread>
-    ensures clean { IsCleanBook (state S.Store conn.new) → IsCleanBook (state S.Store conn.old) }
+    ensures written { Written (C.change change.now) (C.fits change.now)
+        (state S.Store conn.old) (state S.Store conn.new) result }
     ensures open { HasCleanDisk (state S.Store conn.new) → OnOk result (IsTrue (state S.Store conn.new).is_open) }
-    ensures done { IsCleanBook (state S.Store conn.new) → HasTables (state S.Store conn.old) →
-        C.fits change.now (office_in (state S.Store conn.old).now.trees) →
-        OnOk result (IsDone (C.change change.now) (state S.Store conn.old) (state S.Store conn.new)) }
-    ensures kept { IsCleanBook (state S.Store conn.new) → HasTables (state S.Store conn.old) →
-        OnErr result (IsKept (state S.Store conn.old) (state S.Store conn.new)) }
-    ensures crash { Survives (state S.Store conn.old) (state S.Store conn.new) (λ db.
-        HasTables (state S.Store conn.old) → C.fits change.now (office_in (state S.Store conn.old).now.trees) →
-        office_in db ≡ changed (C.change change.now) (office_in (state S.Store conn.old).now.trees)) }
 {
     if !conn.is_autocommit() {
         return Err(Unread);

@@ -1,13 +1,13 @@
 //! A year's plan: its rows take the place of those that stand, all of them or none.
-ghost use Rattle.std.specs.Prelude.{◌≡◌, IsTrue, OnOk, OnErr};
+ghost use Rattle.std.specs.Prelude.{◌≡◌, ⊤, IsTrue, OnOk};
 ghost use Rattle.sqlite.specs.Held.{state};
-ghost use Rattle.sqlite.specs.State.{HasCleanDisk, Survives};
-ghost use Rattle.cpi_store.specs.Office.{changed, PutsPlan};
-ghost use Rattle.cpi_sql_rows.specs.Lists.{office_in, reference_row, references_for};
-ghost use Rattle.cpi_sql_rows.specs.Shelf.{HasTables, IsCleanBook, IsDone, IsKept};
+ghost use Rattle.sqlite.specs.State.{HasCleanDisk};
+ghost use Rattle.cpi_store.specs.Office.{PutsPlan};
+ghost use Rattle.cpi_sql_rows.specs.Lists.{reference_row, references_for};
 ghost use Rattle.cpi_sql_rows.specs.Tables.{plan_ref};
 ghost use Rattle.cpi_sql_writes.specs.PlanSteps.{is_of_year, IsYearNumber};
 ghost use Rattle.cpi_sql_writes.specs.Within.{Changes, Replaces, Within};
+ghost use Rattle.cpi_sql_writes.specs.Written.{Written};
 
 use crate::held_row::replace;
 use crate::one_change::{OneChange, make_change};
@@ -58,15 +58,8 @@ pub fn put_plan<S: Alter>(
     alloc: Global,
     plan: &YearPlan,
 ) -> Result<(), Unread>
-    ensures clean { IsCleanBook (state S.Store conn.new) → IsCleanBook (state S.Store conn.old) }
-    ensures done { IsCleanBook (state S.Store conn.new) → HasTables (state S.Store conn.old) →
-        OnOk result (IsDone (PutsPlan plan.now) (state S.Store conn.old) (state S.Store conn.new)) }
+    ensures written { Written (PutsPlan plan.now) (λ _. ⊤) (state S.Store conn.old) (state S.Store conn.new) result }
     ensures open { HasCleanDisk (state S.Store conn.new) → OnOk result (IsTrue (state S.Store conn.new).is_open) }
-    ensures kept { IsCleanBook (state S.Store conn.new) → HasTables (state S.Store conn.old) →
-        OnErr result (IsKept (state S.Store conn.old) (state S.Store conn.new)) }
-    ensures crash { Survives (state S.Store conn.old) (state S.Store conn.new) (λ db.
-        HasTables (state S.Store conn.old) →
-        office_in db ≡ changed (PutsPlan plan.now) (office_in (state S.Store conn.old).now.trees)) }
 {
     make_change(conn, alloc, plan)
 }

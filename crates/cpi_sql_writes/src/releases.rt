@@ -1,14 +1,12 @@
 //! A release is put: its rows are written in one transaction, all of them or none.
-ghost use Rattle.std.specs.Prelude.{◌≡◌, IsTrue, None, OnErr, OnOk, Some, pos};
+ghost use Rattle.std.specs.Prelude.{◌≡◌, IsTrue, OnOk, Some, pos};
 ghost use Rattle.sqlite.specs.declared.types.Value.TheVariants.{Int};
 ghost use Rattle.sqlite.specs.Held.{state};
-ghost use Rattle.sqlite.specs.State.{HasCleanDisk, Survives};
-ghost use Rattle.cpi_release.specs.FrozenMonths.{release_cmp, release_key};
-ghost use Rattle.cpi_rows.specs.Keyed.{row_at};
-ghost use Rattle.cpi_store.specs.Office.{changed, Freezes};
-ghost use Rattle.cpi_sql_rows.specs.Lists.{month_at, office_in, revision_from};
-ghost use Rattle.cpi_sql_writes.specs.ReleaseSteps.{FitsTables};
-ghost use Rattle.cpi_sql_rows.specs.Shelf.{HasTables, IsCleanBook, IsDone, IsKept};
+ghost use Rattle.sqlite.specs.State.{HasCleanDisk};
+ghost use Rattle.cpi_store.specs.Office.{Freezes};
+ghost use Rattle.cpi_sql_rows.specs.Lists.{month_at, revision_from};
+ghost use Rattle.cpi_sql_writes.specs.ReleaseSteps.{FitsTables, IsNew};
+ghost use Rattle.cpi_sql_writes.specs.Written.{Written};
 
 use crate::held_row::replace;
 use crate::one_change::{OneChange, make_change};
@@ -70,19 +68,9 @@ pub fn put_release<S: Alter>(
     alloc: Global,
     release: &Release,
 ) -> Result<(), Unread>
-    ensures clean { IsCleanBook (state S.Store conn.new) → IsCleanBook (state S.Store conn.old) }
+    ensures written { Written (Freezes release.now) (IsNew release.now)
+        (state S.Store conn.old) (state S.Store conn.new) result }
     ensures open { HasCleanDisk (state S.Store conn.new) → OnOk result (IsTrue (state S.Store conn.new).is_open) }
-    ensures done { IsCleanBook (state S.Store conn.new) → HasTables (state S.Store conn.old) →
-        row_at release_cmp release_key (release.now.month, release.now.revision)
-        (office_in (state S.Store conn.old).now.trees).releases ≡ None →
-        OnOk result (IsDone (Freezes release.now) (state S.Store conn.old) (state S.Store conn.new)) }
-    ensures kept { IsCleanBook (state S.Store conn.new) → HasTables (state S.Store conn.old) →
-        OnErr result (IsKept (state S.Store conn.old) (state S.Store conn.new)) }
-    ensures crash { Survives (state S.Store conn.old) (state S.Store conn.new) (λ db.
-        HasTables (state S.Store conn.old) →
-        row_at release_cmp release_key (release.now.month, release.now.revision)
-        (office_in (state S.Store conn.old).now.trees).releases ≡ None →
-        office_in db ≡ changed (Freezes release.now) (office_in (state S.Store conn.old).now.trees)) }
 {
     make_change(conn, alloc, release)
 }

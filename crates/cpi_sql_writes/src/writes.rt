@@ -1,17 +1,16 @@
 //! The statements that put one row.
-ghost use Rattle.std.specs.Prelude.{◌≡◌, false, IfOk, IsTrue, OnOk, OnErr, None, Some, pos};
+ghost use Rattle.std.specs.Prelude.{◌≡◌, ⊤, false, IfOk, IsTrue, OnOk, None, Some, pos};
 ghost use Rattle.std.specs.String.{string_bytes};
 ghost use Rattle.sqlite.specs.declared.types.Value.TheVariants.{Int, Text};
 ghost use Rattle.sqlite.specs.Held.{state};
-ghost use Rattle.sqlite.specs.State.{HasCleanDisk, Survives};
+ghost use Rattle.sqlite.specs.State.{HasCleanDisk};
 ghost use Rattle.sqlite.specs.Values.{bound};
 ghost use Rattle.cpi_rows.specs.Keyed.{at};
-ghost use Rattle.cpi_store.specs.Office.{changed, Registers, PutsOutlet, PutsItem, PutsCalendar, Assigns, Quotes};
-ghost use Rattle.cpi_rows.specs.Held.{held_by};
-ghost use Rattle.cpi_sql_rows.specs.Lists.{bearer_from, office_in, month_at};
-ghost use Rattle.cpi_sql_rows.specs.Lists.{calendar_from};
-ghost use Rattle.cpi_sql_rows.specs.Shelf.{IsCleanBook, IsKept, IsDone, HasTables};
+ghost use Rattle.cpi_store.specs.Office.{Registers, PutsOutlet, PutsItem, PutsCalendar, Assigns, Quotes};
+ghost use Rattle.cpi_sql_rows.specs.Lists.{bearer_from, calendar_from, month_at};
+ghost use Rattle.cpi_sql_writes.specs.GivenColumns.{IsFree};
 ghost use Rattle.cpi_sql_writes.specs.Within.{RunsAlone};
+ghost use Rattle.cpi_sql_writes.specs.Written.{Written};
 
 use crate::given_columns::given_columns;
 use cpi_codes::SeriesId;
@@ -54,17 +53,10 @@ pub fn put_collector<S: Alter>(
     alloc: Global,
     bearer: Bearer,
 ) -> Result<(), Unread>
-    ensures clean { IsCleanBook (state S.Store conn.new) → IsCleanBook (state S.Store conn.old) }
+    ensures written { Written (Registers bearer) (λ office. at (λ b. b.number) bearer.number office.collectors ≡ None)
+        (state S.Store conn.old) (state S.Store conn.new) result }
     ensures open { HasCleanDisk (state S.Store conn.new) → (state S.Store conn.old).in_transaction ≡ false
         → OnOk result (IsTrue (state S.Store conn.new).is_open) }
-    ensures done { IsCleanBook (state S.Store conn.new) → HasTables (state S.Store conn.old)
-        → at (λ b. b.number) bearer.number (office_in (state S.Store conn.old).now.trees).collectors ≡ None
-        → OnOk result (IsDone (Registers bearer) (state S.Store conn.old) (state S.Store conn.new)) }
-    ensures kept { IsCleanBook (state S.Store conn.new) → HasTables (state S.Store conn.old)
-        → OnErr result (IsKept (state S.Store conn.old) (state S.Store conn.new)) }
-    ensures crash { Survives (state S.Store conn.old) (state S.Store conn.new) (λ db. HasTables (state S.Store conn.old)
-        → at (λ b. b.number) bearer.number (office_in (state S.Store conn.old).now.trees).collectors ≡ None
-        → office_in db ≡ changed (Registers bearer) (office_in (state S.Store conn.old).now.trees)) }
 {
     let columns = bearer_columns(alloc, bearer)?;
     put_row(conn, PUT_COLLECTOR, params![columns.0, columns.1.as_str()])
@@ -74,17 +66,11 @@ const PUT_OUTLET: &str = "INSERT INTO outlet (number, name) VALUES (?1, ?2)";
 
 /// Puts a new outlet.
 pub fn put_outlet<S: Alter>(conn: &mut Connection<S>, outlet: &Outlet) -> Result<(), Unread>
-    ensures clean { IsCleanBook (state S.Store conn.new) → IsCleanBook (state S.Store conn.old) }
+    ensures written { Written (PutsOutlet outlet.now)
+        (λ office. at (λ u. u.number) outlet.now.number office.outlets ≡ None)
+        (state S.Store conn.old) (state S.Store conn.new) result }
     ensures open { HasCleanDisk (state S.Store conn.new) → (state S.Store conn.old).in_transaction ≡ false
         → OnOk result (IsTrue (state S.Store conn.new).is_open) }
-    ensures done { IsCleanBook (state S.Store conn.new) → HasTables (state S.Store conn.old)
-        → at (λ u. u.number) outlet.now.number (office_in (state S.Store conn.old).now.trees).outlets ≡ None
-        → OnOk result (IsDone (PutsOutlet outlet.now) (state S.Store conn.old) (state S.Store conn.new)) }
-    ensures kept { IsCleanBook (state S.Store conn.new) → HasTables (state S.Store conn.old)
-        → OnErr result (IsKept (state S.Store conn.old) (state S.Store conn.new)) }
-    ensures crash { Survives (state S.Store conn.old) (state S.Store conn.new) (λ db. HasTables (state S.Store conn.old)
-        → at (λ u. u.number) outlet.now.number (office_in (state S.Store conn.old).now.trees).outlets ≡ None
-        → office_in db ≡ changed (PutsOutlet outlet.now) (office_in (state S.Store conn.old).now.trees)) }
 {
     let number = outlet_number(outlet.number);
     let name = name_text(&outlet.name);
@@ -99,17 +85,10 @@ pub fn put_item<S: Alter>(
     alloc: Global,
     item: &Item,
 ) -> Result<(), Unread>
-    ensures clean { IsCleanBook (state S.Store conn.new) → IsCleanBook (state S.Store conn.old) }
+    ensures written { Written (PutsItem item.now) (λ office. at (λ i. i.code) item.now.code office.items ≡ None)
+        (state S.Store conn.old) (state S.Store conn.new) result }
     ensures open { HasCleanDisk (state S.Store conn.new) → (state S.Store conn.old).in_transaction ≡ false
         → OnOk result (IsTrue (state S.Store conn.new).is_open) }
-    ensures done { IsCleanBook (state S.Store conn.new) → HasTables (state S.Store conn.old)
-        → at (λ i. i.code) item.now.code (office_in (state S.Store conn.old).now.trees).items ≡ None
-        → OnOk result (IsDone (PutsItem item.now) (state S.Store conn.old) (state S.Store conn.new)) }
-    ensures kept { IsCleanBook (state S.Store conn.new) → HasTables (state S.Store conn.old)
-        → OnErr result (IsKept (state S.Store conn.old) (state S.Store conn.new)) }
-    ensures crash { Survives (state S.Store conn.old) (state S.Store conn.new) (λ db. HasTables (state S.Store conn.old)
-        → at (λ i. i.code) item.now.code (office_in (state S.Store conn.old).now.trees).items ≡ None
-        → office_in db ≡ changed (PutsItem item.now) (office_in (state S.Store conn.old).now.trees)) }
 {
     let code = item_text(alloc, item.code)?;
     let text = name_text(&item.text);
@@ -134,19 +113,11 @@ pub fn put_assignment<S: Alter>(
     bearer: Bearer,
     assigned: &Assigned,
 ) -> Result<(), Unread>
-    ensures clean { IsCleanBook (state S.Store conn.new) → IsCleanBook (state S.Store conn.old) }
+    ensures written { Written (Assigns bearer assigned.now)
+        (λ office. IsFree bearer.number assigned.now.assignment.slot office.assignments)
+        (state S.Store conn.old) (state S.Store conn.new) result }
     ensures open { HasCleanDisk (state S.Store conn.new) → (state S.Store conn.old).in_transaction ≡ false
         → OnOk result (IsTrue (state S.Store conn.new).is_open) }
-    ensures done { IsCleanBook (state S.Store conn.new) → HasTables (state S.Store conn.old)
-        → at (λ g. g.assignment.slot) assigned.now.assignment.slot
-        (held_by bearer.number (office_in (state S.Store conn.old).now.trees).assignments) ≡ None
-        → OnOk result (IsDone (Assigns bearer assigned.now) (state S.Store conn.old) (state S.Store conn.new)) }
-    ensures kept { IsCleanBook (state S.Store conn.new) → HasTables (state S.Store conn.old)
-        → OnErr result (IsKept (state S.Store conn.old) (state S.Store conn.new)) }
-    ensures crash { Survives (state S.Store conn.old) (state S.Store conn.new) (λ db. HasTables (state S.Store conn.old)
-        → at (λ g. g.assignment.slot) assigned.now.assignment.slot
-        (held_by bearer.number (office_in (state S.Store conn.old).now.trees).assignments) ≡ None
-        → office_in db ≡ changed (Assigns bearer assigned.now) (office_in (state S.Store conn.old).now.trees)) }
 {
     let (collector, slot) = (bearer.number, assigned.assignment.slot);
     let series = SeriesId { collector, slot };
@@ -179,15 +150,9 @@ pub fn put_quote<S: Alter>(
     bearer: Bearer,
     quote: Quote,
 ) -> Result<(), Unread>
-    ensures clean { IsCleanBook (state S.Store conn.new) → IsCleanBook (state S.Store conn.old) }
+    ensures written { Written (Quotes bearer quote) (λ _. ⊤) (state S.Store conn.old) (state S.Store conn.new) result }
     ensures open { HasCleanDisk (state S.Store conn.new) → (state S.Store conn.old).in_transaction ≡ false
         → OnOk result (IsTrue (state S.Store conn.new).is_open) }
-    ensures done { IsCleanBook (state S.Store conn.new) → HasTables (state S.Store conn.old)
-        → OnOk result (IsDone (Quotes bearer quote) (state S.Store conn.old) (state S.Store conn.new)) }
-    ensures kept { IsCleanBook (state S.Store conn.new) → HasTables (state S.Store conn.old)
-        → OnErr result (IsKept (state S.Store conn.old) (state S.Store conn.new)) }
-    ensures crash { Survives (state S.Store conn.old) (state S.Store conn.new) (λ db. HasTables (state S.Store conn.old)
-        → office_in db ≡ changed (Quotes bearer quote) (office_in (state S.Store conn.old).now.trees)) }
 {
     let collector = collector_number(bearer.number);
     let slot = slot_number(quote.slot);
@@ -221,15 +186,9 @@ const PUT_CALENDAR: &str =
 
 /// Puts a month's calendar row, over the one that stands if there is one.
 pub fn put_calendar<S: Alter>(conn: &mut Connection<S>, row: CalendarRow) -> Result<(), Unread>
-    ensures clean { IsCleanBook (state S.Store conn.new) → IsCleanBook (state S.Store conn.old) }
+    ensures written { Written (PutsCalendar row) (λ _. ⊤) (state S.Store conn.old) (state S.Store conn.new) result }
     ensures open { HasCleanDisk (state S.Store conn.new) → (state S.Store conn.old).in_transaction ≡ false
         → OnOk result (IsTrue (state S.Store conn.new).is_open) }
-    ensures done { IsCleanBook (state S.Store conn.new) → HasTables (state S.Store conn.old)
-        → OnOk result (IsDone (PutsCalendar row) (state S.Store conn.old) (state S.Store conn.new)) }
-    ensures kept { IsCleanBook (state S.Store conn.new) → HasTables (state S.Store conn.old)
-        → OnErr result (IsKept (state S.Store conn.old) (state S.Store conn.new)) }
-    ensures crash { Survives (state S.Store conn.old) (state S.Store conn.new) (λ db. HasTables (state S.Store conn.old)
-        → office_in db ≡ changed (PutsCalendar row) (office_in (state S.Store conn.old).now.trees)) }
 {
     let month = day_number(row);
     let opens = moment_value(row.opens());

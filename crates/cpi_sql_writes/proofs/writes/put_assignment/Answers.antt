@@ -1,10 +1,10 @@
-use Rattle.cpi_sql_writes.proofs.SlotOffice.{assignment_ran, assignment_survives, copied_bound}
+use Rattle.cpi_sql_writes.proofs.RowWrites.{assignment_written}
+use Rattle.cpi_sql_writes.proofs.SlotOffice.{copied_bound}
 use Rattle.sqlite.specs.Held.{state}
-use Rattle.cpi_sql_writes.proofs.Withins.{on_then}
 use Rattle.cpi_sql_writes.proofs.writes.put_assignment.Goals as goal
 
-pub returns : goal.returns
-returns g c =
+pub returns-clause-written : goal.returns-clause-written
+returns-clause-written g c =
     let old = state g.S.Store c.args.conn.now in
     let new = state g.S.Store c.put_row.new.conn in
     let columns = c.in_ok-columns.columns in
@@ -22,11 +22,4 @@ returns g c =
       c.as_str.ensures.value,
       copied_bound columns.copied,
     ) at c.put_row.ensures in
-    record {
-      clean = runs.clean;
-      «open» = runs.stays_open;
-      done = λ clean has free. on_then c.put_row.result _ _ (runs.ran clean.disk)
-          (λ it. assignment_ran c.args.bearer c.args.assigned.now columns is old new it.0 has free it.1);
-      kept = λ clean has. runs.kept clean has.alone;
-      crash = assignment_survives c.args.bearer c.args.assigned.now columns is old new runs.crash;
-    }
+    assignment_written old new c.put_row.result c.args.bearer c.args.assigned.now columns is runs

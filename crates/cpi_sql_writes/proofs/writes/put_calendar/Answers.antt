@@ -1,15 +1,13 @@
-use Rattle.cpi_sql_writes.proofs.CalendarOffice.{day_ran, day_survives}
+use Rattle.cpi_sql_writes.proofs.RowWrites.{day_written}
 use Rattle.sqlite.specs.Held.{state}
-use Rattle.cpi_sql_writes.proofs.Withins.{on_then}
 use Rattle.cpi_sql_writes.proofs.writes.put_calendar.Goals as goal
 
-pub returns : goal.returns
-returns g c =
+pub returns-clause-written : goal.returns-clause-written
+returns-clause-written g c =
     let old = state g.S.Store c.args.conn.now in
     let new = state g.S.Store c.put_row.new.conn in
     let row = c.args.row in
     let month = c.day_number-month.result in
-    let at = c.day_number-month.ensures.month in
     let is = c.day_number-month.ensures.is in
     let runs = rw (
       c.params-to_sql.ensures,
@@ -23,11 +21,4 @@ returns g c =
       c.closes.ensures,
       c.publishes.ensures,
     ) at c.put_row.ensures in
-    record {
-      clean = runs.clean;
-      «open» = runs.stays_open;
-      done = λ clean has. on_then c.put_row.result _ _ (runs.ran clean.disk)
-          (λ it. day_ran row month row.opens row.closes row.publishes at is old new it.0 has it.1);
-      kept = λ clean has. runs.kept clean has.alone;
-      crash = day_survives row month row.opens row.closes row.publishes at is old new runs.crash;
-    }
+    day_written old new c.put_row.result row month row.opens row.closes row.publishes is runs

@@ -2,13 +2,12 @@ use Rattle.std.proofs.Common.{◌≡◌, Some, pos, refl}
 use Rattle.std.specs.String.{string_bytes}
 use Rattle.sqlite.specs.declared.types.Value.TheVariants.{Int, Text}
 use Rattle.cpi_sql_rows.specs.Lists.{item_of}
-use Rattle.cpi_sql_writes.proofs.AddStatements.{item_ran, item_survives}
+use Rattle.cpi_sql_writes.proofs.RowWrites.{item_written}
 use Rattle.sqlite.specs.Held.{state}
-use Rattle.cpi_sql_writes.proofs.Withins.{on_then}
 use Rattle.cpi_sql_writes.proofs.writes.put_item.Goals as goal
 
-pub returns : goal.returns
-returns g c =
+pub returns-clause-written : goal.returns-clause-written
+returns-clause-written g c =
     let old = state g.S.Store c.args.conn.now in
     let new = state g.S.Store c.put_row.new.conn in
     let item = c.args.item.now in
@@ -30,11 +29,4 @@ returns g c =
       c.name_text-text.ensures.value,
       c.name_text-unit.ensures.value,
     ) at c.put_row.ensures in
-    record {
-      clean = runs.clean;
-      «open» = runs.stays_open;
-      done = λ clean has free. on_then c.put_row.result _ _ (runs.ran clean.disk)
-          (λ it. item_ran old new item _ _ _ _ _ is it.0 has free it.1);
-      kept = λ clean has. runs.kept clean has.alone;
-      crash = item_survives old new item _ _ _ _ _ is runs.crash;
-    }
+    item_written old new c.put_row.result item _ _ _ _ _ is runs

@@ -1,4 +1,4 @@
-use Rattle.std.proofs.Common.{◌≡◌, ◌∙◌, rules, sym, subst, arith}
+use Rattle.std.proofs.Common.{◌≡◌, ◌∙◌, rules, refl, sym, subst}
 use Rattle.std.specs.Prelude.{⊤}
 use Rattle.sqlite.specs.Held.{state}
 use Rattle.cpi_store.specs.Office.{PutsPlan}
@@ -24,13 +24,13 @@ returns-clause-written g c =
     on_given result ⊤ (ChangesOffice (PutsPlan plan) a e) (λ _.
     on_given result (HasTables (outside a)) (IsDone (PutsPlan plan) (outside a) (outside e)) (λ has.
     let one = nodes.step clean_b inside (record { schema = has.schema; rowids = has.plans.node_ids }) in
-    let place_ids = subst HasRowids (sym (one.others.places (λ n. absurd (omega (arith, n))))) has.plans.place_ids in
+    let place_ids = subst HasRowids (sym (one.others 8 refl)) has.plans.place_ids in
     let two = places.step (clean_before d e month clean) one.inside
     (record { schema = one.schema; rowids = place_ids }) in
-    let month_ids = subst HasRowids (sym (two.others.references (λ n. absurd (omega (arith, n)))
-    ∙ one.others.references (λ n. absurd (omega (arith, n))))) has.plans.reference_ids in
+    let month_ids = subst HasRowids (sym (two.others 34 refl ∙ one.others 34 refl)) has.plans.reference_ids in
     let year : c.from-year.result ≡ plan.year = search rules in
     on_then result _ _ (month.step clean two.inside) (λ three.
     plan_done plan c.nodes.ensures.kept c.from-year.result c.nodes.result.now c.places.result.now c.reference.result
-    year (search rules) c.nodes.ensures.value c.places.ensures.value c.reference.ensures.value a b d e has one two
+    year (rw (← year) (search rules)) c.nodes.ensures.value c.places.ensures.value c.reference.ensures.value a b d e has
+    one two
     (three (record { schema = two.schema; rowids = month_ids }))))))

@@ -1,7 +1,6 @@
 use Rattle.std.proofs.Common.{Some, ap, ◌∙◌}
 use Rattle.sqlite.specs.Held.{state}
 use Rattle.cpi_codes.specs.declared.series.SeriesId.{SeriesId}
-use Rattle.cpi_sql_writes.proofs.ReleaseColumns.{carried_row}
 use Rattle.cpi_sql_writes.proofs.ReleaseSteps.{carried_added}
 use Rattle.cpi_sql_writes.proofs.release_rows.CarriedPriceHeldRow.add.Goals as goal
 
@@ -11,9 +10,6 @@ returns-clause-added g c =
     c.run_inside.result c.args.numbers.month c.args.numbers.revision c.collector_number-collector.result
     c.slot_number-slot.result c.as_str.result.now c.month_number-last.result c.ticks.result c.knum.result
     c.denominator-kden.result c.flag_number-observed.result c.flag_number-imputed.result c.args.self.now
-    (λ number is. carried_row c.args.numbers.month c.args.numbers.revision c.collector_number-collector.result
-    c.slot_number-slot.result c.month_number-last.result c.ticks.result c.knum.result c.denominator-kden.result
-    c.flag_number-observed.result c.flag_number-imputed.result c.as_str.result.now number c.args.self.now is
     (rw c.collector_number-collector.ensures.value (c.collector_number-collector.ensures.range
     ∙ ap (λ (s : SeriesId). Some s.collector) c.series-series.ensures))
     (rw c.slot_number-slot.ensures.value (c.slot_number-slot.ensures.range
@@ -23,7 +19,7 @@ returns-clause-added g c =
     (c.ticks_value-ticks.ensures.range ∙ ap Some c.ticks.ensures.value)
     (c.ticks_value-knum.ensures.range ∙ ap Some c.knum.ensures.value) c.denominator-kden.ensures
     (c.flag_number-observed.ensures ∙ ap Some c.was_observed.ensures)
-    (c.flag_number-imputed.ensures ∙ ap Some c.was_imputed.ensures))
+    (c.flag_number-imputed.ensures ∙ ap Some c.was_imputed.ensures)
     (rw (
       c.params-to_sql.ensures,
       c.params-to_sql-2.ensures,

@@ -1,6 +1,4 @@
-use Rattle.std.proofs.Common.{refl}
 use Rattle.sqlite.specs.Held.{state}
-use Rattle.cpi_sql_writes.proofs.ReleaseColumns.{level_row}
 use Rattle.cpi_sql_writes.proofs.ReleaseSteps.{bound_annual, level_added}
 use Rattle.cpi_sql_writes.proofs.release_rows.LevelHeldRow.add.Goals as goal
 
@@ -8,15 +6,10 @@ pub returns-clause-added : goal.returns-clause-added
 returns-clause-added g c =
     level_added (state g.S.Store c.args.tx.now.conn.now) (state g.S.Store c.run_inside.new.tx.conn.now)
     c.run_inside.result c.args.numbers.month c.args.numbers.revision c.as_str.result.now
-    c.name_text-title.result.now c.args.self.now.weight c.args.self.now.within c.args.self.now.chained
-    c.args.self.now.month_change c.args.self.now.year_change c.flag_number-imputed.result c.args.self.now
-    (λ number is. level_row c.args.numbers.month c.args.numbers.revision c.args.self.now.weight c.args.self.now.within
-    c.args.self.now.chained c.flag_number-imputed.result c.as_str.result.now c.name_text-title.result.now
-    c.args.self.now.month_change c.args.self.now.year_change number c.args.self.now is
+    c.name_text-title.result.now c.flag_number-imputed.result c.args.self.now
     (rw c.as_str.ensures.value c.in_ok-code.ensures)
     (rw c.name_text-title.ensures.value c.name_text-title.ensures.name) c.weight_value-weight.ensures.range
-    c.index_value-within.ensures.range c.chained_value-chained.ensures.range refl refl
-    c.flag_number-imputed.ensures)
+    c.index_value-within.ensures.range c.chained_value-chained.ensures.range c.flag_number-imputed.ensures
     (rw (
       c.params-to_sql.ensures,
       c.params-to_sql-2.ensures,

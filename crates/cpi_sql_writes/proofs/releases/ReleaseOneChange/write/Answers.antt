@@ -1,10 +1,10 @@
-use Rattle.std.proofs.Common.{◌≡◌, ◌∙◌, Some, rules, sym, subst, arith}
+use Rattle.std.proofs.Common.{◌≡◌, ◌∙◌, Some, rules, refl, sym, subst}
 use Rattle.sqlite.specs.Held.{state}
 use Rattle.cpi_store.specs.Office.{Freezes}
 use Rattle.cpi_sql_rows.specs.Lists.{month_at}
 use Rattle.cpi_sql_rows.specs.Shelf.{HasRowids, HasTables, IsDone}
 use Rattle.cpi_sql_rows.specs.Steps.{outside}
-use Rattle.cpi_sql_writes.proofs.ReleaseOffice.{steps_written, written_done}
+use Rattle.cpi_sql_writes.proofs.ReleaseOffice.{release_done}
 use Rattle.cpi_sql_writes.proofs.Withins.{clean_before, inside_then, on_given, on_then}
 use Rattle.cpi_sql_writes.proofs.releases.ReleaseOneChange.write.Goals as goal
 
@@ -28,19 +28,17 @@ returns-clause-written g c =
     on_given result _ _ (λ none. on_given result (HasTables (outside a)) (IsDone (Freezes r) (outside a) (outside f))
     (λ has.
     let one = header.step clean_b inside has.schema is c.numbers_of-numbers.ensures.range in
-    let frozen_ids = subst HasRowids (sym (one.others.frozen (λ n. absurd (omega (arith, n)))))
+    let frozen_ids = subst HasRowids (sym (one.others 28 refl))
     has.releases.frozen_ids in
     let two = frozen.step (clean_before d f late clean) one.inside
     (record { schema = one.schema; rowids = frozen_ids }) in
-    let carried_ids = subst HasRowids (sym (two.others.carried (λ n. absurd (omega (arith, n)))
-    ∙ one.others.carried (λ n. absurd (omega (arith, n))))) has.releases.carried_ids in
+    let carried_ids = subst HasRowids (sym (two.others 30 refl ∙ one.others 30 refl)) has.releases.carried_ids in
     let three = carried.step (clean_before e f levels clean) two.inside
     (record { schema = two.schema; rowids = carried_ids }) in
-    let level_ids = subst HasRowids (sym (three.others.levels (λ n. absurd (omega (arith, n)))
-    ∙ two.others.levels (λ n. absurd (omega (arith, n)))
-    ∙ one.others.levels (λ n. absurd (omega (arith, n))))) has.releases.level_ids in
+    let level_ids = subst HasRowids (sym (three.others 32 refl ∙ two.others 32 refl ∙ one.others 32 refl))
+    has.releases.level_ids in
     on_then result _ _ (levels.step clean three.inside) (λ four.
-    written_done r (c.fits_tables.ensures (search rules)) a f has none
-    (steps_written r numbers.month numbers.revision is c.numbers_of-numbers.ensures.revision c.as_slice.result.now
-    c.as_slice-2.result.now c.as_slice-3.result.now c.as_slice.ensures c.as_slice-2.ensures c.as_slice-3.ensures
-    a b d e f one two three (four (record { schema = three.schema; rowids = level_ids })))))))
+    release_done r (c.fits_tables.ensures (search rules)) numbers.month numbers.revision is
+    c.numbers_of-numbers.ensures.revision c.as_slice.result.now c.as_slice-2.result.now c.as_slice-3.result.now
+    c.as_slice.ensures c.as_slice-2.ensures c.as_slice-3.ensures a b d e f has none one two three
+    (four (record { schema = three.schema; rowids = level_ids }))))))
