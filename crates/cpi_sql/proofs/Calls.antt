@@ -1,14 +1,17 @@
 -- The calls of a book over a database: what they show, and what a crash leaves.
-use Rattle.std.proofs.Common.{◌≡◌, ◌⊎◌, ℕ, ◌<◌, Ok, Err, IsTrue, false, arith, ap, inl, inr, ◌∙◌}
+use Rattle.std.proofs.Common.{◌≡◌, ◌⊎◌, ℕ, ◌<◌, Result, Ok, Err, IsTrue, false, arith, ap, inl, inr, ◌∙◌}
 use Rattle.sqlite.specs.Tree.{Trees}
 use Rattle.sqlite.specs.Effect.{Database}
-use Rattle.sqlite.specs.State.{State, HasCleanDisk, Survives}
+use Rattle.sqlite.specs.State.{State, HasCleanDisk}
 use Rattle.cpi_release.specs.State.{State as BookState, Keeps, Reads}
 use Rattle.cpi_release.proofs.PassLemmas.{keeps_more, stays_more}
-use Rattle.cpi_store.specs.Office.{Office}
+use Rattle.cpi_store.specs.Office.{Change, Office, changed}
 use Rattle.cpi_store.specs.Calls.{Writes}
 use Rattle.cpi_sql_rows.specs.Lists.{office_in}
-use Rattle.cpi_sql_rows.specs.Shelf.{HasTables, IsCleanBook, IsKept, IsLook, StaysOpen, office_state}
+use Rattle.cpi_sql_rows.specs.Shelf.{HasTables, IsCleanBook, IsDone, IsLook, StaysOpen, office_state}
+use Rattle.cpi_sql_writes.specs.Written.{Written}
+
+-- ---- a read
 
 module _ (old new : State) (n : ℕ) (tables : IsCleanBook old → HasTables old) where
   keeps : (m : ℕ) → IsLook old new → Keeps (office_state old n) (office_state new m)
@@ -43,46 +46,55 @@ module _ (old new : State) (n : ℕ) (tables : IsCleanBook old → HasTables old
     fault = more;
   }
 
-  module _ (Done : Trees → Type 0) (after : Office) (survives : Survives old new Done) (clean : IsCleanBook new
-      → IsCleanBook old)
-      (done : IsCleanBook old → (db : Trees) → Done db → office_in db ≡ after) where
-    left : IsCleanBook old → HasCleanDisk new → (o : Office) → (office_state new n).may_leave o
-        → (office_state old n).may_leave o ⊎ (o ≡ after)
-    left was disk o may = elim (survives.crash disk may.0 may.1) [
-      | inl before ↦ inl (may.0, before, may.2)
-      | inr made ↦ inr (may.2 ∙ done was may.0 made)
-    ]
+-- ---- a write
 
-    pub writes : {T F : Type 0} (x : T) → (HasCleanDisk new → old.in_transaction ≡ false → IsTrue new.is_open)
-        → (IsCleanBook new → HasTables new × (office_in new.now.trees ≡ after))
-        → (IsTrue new.is_open → new.in_transaction ≡ false → (db : Trees) → new.may_leave db → db ≡ new.now.trees)
-        → Writes (office_state old n) (office_state new n) {T = T} {F = F} (Ok x) after
-    writes x opens made settled = record {
-      was_kept = λ disk. omega (arith, disk, survives.clean);
-      was_clean = clean;
-      stays = λ was disk. record { disk = disk; is_open = opens disk (tables was).alone };
-      done = λ is_clean. (made is_clean).1;
-      kept = λ is_clean. tt;
-      count = omega arith;
-      fault = tt;
-      crash = left;
-      answered = λ is_clean o may. may.2 ∙ ap office_in (settled is_clean.is_open (made is_clean).0.alone may.0 may.1)
-          ∙ (made is_clean).1;
-    }
+module _ {change : Change} {fits : Office → Type 0} {A E : Type 0} (old new : State) (n : ℕ) where
+  left : (r : Result A E) → Written change fits old new r → (IsCleanBook old → HasTables old)
+      → (IsCleanBook old → fits (office_in old.now.trees)) → IsCleanBook old → HasCleanDisk new → (o : Office)
+      → (office_state new n).may_leave o
+      → (office_state old n).may_leave o ⊎ (o ≡ changed change (office_in old.now.trees))
+  left r written tables owed was disk o may = elim (written.crash.crash disk may.0 may.1) [
+    | inl before ↦ inl (may.0, before, may.2)
+    | inr made ↦ inr (may.2 ∙ made (tables was) (owed was))
+  ]
 
-    pub write_fails : {T F : Type 0} (e : F) (m : ℕ) → n < m → (IsCleanBook new → HasTables old → IsKept old new)
-        → Writes (office_state old n) (office_state new m) {T = T} {F = F} (Err e) after
-    write_fails e m more kept = record {
-      was_kept = λ disk. omega (arith, disk, survives.clean);
-      was_clean = clean;
-      stays = tt;
-      done = λ is_clean. tt;
-      kept = λ is_clean. ap (λ (d : Database). office_in d.trees) (kept is_clean (tables (clean is_clean))).now;
-      count = omega (arith, more);
-      fault = more;
-      crash = left;
-      answered = λ is_clean. tt;
-    }
+  pub puts : {T F : Type 0} (u : A) (x : T) → Written {A = A} {E = E} change fits old new (Ok u)
+      → (IsCleanBook old → HasTables old) → (IsCleanBook old → fits (office_in old.now.trees))
+      → (HasCleanDisk new → old.in_transaction ≡ false → IsTrue new.is_open)
+      → (IsTrue new.is_open → new.in_transaction ≡ false → (db : Trees) → new.may_leave db → db ≡ new.now.trees)
+      → Writes (office_state old n) (office_state new n) {T = T} {F = F} (Ok x)
+      (changed change (office_in old.now.trees))
+  puts u x written tables owed opens settled =
+      let done : IsCleanBook new → IsDone change old new = λ clean. let was = written.clean clean in
+      written.done clean (tables was) (owed was) in
+      record {
+        was_kept = λ disk. omega (arith, disk, written.crash.clean);
+        was_clean = written.clean;
+        stays = λ was disk. record { disk = disk; is_open = opens disk (tables was).alone };
+        done = λ clean. (done clean).office;
+        kept = λ clean. tt;
+        count = omega arith;
+        fault = tt;
+        crash = left (Ok u) written tables owed;
+        answered = λ clean o may.
+            may.2 ∙ ap office_in (settled clean.is_open (done clean).tables.alone may.0 may.1) ∙ (done clean).office;
+      }
+
+  pub put_fails : {T F : Type 0} (e : E) (fault : F) (m : ℕ) → Written {A = A} {E = E} change fits old new (Err e)
+      → (IsCleanBook old → HasTables old) → (IsCleanBook old → fits (office_in old.now.trees)) → n < m
+      → Writes (office_state old n) (office_state new m) {T = T} {F = F} (Err fault)
+      (changed change (office_in old.now.trees))
+  put_fails e fault m written tables owed more = record {
+    was_kept = λ disk. omega (arith, disk, written.crash.clean);
+    was_clean = written.clean;
+    stays = tt;
+    done = λ clean. tt;
+    kept = λ clean. ap (λ (d : Database). office_in d.trees) (written.kept clean (tables (written.clean clean))).now;
+    count = omega (arith, more);
+    fault = more;
+    crash = left (Err e) written tables owed;
+    answered = λ clean. tt;
+  }
 
 -- ---- what follows a read that was answered
 

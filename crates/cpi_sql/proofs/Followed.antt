@@ -1,88 +1,140 @@
 -- What is kept in memory after a look and after a write.
-use Rattle.std.proofs.Common.{◌≡◌, Bool, false, None, IsTrue, List, [], map, sym, ap, subst, ◌∙◌}
+use Rattle.std.proofs.Common.{◌≡◌, ℕ, Bool, false, None, Option, Ok, Err, IsTrue, List, [], ◌∷◌, inl, inr, map, sym}
+use Rattle.std.proofs.Common.{ap, subst, ◌∙◌}
+use Rattle.sqlite.specs.Order.{Row}
 use Rattle.sqlite.specs.State.{State}
+use Rattle.sqlite.specs.Tree.{Trees}
 use Rattle.sqlite.specs.Effect.{Database}
-use Rattle.cpi_release.specs.declared.release.Release.{Release}
 use Rattle.cpi_sql_rows.specs.declared.release_rows.Header.{Header}
-use Rattle.cpi_store.specs.Office.{Office, Change, Freezes, changed}
-use Rattle.cpi_sql_rows.specs.Lists.{office_in}
-use Rattle.cpi_sql_rows.specs.Shelf.{Caches, HasTables, IsCleanBook, IsDone, IsKept, IsLook, IsSound, KeptReleases}
-use Rattle.cpi_sql_rows.specs.Shelf.{ReleasesStand, Stands, survey_of}
-use Rattle.cpi_sql_rows.specs.LevelTables.{ReleaseLevels, AreTablesOf}
-use Rattle.cpi_sql_reads.proofs.HeaderLists.{header_of, headers_told}
+use Rattle.cpi_store.specs.Office.{Office, Change, changed}
+use Rattle.cpi_sql_rows.specs.Lists.{headers_in, level_in, office_in, releases_in, release_number}
+use Rattle.cpi_sql_rows.specs.Shelf.{AllStand, AllStandFor, AllStandOf, AreTaken, HasTables, IsCleanBook, IsDone}
+use Rattle.cpi_sql_rows.specs.Shelf.{IsLook, Takes, WritesTaken, survey_of}
 use Rattle.cpi_sql_rows.proofs.Kept.{kept_tables}
+use Rattle.cpi_sql_writes.specs.Written.{Written}
+use Rattle.cpi_sql_reads.specs.Headers.{AreHeadersOf, has_release}
+use Rattle.cpi_sql_reads.specs.LevelTables.{ReleaseLevels, AreTablesOf, IsTableOf, levels_at, table_key}
+use Rattle.cpi_sql_reads.proofs.HeaderLists.{header_of, headers_told}
+use Rattle.cpi_sql.specs.Caches.{AreOf, Caches, IsSound, Stands}
 
 -- ---- looks
 
-stands_after : (old new : State) (c : Caches) → IsKept old new → Stands old c → Stands new c
-stands_after old new c k st = record {
-  tables = kept_tables old new k st.tables;
-  survey = λ t. st.survey t ∙ ap (λ (d : Database). survey_of (office_in d.trees)) (sym k.now);
-  releases = subst (λ (d : Database). ReleasesStand d.trees c.releases) (sym k.now) st.releases;
-}
-
 -- a look leaves what is kept as sound as before, where what it read are the tables' rows
 pub look_sound : (old new : State) (c after : Caches) → IsLook old new → IsSound old c
-    → (IsCleanBook new → Stands old c → Stands old after) → IsSound new after
+    → (IsCleanBook new → Stands old c → AreOf old.now.trees after) → IsSound new after
 look_sound old new c after look sound read = λ clean.
     let before = sound (look.clean clean) in
-    stands_after old new after (look.kept clean before.tables) (read clean before)
+    let kept = look.kept clean before.tables in
+    record {
+      tables = kept_tables old new kept before.tables;
+      kept = subst (λ (d : Database). AreOf d.trees after) (sym kept.now) (read clean before);
+    }
 
 pub tables_of : (s : State) (c : Caches) → IsSound s c → IsCleanBook s → HasTables s
 tables_of s c sound clean = (sound clean).tables
 
 -- ---- writes
 
--- the releases are as they were, and the samples are dropped
-releases_stand : (old new : State) (k : KeptReleases)
-    → (office_in new.now.trees).releases ≡ (office_in old.now.trees).releases
-    → ReleasesStand old.now.trees k → ReleasesStand new.now.trees (record k { samples = None })
-releases_stand old new k same st = record {
-  headers = λ t. st.headers t ∙ headers_told old.now.trees ∙ ap (map header_of) (sym same)
-      ∙ sym (headers_told new.now.trees);
-  tables = subst (λ rs. AreTablesOf rs k.tables) (sym same) st.tables;
-  samples = tt;
-}
-
 -- a write that failed left the rows as they were
-pub kept_sound : (old new : State) (c : Caches) → (IsCleanBook new → IsCleanBook old)
-    → (IsCleanBook new → HasTables old → IsKept old new) → IsSound old c → IsSound new c
-kept_sound old new c clean kept sound = λ is_clean.
-    let before = sound (clean is_clean) in
-    stands_after old new c (kept is_clean before.tables) before
+pub kept_sound : {change : Change} {fits : Office → Type 0} {A E : Type 0} {e : E} (old new : State) (c : Caches)
+    → Written {A = A} {E = E} change fits old new (Err e) → IsSound old c → IsSound new c
+kept_sound old new c written sound = λ clean.
+    let before = sound (written.clean clean) in
+    let same = written.kept clean before.tables in
+    record {
+      tables = kept_tables old new same before.tables;
+      kept = subst (λ (d : Database). AreOf d.trees c) (sym same.now) before.kept;
+    }
 
--- a write of the survey: what is kept of it has the row too, or counts as not read
-pub survey_stands : (change : Change) (old new : State) (c : Caches) (is_read : Bool) (survey : Office)
-    → ((o : Office) → survey_of (changed change o) ≡ changed change (survey_of o))
-    → ((o : Office) → (changed change o).releases ≡ o.releases) → IsDone change old new → Stands old c
-    → (IsTrue is_read → IsTrue c.is_read × (survey ≡ changed change c.survey))
-    → Stands new (record c { is_read = is_read; survey = survey; releases = record c.releases { samples = None } })
-survey_stands change old new c is_read survey passes still done st follows = record {
-  tables = done.tables;
-  survey = λ t.
-      let it = follows t in
-      it.1 ∙ ap (changed change) (st.survey it.0) ∙ sym (passes (office_in old.now.trees))
-      ∙ sym (ap survey_of done.office);
-  releases = releases_stand old new c.releases
-      (ap (λ (o : Office). o.releases) done.office ∙ still (office_in old.now.trees)) st.releases;
+module _ {X : Type 0} (entry : Row → Option X) (old new : List Row) (takes : Takes entry old new) where
+  -- where the types took each row, they take each row after a write
+  still_taken : AllStand entry old → AllStand entry new
+  unfolding Takes AllStand
+  still_taken all r h = elim (takes r h) [ inl was ↦ all r was | inr stands ↦ stands ]
+
+  still_taken_for : (holder : Row → Option ℕ) (number : ℕ) → AllStandFor holder entry number old
+      → AllStandFor holder entry number new
+  unfolding Takes AllStandFor
+  still_taken_for holder number all r h is = elim (takes r h) [ inl was ↦ all r was is | inr stands ↦ stands ]
+
+survey_taken : (old new : Trees) → WritesTaken old new → AreTaken old → AreTaken new
+survey_taken old new rows was = record {
+  assignments = still_taken _ _ _ rows.assignments was.assignments;
+  quotes = still_taken _ _ _ rows.quotes was.quotes;
 }
 
-pub release_stands : (r : Release) (old new : State) (c : Caches) (headers : List Header) (tables : List ReleaseLevels)
-    → tables ≡ [] → IsDone (Freezes r) old new → Stands old c
-    → Stands new (record c {
-      releases = record {
-        has_headers = false;
-        headers = headers;
-        tables = tables;
-        samples = None;
-      };
-    })
-release_stands r old new c headers tables none done st = record {
-  tables = done.tables;
-  survey = λ t. st.survey t ∙ sym (ap survey_of done.office);
-  releases = record {
-    headers = λ t. absurd (let no = t in cc);
-    tables = subst (AreTablesOf (office_in new.now.trees).releases) (sym none) tt;
-    samples = tt;
-  };
-}
+module _ (old new : Trees) (rows : WritesTaken old new) (same : releases_in new ≡ releases_in old) where
+  headers_same : headers_in (new 26) ≡ headers_in (old 26)
+  headers_same = headers_told new ∙ ap (map header_of) same ∙ sym (headers_told old)
+
+  headers_stand : (headers : List Header) → AreHeadersOf old headers → AreHeadersOf new headers
+  headers_stand headers was = record {
+    read = was.read ∙ sym headers_same;
+    taken = still_taken _ _ _ rows.headers was.taken;
+  }
+
+  table_stands : (t : ReleaseLevels) → IsTableOf old t → IsTableOf new t
+  table_stands t was = record {
+    levels = was.levels ∙ ap (λ rs. levels_at rs (table_key t)) (sym same);
+    taken = λ there. still_taken_for _ _ _ rows.levels _ (release_number t.month t.revision)
+        (was.taken (subst (λ hs. IsTrue (has_release t.month t.revision hs)) headers_same there));
+  }
+
+  tables_stand : (tables : List ReleaseLevels) → AreTablesOf old tables → AreTablesOf new tables
+  tables_stand [] all = tt
+  tables_stand (t ∷ tables) all = (table_stands t all.0, tables_stand tables all.1)
+
+module _ {change : Change} {fits : Office → Type 0} {A E : Type 0} {u : A} (old new : State) (c : Caches)
+    (written : Written {A = A} {E = E} change fits old new (Ok u))
+    (owed : IsCleanBook old → fits (office_in old.now.trees)) (sound : IsSound old c) where
+  -- a write of the survey: what is kept of it has the row too, or counts as not read; the samples are dropped
+  pub survey_sound : (is_read : Bool) (survey : Office)
+      → ((o : Office) → survey_of (changed change o) ≡ changed change (survey_of o))
+      → ((o : Office) → (changed change o).releases ≡ o.releases)
+      → (IsTrue is_read → IsTrue c.is_read × (survey ≡ changed change c.survey))
+      → IsSound new (record c { is_read = is_read; survey = survey; samples = None })
+  survey_sound is_read survey passes still follows = λ clean.
+      let was = written.clean clean in
+      let st = sound was in
+      let done : IsDone change old new = written.done clean st.tables (owed was) in
+      let same : releases_in new.now.trees ≡ releases_in old.now.trees =
+      ap (λ (o : Office). o.releases) done.office ∙ still (office_in old.now.trees) in
+      record {
+        tables = done.tables;
+        kept = record {
+          survey = λ t.
+              let it = follows t in
+              let before = st.kept.survey it.0 in
+              record {
+                read = it.1 ∙ ap (changed change) before.read ∙ sym (passes (office_in old.now.trees))
+                    ∙ sym (ap survey_of done.office);
+                taken = survey_taken old.now.trees new.now.trees done.rows before.taken;
+              };
+          headers = λ t. headers_stand old.now.trees new.now.trees done.rows same c.headers (st.kept.headers t);
+          tables = tables_stand old.now.trees new.now.trees done.rows same c.tables st.kept.tables;
+          samples = tt;
+        };
+      }
+
+  -- a release: what was read of releases is read again when it is asked for
+  pub release_sound : (headers : List Header) (tables : List ReleaseLevels)
+      → ((o : Office) → survey_of (changed change o) ≡ survey_of o) → tables ≡ []
+      → IsSound new (record c { has_headers = false; headers = headers; tables = tables; samples = None })
+  release_sound headers tables passes none = λ clean.
+      let was = written.clean clean in
+      let st = sound was in
+      let done : IsDone change old new = written.done clean st.tables (owed was) in
+      record {
+        tables = done.tables;
+        kept = record {
+          survey = λ t.
+              let before = st.kept.survey t in
+              record {
+                read = before.read ∙ sym (passes (office_in old.now.trees)) ∙ sym (ap survey_of done.office);
+                taken = survey_taken old.now.trees new.now.trees done.rows before.taken;
+              };
+          headers = λ t. absurd (let no = t in cc);
+          tables = subst (AreTablesOf new.now.trees) (sym none) tt;
+          samples = tt;
+        };
+      }

@@ -1,3 +1,4 @@
+//! Rows of the tables, computed by the definitions.
 ghost use Rattle.cpi_sql.specs.WorkedRows.{Items, Calendar, Quotes, Assignments, Nodes};
 ghost use Rattle.cpi_sql.specs.WorkedRows.{Headers, FrozenQuotes, CarriedPrices, Levels, Weights};
 

@@ -1,7 +1,10 @@
+//! The office in a database: a book whose survey is read once and kept, and whose releases stay in the tables.
 use cpi_codes::{Code, CollectorId, Key, Moment, Month, OutletId, Slot};
 use cpi_index::{ChainedLevel, FrozenQuote, GroupRow};
 use cpi_plan::{CalendarRow, Item, YearPlan};
-use cpi_release::{Cached, Failures, FrozenMonth, GroupFault, Groups, Level, Release, Revision};
+use cpi_release::{
+    Failures, FrozenMonth, GroupFault, Groups, KeptSamples, Level, Release, Revision,
+};
 use cpi_rows::Rows;
 use cpi_sql_open::open_office;
 use cpi_sql_reads::{
@@ -37,15 +40,15 @@ pub struct SqlBook<S: Alter> {
     // the tables of earlier releases
     tables: Vec<LevelTable>,
     // the samples of the month that is being frozen; none once anything is written
-    cached: Option<Cached>,
+    samples: KeptSamples,
     failed: Failures,
     alloc: Global,
 }
 
 impl<S: Alter> Model for SqlBook<S> {
-    ghost use Rattle.std.specs.Prelude.{is_some, length};
     ghost use Rattle.sqlite.specs.Held.{state};
-    ghost use Rattle.cpi_sql_rows.specs.Shelf.{Shelf, shelf_code, IsSound};
+    ghost use Rattle.cpi_sql_rows.specs.Shelf.{Shelf, shelf_code};
+    ghost use Rattle.cpi_sql.specs.Caches.{IsSound};
 
     ghost Value = { Shelf S };
 
@@ -55,20 +58,16 @@ impl<S: Alter> Model for SqlBook<S> {
       held = b.conn;
       is_read = b.is_read;
       has_headers = b.has_headers;
-      has_samples = is_some b.cached;
-      tables = length b.tables.items;
       failures = b.failed.count;
     } };
 
     ghost invariant = { λ b. IsSound (state S.Store b.conn) (record {
       is_read = b.is_read;
       survey = b.survey;
-      releases = record {
-        has_headers = b.has_headers;
-        headers = b.headers.items;
-        tables = b.tables.items;
-        samples = b.cached;
-      };
+      has_headers = b.has_headers;
+      headers = b.headers.items;
+      tables = b.tables.items;
+      samples = b.samples;
     }) };
 }
 
@@ -106,7 +105,6 @@ impl<S: Alter + Drop> SqlBook<S> {
             AreWhole (state S.Store b.held).now.trees) }
         ensures count { IfOk result (λ b. b.failures ≡ 0) }
         ensures unread { IfOk result (λ b. b.is_read ≡ false) }
-        ensures no_headers { IfOk result (λ b. b.has_headers ≡ false) }
         ensures kept { IfErr result (λ e.
             IsCleanBook (state S.Store e.conn) → IsKept (state S.Store conn) (state S.Store e.conn)) }
         ensures settled_fault { IfErr result (λ e.
@@ -127,7 +125,7 @@ impl<S: Alter + Drop> SqlBook<S> {
                 headers: Vec::new(alloc),
                 has_headers: false,
                 tables: Vec::new(alloc),
-                cached: None,
+                samples: KeptSamples::none(),
                 failed: Failures::none(),
                 alloc,
             }),
@@ -148,7 +146,6 @@ impl<S: Alter + Drop> SqlBook<S> {
             AreWhole (state S.Store b.held).now.trees) }
         ensures count { IfOk result (λ b. b.failures ≡ 0) }
         ensures unread { IfOk result (λ b. b.is_read ≡ false) }
-        ensures no_headers { IfOk result (λ b. b.has_headers ≡ false) }
     {
         match SqlBook::over(alloc, conn) {
             Ok(book) => Ok(book),
@@ -177,9 +174,9 @@ impl<S: Alter> SqlBook<S> {
         ensures now { IsCleanBook (state S.Store self.new.held) →
             (state S.Store self.new.held).now ≡ (state S.Store self.old.held).now }
         ensures ready { OnOk result (IsTrue self.new.is_read) }
-        ensures taken { IsCleanBook (state S.Store self.new.held) → self.old.is_read ≡ false →
+        ensures taken { IsCleanBook (state S.Store self.new.held) →
             OnOk result (AreTaken (state S.Store self.old.held).now.trees) }
-        ensures kept { (self.new.has_headers ≡ self.old.has_headers) × (self.new.has_samples ≡ self.old.has_samples) }
+        ensures kept { self.new.has_headers ≡ self.old.has_headers }
     {
         if self.is_read {
             return Ok(());
@@ -200,10 +197,9 @@ impl<S: Alter> SqlBook<S> {
         ensures now { IsCleanBook (state S.Store self.new.held) →
             (state S.Store self.new.held).now ≡ (state S.Store self.old.held).now }
         ensures ready { OnOk result (IsTrue self.new.has_headers) }
-        ensures headers { IsCleanBook (state S.Store self.new.held) → self.old.has_headers ≡ false →
+        ensures headers { IsCleanBook (state S.Store self.new.held) →
             OnOk result (AllStand header_in ((state S.Store self.old.held).now.trees 26)) }
-        ensures kept { (self.new.is_read ≡ self.old.is_read) × (self.new.has_samples ≡ self.old.has_samples)
-            × (self.new.tables ≡ self.old.tables) }
+        ensures kept { self.new.is_read ≡ self.old.is_read }
     {
         if self.has_headers {
             return Ok(());
@@ -224,10 +220,9 @@ impl<S: Alter> SqlBook<S> {
         ensures now { IsCleanBook (state S.Store self.new.held) →
             (state S.Store self.new.held).now ≡ (state S.Store self.old.held).now }
         ensures ready { OnOk result (IsTrue self.new.has_headers) }
-        ensures headers { IsCleanBook (state S.Store self.new.held) → self.old.has_headers ≡ false →
+        ensures headers { IsCleanBook (state S.Store self.new.held) →
             OnOk result (AllStand header_in ((state S.Store self.old.held).now.trees 26)) }
-        ensures kept { (self.new.is_read ≡ self.old.is_read) × (self.new.has_samples ≡ self.old.has_samples)
-            × (self.new.tables ≡ self.old.tables) }
+        ensures kept { self.new.is_read ≡ self.old.is_read }
     {
         match self.ready_headers() {
             Ok(()) => Ok(()),
@@ -241,11 +236,10 @@ impl<S: Alter> SqlBook<S> {
         ensures now { IsCleanBook (state S.Store self.new.held) →
             (state S.Store self.new.held).now ≡ (state S.Store self.old.held).now }
         ensures ready { OnOk result (IsTrue self.new.has_headers × IsTrue self.new.is_read) }
-        ensures taken { IsCleanBook (state S.Store self.new.held) → self.old.is_read ≡ false →
+        ensures taken { IsCleanBook (state S.Store self.new.held) →
             OnOk result (AreTaken (state S.Store self.old.held).now.trees) }
-        ensures headers { IsCleanBook (state S.Store self.new.held) → self.old.has_headers ≡ false →
+        ensures headers { IsCleanBook (state S.Store self.new.held) →
             OnOk result (AllStand header_in ((state S.Store self.old.held).now.trees 26)) }
-        ensures kept { self.new.has_samples ≡ self.old.has_samples }
     {
         self.ready_levels()?;
         match self.ready_survey() {
@@ -256,18 +250,18 @@ impl<S: Alter> SqlBook<S> {
 }
 
 impl<S: Alter> Groups for SqlBook<S> {
-    ghost use Rattle.std.specs.Prelude.{◌≡◌, ◌≤◌, false, IsSome, OnOk};
+    ghost use Rattle.std.specs.Prelude.{◌≡◌, OnOk};
     ghost use Rattle.sqlite.specs.Held.{state};
     ghost use Rattle.cpi_codes.specs.Month.{year_of};
-    ghost use Rattle.cpi_rows.specs.Keyed.{at};
     ghost use Rattle.cpi_release.specs.State.{Reads};
     ghost use Rattle.cpi_release.specs.Releases.{level_at};
     ghost use Rattle.cpi_release.specs.GroupCalls.{group_of, IsAfterFrozen};
-    ghost use Rattle.cpi_sql_reads.specs.Headers.{LatestStands, SamplesStand};
-    ghost use Rattle.cpi_sql_rows.specs.Lists.{header_in, level_in, office_in};
+    ghost use Rattle.cpi_sql_reads.specs.Headers.{LatestStands};
+    ghost use Rattle.cpi_sql_reads.specs.Samples.{SamplesTaken};
+    ghost use Rattle.cpi_sql_rows.specs.Lists.{header_in, level_in};
     ghost use Rattle.cpi_store.specs.Office.{Office};
     ghost use Rattle.cpi_store.specs.Sources.{office_sources};
-    ghost use Rattle.cpi_release.specs.Cached.{IsFit};
+    ghost use Rattle.cpi_release.specs.KeptSamples.{IsFit};
     ghost use Rattle.cpi_sql_rows.specs.Shelf.{AllStand, AreTaken, IsCleanBook, book_state};
 
     ghost Held = { Office };
@@ -285,14 +279,12 @@ impl<S: Alter> Groups for SqlBook<S> {
             Reads (book_state S.Store self.old) (book_state S.Store self.new) result (λ rows.
             IsFit (office_sources h) → _year ≡ year_of month → IsAfterFrozen (office_sources h) month →
             rows.items ≡ group_of (office_sources h) month code) }
-        ensures taken { IsCleanBook (state S.Store self.new.held) → self.old.is_read ≡ false →
+        ensures taken { IsCleanBook (state S.Store self.new.held) →
             OnOk result (AreTaken (state S.Store self.old.held).now.trees) }
-        ensures headers { IsCleanBook (state S.Store self.new.held) → self.old.has_headers ≡ false →
+        ensures headers { IsCleanBook (state S.Store self.new.held) →
             OnOk result (AllStand header_in ((state S.Store self.old.held).now.trees 26)) }
-        ensures lists { let trees = (state S.Store self.old.held).now.trees in
-            IsCleanBook (state S.Store self.new.held) → self.old.has_samples ≡ false → 12 ≤ month →
-            IsSome (at (λ p. p.year) (year_of month) (office_in trees).plans) →
-            OnOk result (SamplesStand month trees) }
+        ensures lists { IsCleanBook (state S.Store self.new.held) →
+            OnOk result (SamplesTaken month (state S.Store self.old.held).now.trees) }
     {
         self.ready_samples()?;
         match sample_of(
@@ -300,7 +292,7 @@ impl<S: Alter> Groups for SqlBook<S> {
             self.alloc,
             &self.headers,
             &self.survey,
-            &mut self.cached,
+            &mut self.samples,
             month,
             code,
         ) {
@@ -313,9 +305,9 @@ impl<S: Alter> Groups for SqlBook<S> {
         ensures reads { let h = (book_state S.Store self.old).held in
             Reads (book_state S.Store self.old) (book_state S.Store self.new) result (λ level.
             IsFit (office_sources h) → level ≡ level_at (office_sources h).releases month code) }
-        ensures headers { IsCleanBook (state S.Store self.new.held) → self.old.has_headers ≡ false →
+        ensures headers { IsCleanBook (state S.Store self.new.held) →
             OnOk result (AllStand header_in ((state S.Store self.old.held).now.trees 26)) }
-        ensures rows { IsCleanBook (state S.Store self.new.held) → self.old.tables ≡ 0 →
+        ensures rows { IsCleanBook (state S.Store self.new.held) →
             OnOk result (LatestStands level_in 32 month (state S.Store self.old.held).now.trees) }
     {
         self.ready_levels()?;
@@ -363,7 +355,7 @@ impl<S: Alter> Book for SqlBook<S> {
     fn bearer_of(&mut self, key: Key) -> Result<Option<Bearer>, StoreFault>
         ensures reads { Reads (book_state S.Store self.old) (book_state S.Store self.new) result (λ found.
             found ≡ bearer_of key (book_state S.Store self.old).held.collectors) }
-        ensures taken { IsCleanBook (state S.Store self.new.held) → self.old.is_read ≡ false →
+        ensures taken { IsCleanBook (state S.Store self.new.held) →
             OnOk result (AreTaken (state S.Store self.old.held).now.trees) }
     {
         self.ready_survey()?;
@@ -373,7 +365,7 @@ impl<S: Alter> Book for SqlBook<S> {
     fn bearer_at(&mut self, number: CollectorId) -> Result<Option<Bearer>, StoreFault>
         ensures reads { Reads (book_state S.Store self.old) (book_state S.Store self.new) result (λ found.
             found ≡ at (λ b. b.number) number (book_state S.Store self.old).held.collectors) }
-        ensures taken { IsCleanBook (state S.Store self.new.held) → self.old.is_read ≡ false →
+        ensures taken { IsCleanBook (state S.Store self.new.held) →
             OnOk result (AreTaken (state S.Store self.old.held).now.trees) }
     {
         self.ready_survey()?;
@@ -383,7 +375,7 @@ impl<S: Alter> Book for SqlBook<S> {
     fn collector_of(&mut self, key: Key) -> Result<Option<CollectorId>, StoreFault>
         ensures reads { Reads (book_state S.Store self.old) (book_state S.Store self.new) result (λ found.
             found ≡ collector_of key (book_state S.Store self.old).held.collectors) }
-        ensures taken { IsCleanBook (state S.Store self.new.held) → self.old.is_read ≡ false →
+        ensures taken { IsCleanBook (state S.Store self.new.held) →
             OnOk result (AreTaken (state S.Store self.old.held).now.trees) }
     {
         self.ready_survey()?;
@@ -393,7 +385,7 @@ impl<S: Alter> Book for SqlBook<S> {
     fn collector_key(&mut self, number: CollectorId) -> Result<Option<Key>, StoreFault>
         ensures reads { Reads (book_state S.Store self.old) (book_state S.Store self.new) result (λ found.
             found ≡ collector_key number (book_state S.Store self.old).held.collectors) }
-        ensures taken { IsCleanBook (state S.Store self.new.held) → self.old.is_read ≡ false →
+        ensures taken { IsCleanBook (state S.Store self.new.held) →
             OnOk result (AreTaken (state S.Store self.old.held).now.trees) }
     {
         self.ready_survey()?;
@@ -424,7 +416,7 @@ impl<S: Alter> Book for SqlBook<S> {
         ensures reads { Reads (book_state S.Store self.old) (book_state S.Store self.new) result (λ found.
             found ≡ at (λ g. g.assignment.slot) slot
             (held_by collector (book_state S.Store self.old).held.assignments)) }
-        ensures taken { IsCleanBook (state S.Store self.new.held) → self.old.is_read ≡ false →
+        ensures taken { IsCleanBook (state S.Store self.new.held) →
             OnOk result (AreTaken (state S.Store self.old.held).now.trees) }
     {
         self.ready_survey()?;
@@ -434,7 +426,7 @@ impl<S: Alter> Book for SqlBook<S> {
     fn frozen_months(&mut self) -> Result<Vec<FrozenMonth>, StoreFault>
         ensures reads { Reads (book_state S.Store self.old) (book_state S.Store self.new) result (λ found.
             found.items ≡ frozen_months (book_state S.Store self.old).held.releases) }
-        ensures headers { IsCleanBook (state S.Store self.new.held) → self.old.has_headers ≡ false →
+        ensures headers { IsCleanBook (state S.Store self.new.held) →
             OnOk result (AllStand header_in ((state S.Store self.old.held).now.trees 26)) }
     {
         self.ready_headers()?;
@@ -448,7 +440,7 @@ impl<S: Alter> Book for SqlBook<S> {
         ensures reads { Reads (book_state S.Store self.old) (book_state S.Store self.new) result (λ found.
             is_by_series frozen_serial (rows_of_month month (book_state S.Store self.old).held) ≡ true →
             found.items ≡ rows_of_month month (book_state S.Store self.old).held) }
-        ensures taken { IsCleanBook (state S.Store self.new.held) → self.old.is_read ≡ false →
+        ensures taken { IsCleanBook (state S.Store self.new.held) →
             OnOk result (AreTaken (state S.Store self.old.held).now.trees) }
     {
         self.ready_survey()?;
@@ -462,7 +454,7 @@ impl<S: Alter> Book for SqlBook<S> {
         ensures reads { Reads (book_state S.Store self.old) (book_state S.Store self.new) result (λ found.
             found.items
             ≡ map frozen_month_of (published_until until (book_state S.Store self.old).held.releases)) }
-        ensures headers { IsCleanBook (state S.Store self.new.held) → self.old.has_headers ≡ false →
+        ensures headers { IsCleanBook (state S.Store self.new.held) →
             OnOk result (AllStand header_in ((state S.Store self.old.held).now.trees 26)) }
     {
         self.ready_headers()?;
@@ -480,7 +472,7 @@ impl<S: Alter> Book for SqlBook<S> {
         ensures reads { Reads (book_state S.Store self.old) (book_state S.Store self.new) result (λ found.
             found ≡ option_map (λ t. t.revision)
             (table_until month None until (book_state S.Store self.old).held.releases)) }
-        ensures headers { IsCleanBook (state S.Store self.new.held) → self.old.has_headers ≡ false →
+        ensures headers { IsCleanBook (state S.Store self.new.held) →
             OnOk result (AllStand header_in ((state S.Store self.old.held).now.trees 26)) }
     {
         self.ready_headers()?;
@@ -514,7 +506,7 @@ impl<S: Alter> Book for SqlBook<S> {
         match put_item(&mut self.conn, self.alloc, &item) {
             Ok(()) => {
                 settle(&self.conn);
-                self.cached = None;
+                self.samples.clear();
                 follow_item(&mut self.survey, &mut self.is_read, item);
                 Ok(())
             }
@@ -526,7 +518,7 @@ impl<S: Alter> Book for SqlBook<S> {
         match put_plan(&mut self.conn, self.alloc, &plan) {
             Ok(()) => {
                 settle(&self.conn);
-                self.cached = None;
+                self.samples.clear();
                 follow_plan(&mut self.survey, &mut self.is_read, plan);
                 Ok(())
             }
@@ -538,7 +530,7 @@ impl<S: Alter> Book for SqlBook<S> {
         match put_calendar(&mut self.conn, row) {
             Ok(()) => {
                 settle(&self.conn);
-                self.cached = None;
+                self.samples.clear();
                 follow_calendar(&mut self.survey, &mut self.is_read, row);
                 Ok(())
             }
@@ -554,7 +546,7 @@ impl<S: Alter> Book for SqlBook<S> {
         match put_collector(&mut self.conn, self.alloc, bearer) {
             Ok(()) => {
                 settle(&self.conn);
-                self.cached = None;
+                self.samples.clear();
                 follow_collector(&mut self.survey, &mut self.is_read, row);
                 Ok(())
             }
@@ -566,7 +558,7 @@ impl<S: Alter> Book for SqlBook<S> {
         match put_outlet(&mut self.conn, &outlet) {
             Ok(()) => {
                 settle(&self.conn);
-                self.cached = None;
+                self.samples.clear();
                 follow_outlet(&mut self.survey, &mut self.is_read, outlet);
                 Ok(())
             }
@@ -582,7 +574,7 @@ impl<S: Alter> Book for SqlBook<S> {
         match put_assignment(&mut self.conn, self.alloc, bearer, &assigned) {
             Ok(()) => {
                 settle(&self.conn);
-                self.cached = None;
+                self.samples.clear();
                 follow_assignment(&mut self.survey, &mut self.is_read, holder, assigned);
                 Ok(())
             }
@@ -594,7 +586,7 @@ impl<S: Alter> Book for SqlBook<S> {
         match put_handover(&mut self.conn, self.alloc, &handover) {
             Ok(()) => {
                 settle(&self.conn);
-                self.cached = None;
+                self.samples.clear();
                 follow_handover(&mut self.survey, &mut self.is_read, handover);
                 Ok(())
             }
@@ -610,7 +602,7 @@ impl<S: Alter> Book for SqlBook<S> {
         match put_quote(&mut self.conn, bearer, quote) {
             Ok(()) => {
                 settle(&self.conn);
-                self.cached = None;
+                self.samples.clear();
                 follow_quote(&mut self.survey, &mut self.is_read, holder, quote);
                 Ok(())
             }
@@ -622,7 +614,7 @@ impl<S: Alter> Book for SqlBook<S> {
         match put_release(&mut self.conn, self.alloc, &release) {
             Ok(()) => {
                 settle(&self.conn);
-                self.cached = None;
+                self.samples.clear();
                 self.tables.clear();
                 self.has_headers = false;
                 Ok(())

@@ -1,14 +1,24 @@
 -- What the headers tell of the releases without the rows of their lists.
-use Rattle.std.specs.Prelude.{◌≡◌, ℕ, ◌-◌, ◌==◌, ◌&&◌, nat_le, Bool, List, Option, Some, filter, map, option_map}
+use Rattle.std.specs.Prelude.{◌≡◌, ℕ, ◌==◌, ◌&&◌, nat_le, Bool, List, Option, Some, filter, map, option_map}
 use Rattle.std.specs.List.{list_any}
 use Rattle.sqlite.specs.Order.{Row}
+use Rattle.sqlite.specs.State.{State}
 use Rattle.sqlite.specs.Tree.{Trees}
 use Rattle.cpi_release.specs.Latest.{latest}
 use Rattle.cpi_release.specs.declared.frozen_month.FrozenMonth.{FrozenMonth}
 use Rattle.cpi_sql_rows.specs.declared.release_rows.Header.{Header}
-use Rattle.cpi_sql_rows.specs.Lists.{carried_in, frozen_in, headers_in, release_number}
-use Rattle.cpi_release.specs.Releases.{link_month}
-use Rattle.cpi_sql_rows.specs.Shelf.{AllStandOf}
+use Rattle.cpi_sql_rows.specs.Lists.{header_in, headers_in, release_number}
+use Rattle.cpi_sql_rows.specs.Shelf.{AllStand, AllStandOf, HasTables, IsCleanBook}
+
+-- what the rows of the releases say beside their lists, each of which the types take
+pub record AreHeadersOf (trees : Trees) (headers : List Header) : Type 0 where
+  pub read : headers ≡ headers_in (trees 26)
+  pub taken : AllStand header_in (trees 26)
+
+-- what a look tells of the rows as they were, by the headers of all releases
+abbrev pub TellsBy : List Header → State → State → (Trees → Type 0) → Type 0
+TellsBy headers old new Told =
+    IsCleanBook new → HasTables old → headers ≡ headers_in (old.now.trees 26) → Told old.now.trees
 
 -- the frozen month of a header
 abbrev pub header_month : Header → FrozenMonth
@@ -34,13 +44,6 @@ latest_header month headers = latest (λ h. h.month) month headers
 abbrev pub LatestStands : {X : Type 0} → (Row → Option X) → ℕ → ℕ → Trees → Type 0
 LatestStands entry tree month trees = (h : Header) → latest_header month (headers_in (trees 26)) ≡ Some h →
     AllStandOf entry (release_number month h.revision) (trees tree)
-
--- each row that the samples of a month are made from stands for something: the carried prices and the frozen quotes of
--- its link month, and the carried prices of the month before
-pub record SamplesStand (month : ℕ) (trees : Trees) : Type 0 where
-  pub link_carried : LatestStands carried_in 30 (link_month month) trees
-  pub link_frozen : LatestStands frozen_in 28 (link_month month) trees
-  pub last_carried : LatestStands carried_in 30 (month - 1) trees
 
 -- the latest revision whose moment of publishing has come
 abbrev pub revision_published : ℕ → ℕ → List Header → Option ℕ

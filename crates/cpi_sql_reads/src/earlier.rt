@@ -6,10 +6,10 @@ ghost use Rattle.cpi_codes.specs.CodeOrder.{code_cmp};
 ghost use Rattle.cpi_rows.specs.Keyed.{IsInOrder};
 ghost use Rattle.cpi_release.specs.Releases.{release_of};
 ghost use Rattle.cpi_sql_rows.specs.HeldTables.{beside, release_in as held_by_release};
-ghost use Rattle.cpi_sql_rows.specs.LevelTables.{levels_at};
+ghost use Rattle.cpi_sql_reads.specs.LevelTables.{levels_at};
 ghost use Rattle.cpi_sql_rows.specs.Shelf.{AllStandOf, IsCleanBook, HasTables, Looks};
-ghost use Rattle.cpi_sql_reads.specs.Headers.{LatestStands, has_release as release_in};
-ghost use Rattle.cpi_sql_rows.specs.Lists.{headers_in, level_in as level_row, release_number, releases_in};
+ghost use Rattle.cpi_sql_reads.specs.Headers.{LatestStands, TellsBy, has_release as release_in};
+ghost use Rattle.cpi_sql_rows.specs.Lists.{level_in as level_row, release_number, releases_in};
 
 use crate::headers::{has_release, header_of};
 use crate::releases::{ReleaseRow, rows_of_release};
@@ -28,14 +28,10 @@ pub fn earlier_rows<S: Alter, T: ReleaseRow>(
     month: Month,
 ) -> Result<Vec<T>, Unread>
     ensures look { Looks (state S.Store conn.old) (state S.Store conn.new) result }
-    ensures read { IsCleanBook (state S.Store conn.new) → HasTables (state S.Store conn.old) →
-        headers.now ≡ headers_in ((state S.Store conn.old).now.trees 26) →
-        let releases = releases_in (state S.Store conn.old).now.trees in
-        IfOk result (λ xs. xs.items ≡ option_map_or T.listed_by (release_of releases month) []) }
-    ensures stand { IsCleanBook (state S.Store conn.new) → HasTables (state S.Store conn.old) →
-        headers.now ≡ headers_in ((state S.Store conn.old).now.trees 26) →
-        OnOk result (LatestStands (beside held_by_release T.table.after) T.table.tree month
-        (state S.Store conn.old).now.trees) }
+    ensures read { TellsBy headers.now (state S.Store conn.old) (state S.Store conn.new) (λ trees.
+        IfOk result (λ xs. xs.items ≡ option_map_or T.listed_by (release_of (releases_in trees) month) [])) }
+    ensures stand { TellsBy headers.now (state S.Store conn.old) (state S.Store conn.new) (λ trees.
+        OnOk result (LatestStands (beside held_by_release T.table.after) T.table.tree month trees)) }
 {
     match header_of(headers, month) {
         Some(header) => rows_of_release(conn, alloc, month, header.revision),
@@ -52,9 +48,8 @@ pub fn earlier_levels<S: Alter>(
     revision: Revision,
 ) -> Result<Vec<Level>, Unread>
     ensures look { Looks (state S.Store conn.old) (state S.Store conn.new) result }
-    ensures read { IsCleanBook (state S.Store conn.new) → HasTables (state S.Store conn.old) →
-        headers.now ≡ headers_in ((state S.Store conn.old).now.trees 26) → IfOk result (λ xs.
-        xs.items ≡ levels_at (releases_in (state S.Store conn.old).now.trees) (month, revision)) }
+    ensures read { TellsBy headers.now (state S.Store conn.old) (state S.Store conn.new) (λ trees.
+        IfOk result (λ xs. xs.items ≡ levels_at (releases_in trees) (month, revision))) }
     ensures order { IfOk result (λ xs. IsInOrder code_cmp (λ l. l.code) xs.items) }
     ensures stand { IsCleanBook (state S.Store conn.new) → HasTables (state S.Store conn.old) →
         IsTrue (release_in month revision headers.now) → OnOk result

@@ -16,51 +16,40 @@ use cpi_survey::{Assigned, Quote};
 pub fn follow_item(survey: &mut Survey, is_read: &mut bool, item: Item)
     ensures { IsTrue is_read.new → IsTrue is_read.old × (survey.new ≡ changed (PutsItem item) survey.old) }
 {
-    if survey.put_item(item).is_err() {
-        *is_read = false;
-    }
+    *is_read = survey.put_item(item).is_ok() && *is_read;
 }
 
 /// Puts a year's plan.
 pub fn follow_plan(survey: &mut Survey, is_read: &mut bool, plan: YearPlan)
     ensures { IsTrue is_read.new → IsTrue is_read.old × (survey.new ≡ changed (PutsPlan plan) survey.old) }
 {
-    if survey.put_plan(plan).is_err() {
-        *is_read = false;
-    }
+    *is_read = survey.put_plan(plan).is_ok() && *is_read;
 }
 
 /// Puts a month's calendar row.
 pub fn follow_calendar(survey: &mut Survey, is_read: &mut bool, row: CalendarRow)
     ensures { IsTrue is_read.new → IsTrue is_read.old × (survey.new ≡ changed (PutsCalendar row) survey.old) }
 {
-    if survey.put_calendar(row).is_err() {
-        *is_read = false;
-    }
+    *is_read = survey.put_calendar(row).is_ok() && *is_read;
 }
 
 /// Puts a collector.
 pub fn follow_collector(survey: &mut Survey, is_read: &mut bool, bearer: Bearer)
     ensures { IsTrue is_read.new → IsTrue is_read.old × (survey.new ≡ changed (Registers bearer) survey.old) }
 {
-    if survey.bearer_at(bearer.number).is_none() && survey.bearer_of(bearer.key).is_none() {
-        if survey.put_collector(bearer).is_ok() {
-            return;
-        }
-    }
-    *is_read = false;
+    *is_read = survey.bearer_at(bearer.number).is_none()
+        && survey.bearer_of(bearer.key).is_none()
+        && survey.put_collector(bearer).is_ok()
+        && *is_read;
 }
 
 /// Puts an outlet.
 pub fn follow_outlet(survey: &mut Survey, is_read: &mut bool, outlet: Outlet)
     ensures { IsTrue is_read.new → IsTrue is_read.old × (survey.new ≡ changed (PutsOutlet outlet) survey.old) }
 {
-    if survey.outlet(outlet.number).is_none() {
-        if survey.put_outlet(outlet).is_ok() {
-            return;
-        }
-    }
-    *is_read = false;
+    *is_read = survey.outlet(outlet.number).is_none()
+        && survey.put_outlet(outlet).is_ok()
+        && *is_read;
 }
 
 // Whether the outlet is there, and the name is its own.
@@ -96,12 +85,9 @@ pub fn follow_assignment(
 )
     ensures { IsTrue is_read.new → IsTrue is_read.old × (survey.new ≡ changed (Assigns bearer assigned) survey.old) }
 {
-    if can_take(survey, bearer.number, &assigned) {
-        if survey.put_assignment(bearer, assigned).is_ok() {
-            return;
-        }
-    }
-    *is_read = false;
+    *is_read = can_take(survey, bearer.number, &assigned)
+        && survey.put_assignment(bearer, assigned).is_ok()
+        && *is_read;
 }
 
 // Whether the assignment that ends is there, and the taker can take the new one.
@@ -124,12 +110,7 @@ fn can_pass(survey: &Survey, handover: &SeriesMove) -> bool
 pub fn follow_handover(survey: &mut Survey, is_read: &mut bool, handover: SeriesMove)
     ensures { IsTrue is_read.new → IsTrue is_read.old × (survey.new ≡ changed (HandsOver handover) survey.old) }
 {
-    if can_pass(survey, &handover) {
-        if survey.put_handover(handover).is_ok() {
-            return;
-        }
-    }
-    *is_read = false;
+    *is_read = can_pass(survey, &handover) && survey.put_handover(handover).is_ok() && *is_read;
 }
 
 /// Puts a quote of a collector.

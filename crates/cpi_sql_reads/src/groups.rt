@@ -1,23 +1,23 @@
 //! The samples of a month, made at once from the tables, and handed out one by one.
-ghost use Rattle.std.specs.Prelude.{◌≡◌, ◌≤◌, ◌-◌, None, Some, IfOk, IfSome, IsSome, IsTrue, OnOk};
+ghost use Rattle.std.specs.Prelude.{◌≡◌, ◌≤◌, ◌-◌, Some, IfOk, IfSome, IsSome, IsTrue, OnOk};
 ghost use Rattle.sqlite.specs.Held.{state};
 ghost use Rattle.cpi_codes.specs.Month.{year_of};
 ghost use Rattle.cpi_rows.specs.Keyed.{at};
 ghost use Rattle.cpi_release.specs.Releases.{carried_of as carried_in, frozen_of as frozen_in, link_month};
 ghost use Rattle.cpi_release.specs.GroupCalls.{Sources, group_of};
-ghost use Rattle.cpi_release.specs.Cached.{AreGroupsOf, AreKept, IsFit};
+ghost use Rattle.cpi_release.specs.KeptSamples.{AreGroupsOf, IsFit};
 ghost use Rattle.cpi_store.specs.Sources.{office_sources};
 ghost use Rattle.cpi_sql_rows.specs.Shelf.{IsCleanBook, HasTables, Looks, survey_of};
 ghost use Rattle.cpi_sql_rows.specs.Lists.{headers_in, office_in, releases_in};
 ghost use Rattle.cpi_sql_rows.specs.Lists.{carried_in as carried_row, frozen_in as frozen_row};
-ghost use Rattle.cpi_sql_reads.specs.Headers.{LatestStands, SamplesStand};
+ghost use Rattle.cpi_sql_reads.specs.Headers.{LatestStands, TellsBy};
+ghost use Rattle.cpi_sql_reads.specs.Samples.{AreSamplesOf, SamplesStand, SamplesTaken};
 
 use crate::earlier::earlier_rows;
 use cpi_codes::{Code, Month};
 use cpi_index::{CarriedPrice, FrozenQuote, GroupRow};
 use cpi_plan::YearPlan;
-use cpi_release::{Cached, group_rows, groups_after};
-use cpi_rows::find_row;
+use cpi_release::{KeptSamples, groups_after};
 use cpi_sql_rows::{Header, Unread};
 use cpi_store::Survey;
 use sqlite::{Alter, Connection};
@@ -63,14 +63,10 @@ fn link_lists<S: Alter>(
     link: Month,
 ) -> Result<SeriesLists, Unread>
     ensures look { Looks (state S.Store conn.old) (state S.Store conn.new) result }
-    ensures read { IsCleanBook (state S.Store conn.new) → HasTables (state S.Store conn.old) →
-        headers.now ≡ headers_in ((state S.Store conn.old).now.trees 26) → IfOk result (λ x.
-        let releases = releases_in (state S.Store conn.old).now.trees in
-        (x.carried.items ≡ carried_in releases link) × (x.quotes.items ≡ frozen_in releases link)) }
-    ensures stand { IsCleanBook (state S.Store conn.new) → HasTables (state S.Store conn.old) →
-        headers.now ≡ headers_in ((state S.Store conn.old).now.trees 26) →
-        OnOk result (LatestStands carried_row 30 link (state S.Store conn.old).now.trees
-        × LatestStands frozen_row 28 link (state S.Store conn.old).now.trees) }
+    ensures read { TellsBy headers.now (state S.Store conn.old) (state S.Store conn.new) (λ trees.
+        IfOk result (λ x. (x.carried.items ≡ carried_in (releases_in trees) link)
+        × (x.quotes.items ≡ frozen_in (releases_in trees) link)
+        × LatestStands carried_row 30 link trees × LatestStands frozen_row 28 link trees)) }
 {
     let carried = earlier_rows(conn, alloc, headers, link)?;
     let quotes = earlier_rows(conn, alloc, headers, link)?;
@@ -91,7 +87,7 @@ fn grouped(
         link.now.quotes.items ≡ frozen_in s.releases (link_month month) →
         last.now ≡ carried_in s.releases (month - 1) → s.quotes month ≡ quotes.now → AreGroupsOf s month v.items) }
 {
-    match groups_after(
+    groups_after(
         alloc,
         plan,
         &link.carried,
@@ -99,10 +95,8 @@ fn grouped(
         last,
         month,
         quotes,
-    ) {
-        Ok(groups) => Ok(groups),
-        Err(_) => Err(Unread),
-    }
+    )
+    .map_err(|_| Unread)
 }
 
 // The samples of a month by the plan of its year. `quotes` are those of the month.
@@ -116,17 +110,14 @@ fn samples<S: Alter>(
     quotes: &[FrozenQuote],
 ) -> Result<Vec<Vec<GroupRow>>, Unread>
     ensures look { Looks (state S.Store conn.old) (state S.Store conn.new) result }
-    ensures read { IsCleanBook (state S.Store conn.new) → HasTables (state S.Store conn.old) →
-        headers.now ≡ headers_in ((state S.Store conn.old).now.trees 26) →
-        let sources = office_sources (office_in (state S.Store conn.old).now.trees) in
+    ensures read { TellsBy headers.now (state S.Store conn.old) (state S.Store conn.new) (λ trees.
+        let sources = office_sources (office_in trees) in
         at (λ p. p.year) (year_of month) sources.plans ≡ Some plan.now →
         earlier.link ≡ link_month month → earlier.last ≡ month - 1 →
         (IsFit sources → quotes.now ≡ sources.quotes month) →
-        IfOk result (λ v. AreGroupsOf sources month v.items) }
-    ensures stand { IsCleanBook (state S.Store conn.new) → HasTables (state S.Store conn.old) →
-        headers.now ≡ headers_in ((state S.Store conn.old).now.trees 26) →
-        earlier.link ≡ link_month month → earlier.last ≡ month - 1 →
-        OnOk result (SamplesStand month (state S.Store conn.old).now.trees) }
+        IfOk result (λ v. AreGroupsOf sources month v.items)) }
+    ensures stand { TellsBy headers.now (state S.Store conn.old) (state S.Store conn.new) (λ trees.
+        earlier.link ≡ link_month month → earlier.last ≡ month - 1 → OnOk result (SamplesStand month trees)) }
 {
     let link = link_lists(conn, alloc, headers, earlier.link)?;
     if are_one(&earlier) {
@@ -145,18 +136,13 @@ fn month_samples<S: Alter>(
     month: Month,
 ) -> Result<Vec<Vec<GroupRow>>, Unread>
     ensures look { Looks (state S.Store conn.old) (state S.Store conn.new) result }
-    ensures read { IsCleanBook (state S.Store conn.new) → HasTables (state S.Store conn.old) →
-        headers.now ≡ headers_in ((state S.Store conn.old).now.trees 26) →
-        let office = office_in (state S.Store conn.old).now.trees in
-        survey.now ≡ survey_of office →
-        IfOk result (λ v. AreGroupsOf (office_sources office) month v.items) }
-    ensures stand { IsCleanBook (state S.Store conn.new) → HasTables (state S.Store conn.old) →
-        headers.now ≡ headers_in ((state S.Store conn.old).now.trees 26) →
-        let office = office_in (state S.Store conn.old).now.trees in
-        survey.now ≡ survey_of office → IsSome (at (λ p. p.year) (year_of month) office.plans) → 12 ≤ month →
-        OnOk result (SamplesStand month (state S.Store conn.old).now.trees) }
+    ensures read { TellsBy headers.now (state S.Store conn.old) (state S.Store conn.new) (λ trees.
+        survey.now ≡ survey_of (office_in trees) →
+        IfOk result (λ v. AreGroupsOf (office_sources (office_in trees)) month v.items)) }
+    ensures taken { TellsBy headers.now (state S.Store conn.old) (state S.Store conn.new) (λ trees.
+        survey.now ≡ survey_of (office_in trees) → OnOk result (SamplesTaken month trees)) }
 {
-    let Some(plan) = find_row(survey.public().plans(), &month.year()) else {
+    let Some(plan) = survey.plan_of(month) else {
         return Ok(Vec::new(alloc));
     };
     let Some(earlier) = earlier_months(month) else {
@@ -166,31 +152,6 @@ fn month_samples<S: Alter>(
     samples(conn, alloc, headers, plan, earlier, month, &quotes)
 }
 
-// The rows of one aggregate, where the month's samples are kept.
-fn kept_rows(
-    alloc: Global,
-    survey: &Survey,
-    cached: &Option<Cached>,
-    month: Month,
-    code: Code,
-) -> Result<Option<Vec<GroupRow>>, Unread>
-    ensures rows { IfOk result (λ o. IfSome o (λ v. (s : Sources) → s.plans ≡ survey.now.plans →
-        AreKept s cached.now → IsFit s → 12 ≤ month → v.items ≡ group_of s month code)) }
-    ensures kept { IfOk result (λ o. IsSome o → IsSome cached.now) }
-{
-    let Some(cached) = cached else {
-        return Ok(None);
-    };
-    if cached.month != month {
-        return Ok(None);
-    }
-    let plan = find_row(survey.public().plans(), &month.year());
-    match group_rows(alloc, plan, &cached.groups, month, code) {
-        Ok(rows) => Ok(Some(rows)),
-        Err(_) => Err(Unread),
-    }
-}
-
 /// The rows of one aggregate of a month; the month's samples are kept from then on. `headers` are those of all
 /// releases, `survey` what the office has beside them.
 pub fn sample_of<S: Alter>(
@@ -198,7 +159,7 @@ pub fn sample_of<S: Alter>(
     alloc: Global,
     headers: &[Header],
     survey: &Survey,
-    cached: &mut Option<Cached>,
+    samples: &mut KeptSamples,
     month: Month,
     code: Code,
 ) -> Result<Vec<GroupRow>, Unread>
@@ -206,31 +167,31 @@ pub fn sample_of<S: Alter>(
     ensures kept { IsCleanBook (state S.Store conn.new) → HasTables (state S.Store conn.old) →
         headers.now ≡ headers_in ((state S.Store conn.old).now.trees 26) →
         let office = office_in (state S.Store conn.old).now.trees in
-        survey.now ≡ survey_of office → AreKept (office_sources office) cached.old →
-        AreKept (office_sources office) cached.new }
+        survey.now ≡ survey_of office → AreSamplesOf (state S.Store conn.old).now.trees samples.old →
+        AreSamplesOf (state S.Store conn.old).now.trees samples.new }
     ensures read { IsCleanBook (state S.Store conn.new) → HasTables (state S.Store conn.old) →
         headers.now ≡ headers_in ((state S.Store conn.old).now.trees 26) →
         let office = office_in (state S.Store conn.old).now.trees in
-        survey.now ≡ survey_of office → AreKept (office_sources office) cached.old →
+        survey.now ≡ survey_of office → AreSamplesOf (state S.Store conn.old).now.trees samples.old →
         IsFit (office_sources office) → 12 ≤ month →
         IfOk result (λ v. v.items ≡ group_of (office_sources office) month code) }
-    ensures stand { IsCleanBook (state S.Store conn.new) → HasTables (state S.Store conn.old) →
+    ensures taken { IsCleanBook (state S.Store conn.new) → HasTables (state S.Store conn.old) →
         headers.now ≡ headers_in ((state S.Store conn.old).now.trees 26) →
-        let office = office_in (state S.Store conn.old).now.trees in
-        survey.now ≡ survey_of office → cached.old ≡ None →
-        IsSome (at (λ p. p.year) (year_of month) office.plans) → 12 ≤ month →
-        OnOk result (SamplesStand month (state S.Store conn.old).now.trees) }
+        let trees = (state S.Store conn.old).now.trees in
+        survey.now ≡ survey_of (office_in trees) → AreSamplesOf trees samples.old →
+        OnOk result (SamplesTaken month trees) }
 {
-    if let Some(rows) = kept_rows(alloc, survey, cached, month, code)? {
+    let plan = survey.plan_of(month);
+    let kept = match samples.rows(alloc, plan, month, code) {
+        Ok(kept) => kept,
+        Err(_) => return Err(Unread),
+    };
+    if let Some(rows) = kept {
         return Ok(rows);
     }
     let groups = month_samples(conn, alloc, headers, survey, month)?;
-    let plan = find_row(survey.public().plans(), &month.year());
-    match group_rows(alloc, plan, &groups, month, code) {
-        Ok(rows) => {
-            *cached = Some(Cached { month, groups });
-            Ok(rows)
-        }
+    match samples.keep(alloc, plan, month, groups, code) {
+        Ok(rows) => Ok(rows),
         Err(_) => Err(Unread),
     }
 }

@@ -1,10 +1,10 @@
 //! The table of a release, kept to look up its levels.
-ghost use Rattle.std.specs.Prelude.{◌≡◌, ◌<◌, IfSome, IsSome, OnOk, length, option_map, slice_index_or};
+ghost use Rattle.std.specs.Prelude.{◌≡◌, ◌==◌, ◌&&◌, ◌<◌, IfSome, IsSome, OnOk, length, option_map, slice_index_or};
 ghost use Rattle.std.specs.Option.{option_copied};
 ghost use Rattle.cpi_codes.specs.CodeOrder.{code_cmp};
 ghost use Rattle.cpi_rows.specs.Keyed.{IsInOrder, row_at};
 ghost use Rattle.cpi_release.specs.FrozenMonths.{release_cmp};
-ghost use Rattle.cpi_sql_rows.specs.LevelTables.{AreTablesOf, ReleaseLevels, levels_at, table_key};
+ghost use Rattle.cpi_sql_reads.specs.LevelTables.{AreTablesOf, IsTableOf, ReleaseLevels, table_key};
 
 use cpi_codes::{Code, Month};
 use cpi_index::ChainedLevel;
@@ -28,7 +28,7 @@ pub struct LevelTable {
 impl Model for LevelTable {
     ghost use Rattle.cpi_codes.specs.CodeOrder.{code_cmp};
     ghost use Rattle.cpi_rows.specs.Keyed.{IsInOrder};
-    ghost use Rattle.cpi_sql_rows.specs.LevelTables.{ReleaseLevels};
+    ghost use Rattle.cpi_sql_reads.specs.LevelTables.{ReleaseLevels};
 
     ghost Value = { ReleaseLevels };
 
@@ -50,18 +50,11 @@ impl LevelTable {
         }
     }
 
-    /// The month.
-    pub fn month(&self) -> Month
-        ensures { result ≡ self.now.month }
+    /// Whether it is the table of that release.
+    pub fn is_of(&self, month: Month, revision: Revision) -> bool
+        ensures { result ≡ (self.now.month == month && self.now.revision == revision) }
     {
-        self.month
-    }
-
-    /// The revision of the month.
-    pub fn revision(&self) -> Revision
-        ensures { result ≡ self.now.revision }
-    {
-        self.revision
+        self.month == month && self.revision == revision
     }
 
     /// The rows, by code.
@@ -82,18 +75,6 @@ impl LevelTable {
     }
 }
 
-/// The table of a release among those that are kept.
-pub fn table_of(tables: &[LevelTable], month: Month, revision: Revision) -> Option<&LevelTable>
-    ensures { option_copied result ≡ row_at release_cmp table_key (month, revision) tables.now }
-{
-    'tables: for table in tables {
-        if table.month() == month && table.revision() == revision {
-            return Some(table);
-        }
-    }
-    None
-}
-
 // Where the table of a release stands among those that are kept.
 fn place_of(tables: &[LevelTable], month: Month, revision: Revision) -> Option<usize>
     ensures inside { IfSome result (λ i. i < length tables.now) }
@@ -101,7 +82,7 @@ fn place_of(tables: &[LevelTable], month: Month, revision: Revision) -> Option<u
         ≡ option_map (λ i. slice_index_or tables.now i d) result }
 {
     for i in 0..tables.len() {
-        if tables[i].month() == month && tables[i].revision() == revision {
+        if tables[i].is_of(month, revision) {
             return Some(i);
         }
     }
@@ -116,7 +97,7 @@ pub fn take_table(
     revision: Revision,
 ) -> Option<LevelTable>
     ensures taken { result ≡ row_at release_cmp table_key (month, revision) tables.old.items }
-    ensures left { (releases : _) → AreTablesOf releases tables.old.items → AreTablesOf releases tables.new.items }
+    ensures left { (trees : _) → AreTablesOf trees tables.old.items → AreTablesOf trees tables.new.items }
 {
     let place = place_of(tables, month, revision)?;
     Some(tables.remove(place))
@@ -124,19 +105,16 @@ pub fn take_table(
 
 /// Keeps the table, behind the others. Where they are many the first of them is dropped, which was asked for longest
 /// ago.
-#[tactic(auto, using(crate::proofs::KeptTables::all_less))]
+#[tactic(auto, using(crate::proofs::KeptTables::all_less, crate::proofs::HeaderLists::behind_found))]
 pub fn keep_table(tables: &mut Vec<LevelTable>, table: LevelTable) -> Result<(), Unread>
-    ensures kept { (releases : _) → AreTablesOf releases tables.old.items →
-        table.levels ≡ levels_at releases (table_key table) → AreTablesOf releases tables.new.items }
+    ensures kept { (trees : _) → AreTablesOf trees tables.old.items → IsTableOf trees table →
+        AreTablesOf trees tables.new.items }
     ensures there { OnOk result (IsSome (row_at release_cmp table_key (table_key table) tables.new.items)) }
 {
     if MOST_TABLES <= tables.len() {
         let _first = tables.remove(0);
     }
-    match tables.push(table) {
-        Ok(()) => Ok(()),
-        Err(_) => Err(Unread),
-    }
+    tables.push(table).map_err(|_| Unread)
 }
 
 /// The rows of the table of a release among those that are kept.
@@ -144,8 +122,6 @@ pub fn lent_table(tables: &[LevelTable], month: Month, revision: Revision) -> Op
     ensures { option_copied result
         ≡ option_map (λ t. t.levels) (row_at release_cmp table_key (month, revision) tables.now) }
 {
-    match table_of(tables, month, revision) {
-        Some(table) => Some(table.levels()),
-        None => None,
-    }
+    let place = place_of(tables, month, revision)?;
+    Some(tables[place].levels())
 }

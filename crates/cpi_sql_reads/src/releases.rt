@@ -1,13 +1,15 @@
 //! The releases, read from the tables.
-ghost use Rattle.std.specs.Prelude.{◌≡◌, ◌≤◌, List, IfOk, OnOk};
+ghost use Rattle.std.specs.Prelude.{◌≡◌, ◌≤◌, List, IfOk, IsTrue, OnOk};
 ghost use Rattle.sqlite.specs.Held.{state};
+ghost use Rattle.sqlite.specs.State.{HasCleanDisk, Survives};
 ghost use Rattle.cpi_rows.specs.Keyed.{IsInOrder};
 ghost use Rattle.cpi_rows.specs.Held.{held_by, held_cmp, held_key};
 ghost use Rattle.cpi_release.specs.FrozenMonths.{release_cmp};
 ghost use Rattle.cpi_release.specs.declared.release.Release.{Release as Released};
 ghost use Rattle.cpi_sql_rows.specs.HeldTables.{HeldTable, OfReleases, beside, release_in};
-ghost use Rattle.cpi_sql_rows.specs.Lists.{header_in, header_key, headers_in, listed, release_number};
-ghost use Rattle.cpi_sql_rows.specs.Shelf.{AllStand, AllStandOf, HasTables, IsCleanBook, Looks};
+ghost use Rattle.cpi_sql_rows.specs.Lists.{header_key, listed, release_number};
+ghost use Rattle.cpi_sql_rows.specs.Shelf.{AllStandOf, HasTables, IsCleanBook, Looks};
+ghost use Rattle.cpi_sql_reads.specs.Headers.{AreHeadersOf};
 ghost use Rattle.cpi_sql_rows.specs.Texts.{is_release};
 
 use cpi_codes::Month;
@@ -24,10 +26,11 @@ pub fn read_headers<S: Alter>(
 ) -> Result<Vec<Header>, Unread>
     ensures look { Looks (state S.Store conn.old) (state S.Store conn.new) result }
     ensures read { IsCleanBook (state S.Store conn.new) → HasTables (state S.Store conn.old) →
-        IfOk result (λ hs. hs.items ≡ headers_in ((state S.Store conn.old).now.trees 26)) }
-    ensures stand { IsCleanBook (state S.Store conn.new) → HasTables (state S.Store conn.old) →
-        OnOk result (AllStand header_in ((state S.Store conn.old).now.trees 26)) }
+        IfOk result (λ hs. AreHeadersOf (state S.Store conn.old).now.trees hs.items) }
     ensures order { IfOk result (λ hs. IsInOrder release_cmp header_key hs.items) }
+    ensures open { HasCleanDisk (state S.Store conn.new) → OnOk result (IsTrue (state S.Store conn.new).is_open) }
+    ensures crash { Survives (state S.Store conn.old) (state S.Store conn.new)
+        (λ _. HasTables (state S.Store conn.old) → ⊥) }
 {
     read_all(conn, alloc)
 }

@@ -6,7 +6,7 @@ ghost use Rattle.cpi_rows.specs.Held.{held_cmp, held_key};
 ghost use Rattle.cpi_rows.specs.Keyed.{IsInOrder};
 ghost use Rattle.cpi_survey.specs.Quote.{quote_cmp, quote_key};
 ghost use Rattle.cpi_store.specs.Office.{public_part};
-ghost use Rattle.cpi_sql_rows.specs.Shelf.{AreTaken, IsCleanBook, HasTables, Looks, survey_of};
+ghost use Rattle.cpi_sql_rows.specs.Shelf.{AreTaken, IsCleanBook, IsSurveyOf, HasTables, Looks};
 ghost use Rattle.cpi_sql_rows.specs.Lists.{assignments_in, collectors_in, outlets_in, office_in, quotes_in};
 
 use crate::years::plans;
@@ -111,9 +111,7 @@ fn survey_from(
 pub fn read_survey<S: Alter>(conn: &mut Connection<S>, alloc: Global) -> Result<Survey, Unread>
     ensures look { Looks (state S.Store conn.old) (state S.Store conn.new) result }
     ensures read { IsCleanBook (state S.Store conn.new) → HasTables (state S.Store conn.old)
-        → IfOk result (λ s. s ≡ survey_of (office_in (state S.Store conn.old).now.trees)) }
-    ensures taken { IsCleanBook (state S.Store conn.new) → HasTables (state S.Store conn.old)
-        → OnOk result (AreTaken (state S.Store conn.old).now.trees) }
+        → IfOk result (λ s. IsSurveyOf (state S.Store conn.old).now.trees s) }
 {
     let public = read_public(conn, alloc)?;
     let registers = read_registers(conn, alloc)?;

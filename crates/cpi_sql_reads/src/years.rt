@@ -98,10 +98,7 @@ fn rows_of_year<S: Alter, T: YearRow>(
 fn first_month(references: &[ReferenceMonth]) -> Option<Month>
     ensures { result ≡ reference_of references.now }
 {
-    match references.first() {
-        Some(reference) => Some(reference.month),
-        None => None,
-    }
+    references.first().map(|reference| reference.month)
 }
 
 // The plan that the rows of a year make; none where it has no nodes.

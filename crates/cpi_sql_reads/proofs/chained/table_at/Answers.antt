@@ -1,22 +1,27 @@
-use Rattle.std.proofs.Common.{sym, ap}
+use Rattle.std.proofs.Common.{IsTrue, sym, subst}
 use Rattle.sqlite.specs.Held.{state}
-use Rattle.cpi_release.specs.FrozenMonths.{ReleaseKey}
-use Rattle.cpi_sql_rows.specs.Lists.{releases_in}
-use Rattle.cpi_sql_reads.proofs.HeaderLists.{kept_is}
-use Rattle.cpi_sql_reads.proofs.KeptTables.{found_key}
+use Rattle.cpi_rows.proofs.Found.{row_key}
+use Rattle.cpi_release.specs.FrozenMonths.{release_cmp}
+use Rattle.cpi_sql_reads.specs.Headers.{has_release}
+use Rattle.cpi_sql_reads.specs.LevelTables.{table_key}
+use Rattle.cpi_sql_reads.proofs.HeaderLists.{kept_is, key_is}
 use Rattle.cpi_sql_reads.proofs.chained.table_at.Goals as goal
 
-pub returns-in-Some-clause-month : goal.returns-in-Some-clause-month
-returns-in-Some-clause-month g c =
-    ap (λ (k : ReleaseKey). k.0) (found_key c.args.tables.now.items c.args.month c.args.revision c.in-Some.table
-    (sym c.in-Some.ensures.taken))
-
-pub returns-in-Some-clause-revision : goal.returns-in-Some-clause-revision
-returns-in-Some-clause-revision g c =
-    ap (λ (k : ReleaseKey). k.1) (found_key c.args.tables.now.items c.args.month c.args.revision c.in-Some.table
+pub returns-in-Some-clause-key : goal.returns-in-Some-clause-key
+returns-in-Some-clause-key g c =
+    let t = c.in-Some.table in
+    key_is t.month t.revision c.args.month c.args.revision
+    (row_key release_cmp table_key (c.args.month, c.args.revision) t c.args.tables.now.items
     (sym c.in-Some.ensures.taken))
 
 pub returns-in-Some-clause-read : goal.returns-in-Some-clause-read
 returns-in-Some-clause-read g c = λ clean has is stand.
-    kept_is (releases_in (state g.S.Store c.args.conn.now).now.trees) c.args.tables.now.items c.args.month
-    c.args.revision c.in-Some.table stand (sym c.in-Some.ensures.taken)
+    (kept_is (state g.S.Store c.args.conn.now).now.trees c.args.tables.now.items c.args.month c.args.revision
+    c.in-Some.table stand (sym c.in-Some.ensures.taken)).0
+
+pub returns-clause-read : goal.returns-clause-read
+returns-clause-read g c = λ clean has is stand. rw c.new.ensures (record {
+  levels = c.in_ok-levels.ensures.read clean has is;
+  taken = λ there. c.in_ok-levels.ensures.stand clean has (subst (λ hs. IsTrue (has_release c.args.month c.args.revision
+      hs)) (sym is) there);
+})

@@ -1,41 +1,46 @@
-use Rattle.std.proofs.Common.{◌≡◌, refl, sym, ap}
+use Rattle.std.proofs.Common.{◌≡◌, ℕ, None, Some, Option, refl, ap, ◌∙◌}
 use Rattle.std.specs.Option.{option_copied}
 use Rattle.sqlite.specs.Held.{state}
+use Rattle.sqlite.specs.Tree.{Trees}
 use Rattle.cpi_codes.specs.Month.{year_of}
 use Rattle.cpi_plan.specs.Plan.{Plan}
 use Rattle.cpi_rows.specs.Keyed.{at}
-use Rattle.cpi_release.specs.Cached.{AreGroupsOf}
 use Rattle.cpi_release.specs.GroupCalls.{Sources}
+use Rattle.cpi_release.specs.KeptSamples.{AreKept, Samples, kept_month}
 use Rattle.cpi_store.specs.Sources.{office_sources}
 use Rattle.cpi_store.specs.Office.{Office}
 use Rattle.cpi_sql_rows.specs.Lists.{office_in}
+use Rattle.cpi_sql_reads.specs.Samples.{AreSamplesOf, SamplesTaken}
 use Rattle.cpi_sql_reads.proofs.groups.sample_of.Goals as goal
 
+-- samples of the tables are those of the office in them
+are_kept : (trees : Trees) (k : Option Samples) → AreSamplesOf trees k → AreKept (office_sources (office_in trees)) k
+are_kept trees None stand = tt
+are_kept trees (Some k) stand = stand.0
+
+-- the types took the rows that the samples of the month were made from
+are_taken : (trees : Trees) (k : Option Samples) (month : ℕ) → AreSamplesOf trees k → kept_month k ≡ Some month →
+    SamplesTaken month trees
+are_taken trees None month stand is = absurd (cc)
+are_taken trees (Some k) month stand is = let same : k.month ≡ month = cc in rw same at stand.1
+
 pub returns-in-Some-clause-read : goal.returns-in-Some-clause-read
-returns-in-Some-clause-read g c = λ clean has is stood kept fit late.
+returns-in-Some-clause-read g c = λ clean has is stood stand fit late.
+    let trees = (state g.S.Store c.args.conn.now).now.trees in
+    let s : Sources = office_sources (office_in trees) in
+    let plan : option_copied c.plan_of-plan.result ≡ at (λ (p : Plan). p.year) (year_of c.args.month) s.plans =
+    c.plan_of-plan.ensures ∙ ap (λ (o : Office). at (λ (p : Plan). p.year) (year_of c.args.month) o.plans) stood in
+    let found = rw c.in-Some.is at c.in-Ok.ensures.rows in
+    found s plan (are_kept trees c.args.samples.now stand) fit late
+
+pub returns-in-Some-clause-taken : goal.returns-in-Some-clause-taken
+returns-in-Some-clause-taken g c = λ clean has is stood stand.
+    let found = rw c.in-Some.is at c.in-Ok.ensures.kept in
+    are_taken (state g.S.Store c.args.conn.now).now.trees c.args.samples.now c.args.month stand (found.0 refl)
+
+pub returns-in-Ok-keep-clause-read : goal.returns-in-Ok-keep-clause-read
+returns-in-Ok-keep-clause-read g c = λ clean has is stood stand fit late.
     let s : Sources = office_sources (office_in (state g.S.Store c.args.conn.now).now.trees) in
-    let found = rw c.in-Some.is at c.in_ok-rows.ensures.rows in
-    found s (sym (ap (λ (o : Office). o.plans) stood)) kept fit late
-
-pub returns-in-Ok-clause-kept : goal.returns-in-Ok-clause-kept
-returns-in-Ok-clause-kept g c = λ clean has is stood kept. c.in_ok-groups.ensures.read clean has is stood
-
-pub returns-in-Ok-clause-read : goal.returns-in-Ok-clause-read
-returns-in-Ok-clause-read g c = λ clean has is stood kept fit late.
-    let s : Sources = office_sources (office_in (state g.S.Store c.args.conn.now).now.trees) in
-    let made : AreGroupsOf s c.args.month c.in_ok-groups.groups.items =
-    c.in_ok-groups.ensures.read clean has is stood in
-    let lent : AreGroupsOf s c.args.month c.deref.result.now = rw (sym c.deref.ensures.value) at made in
-    let plan : option_copied c.find_row-plan.result ≡ at (λ (p : Plan). p.year) (year_of c.args.month) s.plans =
-    rw (
-      c.plans.ensures.plans,
-      c.year.ensures.value,
-      c.public.ensures,
-      ap (λ (o : Office). o.plans) stood,
-    ) at c.find_row-plan.ensures in
-    c.in-Ok.ensures s plan lent fit late
-
-pub returns-in-Some-clause-stand : goal.returns-in-Some-clause-stand
-returns-in-Some-clause-stand g c = λ clean has is stood none.
-    let some = rw c.in-Some.is at c.in_ok-rows.ensures.kept in
-    absurd (let no = rw none at some refl in cc)
+    let plan : option_copied c.plan_of-plan.result ≡ at (λ (p : Plan). p.year) (year_of c.args.month) s.plans =
+    c.plan_of-plan.ensures ∙ ap (λ (o : Office). at (λ (p : Plan). p.year) (year_of c.args.month) o.plans) stood in
+    c.in-Ok-keep.ensures.rows s plan (c.in_ok-groups.ensures.read clean has is stood) fit late

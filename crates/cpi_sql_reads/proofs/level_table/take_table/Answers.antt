@@ -1,5 +1,5 @@
 use Rattle.std.proofs.Common.{◌∙◌, [], sym}
-use Rattle.cpi_sql_rows.specs.LevelTables.{ReleaseLevels}
+use Rattle.cpi_sql_reads.specs.LevelTables.{ReleaseLevels}
 use Rattle.cpi_sql_reads.proofs.level_table.take_table.Goals as goal
 
 pub returns-in_err-place-clause-taken : goal.returns-in_err-place-clause-taken

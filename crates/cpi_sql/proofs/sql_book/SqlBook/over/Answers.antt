@@ -4,11 +4,11 @@ use Rattle.cpi_sql.proofs.sql_book.SqlBook.over.Goals as goal
 pub invariant_of-result : goal.invariant_of-result
 invariant_of-result g c = λ clean. record {
   tables = c.in-Ok.ensures.ready clean;
-  survey = λ t. absurd (let no = t in cc);
-  releases = record {
+  kept = record {
+    survey = λ t. absurd (let no = t in cc);
     headers = λ t. absurd (let no = t in cc);
     tables = rw c.new-in-Ok-2.ensures.items tt;
-    samples = tt;
+    samples = rw c.none.ensures tt;
   };
 }
 

@@ -7,16 +7,13 @@ invariant_of-self g c =
     look_sound (state g.S.Store c.self.inside.conn) (state g.S.Store c.read_headers.new.conn) _ _
     c.read_headers.ensures.look.still c.self.invariant
     (λ clean st. record {
-      tables = st.tables;
-      survey = st.survey;
-      releases = record {
-        headers = λ _. c.in-Ok.ensures.read clean st.tables;
-        tables = st.releases.tables;
-        samples = st.releases.samples;
-      };
+      survey = st.kept.survey;
+      headers = λ _. c.in-Ok.ensures.read clean st.tables;
+      tables = st.kept.tables;
+      samples = st.kept.samples;
     })
 
 pub invariant_of-self-in-Err : goal.invariant_of-self-in-Err
 invariant_of-self-in-Err g c =
     look_sound (state g.S.Store c.self.inside.conn) (state g.S.Store c.read_headers.new.conn) _ _
-    c.read_headers.ensures.look.still c.self.invariant (λ clean st. st)
+    c.read_headers.ensures.look.still c.self.invariant (λ clean st. st.kept)

@@ -1,4 +1,4 @@
-use Rattle.std.proofs.Common.{subst, ◌∙◌}
+use Rattle.std.proofs.Common.{subst}
 use Rattle.sqlite.specs.Effect.{Database}
 use Rattle.cpi_sql_rows.specs.Shelf.{AreTaken}
 use Rattle.cpi_sql.proofs.Calls.{then_read, then_fails}
@@ -13,8 +13,7 @@ returns-in-Err-clause-reads g c =
     then_fails _ _ _ _ _ _ c.in_ok-ready_levels.ensures.reads c.in-Err.ensures.reads
 
 pub returns-in-Ok-clause-taken : goal.returns-in-Ok-clause-taken
-returns-in-Ok-clause-taken g c = λ clean unread.
+returns-in-Ok-clause-taken g c = λ clean.
     let second = c.in-Ok.ensures in
     subst (λ (d : Database). AreTaken d.trees)
-    (c.in_ok-ready_levels.ensures.now (second.reads.keeps.was_clean clean))
-    (second.taken clean (c.in_ok-ready_levels.ensures.kept.0 ∙ unread))
+    (c.in_ok-ready_levels.ensures.now (second.reads.keeps.was_clean clean)) (second.taken clean)

@@ -13,7 +13,7 @@ returns-in-Ok-clause-reads g c =
     let ready = rw (← c.self.view_is) at c.in_ok-ready_headers.ensures.ready in
     let reads = rw (← c.self.view_is) at c.in_ok-ready_headers.ensures.reads in
     rw (← c.self.view_is) (then_shown _ _ _ _ _ reads (λ clean.
-    c.in-Ok.ensures ∙ ap months_of (c.deref.ensures.value ∙ (c.self.invariant clean).releases.headers ready)
+    c.in-Ok.ensures ∙ ap months_of (c.deref.ensures.value ∙ ((c.self.invariant clean).kept.headers ready).read)
     ∙ sym (months_are now.now.trees) ∙ ap (λ (o : Office). frozen_months o.releases) (reads.keeps.kept clean)))
 
 pub returns-in-Err-clause-reads : goal.returns-in-Err-clause-reads

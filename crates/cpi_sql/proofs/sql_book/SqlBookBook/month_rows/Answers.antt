@@ -13,7 +13,7 @@ returns-in-Ok-clause-reads g c =
     rw (← c.self.view_is) (then_shown _ _ _ _ _ reads (λ clean.
     subst (λ (o : Office). is_by_series frozen_serial (month_rows c.args.month o) ≡ true →
     c.in-Ok.found.items ≡ month_rows c.args.month o)
-    ((c.self.invariant clean).survey ready ∙ ap survey_of (reads.keeps.kept clean)) c.in-Ok.ensures))
+    (((c.self.invariant clean).kept.survey ready).read ∙ ap survey_of (reads.keeps.kept clean)) c.in-Ok.ensures))
 
 pub returns-in-Err-clause-reads : goal.returns-in-Err-clause-reads
 returns-in-Err-clause-reads g c =

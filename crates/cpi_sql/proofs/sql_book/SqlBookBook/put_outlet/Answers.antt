@@ -1,50 +1,29 @@
 use Rattle.std.proofs.Common.{arith, refl}
-use Rattle.sqlite.specs.Held.{state}
-use Rattle.cpi_store.specs.Office.{PutsOutlet}
-use Rattle.cpi_sql.proofs.Calls.{writes, write_fails}
-use Rattle.cpi_sql.proofs.Followed.{kept_sound, survey_stands, tables_of}
+use Rattle.cpi_sql.proofs.Calls.{puts, put_fails}
+use Rattle.cpi_sql.proofs.Followed.{kept_sound, survey_sound, tables_of}
 use Rattle.cpi_sql.proofs.sql_book.SqlBookBook.put_outlet.Goals as goal
-
-pub returns-in-Err : goal.returns-in-Err
-returns-in-Err g c =
-    let old = state g.S.Store c.self.inside.conn in
-    let new = state g.S.Store c.put_outlet.new.conn in
-    let owed = rw (← c.self.view_is) at c.requires.new in
-    rw (← c.self.view_is) (record {
-      writes = write_fails old new c.self.inside.failed.count
-          (tables_of old _ c.self.invariant) _ _ c.put_outlet.ensures.crash c.put_outlet.ensures.clean
-          (λ clean db made. made (tables_of old _ c.self.invariant clean) (owed clean)) _ _ (omega (
-            arith,
-            c.counted.ensures.count,
-          )) c.in-Err.ensures.kept;
-    })
 
 pub returns-in-Ok : goal.returns-in-Ok
 returns-in-Ok g c =
-    let old = state g.S.Store c.self.inside.conn in
-    let new = state g.S.Store c.put_outlet.new.conn in
     let owed = rw (← c.self.view_is) at c.requires.new in
     rw (← c.self.view_is) (record {
-      writes = writes old new c.self.inside.failed.count
-          (tables_of old _ c.self.invariant) _ _ c.put_outlet.ensures.crash c.put_outlet.ensures.clean
-          (λ clean db made. made (tables_of old _ c.self.invariant clean) (owed clean)) _ c.in-Ok.ensures.open
-          (λ clean. let was = c.put_outlet.ensures.clean clean in
-          let done = c.in-Ok.ensures.done clean (tables_of old _ c.self.invariant was) (owed was) in
-          (done.tables, done.office)) c.settle.ensures;
+      writes = puts _ _ _ _ _ c.in-Ok.ensures.written (tables_of _ _ c.self.invariant)
+          owed c.in-Ok.ensures.open c.settle.ensures;
+    })
+
+pub returns-in-Err : goal.returns-in-Err
+returns-in-Err g c =
+    let owed = rw (← c.self.view_is) at c.requires.new in
+    rw (← c.self.view_is) (record {
+      writes = put_fails _ _ _ _ _ _ c.in-Err.ensures.written (tables_of _ _ c.self.invariant)
+          owed (omega (arith, c.counted.ensures.count));
     })
 
 pub invariant_of-self : goal.invariant_of-self
 invariant_of-self g c =
-    let old = state g.S.Store c.self.inside.conn in
-    let new = state g.S.Store c.put_outlet.new.conn in
     let owed = rw (← c.self.view_is) at c.requires.new in
-    λ clean.
-    let was = c.put_outlet.ensures.clean clean in
-    let before = c.self.invariant was in
-    survey_stands (PutsOutlet c.args.outlet) old new _ _ _ (λ o. refl) (λ o. refl)
-    (c.in-Ok.ensures.done clean before.tables (owed was)) before c.follow_outlet.ensures
+    rw c.clear.ensures (survey_sound _ _ _ c.in-Ok.ensures.written owed c.self.invariant _ _
+    (λ o. refl) (λ o. refl) c.follow_outlet.ensures)
 
 pub invariant_of-self-in-Err-1 : goal.invariant_of-self-in-Err-1
-invariant_of-self-in-Err-1 g c =
-    kept_sound (state g.S.Store c.self.inside.conn)
-    (state g.S.Store c.put_outlet.new.conn) _ c.put_outlet.ensures.clean c.in-Err.ensures.kept c.self.invariant
+invariant_of-self-in-Err-1 g c = kept_sound _ _ _ c.in-Err.ensures.written c.self.invariant

@@ -22,7 +22,7 @@ returns-then-not-is_there g c =
         then_shown _ _ _ _ _ read (λ clean.
             table_shown now.now.trees c.args.month c.args.revision c.args.until [] false
             (sym no ∙ c.is_there.ensures ∙ ap (is_there c.args.month c.args.revision c.args.until)
-            (c.deref.ensures.value ∙ (c.self.invariant clean).releases.headers ready)) tt
+            (c.deref.ensures.value ∙ ((c.self.invariant clean).kept.headers ready).read)) tt
             (λ never. absurd (let e = never in cc))
             ∙ ap (λ (o : Office). option_map (λ (t : PublishedTable). t.levels)
             (table_until c.args.month (Some c.args.revision) c.args.until o.releases)) (read.keeps.kept clean)),
@@ -36,14 +36,11 @@ invariant_of-self-in-Ok g c =
     look_sound (state g.S.Store c.self.inside.conn) (state g.S.Store c.ready_table.new.conn) _ _
     c.ready_table.ensures.look.still c.self.invariant
     (λ clean st. record {
-      tables = st.tables;
-      survey = st.survey;
-      releases = record {
-        headers = st.releases.headers;
-        tables = c.ready_table.ensures.kept clean st.tables (c.deref-2.ensures.value ∙ st.releases.headers ready)
-            st.releases.tables;
-        samples = st.releases.samples;
-      };
+      survey = st.kept.survey;
+      headers = st.kept.headers;
+      tables = c.ready_table.ensures.kept clean st.tables (c.deref-2.ensures.value ∙ (st.kept.headers ready).read)
+          st.kept.tables;
+      samples = st.kept.samples;
     })
 
 pub invariant_of-self-in-Err : goal.invariant_of-self-in-Err
@@ -52,14 +49,11 @@ invariant_of-self-in-Err g c =
     look_sound (state g.S.Store c.self.inside.conn) (state g.S.Store c.ready_table.new.conn) _ _
     c.ready_table.ensures.look.still c.self.invariant
     (λ clean st. record {
-      tables = st.tables;
-      survey = st.survey;
-      releases = record {
-        headers = st.releases.headers;
-        tables = c.ready_table.ensures.kept clean st.tables (c.deref-2.ensures.value ∙ st.releases.headers ready)
-            st.releases.tables;
-        samples = st.releases.samples;
-      };
+      survey = st.kept.survey;
+      headers = st.kept.headers;
+      tables = c.ready_table.ensures.kept clean st.tables (c.deref-2.ensures.value ∙ (st.kept.headers ready).read)
+          st.kept.tables;
+      samples = st.kept.samples;
     })
 
 pub returns-in-Ok : goal.returns-in-Ok
@@ -78,12 +72,12 @@ returns-in-Ok g c =
             (λ clean.
             let before = c.ready_table.ensures.look.still.clean clean in
             let st = c.self.invariant before in
-            let rows = st.releases.headers ready in
+            let rows = (st.kept.headers ready).read in
             let lent = rw c.deref-in-Ok.ensures.value at c.lent_table.ensures in
             lent ∙ table_shown now.now.trees c.args.month c.args.revision c.args.until c.ready_table.new.tables.items
             true (sym yes ∙ c.is_there.ensures ∙ ap (is_there c.args.month c.args.revision c.args.until)
             (c.deref.ensures.value ∙ rows))
-            (c.ready_table.ensures.kept clean st.tables (c.deref-2.ensures.value ∙ rows) st.releases.tables)
+            (c.ready_table.ensures.kept clean st.tables (c.deref-2.ensures.value ∙ rows) st.kept.tables)
             (λ _. c.in-Ok.ensures.ready)
             ∙ ap (λ (o : Office). option_map (λ (t : PublishedTable). t.levels)
             (table_until c.args.month (Some c.args.revision) c.args.until o.releases)) (read.keeps.kept before)),

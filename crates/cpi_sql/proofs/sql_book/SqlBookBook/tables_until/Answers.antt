@@ -14,7 +14,7 @@ returns-in-Ok-clause-reads g c =
     let reads = rw (← c.self.view_is) at c.in_ok-ready_headers.ensures.reads in
     rw (← c.self.view_is) (then_shown _ _ _ _ _ reads (λ clean.
     c.in-Ok.ensures
-    ∙ ap (months_until c.args.until) (c.deref.ensures.value ∙ (c.self.invariant clean).releases.headers ready)
+    ∙ ap (months_until c.args.until) (c.deref.ensures.value ∙ ((c.self.invariant clean).kept.headers ready).read)
     ∙ sym (tables_are now.now.trees c.args.until)
     ∙ ap (λ (o : Office). map frozen_month_of (published_until c.args.until o.releases)) (reads.keeps.kept clean)))
 

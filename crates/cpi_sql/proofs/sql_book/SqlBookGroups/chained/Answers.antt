@@ -1,19 +1,14 @@
-use Rattle.std.proofs.Common.{◌≡◌, List, [], ◌∷◌, length, refl, arith, ap, subst, ◌∙◌}
+use Rattle.std.proofs.Common.{arith, ap, subst, ◌∙◌}
 use Rattle.std.specs.Prelude.{⊤}
 use Rattle.sqlite.specs.Effect.{Database}
 use Rattle.sqlite.specs.Held.{state}
 use Rattle.cpi_release.specs.Releases.{level_at}
 use Rattle.cpi_store.specs.Office.{Office}
-use Rattle.cpi_sql_rows.specs.LevelTables.{ReleaseLevels}
 use Rattle.cpi_sql_rows.specs.Lists.{level_in}
 use Rattle.cpi_sql_reads.specs.Headers.{LatestStands}
 use Rattle.cpi_sql.proofs.Calls.{reads, read_fails, then_read, then_fails}
 use Rattle.cpi_sql.proofs.Followed.{look_sound, tables_of}
 use Rattle.cpi_sql.proofs.sql_book.SqlBookGroups.chained.Goals as goal
-
-none_kept : (tables : List ReleaseLevels) → length tables ≡ 0 → tables ≡ []
-none_kept [] e = refl
-none_kept (t ∷ tables) e = absurd (cc)
 
 pub invariant_of-self : goal.invariant_of-self
 invariant_of-self g c =
@@ -21,14 +16,11 @@ invariant_of-self g c =
     look_sound (state g.S.Store c.self.inside.conn) (state g.S.Store c.chained_level.new.conn) _ _
     c.chained_level.ensures.look.still c.self.invariant
     (λ clean st. record {
-      tables = st.tables;
-      survey = st.survey;
-      releases = record {
-        headers = st.releases.headers;
-        tables = c.chained_level.ensures.kept clean st.tables (c.deref.ensures.value ∙ st.releases.headers ready)
-            st.releases.tables;
-        samples = st.releases.samples;
-      };
+      survey = st.kept.survey;
+      headers = st.kept.headers;
+      tables = c.chained_level.ensures.kept clean st.tables (c.deref.ensures.value ∙ (st.kept.headers ready).read)
+          st.kept.tables;
+      samples = st.kept.samples;
     })
 
 pub invariant_of-self-in-Err : goal.invariant_of-self-in-Err
@@ -37,14 +29,11 @@ invariant_of-self-in-Err g c =
     look_sound (state g.S.Store c.self.inside.conn) (state g.S.Store c.chained_level.new.conn) _ _
     c.chained_level.ensures.look.still c.self.invariant
     (λ clean st. record {
-      tables = st.tables;
-      survey = st.survey;
-      releases = record {
-        headers = st.releases.headers;
-        tables = c.chained_level.ensures.kept clean st.tables (c.deref.ensures.value ∙ st.releases.headers ready)
-            st.releases.tables;
-        samples = st.releases.samples;
-      };
+      survey = st.kept.survey;
+      headers = st.kept.headers;
+      tables = c.chained_level.ensures.kept clean st.tables (c.deref.ensures.value ∙ (st.kept.headers ready).read)
+          st.kept.tables;
+      samples = st.kept.samples;
     })
 
 pub returns-in-Ok-clause-reads : goal.returns-in-Ok-clause-reads
@@ -59,7 +48,7 @@ returns-in-Ok-clause-reads g c =
     (λ clean fit.
     let before = c.chained_level.ensures.look.still.clean clean in
     let st = c.self.invariant before in
-    c.in-Ok.ensures.read clean st.tables (c.deref.ensures.value ∙ st.releases.headers ready) st.releases.tables
+    c.in-Ok.ensures.read clean st.tables (c.deref.ensures.value ∙ (st.kept.headers ready).read) st.kept.tables
     ∙ ap (λ (o : Office). level_at o.releases c.args.month c.args.code) (read.keeps.kept before))
 
 pub returns-in-Err-clause-reads : goal.returns-in-Err-clause-reads
@@ -72,13 +61,10 @@ returns-in-Err-clause-reads g c =
     (omega (arith, c.counted.ensures.count)))
 
 pub returns-in-Ok-clause-rows : goal.returns-in-Ok-clause-rows
-returns-in-Ok-clause-rows g c = λ clean none.
-    let now = state g.S.Store c.self.inside.conn in
+returns-in-Ok-clause-rows g c = λ clean.
     let ready = rw (← c.self.view_is) at c.in_ok-ready_levels.ensures.ready in
     let same = rw (← c.self.view_is) at c.in_ok-ready_levels.ensures.now in
-    let kept = rw (← c.self.view_is) at c.in_ok-ready_levels.ensures.kept in
     let before = c.chained_level.ensures.look.still.clean clean in
     let st = c.self.invariant before in
-    let empty : c.self.inside.tables.items ≡ [] = none_kept c.self.inside.tables.items (kept.2 ∙ none) in
     subst (λ (d : Database). LatestStands level_in 32 c.args.month d.trees) (same before)
-    (c.in-Ok.ensures.stand clean st.tables (c.deref.ensures.value ∙ st.releases.headers ready) empty)
+    (c.in-Ok.ensures.taken clean st.tables (c.deref.ensures.value ∙ (st.kept.headers ready).read) st.kept.tables)

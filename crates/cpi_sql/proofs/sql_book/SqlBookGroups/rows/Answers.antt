@@ -1,25 +1,18 @@
-use Rattle.std.proofs.Common.{◌≡◌, false, None, Some, Option, arith, sym, subst, ◌∙◌, refl}
-use Rattle.std.specs.Prelude.{⊤, is_some, IsSome}
+use Rattle.std.proofs.Common.{◌≡◌, arith, subst, ◌∙◌}
+use Rattle.std.specs.Prelude.{⊤}
 use Rattle.sqlite.specs.Effect.{Database}
 use Rattle.sqlite.specs.Held.{state}
 use Rattle.cpi_codes.specs.Month.{year_of}
-use Rattle.cpi_plan.specs.Plan.{Plan}
-use Rattle.cpi_rows.specs.Keyed.{at}
 use Rattle.cpi_release.proofs.Late.{late}
-use Rattle.cpi_release.specs.Cached.{IsFit}
+use Rattle.cpi_release.specs.KeptSamples.{IsFit}
 use Rattle.cpi_release.specs.GroupCalls.{IsAfterFrozen, group_of}
-use Rattle.cpi_release.specs.declared.cached.Cached.{Cached}
 use Rattle.cpi_store.specs.Office.{Office}
 use Rattle.cpi_store.specs.Sources.{office_sources}
 use Rattle.cpi_sql_rows.specs.Lists.{office_in}
-use Rattle.cpi_sql_reads.specs.Headers.{SamplesStand}
+use Rattle.cpi_sql_reads.specs.Samples.{SamplesTaken}
 use Rattle.cpi_sql.proofs.Calls.{reads, read_fails, then_read, then_fails}
 use Rattle.cpi_sql.proofs.Followed.{look_sound, tables_of}
 use Rattle.cpi_sql.proofs.sql_book.SqlBookGroups.rows.Goals as goal
-
-none_kept : (o : Option Cached) → is_some o ≡ false → o ≡ None
-none_kept None e = refl
-none_kept (Some x) e = absurd (cc)
 
 pub invariant_of-self : goal.invariant_of-self
 invariant_of-self g c =
@@ -27,14 +20,11 @@ invariant_of-self g c =
     look_sound (state g.S.Store c.self.inside.conn) (state g.S.Store c.sample_of.new.conn) _ _
     c.sample_of.ensures.look.still c.self.invariant
     (λ clean st. record {
-      tables = st.tables;
-      survey = st.survey;
-      releases = record {
-        headers = st.releases.headers;
-        tables = st.releases.tables;
-        samples = c.sample_of.ensures.kept clean st.tables (c.deref.ensures.value ∙ st.releases.headers ready.0)
-            (st.survey ready.1) st.releases.samples;
-      };
+      survey = st.kept.survey;
+      headers = st.kept.headers;
+      tables = st.kept.tables;
+      samples = c.sample_of.ensures.kept clean st.tables (c.deref.ensures.value ∙ (st.kept.headers ready.0).read)
+          (st.kept.survey ready.1).read st.kept.samples;
     })
 
 pub invariant_of-self-in-Err : goal.invariant_of-self-in-Err
@@ -43,14 +33,11 @@ invariant_of-self-in-Err g c =
     look_sound (state g.S.Store c.self.inside.conn) (state g.S.Store c.sample_of.new.conn) _ _
     c.sample_of.ensures.look.still c.self.invariant
     (λ clean st. record {
-      tables = st.tables;
-      survey = st.survey;
-      releases = record {
-        headers = st.releases.headers;
-        tables = st.releases.tables;
-        samples = c.sample_of.ensures.kept clean st.tables (c.deref.ensures.value ∙ st.releases.headers ready.0)
-            (st.survey ready.1) st.releases.samples;
-      };
+      survey = st.kept.survey;
+      headers = st.kept.headers;
+      tables = st.kept.tables;
+      samples = c.sample_of.ensures.kept clean st.tables (c.deref.ensures.value ∙ (st.kept.headers ready.0).read)
+          (st.kept.survey ready.1).read st.kept.samples;
     })
 
 pub returns-in-Ok-clause-reads : goal.returns-in-Ok-clause-reads
@@ -69,8 +56,9 @@ returns-in-Ok-clause-reads g c =
     IsAfterFrozen (office_sources o) c.args.month →
     c.in-Ok.rows.items ≡ group_of (office_sources o) c.args.month c.args.code)
     (read.keeps.kept before) (λ fit _ after.
-    c.in-Ok.ensures.read clean st.tables (c.deref.ensures.value ∙ st.releases.headers ready.0) (st.survey ready.1)
-    st.releases.samples fit (late (office_sources (office_in now.now.trees)) c.args.month fit.0 after)))
+    c.in-Ok.ensures.read clean st.tables (c.deref.ensures.value ∙ (st.kept.headers ready.0).read)
+    (st.kept.survey ready.1).read st.kept.samples fit
+    (late (office_sources (office_in now.now.trees)) c.args.month fit.0 after)))
 
 pub returns-in-Err-clause-reads : goal.returns-in-Err-clause-reads
 returns-in-Err-clause-reads g c =
@@ -82,14 +70,11 @@ returns-in-Err-clause-reads g c =
     (omega (arith, c.counted.ensures.count)))
 
 pub returns-in-Ok-clause-lists : goal.returns-in-Ok-clause-lists
-returns-in-Ok-clause-lists g c = λ clean none late plan.
+returns-in-Ok-clause-lists g c = λ clean.
     let ready = rw (← c.self.view_is) at c.in_ok-ready_samples.ensures.ready in
     let same = rw (← c.self.view_is) at c.in_ok-ready_samples.ensures.now in
-    let kept = rw (← c.self.view_is) at c.in_ok-ready_samples.ensures.kept in
     let before = c.sample_of.ensures.look.still.clean clean in
     let st = c.self.invariant before in
-    subst (λ (d : Database). SamplesStand c.args.month d.trees) (same before)
-    (c.in-Ok.ensures.stand clean st.tables (c.deref.ensures.value ∙ st.releases.headers ready.0) (st.survey ready.1)
-    (none_kept c.self.inside.cached (kept ∙ none))
-    (subst (λ (d : Database). IsSome (at (λ (p : Plan). p.year) (year_of c.args.month) (office_in d.trees).plans))
-    (sym (same before)) plan) late)
+    subst (λ (d : Database). SamplesTaken c.args.month d.trees) (same before)
+    (c.in-Ok.ensures.taken clean st.tables (c.deref.ensures.value ∙ (st.kept.headers ready.0).read)
+    (st.kept.survey ready.1).read st.kept.samples)

@@ -1,0 +1,37 @@
+-- What a book over a database keeps in memory: what was read of the tables, from rows that the types took.
+use Rattle.std.specs.Prelude.{Bool, List, Option, IsTrue}
+use Rattle.sqlite.specs.State.{State}
+use Rattle.sqlite.specs.Tree.{Trees}
+use Rattle.cpi_release.specs.KeptSamples.{Samples}
+use Rattle.cpi_store.specs.Office.{Office}
+use Rattle.cpi_sql_rows.specs.declared.release_rows.Header.{Header}
+use Rattle.cpi_sql_rows.specs.Shelf.{HasTables, IsCleanBook, IsSurveyOf}
+use Rattle.cpi_sql_reads.specs.Headers.{AreHeadersOf}
+use Rattle.cpi_sql_reads.specs.LevelTables.{ReleaseLevels, AreTablesOf}
+use Rattle.cpi_sql_reads.specs.Samples.{AreSamplesOf}
+
+-- the survey and the headers of the releases, where they were read; tables of earlier releases; and the samples of the
+-- month that is being frozen
+pub record Caches : Type 0 where
+  pub is_read : Bool
+  pub survey : Office
+  pub has_headers : Bool
+  pub headers : List Header
+  pub tables : List ReleaseLevels
+  pub samples : Option Samples
+
+-- they are what the tables hold
+pub record AreOf (trees : Trees) (c : Caches) : Type 0 where
+  pub survey : IsTrue c.is_read → IsSurveyOf trees c.survey
+  pub headers : IsTrue c.has_headers → AreHeadersOf trees c.headers
+  pub tables : AreTablesOf trees c.tables
+  pub samples : AreSamplesOf trees c.samples
+
+-- the tables are the office's, and what is kept is what they hold
+pub record Stands (s : State) (c : Caches) : Type 0 where
+  pub tables : HasTables s
+  pub kept : AreOf s.now.trees c
+
+-- where the store is clean, what is kept is what the tables hold
+abbrev pub IsSound : State → Caches → Type 0
+IsSound s c = IsCleanBook s → Stands s c
