@@ -99,7 +99,8 @@ beside_tells R key from places t = record {
       let m = release_of r x.0 a.release in
       let n = release_of s y.0 b.release in
       let same = held_tied R (x.0, key x.1) (y.0, key y.1) tie in
-      let one = one_release m.month m.revision n.month n.revision m.low m.high n.low n.high (m.is ∙ same.0 ∙ sym n.is) in
+      let one = one_release m.month m.revision n.month n.revision m.low m.high n.low n.high
+      (m.is ∙ same.0 ∙ sym n.is) in
       let month = same_month m.named.number n.named.number n.month (m.named.is ∙ ap Some one.0) n.named.is in
       let more = t.tied r s x.1 y.1 a.row b.row same.1 in
       λ i. Int (pos (month i)) ∷ Int (pos (one.1 i)) ∷ more i;

@@ -62,7 +62,8 @@ module _ {X K : Type 0} {R : K → K → Ordering} (o : IsTotalOrder R) (key : X
 
           both : ((y.0 ≡ holder) × Has xs y.1) ⊎ ((y.0 ≢ holder) × Has old r) → ((z.0 ≡ holder) × Has xs z.1)
               ⊎ ((z.0 ≢ holder) × Has old s) → y ≡ z
-          both (inl a) (inl b) = ap (λ n. (n, y.1)) tie.0 ∙ ap (λ w. (z.0, w)) (in_order_same o key xs y.1 z.1 sorted a.1 b.1 tie.1)
+          both (inl a) (inl b) = ap (λ n. (n, y.1)) tie.0
+              ∙ ap (λ w. (z.0, w)) (in_order_same o key xs y.1 z.1 sorted a.1 b.1 tie.1)
           both (inl a) (inr b) = absurd (b.0 (sym tie.0 ∙ a.0))
           both (inr a) (inl b) = absurd (a.0 (tie.0 ∙ b.0))
           both (inr a) (inr b) = keyed r s y z a.1 b.1 er es same
