@@ -105,6 +105,7 @@ impl<S: Alter + Drop> SqlBook<S> {
             AreWhole (state S.Store b.held).now.trees) }
         ensures count { IfOk result (λ b. b.failures ≡ 0) }
         ensures unread { IfOk result (λ b. b.is_read ≡ false) }
+        ensures no_headers { IfOk result (λ b. b.has_headers ≡ false) }
         ensures kept { IfErr result (λ e.
             IsCleanBook (state S.Store e.conn) → IsKept (state S.Store conn) (state S.Store e.conn)) }
         ensures settled_fault { IfErr result (λ e.
@@ -146,6 +147,7 @@ impl<S: Alter + Drop> SqlBook<S> {
             AreWhole (state S.Store b.held).now.trees) }
         ensures count { IfOk result (λ b. b.failures ≡ 0) }
         ensures unread { IfOk result (λ b. b.is_read ≡ false) }
+        ensures no_headers { IfOk result (λ b. b.has_headers ≡ false) }
     {
         match SqlBook::over(alloc, conn) {
             Ok(book) => Ok(book),
