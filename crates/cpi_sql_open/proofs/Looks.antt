@@ -8,12 +8,13 @@ use Rattle.sqlite.specs.Effect.{Database}
 use Rattle.sqlite.specs.Order.{Row}
 use Rattle.sqlite.specs.Program.{overlay}
 use Rattle.sqlite.specs.Schema.{Schema}
-use Rattle.sqlite.specs.State.{State, HasCleanDisk, IsLive, Survives}
+use Rattle.sqlite.specs.State.{State, HasCleanDisk, IsLive}
 use Rattle.sqlite.specs.Tree.{Trees}
 use Rattle.sqlite.proofs.StateLemmas.{survives_then, survives_weaker}
 use Rattle.cpi_sql_rows.specs.Finding.{AreWhole, AsksRowids, HaveFirstRowids, HavePlanRowids, HaveRowids}
-use Rattle.cpi_sql_rows.specs.Finding.{IsOfOffice, IsQuietOver}
-use Rattle.cpi_sql_rows.specs.Shelf.{HasRowids, IsCleanBook, IsKept, StaysOpen}
+use Rattle.cpi_sql_rows.specs.Finding.{IsOfOffice, LooksOver}
+use Rattle.cpi_sql_rows.specs.Read.{Asked}
+use Rattle.cpi_sql_rows.specs.Shelf.{HasRowids, IsCleanBook, StaysOpen}
 use Rattle.cpi_sql_rows.specs.Making.{second_tables}
 use Rattle.cpi_sql_rows.specs.Tables.{first_schema, office_schema}
 use Rattle.cpi_sql_rows.proofs.FoundTables.{schema_after, node_rowids, plan_item_rowids, calendar_rowids}
@@ -22,13 +23,14 @@ use Rattle.cpi_sql_rows.proofs.FoundTables.{frozen_rowids, carried_rowids, level
 use Rattle.cpi_sql_rows.proofs.FoundTables.{first_quote_rowids, first_release_rowids, first_frozen_rowids}
 use Rattle.cpi_sql_rows.proofs.FoundTables.{first_carried_rowids, first_level_rowids, found_tables}
 use Rattle.cpi_sql_rows.proofs.Kept.{kept_tables, kept_then}
-use Rattle.cpi_sql_open.specs.Looks.{AreTestsOf, AskEach, Finds, FindsOffice, IsTest, Looks, first_trees, second_trees}
+use Rattle.cpi_sql_rows.proofs.Whole.{looked_over}
+use Rattle.cpi_sql_open.specs.Looks.{AreTestsOf, AskEach, Finds, FindsOffice, IsTest, first_trees, second_trees}
 use Rattle.cpi_sql_open.proofs.Making.{second_make, second_texts}
 use Rattle.cpi_sql_open.proofs.Texts.{◌▸◌, Said, blank, said, said_more}
 use Rattle.cpi_sql_open.specs.declared.inspect.TheConstants.{SECOND_SCANS, FIRST_SCANS}
 
-pub looks_weaker : (Fits Few : Schema → Type 0) → ((s : Schema) → Few s → Fits s) → (a b : State) → Looks Fits a b
-    → Looks Few a b
+pub looks_weaker : (Fits Few : Schema → Type 0) → ((s : Schema) → Few s → Fits s) → (a b : State) → LooksOver Fits a b
+    → LooksOver Few a b
 looks_weaker Fits Few more a b look = record {
   clean = look.clean;
   kept = λ clean alone has. look.kept clean alone (more a.now.schema has);
@@ -36,8 +38,8 @@ looks_weaker Fits Few more a b look = record {
 }
 
 -- two looks in turn, the first of which left the connection open
-pub looks_on : (Fits : Schema → Type 0) (a b c : State) → Looks Fits a b → (HasCleanDisk b → IsTrue b.is_open)
-    → Looks Fits b c → Looks Fits a c
+pub looks_on : (Fits : Schema → Type 0) (a b c : State) → LooksOver Fits a b → (HasCleanDisk b → IsTrue b.is_open)
+    → LooksOver Fits b c → LooksOver Fits a c
 looks_on Fits a b c one opened two = record {
   clean = λ clean. one.clean (two.clean clean);
   kept = λ clean alone has. let first = one.kept (two.clean clean) alone has in
@@ -48,20 +50,10 @@ looks_on Fits a b c one opened two = record {
       quiet first.alone (schema_after Fits a b first has)) one.crash two.crash;
 }
 
-pub looked : (a b : State) → (IsCleanBook b → IsCleanBook a)
-    → (IsCleanBook b → a.in_transaction ≡ false → IsOfOffice a.now.schema → IsKept a b)
-    → Survives a b (λ _. IsQuietOver IsOfOffice a) → Looks IsOfOffice a b
-looked a b clean kept crash = record { clean = clean; kept = kept; crash = crash }
-
-pub scanned : (text : List ℕ) (a b : State) → (IsCleanBook b → IsCleanBook a)
-    → (IsCleanBook b → a.in_transaction ≡ false → (tree : ℕ) → AsksRowids a.now.schema text tree → IsKept a b)
-    → Survives a b (λ _. (tree : ℕ) → AsksRowids a.now.schema text tree → ⊥)
-    → (tree : ℕ) → Looks (λ s. AsksRowids s text tree) a b
-scanned text a b clean kept crash tree = record {
-  clean = clean;
-  kept = λ is_clean alone asks. kept is_clean alone tree asks;
-  crash = survives_weaker a b _ _ (λ _ db none alone asks. none tree asks) crash;
-}
+-- a text that asks for rowids was asked
+pub scanned : (text : List ℕ) (a b : State) → Asked text [] a b → (tree : ℕ)
+    → LooksOver (λ s. AsksRowids s text tree) a b
+scanned text a b asked tree = looked_over (λ s. AsksRowids s text tree) text a b [] (λ asks. asks.plain) asked
 
 -- a statement with no tables of its own reads those of the database
 pub overlay_none : (db : Trees) (tree : ℕ) → overlay db [] tree ≡ db tree
@@ -88,18 +80,18 @@ asks_later text texts [] s asks = absurd asks
 asks_later text texts (tree ∷ trees) s asks = asks.1
 
 module _ (texts : List Said) (some : 1 ≤ length texts) (a b : State)
-    (one : (tree : ℕ) → Looks (λ s. AsksRowids s (get_or texts 0 blank).now tree) a b) where
+    (one : (tree : ℕ) → LooksOver (λ s. AsksRowids s (get_or texts 0 blank).now tree) a b) where
   abbrev later : List (List ℕ)
   later = said (take (length texts - 1) (drop 1 texts))
 
-  pub first_asked : (trees : List ℕ) → Looks (AskEach (said texts) trees) a b
-  first_asked trees = subst (λ l. Looks (AskEach l trees) a b) (sym (said_more texts some))
+  pub first_asked : (trees : List ℕ) → LooksOver (AskEach (said texts) trees) a b
+  first_asked trees = subst (λ l. LooksOver (AskEach l trees) a b) (sym (said_more texts some))
       (looks_weaker _ _ (asks_first (get_or texts 0 blank).now later trees) a b (one (get_or trees 0 0)))
 
-  module _ (c : State) (rest : (trees : List ℕ) → Looks (AskEach later trees) b c) where
-    pub each_asked : (HasCleanDisk b → IsTrue b.is_open) → (trees : List ℕ) → Looks (AskEach (said texts) trees) a c
+  module _ (c : State) (rest : (trees : List ℕ) → LooksOver (AskEach later trees) b c) where
+    pub each_asked : (HasCleanDisk b → IsTrue b.is_open) → (trees : List ℕ) → LooksOver (AskEach (said texts) trees) a c
     each_asked opened trees = looks_on (AskEach (said texts) trees) a b c (first_asked trees) opened
-        (subst (λ l. Looks (AskEach l trees) b c) (sym (said_more texts some))
+        (subst (λ l. LooksOver (AskEach l trees) b c) (sym (said_more texts some))
         (looks_weaker _ _ (asks_later (get_or texts 0 blank).now later trees) b c (rest (drop 1 trees))))
 
     each_rises : (trees : List ℕ) → IsCleanBook c → a.in_transaction ≡ false
@@ -200,7 +192,7 @@ on_two (Ok a) P Q R h k f = f h k
 on_two (Err e) P Q R h k f = tt
 
 -- what a look leaves over a schema that fits
-pub look_tests : (Fits : Schema → Type 0) (a b : State) → Looks Fits a b → a.in_transaction ≡ false
+pub look_tests : (Fits : Schema → Type 0) (a b : State) → LooksOver Fits a b → a.in_transaction ≡ false
     → Fits a.now.schema → IsTest a b
 look_tests Fits a b look alone fits = record {
   clean = look.clean;
@@ -209,7 +201,8 @@ look_tests Fits a b look alone fits = record {
 }
 
 module _ (schema : Schema) (trees : List ℕ) (more scans : List (List ℕ)) (is : AreTestsOf schema trees more scans)
-    (a b : State) (alone : a.in_transaction ≡ false) (same : a.now.schema ≡ schema) (small : Looks IsOfOffice a b) where
+    (a b : State) (alone : a.in_transaction ≡ false) (same : a.now.schema ≡ schema)
+    (small : LooksOver IsOfOffice a b) where
   office : IsOfOffice a.now.schema
   office = subst IsOfOffice (sym same) is.office
 
@@ -219,7 +212,7 @@ module _ (schema : Schema) (trees : List ℕ) (more scans : List (List ℕ)) (is
   pub small_tests : IsTest a b
   small_tests = look_tests IsOfOffice a b small alone office
 
-  module _ (c : State) (opened : HasCleanDisk b → IsTrue b.is_open) (scan : Looks (AskEach scans trees) b c) where
+  module _ (c : State) (opened : HasCleanDisk b → IsTrue b.is_open) (scan : LooksOver (AskEach scans trees) b c) where
     abbrev Both : Schema → Type 0
     Both s = IsOfOffice s × AskEach scans trees s
 

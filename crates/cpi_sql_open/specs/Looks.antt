@@ -1,19 +1,13 @@
--- What a look at the rows leaves, and the texts that ask for rowids.
-use Rattle.std.specs.Prelude.{◌≡◌, ℕ, false, List, [], ◌∷◌, IsTrue}
+-- What is tested of the tables that an open finds, and the texts that ask for rowids.
+use Rattle.std.specs.Prelude.{◌≡◌, ℕ, List, [], ◌∷◌, IsTrue}
 use Rattle.std.specs.List.{AllByRecursion, AllZip}
 use Rattle.sqlite.specs.Schema.{Schema}
 use Rattle.sqlite.specs.State.{State, HasCleanDisk, IsLive, Survives}
 use Rattle.sqlite.specs.Table.{Table}
-use Rattle.cpi_sql_rows.specs.Finding.{AreWhole, AsksRowids, IsOfOffice, IsQuietOver}
+use Rattle.cpi_sql_rows.specs.Finding.{AreWhole, AsksRowids, IsOfOffice}
 use Rattle.cpi_sql_rows.specs.Shelf.{HasRowids, HasTables, IsCleanBook, IsKept}
 use Rattle.cpi_sql_rows.specs.Tables.{first_schema, office_schema}
 use Rattle.cpi_sql_open.specs.Making.{MakeEach}
-
--- over a schema that fits, the rows are as they were, and nothing is committed
-pub record Looks (Fits : Schema → Type 0) (old new : State) : Type 0 where
-  pub clean : IsCleanBook new → IsCleanBook old
-  pub kept : IsCleanBook new → old.in_transaction ≡ false → Fits old.now.schema → IsKept old new
-  pub crash : Survives old new (λ _. IsQuietOver Fits old)
 
 -- under the schema, each of the texts asks for the rowids of its tree
 abbrev pub AskEach : List (List ℕ) → List ℕ → Schema → Type 0

@@ -1,18 +1,17 @@
 //! What is tested of the tables that an open finds.
-ghost use Rattle.std.specs.Prelude.{◌≡◌, ℕ, List, false, map, IfOk, OnOk, IsTrue};
 ghost use Rattle.std.specs.List.{AllByRecursion};
-ghost use Rattle.sqlite.specs.Held.{state};
-ghost use Rattle.sqlite.specs.State.{HasCleanDisk, IsLive};
 ghost use Rattle.sqlite.specs.Steps.{over_memory};
-ghost use Rattle.cpi_sql_rows.specs.Shelf.{HasRowids, IsCleanBook, StaysOpen};
-ghost use Rattle.cpi_sql_rows.specs.Tables.{first_schema};
-ghost use Rattle.cpi_sql_rows.specs.Finding.{AreWhole, IsOfOffice};
-ghost use Rattle.cpi_sql_open.specs.Looks.{AreTestsOf, AskEach, Finds, FindsOffice, IsTest, Looks, first_trees};
+ghost use Rattle.cpi_sql_rows.specs.Common.{◌≡◌, ℕ, AreWhole, HasCleanDisk, HasRowids, IfOk, IsCleanBook, IsLive};
+ghost use Rattle.cpi_sql_rows.specs.Common.{IsOfOffice, IsTrue, List, LooksOver, OnOk, StaysOpen, false, first_schema};
+ghost use Rattle.cpi_sql_rows.specs.Common.{map, state};
+ghost use Rattle.cpi_sql_open.specs.Looks.{AreTestsOf, AskEach, Finds, FindsOffice, IsTest, first_trees};
 ghost use Rattle.cpi_sql_open.specs.Making.{MakeEach};
 
 use crate::make::{SECOND_TABLES, make_unnumbered};
 use crate::same::Same;
-use cpi_sql_rows::{Unread, bearers, calendar, items, outlets, scan};
+use cpi_plan::{CalendarRow, Item};
+use cpi_sql_rows::{Unread, read_all, scan};
+use cpi_store::{Bearer, Outlet};
 use sqlite::{Alter, Connection, Error};
 use sqlite_trees::memory::MemStore;
 use std::alloc::Global;
@@ -69,7 +68,7 @@ fn scan_each<S: Alter>(
     alloc: Global,
     texts: &[&str],
 ) -> Result<(), Unread>
-    ensures look { (trees : List ℕ) → Looks (AskEach (map (λ t. t.now) texts.now) trees)
+    ensures look { (trees : List ℕ) → LooksOver (AskEach (map (λ t. t.now) texts.now) trees)
         (state S.Store conn.old) (state S.Store conn.new) }
     ensures stays { OnOk result (StaysOpen (state S.Store conn.old) (state S.Store conn.new)) }
     ensures rise { OnOk result (IsCleanBook (state S.Store conn.new) → (state S.Store conn.old).in_transaction ≡ false
@@ -85,15 +84,15 @@ fn scan_each<S: Alter>(
 
 // Reads the tables that are small and that both schemas have.
 fn read_all_small<S: Alter>(conn: &mut Connection<S>, alloc: Global) -> Result<(), Unread>
-    ensures look { Looks IsOfOffice (state S.Store conn.old) (state S.Store conn.new) }
+    ensures look { LooksOver IsOfOffice (state S.Store conn.old) (state S.Store conn.new) }
     ensures whole { IsCleanBook (state S.Store conn.new) → (state S.Store conn.old).in_transaction ≡ false
         → IsOfOffice (state S.Store conn.old).now.schema → OnOk result (AreWhole (state S.Store conn.old).now.trees) }
     ensures open { HasCleanDisk (state S.Store conn.new) → OnOk result (IsTrue (state S.Store conn.new).is_open) }
 {
-    let _bearers = bearers(conn, alloc)?;
-    let _outlets = outlets(conn, alloc)?;
-    let _items = items(conn, alloc)?;
-    let _calendar = calendar(conn, alloc)?;
+    let _bearers = read_all::<S, Bearer>(conn, alloc)?;
+    let _outlets = read_all::<S, Outlet>(conn, alloc)?;
+    let _items = read_all::<S, Item>(conn, alloc)?;
+    let _calendar = read_all::<S, CalendarRow>(conn, alloc)?;
     Ok(())
 }
 

@@ -1,10 +1,8 @@
 //! The tables of an empty database, and those that schema 2 adds.
-ghost use Rattle.std.specs.Prelude.{◌≡◌, false, map, IsTrue, OnOk, OnErr};
-ghost use Rattle.sqlite.specs.Held.{state};
-ghost use Rattle.sqlite.specs.State.{HasCleanDisk, KeepsCommit, Survives};
-ghost use Rattle.cpi_sql_open.specs.Making.{MakeEach};
-ghost use Rattle.cpi_sql_rows.specs.Tables.{first_schema};
+ghost use Rattle.cpi_sql_rows.specs.Common.{◌≡◌, HasCleanDisk, IsTrue, KeepsCommit, OnErr, OnOk, Survives, false};
+ghost use Rattle.cpi_sql_rows.specs.Common.{first_schema, map, state};
 ghost use Rattle.cpi_sql_rows.specs.Making.{IsBlank, IsNew, no_schema};
+ghost use Rattle.cpi_sql_open.specs.Making.{MakeEach};
 
 use crate::perform::perform_each;
 use sqlite::{Alter, Connection, Error, Transaction};

@@ -1,10 +1,7 @@
 //! The rows of schema 1, brought into the tables of schema 2 in one transaction.
-ghost use Rattle.std.specs.Prelude.{◌≡◌, false, IsTrue, OnOk, OnErr};
-ghost use Rattle.sqlite.specs.Held.{state};
-ghost use Rattle.sqlite.specs.State.{HasCleanDisk, KeepsCommit, Survives};
+ghost use Rattle.cpi_sql_rows.specs.Common.{◌≡◌, HasCleanDisk, IsCleanBook, IsTrue, KeepsCommit, OnErr, OnOk, Survives};
+ghost use Rattle.cpi_sql_rows.specs.Common.{false, first_schema, state};
 ghost use Rattle.cpi_sql_rows.specs.Finding.{HaveFirstRowids, IsMigrated, IsMoved};
-ghost use Rattle.cpi_sql_rows.specs.Shelf.{IsCleanBook};
-ghost use Rattle.cpi_sql_rows.specs.Tables.{first_schema};
 
 use crate::make::{NUMBER, SECOND_TABLES};
 use crate::perform::perform_each;

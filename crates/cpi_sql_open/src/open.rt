@@ -1,10 +1,7 @@
 //! An open: the tables are made where there is nothing, and else tested; those of schema 1 are migrated.
-ghost use Rattle.std.specs.Prelude.{◌≡◌, false, Err, OnOk, OnErr, IsTrue};
-ghost use Rattle.sqlite.specs.Held.{state};
-ghost use Rattle.sqlite.specs.State.{HasCleanDisk, Survives};
-ghost use Rattle.cpi_sql_rows.specs.Shelf.{IsCleanBook, IsKept, HasTables, StaysOpen};
-ghost use Rattle.cpi_sql_rows.specs.Tables.{first_schema};
-ghost use Rattle.cpi_sql_rows.specs.Finding.{AreWhole, IsMigrated, IsOpened, MayBeMade};
+ghost use Rattle.cpi_sql_rows.specs.Common.{◌≡◌, AreWhole, Err, HasCleanDisk, HasTables, IsCleanBook, IsKept, IsTrue};
+ghost use Rattle.cpi_sql_rows.specs.Common.{OnErr, OnOk, StaysOpen, Survives, false, first_schema, state};
+ghost use Rattle.cpi_sql_rows.specs.Finding.{IsMigrated, IsOpened, MayBeMade};
 ghost use Rattle.cpi_sql_rows.specs.Numbered.{ShowsOther};
 ghost use Rattle.cpi_store.specs.declared.open_fault.OpenFault.TheVariants.{UnknownSchema};
 
@@ -55,24 +52,14 @@ pub fn open_office<S: Alter>(conn: &mut Connection<S>, alloc: Global) -> Result<
     ensures stays { OnOk result (StaysOpen (state S.Store conn.old) (state S.Store conn.new)) }
     ensures unknown { IsCleanBook (state S.Store conn.new) →
         result ≡ Err UnknownSchema → ShowsOther S.Store conn.old }
-    ensures crash { Survives (state S.Store conn.old) (state S.Store conn.new)
-        (λ db. MayBeMade (state S.Store conn.old) db) }
+    ensures crash { Survives (state S.Store conn.old) (state S.Store conn.new) (MayBeMade (state S.Store conn.old)) }
 {
     if is_blank(conn) {
-        match make_tables(conn) {
-            Ok(()) => return Ok(()),
-            Err(_) => return Err(OpenFault::Store),
-        }
+        return make_tables(conn).map_err(|_| OpenFault::Store);
     }
     match read_version(conn) {
-        Ok(Version::Second) => match test_second(conn, alloc) {
-            Ok(()) => Ok(()),
-            Err(_) => Err(OpenFault::Store),
-        },
-        Ok(Version::First) => match migrate_first(conn, alloc) {
-            Ok(()) => Ok(()),
-            Err(_) => Err(OpenFault::Store),
-        },
+        Ok(Version::Second) => test_second(conn, alloc).map_err(|_| OpenFault::Store),
+        Ok(Version::First) => migrate_first(conn, alloc).map_err(|_| OpenFault::Store),
         Ok(Version::Other) => Err(OpenFault::UnknownSchema),
         Err(_) => Err(OpenFault::Store),
     }

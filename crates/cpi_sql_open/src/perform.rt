@@ -1,7 +1,5 @@
 //! Statements that are run in turn within a transaction.
-ghost use Rattle.std.specs.Prelude.{◌≡◌, map, OnOk};
-ghost use Rattle.sqlite.specs.Held.{state};
-ghost use Rattle.sqlite.specs.State.{HasCleanDisk, KeepsCommit, Survives};
+ghost use Rattle.cpi_sql_rows.specs.Common.{◌≡◌, HasCleanDisk, KeepsCommit, OnOk, Survives, map, state};
 ghost use Rattle.cpi_sql_open.specs.Stages.{RanEach, stage_of};
 
 use sqlite::{Alter, Error, Transaction};

@@ -1,14 +1,9 @@
 //! The number of the schema, which is in the one row of `version`.
-ghost use Rattle.std.specs.Prelude.{◌≡◌, ◌↔◌, [], false, pos, IfOk, IsTrue};
-ghost use Rattle.sqlite.specs.declared.types.Value.TheVariants.{Int};
-ghost use Rattle.sqlite.specs.Held.{state};
-ghost use Rattle.sqlite.specs.Order.{column};
-ghost use Rattle.sqlite.specs.State.{HasCleanDisk, KeepsCommit, Shown, Survives};
-ghost use Rattle.cpi_sql_open.specs.declared.version.Version.TheVariants.{Second, Other};
+ghost use Rattle.cpi_sql_rows.specs.Common.{◌≡◌, [], HasCleanDisk, IfOk, IsCleanBook, IsTrue, KeepsCommit, Shown};
+ghost use Rattle.cpi_sql_rows.specs.Common.{Survives, false, office_schema, state};
 ghost use Rattle.cpi_sql_rows.specs.Numbered.{IsVersion, ShowsOther, version_text};
+ghost use Rattle.cpi_sql_open.specs.declared.version.Version.TheVariants.{Second, Other};
 ghost use Rattle.cpi_sql_open.specs.Said.{Says};
-ghost use Rattle.cpi_sql_rows.specs.Shelf.{IsCleanBook};
-ghost use Rattle.cpi_sql_rows.specs.Tables.{office_schema};
 
 use sqlite::{Alter, Connection, Error, Row, Transaction};
 use sqlite_value::value::ValueRef;
@@ -26,33 +21,16 @@ pub enum Version {
 
 const VERSION: &str = "SELECT number FROM version";
 
-fn begins_with(row: &Row, number: u8) -> bool
-    ensures { IsTrue result ↔ (column row.now 0 ≡ Int (pos number)) }
-{
-    match row.get_ref(0) {
-        Ok(ValueRef::Int(found)) => found == i64::from(number),
-        _ => false,
-    }
-}
-
-fn is_version(rows: &[Row], number: u8) -> bool
-    ensures { IsTrue result ↔ IsVersion number rows.now }
-{
-    match rows {
-        [row] => begins_with(row, number),
-        _ => false,
-    }
-}
-
 fn said(rows: &[Row]) -> Version
     ensures { Says result rows.now }
 {
-    if is_version(rows, 1) {
-        Version::First
-    } else if is_version(rows, 2) {
-        Version::Second
-    } else {
-        Version::Other
+    let [row] = rows else {
+        return Version::Other;
+    };
+    match row.get_ref(0) {
+        Ok(ValueRef::Int(1)) => Version::First,
+        Ok(ValueRef::Int(2)) => Version::Second,
+        _ => Version::Other,
     }
 }
 
@@ -66,10 +44,8 @@ pub fn look<S: Alter>(tx: &mut Transaction<'_, S>) -> Result<Version, Error>
         KeepsCommit (state S.Store tx.old.conn.now) (state S.Store tx.new.conn.now) }
     ensures survives { Survives (state S.Store tx.old.conn.now) (state S.Store tx.new.conn.now) (λ _. ⊥) }
 {
-    match tx.query_all(VERSION, &[]) {
-        Ok(rows) => Ok(said(&rows)),
-        Err(error) => Err(error),
-    }
+    let rows = tx.query_all(VERSION, &[])?;
+    Ok(said(&rows))
 }
 
 /// The number of the schema, under any schema. Whatever the text means there is undone.

@@ -21,9 +21,8 @@ use Rattle.sqlite.specs.Program.{overlay}
 use Rattle.sqlite.specs.Term.{Term, eval_all}
 use Rattle.sqlite.specs.Query.{IsAnswer, Output, output}
 use Rattle.sqlite_value.specs.declared.keys.Key.{Key}
-use Rattle.sqlite.specs.State.{State, Shown, Survives, CommitsShowing}
-use Rattle.sqlite.proofs.StateLemmas.{survives_weaker}
-use Rattle.sqlite.proofs.Callers.{reads_as, never_commits}
+use Rattle.sqlite.specs.State.{State, Shown}
+use Rattle.sqlite.proofs.Callers.{reads_as}
 use Rattle.sqlite_rules.specs.Lists.{Has}
 use Rattle.sqlite_rules.proofs.ListLemmas.{all_has, all_from}
 use Rattle.sqlite_rules.proofs.ProbeLemmas.{has_mapped, mapped_has}
@@ -140,8 +139,3 @@ rowids_rise text tree old new rows ids asks shown read order =
     asks.plain asks.listing rows shown in
     rowids_read (overlay old.now.trees [] tree) rows ids (shown_all tree (columns (0 ∷ [])) (by_columns (0 ∷ []))
     (overlay old.now.trees []) [] rows (r.answer Null)) read order
-
-pub scan_crash : (text : List ℕ) (old new : State) (params : Row) → Survives old new (CommitsShowing text params old)
-    → Survives old new (λ _. (tree : ℕ) → AsksRowids old.now.schema text tree → ⊥)
-scan_crash text old new params h = survives_weaker old new _ _
-    (λ _ db may tree asks. never_commits text params old db asks.plain may) h

@@ -3,23 +3,24 @@ use Rattle.std.proofs.Common.{◌≡◌, ◌⊎◌, inl, inr, ℕ, List, [], ◌
 use Rattle.std.proofs.Common.{arith, map, refl, sym, ap, subst, ◌∙◌, if◌then◌else◌}
 use Rattle.std.proofs.lemmas.List.{append-nil, append_assoc}
 use Rattle.sqlite.specs.Order.{Row}
-use Rattle.sqlite.specs.Tree.{Trees}
 use Rattle.sqlite.specs.Effect.{Database, IsDatabase, SparesFrozen}
 use Rattle.sqlite.specs.Does.{Does}
 use Rattle.sqlite.specs.Held.{Held, state}
 use Rattle.sqlite.specs.Given.{HasGiven, HasBegun, Advances, HandsOn}
 use Rattle.sqlite.specs.Stream.{returned, HasEnded}
 use Rattle.sqlite.specs.Listing.{understood, reads_listing, IsSourceOf}
-use Rattle.sqlite.specs.State.{State, IsUnchanged, IsStatement, Fails, Shown, ShowsRows, Survives, Writes, mode_of}
+use Rattle.sqlite.specs.State.{State, CommitsShowing, HasCleanDisk, IsUnchanged, IsStatement, Fails, Shown, ShowsRows}
+use Rattle.sqlite.specs.State.{Survives, Writes, mode_of}
 use Rattle.sqlite.specs.declared.error.Error.{Error}
 use Rattle.sqlite.specs.Clock.{timed}
 use Rattle.sqlite.proofs.Callers.{IsPlain, unchanged_then}
+use Rattle.sqlite.proofs.StateLemmas.{survives_then}
 use Rattle.sqlite.proofs.StreamLemmas.{given_plain}
 use Rattle.sqlite_trees.specs.declared.store.Store.{Ghosts}
 use Rattle.sqlite_schema.specs.declared.command.Returning.{Returning}
 use Rattle.sqlite_resolve.specs.declared.compiled.Compiled.{Compiled}
-use Rattle.cpi_sql_rows.specs.Shelf.{IsCleanBook, IsKept}
-use Rattle.cpi_sql_rows.specs.Read.{AreRead}
+use Rattle.cpi_sql_rows.specs.Shelf.{IsKept}
+use Rattle.cpi_sql_rows.specs.Read.{AreRead, Asked}
 use Rattle.cpi_sql_rows.proofs.Asking.{asked_open}
 
 -- what was shown is shown still where nothing has changed since
@@ -88,7 +89,7 @@ shown_plain a b sql params rows plain h =
     let it = subst (ShowsRows a b sql h.0 (timed params h.0.formats h.1.now) rows) none h.2 in it.3
 
 -- nothing is changed by a failure between transactions
-pub kept_after : (a b c : State) (e : Error) → IsUnchanged a b → (IsTrue a.is_open → a.now ≡ a.committed)
+kept_after : (a b c : State) (e : Error) → IsUnchanged a b → (IsTrue a.is_open → a.now ≡ a.committed)
     → a.in_transaction ≡ false → IsTrue c.is_open → Fails b c ⊥ e ⊎ IsUnchanged b c → IsKept a c
 kept_after a b c e same settled alone is_open (inl fails) = let back = fails.3 in record {
   now = (back.undone is_open).0 ∙ same.0.committed_is ∙ sym (settled same.0.was_open);
@@ -99,13 +100,7 @@ kept_after a b c e same settled alone is_open (inr still) = let all = unchanged_
   alone = all.0.mode ∙ alone;
 }
 
-pub kept_through : (a b c : State) → IsUnchanged a b → IsUnchanged b c → a.in_transaction ≡ false → IsKept a c
-kept_through a b c one two alone = let all = unchanged_then a b c one two in record {
-  now = all.0.now_is;
-  alone = all.0.mode ∙ alone;
-}
-
-pub open_before : (b c : State) (e : Error) → IsTrue c.is_open → Fails b c ⊥ e ⊎ IsUnchanged b c → IsTrue b.is_open
+open_before : (b c : State) (e : Error) → IsTrue c.is_open → Fails b c ⊥ e ⊎ IsUnchanged b c → IsTrue b.is_open
 open_before b c e is_open (inl fails) = fails.3.was_open is_open
 open_before b c e is_open (inr still) = still.0.was_open
 
@@ -121,30 +116,72 @@ module _ {S : Type 0} (g : Ghosts S) (sql : List ℕ) (params : Row) (old : Held
   begun new (inl it) = inl it
   begun new (inr it) = inr (returned new.reading, it.1, refl, it.2)
 
-  pub was_open : (now : Held S) (given : List Row) → IsUnderWay now given → IsTrue (state g now).is_open
+  was_open : (now : Held S) (given : List Row) → IsUnderWay now given → IsTrue (state g now).is_open
       → IsTrue (state g old).is_open
   was_open now given (inl it) is_open = it.1.0.was_open
   was_open now given (inr it) is_open =
       asked_open (state g old) (state g now) (λ rows. rows) sql params (Ok it.0) it.1 tt is_open
 
-  pub changes_nothing : (now : Held S) (given : List Row) → IsPlain (understood (state g old).now.schema sql)
+  changes_nothing : (now : Held S) (given : List Row) → IsPlain (understood (state g old).now.schema sql)
       → IsUnderWay now given → IsUnchanged (state g old) (state g now)
   changes_nothing now given plain (inl it) = it.1
   changes_nothing now given plain (inr it) = shown_plain (state g old) (state g now) sql params it.0 plain it.1
 
-  pub way_clean : (P : Trees → Type 0) (now : Held S) (given : List Row) → IsUnderWay now given
-      → Survives (state g old) (state g now) P → IsCleanBook (state g now) → IsCleanBook (state g old)
-  way_clean P now given way survives clean = record {
-    disk = let d = clean.disk in omega (arith, survives.clean);
-    is_open = was_open now given way clean.is_open;
-  }
+  module _ (mid : Held S) (survives : Survives (state g old) (state g mid) (CommitsShowing sql params (state g old)))
+      (way : HasCleanDisk (state g mid) → (given : List Row) × IsUnderWay mid given) where
+    -- what is left where some rows were read
+    pub way_asked : Asked sql params (state g old) (state g mid)
+    way_asked = record {
+      clean = λ clean. let it = way clean.disk in record {
+        disk = let d = clean.disk in omega (arith, survives.clean);
+        is_open = was_open mid it.0 it.1 clean.is_open;
+      };
+      kept = λ clean alone plain.
+          let it = way clean.disk in
+          let same = changes_nothing mid it.0 plain it.1 in
+          record { now = same.0.now_is; alone = same.0.mode ∙ alone };
+      crash = survives;
+    }
 
-  pub way_kept : (now : Held S) (given : List Row) → IsPlain (understood (state g old).now.schema sql)
-      → IsUnderWay now given → (state g old).in_transaction ≡ false → IsKept (state g old) (state g now)
-  way_kept now given plain way alone = let same = changes_nothing now given plain way in record {
-    now = same.0.now_is;
-    alone = same.0.mode ∙ alone;
-  }
+    module _ (new : Held S) (onward : Survives (state g mid) (state g new) (λ _. ⊥)) where
+      crash : Survives (state g old) (state g new) (CommitsShowing sql params (state g old))
+      crash = survives_then (state g old) (state g mid) (state g new) _ _ _ (λ _ db may. may) (λ _ db no. absurd no)
+          survives onward
+
+      before : HasCleanDisk (state g new) → HasCleanDisk (state g mid)
+      before disk = omega (arith, onward.clean)
+
+      -- and then nothing was changed
+      pub still_asked : (HasCleanDisk (state g new) → IsUnchanged (state g mid) (state g new))
+          → Asked sql params (state g old) (state g new)
+      still_asked same = record {
+        clean = λ clean. way_asked.clean (record {
+          disk = before clean.disk;
+          is_open = (same clean.disk).0.was_open;
+        });
+        kept = λ clean alone plain.
+            let still = same clean.disk in
+            let kept = way_asked.kept (record { disk = before clean.disk; is_open = still.0.was_open }) alone plain in
+            record { now = still.0.now_is ∙ kept.now; alone = still.0.mode ∙ kept.alone };
+        crash = crash;
+      }
+
+      -- or a row couldn't be read
+      pub failed_asked : (e : Error) → (IsTrue (state g old).is_open → (state g old).in_transaction ≡ false
+          → (state g old).now ≡ (state g old).committed)
+          → (HasCleanDisk (state g new)
+          → Fails (state g mid) (state g new) ⊥ e ⊎ IsUnchanged (state g mid) (state g new))
+          → Asked sql params (state g old) (state g new)
+      failed_asked e settled ends = record {
+        clean = λ clean. way_asked.clean (record {
+          disk = before clean.disk;
+          is_open = open_before (state g mid) (state g new) e clean.is_open (ends clean.disk);
+        });
+        kept = λ clean alone plain. let it = way (before clean.disk) in
+            kept_after (state g old) (state g mid) (state g new) e (changes_nothing mid it.0 plain it.1)
+            (λ was. settled was alone) alone clean.is_open (ends clean.disk);
+        crash = crash;
+      }
 
   module _ (mid new : Held S) (given : List Row) (same : IsUnchanged (state g mid) (state g new)) where
     pub one_more : (row : Row) → IsUnderWay mid given → Advances g mid new (Some row) → HandsOn mid new (Some row)

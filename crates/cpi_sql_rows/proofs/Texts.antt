@@ -20,7 +20,8 @@ use Rattle.cpi_sql_rows.specs.Texts.{add_reference_command, drop_references_text
 use Rattle.cpi_sql_rows.specs.Texts.{add_header_text, add_header_command, add_frozen_text, add_frozen_command}
 use Rattle.cpi_sql_rows.specs.Texts.{add_carried_text, add_carried_command, add_level_text, add_level_command}
 use Rattle.cpi_sql_rows.specs.Texts.{drop_frozen_text, drop_frozen_command, drop_carried_text, drop_carried_command}
-use Rattle.cpi_sql_rows.specs.Texts.{drop_level_text, drop_level_command}
+use Rattle.cpi_sql_rows.specs.Texts.{drop_level_text, drop_level_command, add_nodes_text, add_places_text}
+use Rattle.cpi_sql_rows.specs.Texts.{add_frozen_quotes_text, add_carried_prices_text, add_levels_text}
 
 -- the text is a query that means this
 abbrev pub Asks : List ℕ → Command → Type 0
@@ -59,13 +60,21 @@ pub put_quote_is : Makes put_quote_text put_quote_command
 unfolding understood everything
 put_quote_is = (refl, (refl, refl))
 
-pub add_node_is : Makes add_node_text add_node_command
+pub add_node_is : Makes add_node_text (add_node_command 1)
 unfolding understood everything
 add_node_is = (refl, (refl, refl))
 
-pub add_place_is : Makes add_place_text add_place_command
+pub add_nodes_is : Makes add_nodes_text (add_node_command 16)
+unfolding understood everything
+add_nodes_is = (refl, (refl, refl))
+
+pub add_place_is : Makes add_place_text (add_place_command 1)
 unfolding understood everything
 add_place_is = (refl, (refl, refl))
+
+pub add_places_is : Makes add_places_text (add_place_command 16)
+unfolding understood everything
+add_places_is = (refl, (refl, refl))
 
 pub drop_nodes_is : Makes drop_nodes_text drop_nodes_command
 unfolding understood everything
@@ -85,17 +94,29 @@ pub add_header_is : Makes add_header_text add_header_command
 unfolding understood everything
 add_header_is = (refl, (refl, refl))
 
-pub add_frozen_is : Makes add_frozen_text add_frozen_command
+pub add_frozen_is : Makes add_frozen_text (add_frozen_command 1)
 unfolding understood everything
 add_frozen_is = (refl, (refl, refl))
 
-pub add_carried_is : Makes add_carried_text add_carried_command
+pub add_frozen_quotes_is : Makes add_frozen_quotes_text (add_frozen_command 16)
+unfolding understood everything
+add_frozen_quotes_is = (refl, (refl, refl))
+
+pub add_carried_is : Makes add_carried_text (add_carried_command 1)
 unfolding understood everything
 add_carried_is = (refl, (refl, refl))
 
-pub add_level_is : Makes add_level_text add_level_command
+pub add_carried_prices_is : Makes add_carried_prices_text (add_carried_command 16)
+unfolding understood everything
+add_carried_prices_is = (refl, (refl, refl))
+
+pub add_level_is : Makes add_level_text (add_level_command 1)
 unfolding understood everything
 add_level_is = (refl, (refl, refl))
+
+pub add_levels_is : Makes add_levels_text (add_level_command 16)
+unfolding understood everything
+add_levels_is = (refl, (refl, refl))
 
 pub drop_frozen_is : Makes drop_frozen_text drop_frozen_command
 unfolding understood everything

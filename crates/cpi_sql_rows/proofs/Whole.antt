@@ -1,5 +1,5 @@
 -- What a statement shows that reads rows of one table.
-use Rattle.std.proofs.Common.{◌≡◌, ℕ, List, [], ◌∷◌, map, false, Result, Ok, Err, IfOk, OnOk, IsTrue, Option}
+use Rattle.std.proofs.Common.{◌≡◌, ℕ, List, [], ◌∷◌, map, Result, Ok, Err, IfOk, OnOk, IsTrue, Option}
 use Rattle.std.proofs.Common.{refl, sym, ap, subst, ◌∙◌}
 use Rattle.std.specs.Cmp.{IsTotalOrder}
 use Rattle.std.specs.Result.{IsErr}
@@ -11,16 +11,16 @@ use Rattle.sqlite.specs.Program.{overlay}
 use Rattle.sqlite.specs.Schema.{Schema}
 use Rattle.sqlite.specs.Term.{Term, holds, eval_all}
 use Rattle.sqlite.specs.Listing.{understood}
-use Rattle.sqlite.specs.State.{State, HasCleanDisk, Shown, Survives, CommitsShowing}
+use Rattle.sqlite.specs.State.{State, HasCleanDisk, Shown, Survives}
 use Rattle.sqlite.proofs.StateLemmas.{survives_weaker}
 use Rattle.sqlite.proofs.Callers.{IsPlain, reads_as, never_commits}
 use Rattle.sqlite_rules.specs.Lists.{Has}
 use Rattle.cpi_rows.specs.Keyed.{IsInOrder}
 use Rattle.cpi_sql_rows.specs.Asked.{AsksFor}
-use Rattle.cpi_sql_rows.specs.Finding.{IsQuietOver}
+use Rattle.cpi_sql_rows.specs.Finding.{IsQuietOver, LooksOver}
 use Rattle.cpi_sql_rows.specs.Lists.{listed}
-use Rattle.cpi_sql_rows.specs.Read.{AreRead}
-use Rattle.cpi_sql_rows.specs.Shelf.{HasTables, IsCleanBook, IsKept, IsWhole, Looked, Looks, StaysOpen}
+use Rattle.cpi_sql_rows.specs.Read.{AreRead, Asked}
+use Rattle.cpi_sql_rows.specs.Shelf.{HasTables, IsWhole, Looked, Looks, StaysOpen}
 use Rattle.cpi_sql_rows.specs.Tables.{office_schema}
 use Rattle.cpi_sql_rows.specs.Texts.{select, columns, by_columns}
 use Rattle.cpi_sql_rows.proofs.Found.{whole_read}
@@ -82,11 +82,16 @@ module _ {X K : Type 0} {R : K → K → Ordering} (o : IsTotalOrder R) (key : X
 
 -- ---- what it leaves
 
-pub quiet : (Fits : Schema → Type 0) (text : List ℕ) (old new : State) (params : Row)
-    → (Fits old.now.schema → IsPlain (understood old.now.schema text))
-    → Survives old new (CommitsShowing text params old) → Survives old new (λ _. IsQuietOver Fits old)
-quiet Fits text old new params plain h = survives_weaker old new _ _
-    (λ _ db may alone fits. never_commits text params old db (plain fits) may) h
+-- a statement that is no write, over a schema that fits
+pub looked_over : (Fits : Schema → Type 0) (text : List ℕ) (old new : State) (params : Row)
+    → (Fits old.now.schema → IsPlain (understood old.now.schema text)) → Asked text params old new
+    → LooksOver Fits old new
+looked_over Fits text old new params plain asked = record {
+  clean = asked.clean;
+  kept = λ clean alone fits. asked.kept clean alone (plain fits);
+  crash = survives_weaker old new _ _ (λ _ db may alone fits. never_commits text params old db (plain fits) may)
+      asked.crash;
+}
 
 -- over the tables of the office nothing is committed
 pub quiet_office : (Fits : Schema → Type 0) → Fits office_schema → (old new : State)
@@ -97,16 +102,14 @@ quiet_office Fits office old new h = survives_weaker old new _ _
 -- a statement over a table of the office is a look
 pub looked : {A E : Type 0} (r : Result A E) (Fits : Schema → Type 0) (text : List ℕ) (old new : State) (params : Row)
     → Fits office_schema → (Fits old.now.schema → IsPlain (understood old.now.schema text))
-    → (IsCleanBook new → IsCleanBook old)
-    → (IsCleanBook new → old.in_transaction ≡ false → IsPlain (understood old.now.schema text) → IsKept old new)
-    → (HasCleanDisk new → OnOk r (IsTrue new.is_open))
-    → Survives old new (CommitsShowing text params old) → Looks old new r
-looked {A = A} {E = E} r Fits text old new params office plain clean kept opens commits = record {
+    → Asked text params old new → (HasCleanDisk new → OnOk r (IsTrue new.is_open)) → Looks old new r
+looked {A = A} {E = E} r Fits text old new params office plain asked opens = record {
   still = record {
-    clean = clean;
-    kept = λ is has. kept is has.alone (plain (subst Fits (sym has.schema) office));
+    clean = asked.clean;
+    kept = λ is has. asked.kept is has.alone (plain (subst Fits (sym has.schema) office));
     crash = survives_weaker old new _ _
-        (λ _ db may is has. never_commits text params old db (plain (subst Fits (sym has.schema) office)) may) commits;
+        (λ _ db may is has. never_commits text params old db (plain (subst Fits (sym has.schema) office)) may)
+        asked.crash;
   };
   stays = at r opens;
 }

@@ -143,15 +143,14 @@ module _ (limit : Option ℕ) (keys : Keys) (schema : Schema) (it : Table) (para
         it.3,
       )
 
-  -- an INSERT of one row
-  pub insert_one : (from : Source) (source : Row) (db : Trees) (w : Written)
-      → ((rows : List Row) → Sourced limit (base db) (stamped table params) from (Ok rows) → rows ≡ source ∷ [])
-      → Inserts task from db (Ok w)
-      → Applies schema keys db (edit_of db table [] Chosen 0 (source ∷ [])) w.trees
-  insert_one from source db w one h =
+  -- an INSERT of these rows
+  pub insert_rows : (from : Source) (sources : List Row) (db : Trees) (w : Written)
+      → ((rows : List Row) → Sourced limit (base db) (stamped table params) from (Ok rows) → rows ≡ sources)
+      → Inserts task from db (Ok w) → Applies schema keys db (edit_of db table [] Chosen 0 sources) w.trees
+  insert_rows from sources db w gives h =
       let sourced = went h in
-      let counted = went (rw (one sourced.0 sourced.1) at sourced.2) in
-      let edit = edit_of db table [] Chosen 0 (source ∷ []) in
+      let counted = went (rw (gives sourced.0 sourced.1) at sourced.2) in
+      let edit = edit_of db table [] Chosen 0 sources in
       let made = went counted.2 in
       let applied = one_step schema keys db made.0 edit (no_works schema keys 0 it.tree edit.news) made.1 in
       let kept = went made.2 in

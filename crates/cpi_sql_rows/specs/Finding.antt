@@ -10,12 +10,12 @@ use Rattle.cpi_sql_rows.specs.declared.rowids.Rowid.{Rowid}
 use Rattle.cpi_sql_rows.specs.Tables.{first_schema, office_schema}
 use Rattle.cpi_sql_rows.specs.Texts.{select}
 use Rattle.std.specs.Ordering.{nat_cmp}
-use Rattle.sqlite.specs.State.{State}
+use Rattle.sqlite.specs.State.{State, Survives}
 use Rattle.cpi_sql_rows.specs.Making.{no_schema, HasAllTables, HoldsNothing, IsNew}
 use Rattle.cpi_sql_rows.specs.Numbered.{IsVersion}
 use Rattle.cpi_sql_rows.specs.Lists.{collector_in, outlet_in, item_in, calendar_in, office_in}
 use Rattle.cpi_sql_rows.specs.FirstSchema.{first_office_in}
-use Rattle.cpi_sql_rows.specs.Shelf.{HasRowids, IsWhole}
+use Rattle.cpi_sql_rows.specs.Shelf.{HasRowids, IsCleanBook, IsKept, IsWhole}
 
 -- a rowid, and not NULL
 abbrev pub rowid_from : Value → Option Rowid
@@ -128,9 +128,11 @@ IsSecond schema = schema ≡ office_schema
 abbrev pub IsQuietOver : (Schema → Type 0) → State → Type 0
 IsQuietOver Fits s = s.in_transaction ≡ false → Fits s.now.schema → ⊥
 
--- over the tables of the office
-abbrev pub IsQuiet : State → Type 0
-IsQuiet s = IsQuietOver IsOfOffice s
+-- over a schema that is so, the rows are as they were, and nothing is committed
+pub record LooksOver (Fits : Schema → Type 0) (old new : State) : Type 0 where
+  pub clean : IsCleanBook new → IsCleanBook old
+  pub kept : IsCleanBook new → old.in_transaction ≡ false → Fits old.now.schema → IsKept old new
+  pub crash : Survives old new (λ _. IsQuietOver Fits old)
 
 -- what an open may commit: all the tables of an office that holds nothing, with their number, where nothing was, or
 -- schema 1 migrated

@@ -12,3 +12,4 @@ pub mod Finding
 pub mod WholeTables
 pub mod HeldTables
 pub mod ReleaseRows
+pub mod Common

@@ -1,5 +1,5 @@
 -- The fixed statements, and what each means under the schema.
-use Rattle.std.specs.Prelude.{ℕ, pos, negsuc, false, List, [], ◌∷◌, Some, None, codes}
+use Rattle.std.specs.Prelude.{ℕ, zero, suc, ◌+◌, pos, negsuc, false, List, [], ◌∷◌, ◌++◌, Some, None, codes}
 use Rattle.sqlite.specs.Collation.TheVariants.{Binary}
 use Rattle.sqlite_value.specs.Keys.{ascending}
 use Rattle.sqlite_value.specs.declared.keys.Key.{Key}
@@ -48,6 +48,16 @@ select tree terms shown order names = Select (record {
   lets = [];
   body = whole_query tree terms (columns shown) (by_columns order);
 }) names
+
+-- so many parameters from a place on
+abbrev pub given_columns : ℕ → ℕ → List Term
+given_columns zero from = []
+given_columns (suc count) from = col 0 from ∷ given_columns count (suc from)
+
+-- rows of so many parameters each, one behind the other; each row has a rowid of its own before them
+abbrev pub given_rows : ℕ → ℕ → ℕ → List Term
+given_rows width zero from = []
+given_rows width (suc count) from = lit Null ∷ given_columns width from ++ given_rows width count (from + width)
 
 -- ---- the number of the schema
 
@@ -209,19 +219,29 @@ places_text = codes "SELECT year, item, code FROM plan_item WHERE year = ?1 ORDE
 
 -- adds a node
 abbrev pub add_node_text : List ℕ
-add_node_text = codes "INSERT INTO node (year, code, title, weight) VALUES (?1, ?2, ?3, ?4)"
+add_node_text = codes "INSERT INTO node (year, code, title, weight) VALUES (?, ?, ?, ?)"
 
--- what it means
-abbrev pub add_node_command : Command
-add_node_command = Insert 4 (Values (lit Null ∷ col 0 0 ∷ col 0 1 ∷ col 0 2 ∷ col 0 3 ∷ []) 5)
+-- adds sixteen nodes
+abbrev pub add_nodes_text : List ℕ
+add_nodes_text =
+    codes "INSERT INTO node (year, code, title, weight) VALUES (?, ?, ?, ?), (?, ?, ?, ?), (?, ?, ?, ?), (?, ?, ?, ?), (?, ?, ?, ?), (?, ?, ?, ?), (?, ?, ?, ?), (?, ?, ?, ?), (?, ?, ?, ?), (?, ?, ?, ?), (?, ?, ?, ?), (?, ?, ?, ?), (?, ?, ?, ?), (?, ?, ?, ?), (?, ?, ?, ?), (?, ?, ?, ?)"
+
+-- what they mean: so many rows
+abbrev pub add_node_command : ℕ → Command
+add_node_command count = Insert 4 (Values (given_rows 4 count 0) 5)
 
 -- adds a place
 abbrev pub add_place_text : List ℕ
-add_place_text = codes "INSERT INTO plan_item (year, item, code) VALUES (?1, ?2, ?3)"
+add_place_text = codes "INSERT INTO plan_item (year, item, code) VALUES (?, ?, ?)"
 
--- what it means
-abbrev pub add_place_command : Command
-add_place_command = Insert 5 (Values (lit Null ∷ col 0 0 ∷ col 0 1 ∷ col 0 2 ∷ []) 4)
+-- adds sixteen places
+abbrev pub add_places_text : List ℕ
+add_places_text =
+    codes "INSERT INTO plan_item (year, item, code) VALUES (?, ?, ?), (?, ?, ?), (?, ?, ?), (?, ?, ?), (?, ?, ?), (?, ?, ?), (?, ?, ?), (?, ?, ?), (?, ?, ?), (?, ?, ?), (?, ?, ?), (?, ?, ?), (?, ?, ?), (?, ?, ?), (?, ?, ?), (?, ?, ?)"
+
+-- what they mean: so many rows
+abbrev pub add_place_command : ℕ → Command
+add_place_command count = Insert 5 (Values (given_rows 3 count 0) 4)
 
 -- reads the reference month of a year
 abbrev pub references_text : List ℕ
@@ -301,45 +321,44 @@ add_header_command = Insert 15 (Values add_header_terms 6)
 -- adds a frozen quote
 abbrev pub add_frozen_text : List ℕ
 add_frozen_text =
-    codes "INSERT INTO frozen_2 (month, revision, collector, slot, item, last_month, mark, value) VALUES (?1, ?2, ?3, ?4, ?5, ?6, ?7, ?8)"
+    codes "INSERT INTO frozen_2 (month, revision, collector, slot, item, last_month, mark, value) VALUES (?, ?, ?, ?, ?, ?, ?, ?)"
 
--- what is written, of the parameters
-abbrev pub add_frozen_terms : List Term
-add_frozen_terms =
-    lit Null ∷ col 0 0 ∷ col 0 1 ∷ col 0 2 ∷ col 0 3 ∷ col 0 4 ∷ col 0 5 ∷ col 0 6 ∷ col 0 7 ∷ []
+-- adds sixteen frozen quotes
+abbrev pub add_frozen_quotes_text : List ℕ
+add_frozen_quotes_text =
+    codes "INSERT INTO frozen_2 (month, revision, collector, slot, item, last_month, mark, value) VALUES (?, ?, ?, ?, ?, ?, ?, ?), (?, ?, ?, ?, ?, ?, ?, ?), (?, ?, ?, ?, ?, ?, ?, ?), (?, ?, ?, ?, ?, ?, ?, ?), (?, ?, ?, ?, ?, ?, ?, ?), (?, ?, ?, ?, ?, ?, ?, ?), (?, ?, ?, ?, ?, ?, ?, ?), (?, ?, ?, ?, ?, ?, ?, ?), (?, ?, ?, ?, ?, ?, ?, ?), (?, ?, ?, ?, ?, ?, ?, ?), (?, ?, ?, ?, ?, ?, ?, ?), (?, ?, ?, ?, ?, ?, ?, ?), (?, ?, ?, ?, ?, ?, ?, ?), (?, ?, ?, ?, ?, ?, ?, ?), (?, ?, ?, ?, ?, ?, ?, ?), (?, ?, ?, ?, ?, ?, ?, ?)"
 
--- what it means
-abbrev pub add_frozen_command : Command
-add_frozen_command = Insert 16 (Values add_frozen_terms 9)
+-- what they mean: so many rows
+abbrev pub add_frozen_command : ℕ → Command
+add_frozen_command count = Insert 16 (Values (given_rows 8 count 0) 9)
 
 -- adds a carried price
 abbrev pub add_carried_text : List ℕ
 add_carried_text =
-    codes "INSERT INTO carried_2 (month, revision, collector, slot, item, last_month, ticks, knum, kden, observed, imputed) VALUES (?1, ?2, ?3, ?4, ?5, ?6, ?7, ?8, ?9, ?10, ?11)"
+    codes "INSERT INTO carried_2 (month, revision, collector, slot, item, last_month, ticks, knum, kden, observed, imputed) VALUES (?, ?, ?, ?, ?, ?, ?, ?, ?, ?, ?)"
 
--- what is written, of the parameters
-abbrev pub add_carried_terms : List Term
-add_carried_terms =
-    lit Null ∷ col 0 0 ∷ col 0 1 ∷ col 0 2 ∷ col 0 3 ∷ col 0 4 ∷ col 0 5 ∷ col 0 6 ∷ col 0 7 ∷ col 0 8 ∷ col 0 9
-    ∷ col 0 10 ∷ []
+-- adds sixteen carried prices
+abbrev pub add_carried_prices_text : List ℕ
+add_carried_prices_text =
+    codes "INSERT INTO carried_2 (month, revision, collector, slot, item, last_month, ticks, knum, kden, observed, imputed) VALUES (?, ?, ?, ?, ?, ?, ?, ?, ?, ?, ?), (?, ?, ?, ?, ?, ?, ?, ?, ?, ?, ?), (?, ?, ?, ?, ?, ?, ?, ?, ?, ?, ?), (?, ?, ?, ?, ?, ?, ?, ?, ?, ?, ?), (?, ?, ?, ?, ?, ?, ?, ?, ?, ?, ?), (?, ?, ?, ?, ?, ?, ?, ?, ?, ?, ?), (?, ?, ?, ?, ?, ?, ?, ?, ?, ?, ?), (?, ?, ?, ?, ?, ?, ?, ?, ?, ?, ?), (?, ?, ?, ?, ?, ?, ?, ?, ?, ?, ?), (?, ?, ?, ?, ?, ?, ?, ?, ?, ?, ?), (?, ?, ?, ?, ?, ?, ?, ?, ?, ?, ?), (?, ?, ?, ?, ?, ?, ?, ?, ?, ?, ?), (?, ?, ?, ?, ?, ?, ?, ?, ?, ?, ?), (?, ?, ?, ?, ?, ?, ?, ?, ?, ?, ?), (?, ?, ?, ?, ?, ?, ?, ?, ?, ?, ?), (?, ?, ?, ?, ?, ?, ?, ?, ?, ?, ?)"
 
--- what it means
-abbrev pub add_carried_command : Command
-add_carried_command = Insert 17 (Values add_carried_terms 12)
+-- what they mean: so many rows
+abbrev pub add_carried_command : ℕ → Command
+add_carried_command count = Insert 17 (Values (given_rows 11 count 0) 12)
 
 -- adds a row of a table
 abbrev pub add_level_text : List ℕ
 add_level_text =
-    codes "INSERT INTO level_2 (month, revision, code, title, weight, within, chained, month_change, year_change, imputed) VALUES (?1, ?2, ?3, ?4, ?5, ?6, ?7, ?8, ?9, ?10)"
+    codes "INSERT INTO level_2 (month, revision, code, title, weight, within, chained, month_change, year_change, imputed) VALUES (?, ?, ?, ?, ?, ?, ?, ?, ?, ?)"
 
--- what is written, of the parameters
-abbrev pub add_level_terms : List Term
-add_level_terms =
-    lit Null ∷ col 0 0 ∷ col 0 1 ∷ col 0 2 ∷ col 0 3 ∷ col 0 4 ∷ col 0 5 ∷ col 0 6 ∷ col 0 7 ∷ col 0 8 ∷ col 0 9 ∷ []
+-- adds sixteen rows of a table
+abbrev pub add_levels_text : List ℕ
+add_levels_text =
+    codes "INSERT INTO level_2 (month, revision, code, title, weight, within, chained, month_change, year_change, imputed) VALUES (?, ?, ?, ?, ?, ?, ?, ?, ?, ?), (?, ?, ?, ?, ?, ?, ?, ?, ?, ?), (?, ?, ?, ?, ?, ?, ?, ?, ?, ?), (?, ?, ?, ?, ?, ?, ?, ?, ?, ?), (?, ?, ?, ?, ?, ?, ?, ?, ?, ?), (?, ?, ?, ?, ?, ?, ?, ?, ?, ?), (?, ?, ?, ?, ?, ?, ?, ?, ?, ?), (?, ?, ?, ?, ?, ?, ?, ?, ?, ?), (?, ?, ?, ?, ?, ?, ?, ?, ?, ?), (?, ?, ?, ?, ?, ?, ?, ?, ?, ?), (?, ?, ?, ?, ?, ?, ?, ?, ?, ?), (?, ?, ?, ?, ?, ?, ?, ?, ?, ?), (?, ?, ?, ?, ?, ?, ?, ?, ?, ?), (?, ?, ?, ?, ?, ?, ?, ?, ?, ?), (?, ?, ?, ?, ?, ?, ?, ?, ?, ?), (?, ?, ?, ?, ?, ?, ?, ?, ?, ?)"
 
--- what it means
-abbrev pub add_level_command : Command
-add_level_command = Insert 18 (Values add_level_terms 11)
+-- what they mean: so many rows
+abbrev pub add_level_command : ℕ → Command
+add_level_command count = Insert 18 (Values (given_rows 10 count 0) 11)
 
 -- drops the frozen quotes of a release
 abbrev pub drop_frozen_text : List ℕ

@@ -1,10 +1,6 @@
 //! One statement: what it does, and that nothing has changed where it failed.
-ghost use Rattle.std.specs.Prelude.{◌≡◌, false, IfOk, IsTrue, OnOk, OnErr, Ok};
-ghost use Rattle.sqlite.specs.Held.{state};
-ghost use Rattle.sqlite.specs.Tree.{Trees};
-ghost use Rattle.sqlite.specs.Values.{bound};
-ghost use Rattle.sqlite.specs.State.{HasCleanDisk, Executes, Survives, CommitsBy};
-ghost use Rattle.cpi_sql_rows.specs.Shelf.{IsCleanBook, IsKept};
+ghost use Rattle.cpi_sql_rows.specs.Common.{◌≡◌, CommitsBy, Executes, HasCleanDisk, IfOk, IsCleanBook, IsKept, IsTrue};
+ghost use Rattle.cpi_sql_rows.specs.Common.{Ok, OnErr, OnOk, Survives, bound, false, state};
 
 use sqlite::{Alter, Connection, Error};
 use sqlite_value::value::ValueRef;
@@ -32,7 +28,7 @@ pub fn run<S: Alter>(
 /// Between transactions a crash leaves what the connection shows.
 pub fn settle<S: Alter>(conn: &Connection<S>)
     ensures { IsTrue (state S.Store conn.now).is_open → (state S.Store conn.now).in_transaction ≡ false
-        → (db : Trees) → (state S.Store conn.now).may_leave db → db ≡ (state S.Store conn.now).now.trees }
+        → (db : _) → (state S.Store conn.now).may_leave db → db ≡ (state S.Store conn.now).now.trees }
 {
     let _settled = conn.is_autocommit();
 }

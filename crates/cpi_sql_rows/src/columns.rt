@@ -1,11 +1,8 @@
 //! What a value is written as in a column: what is read of it again is the value.
-ghost use Rattle.std.specs.Prelude.{◌≡◌, IfOk, Some, pos};
-ghost use Rattle.std.specs.String.{string_bytes};
-ghost use Rattle.sqlite.specs.declared.types.Value.TheVariants.{Int};
 ghost use Rattle.cpi_codes.specs.Key.{key_of};
 ghost use Rattle.cpi_codes.specs.CodeOf.{code_of};
 ghost use Rattle.cpi_codes.specs.ItemCode.{item_code_of};
-ghost use Rattle.cpi_survey.specs.declared.mark.Mark.TheVariants.{Missing};
+ghost use Rattle.cpi_sql_rows.specs.Common.{◌≡◌, IfOk, Int, Some, pos, string_bytes};
 ghost use Rattle.cpi_sql_rows.specs.Lists.{mark_from, mark_word, month_at, name_of, ranged};
 
 use crate::stored::Unread;
@@ -94,17 +91,6 @@ pub fn code_text(alloc: Global, code: Code) -> Result<String, Unread>
     code.text(alloc).map_err(|_| Unread)
 }
 
-fn reason_word(reason: Reason) -> &'static str
-    ensures { result.now ≡ mark_word (Missing reason) }
-{
-    match reason {
-        Reason::Stock => "stock",
-        Reason::Closed => "closed",
-        Reason::Gone => "gone",
-        Reason::Refused => "refused",
-    }
-}
-
 /// The word of the mark; a missing price has the one of its reason.
 pub fn mark_text(mark: Mark) -> &'static str
     ensures { result.now ≡ mark_word mark }
@@ -113,7 +99,10 @@ pub fn mark_text(mark: Mark) -> &'static str
         Mark::Price(_) => "price",
         Mark::Comparable(_) => "comparable",
         Mark::Other(_) => "other",
-        Mark::Missing(reason) => reason_word(reason),
+        Mark::Missing(Reason::Stock) => "stock",
+        Mark::Missing(Reason::Closed) => "closed",
+        Mark::Missing(Reason::Gone) => "gone",
+        Mark::Missing(Reason::Refused) => "refused",
     }
 }
 
@@ -121,10 +110,7 @@ pub fn mark_text(mark: Mark) -> &'static str
 pub fn mark_value(mark: Mark) -> u32
     ensures { mark_from (mark_word mark) result ≡ Some mark }
 {
-    match mark.observed_price() {
-        Some(price) => price.units(),
-        None => 0,
-    }
+    mark.observed_price().map_or(0, |price| price.units())
 }
 
 /// The moment, in seconds since 1970 UTC.

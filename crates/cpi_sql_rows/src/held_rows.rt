@@ -1,75 +1,53 @@
 //! What all collectors have, each row beside the number of its collector, read whole from its table.
-ghost use Rattle.std.specs.Prelude.{◌≡◌, IfOk, IsPermutation, IsTrue, OnOk};
-ghost use Rattle.sqlite.specs.Held.{state};
-ghost use Rattle.sqlite.specs.State.{HasCleanDisk, Survives};
-ghost use Rattle.cpi_rows.specs.Held.{held_cmp, held_key};
-ghost use Rattle.cpi_rows.specs.Keyed.{IsInOrder};
+ghost use Rattle.cpi_sql_rows.specs.Common.{◌≡◌, AllStand, HasCleanDisk, HasTables, IfOk, IsCleanBook, IsInOrder};
+ghost use Rattle.cpi_sql_rows.specs.Common.{IsPermutation, IsSecond, IsTrue, Looks, LooksOver, OnOk, held_cmp};
+ghost use Rattle.cpi_sql_rows.specs.Common.{held_key, state};
 ghost use Rattle.cpi_survey.specs.Quote.{quote_cmp, quote_key};
-ghost use Rattle.cpi_sql_rows.specs.Lists.{quote_in, quotes_in};
-ghost use Rattle.cpi_sql_rows.specs.Shelf.{AllStand, HasTables, IsCleanBook, Looks};
+ghost use Rattle.cpi_sql_rows.specs.Lists.{quote_in, quotes_in, shown_given, shown_quote};
 ghost use Rattle.cpi_sql_rows.specs.Tables.{quote_2};
 
-use crate::rows::{read_assignment, read_collector, read_mark, read_month, read_series, read_slot};
+use crate::rows::{number_at, read_copied, read_item_code, read_mark, read_month, read_series};
 use crate::stored::{Stored, Unread, gather, in_order};
-use crate::table::Table;
+use cpi_codes::{CollectorId, OutletId, Slot};
 use cpi_store::{Given, HeldGiven, HeldQuote};
-use cpi_survey::Quote;
+use cpi_survey::{Assignment, Quote};
 use sqlite::{Alter, Connection, Row};
 use std::alloc::Global;
 
 impl Stored for HeldGiven {
-    ghost use Rattle.cpi_sql_rows.specs.Lists.{shown_given};
-
     ghost stands_for = { shown_given };
 
     fn read(_alloc: Global, row: &Row) -> Option<HeldGiven> {
-        let collector = read_collector(row, 0)?;
-        let assignment = read_assignment(row)?;
-        let series = read_series(row, 6, 7)?;
         Some(HeldGiven {
-            collector,
-            given: Given { assignment, series },
-        })
-    }
-}
-
-impl Stored for HeldQuote {
-    ghost use Rattle.cpi_sql_rows.specs.Lists.{shown_quote};
-
-    ghost stands_for = { shown_quote };
-
-    fn read(_alloc: Global, row: &Row) -> Option<HeldQuote> {
-        let collector = read_collector(row, 0)?;
-        let slot = read_slot(row, 1)?;
-        let month = read_month(row, 2)?;
-        let mark = read_mark(row, 3, 4)?;
-        let receipt: u32 = row.get(5).ok()?;
-        Some(HeldQuote {
-            collector,
-            quote: Quote {
-                slot,
-                month,
-                mark,
-                receipt,
+            collector: CollectorId::new(number_at(row, 0)?)?,
+            given: Given {
+                assignment: Assignment {
+                    slot: Slot::new(number_at(row, 1)?)?,
+                    outlet: OutletId::new(number_at(row, 2)?)?,
+                    item: read_item_code(row, 3)?,
+                    first_month: read_month(row, 4)?,
+                    last_month: read_month(row, 5)?,
+                    copied: read_copied(row, 8)?,
+                },
+                series: read_series(row, 6, 7)?,
             },
         })
     }
 }
 
-impl Table for HeldGiven {
-    ghost use Rattle.std.specs.Prelude.{refl};
-    ghost use Rattle.cpi_sql_rows.specs.Finding.{IsSecond};
-    ghost use Rattle.cpi_sql_rows.specs.WholeTables.{all_assignments_table};
+impl Stored for HeldQuote {
+    ghost stands_for = { shown_quote };
 
-    ghost is_in = { IsSecond };
-
-    ghost table = { all_assignments_table };
-
-    ghost same = { λ _. refl };
-
-    fn text() -> &'static str {
-        "SELECT collector, slot, outlet, item, first_month, last_month, series_collector, series_slot, copied \
-         FROM assignment_2 ORDER BY collector, slot"
+    fn read(_alloc: Global, row: &Row) -> Option<HeldQuote> {
+        Some(HeldQuote {
+            collector: CollectorId::new(number_at(row, 0)?)?,
+            quote: Quote {
+                slot: Slot::new(number_at(row, 1)?)?,
+                month: read_month(row, 2)?,
+                mark: read_mark(row, 3, 4)?,
+                receipt: row.get(5).ok()?,
+            },
+        })
     }
 }
 
@@ -98,8 +76,7 @@ pub fn all_quotes<S: Alter>(
     ensures stand { IsCleanBook (state S.Store conn.new) → HasTables (state S.Store conn.old) →
         OnOk result (AllStand quote_in ((state S.Store conn.old).now.trees quote_2.tree)) }
     ensures open { HasCleanDisk (state S.Store conn.new) → OnOk result (IsTrue (state S.Store conn.new).is_open) }
-    ensures crash { Survives (state S.Store conn.old) (state S.Store conn.new)
-        (λ _. HasTables (state S.Store conn.old) → ⊥) }
+    ensures found { LooksOver IsSecond (state S.Store conn.old) (state S.Store conn.new) }
 {
     let read = gather(conn, alloc, QUOTES, &[])?;
     in_place(read)

@@ -4,7 +4,6 @@
 mod ask;
 mod columns;
 mod held_rows;
-mod lookup;
 mod reference_months;
 mod release_rows;
 mod rowids;
@@ -19,10 +18,8 @@ pub use columns::{
     mark_value, moment_value, month_number, name_text, outlet_number, slot_number,
 };
 pub use held_rows::all_quotes;
-pub use lookup::by_key;
 pub use reference_months::ReferenceMonth;
 pub use release_rows::Header;
 pub use rowids::scan;
-pub use stored::{Stored, Unread, list};
+pub use stored::{Stored, Unread, by_key, list};
 pub use table::{Table, read_all};
-pub use tables::{bearers, calendar, items, outlets};

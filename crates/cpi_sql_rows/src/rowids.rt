@@ -1,11 +1,8 @@
 //! The rowids of the tables that are found at an open.
-ghost use Rattle.std.specs.Prelude.{◌≡◌, false, [], IfOk, OnOk, IsTrue};
-ghost use Rattle.std.specs.Ordering.{int_cmp};
-ghost use Rattle.sqlite.specs.Held.{state};
 ghost use Rattle.sqlite.specs.Program.{overlay};
-ghost use Rattle.sqlite.specs.State.{HasCleanDisk, Survives};
-ghost use Rattle.cpi_sql_rows.specs.Shelf.{IsCleanBook, IsKept, HasRowids};
-ghost use Rattle.cpi_sql_rows.specs.Finding.{AsksRowids};
+ghost use Rattle.cpi_sql_rows.specs.Common.{[], Asked, HasCleanDisk, HasRowids, IsCleanBook, IsTrue, OnOk, column};
+ghost use Rattle.cpi_sql_rows.specs.Common.{state};
+ghost use Rattle.cpi_sql_rows.specs.Finding.{AsksRowids, rowid_from};
 
 use crate::stored::{Stored, Unread, list};
 use cpi_rows::Keyed;
@@ -29,9 +26,6 @@ impl Keyed for Rowid {
 }
 
 impl Stored for Rowid {
-    ghost use Rattle.sqlite.specs.Order.{column};
-    ghost use Rattle.cpi_sql_rows.specs.Finding.{rowid_from};
-
     ghost stands_for = { λ x. rowid_from (column x 0) };
 
     fn read(alloc: Global, row: &Row) -> Option<Rowid> {
@@ -42,16 +36,11 @@ impl Stored for Rowid {
 
 /// Reads the rowids of a table, which are to be numbers that rise.
 pub fn scan<S: Alter>(conn: &mut Connection<S>, alloc: Global, text: &str) -> Result<(), Unread>
-    ensures clean { IsCleanBook (state S.Store conn.new) → IsCleanBook (state S.Store conn.old) }
-    ensures kept { IsCleanBook (state S.Store conn.new) → (state S.Store conn.old).in_transaction ≡ false
-        → (tree : _) → AsksRowids (state S.Store conn.old).now.schema text.now tree
-        → IsKept (state S.Store conn.old) (state S.Store conn.new) }
+    ensures asked { Asked text.now [] (state S.Store conn.old) (state S.Store conn.new) }
     ensures rise { IsCleanBook (state S.Store conn.new)
         → OnOk result ((tree : _) → AsksRowids (state S.Store conn.old).now.schema text.now tree
         → HasRowids (overlay (state S.Store conn.old).now.trees [] tree)) }
     ensures open { HasCleanDisk (state S.Store conn.new) → OnOk result (IsTrue (state S.Store conn.new).is_open) }
-    ensures crash { Survives (state S.Store conn.old) (state S.Store conn.new)
-        (λ _. (tree : _) → AsksRowids (state S.Store conn.old).now.schema text.now tree → ⊥) }
 {
     let _ids = list::<S, Rowid>(conn, alloc, text, &[])?;
     Ok(())

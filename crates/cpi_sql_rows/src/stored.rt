@@ -1,16 +1,8 @@
 //! What the rows of an answer stand for.
-ghost use Rattle.std.specs.Prelude.{◌≡◌, false, IfOk, IsTrue, OnOk, IfSome, Option};
-ghost use Rattle.sqlite.specs.Order.{Row as SqlRow};
-ghost use Rattle.sqlite.specs.Held.{state};
-ghost use Rattle.sqlite.specs.Values.{bound};
-ghost use Rattle.sqlite.specs.Listing.{understood};
-ghost use Rattle.sqlite.specs.State.{HasCleanDisk, Shown, Survives, CommitsShowing};
-ghost use Rattle.sqlite.proofs.Callers.{IsPlain};
-ghost use Rattle.cpi_rows.specs.Keyed.{IsInOrder};
-ghost use Rattle.cpi_sql_rows.specs.Shelf.{IsCleanBook, IsKept};
-ghost use Rattle.cpi_sql_rows.specs.Read.{AreRead};
+ghost use Rattle.cpi_sql_rows.specs.Common.{◌≡◌, Asked, HasCleanDisk, IfOk, IfSome, IsInOrder, IsTrue, OnOk, Option};
+ghost use Rattle.cpi_sql_rows.specs.Common.{Row as SqlRow, ShowsAll, Some, bound, state};
 
-use cpi_rows::{Keyed, are_in_order};
+use cpi_rows::{Keyed, RowsByKey, are_in_order};
 use sqlite::{Alter, Connection, Error, Row};
 use sqlite_value::value::ValueRef;
 use std::alloc::Global;
@@ -53,17 +45,10 @@ pub fn gather<S: Alter, T: Stored>(
     text: &str,
     params: &[ValueRef<'_>],
 ) -> Result<Vec<T>, Unread>
-    ensures clean { IsCleanBook (state S.Store conn.new) → IsCleanBook (state S.Store conn.old) }
-    ensures read { HasCleanDisk (state S.Store conn.new)
-        → IfOk result (λ xs. (rows : _)
-        × Shown text.now (bound params.now) (state S.Store conn.old) (state S.Store conn.new) rows
-        × AreRead T.stands_for rows xs.items) }
-    ensures kept { IsCleanBook (state S.Store conn.new) → (state S.Store conn.old).in_transaction ≡ false
-        → IsPlain (understood (state S.Store conn.old).now.schema text.now)
-        → IsKept (state S.Store conn.old) (state S.Store conn.new) }
+    ensures asked { Asked text.now (bound params.now) (state S.Store conn.old) (state S.Store conn.new) }
+    ensures read { HasCleanDisk (state S.Store conn.new) → IfOk result (λ xs.
+        ShowsAll T.stands_for text.now (bound params.now) (state S.Store conn.old) (state S.Store conn.new) xs.items) }
     ensures open { HasCleanDisk (state S.Store conn.new) → OnOk result (IsTrue (state S.Store conn.new).is_open) }
-    ensures crash { Survives (state S.Store conn.old) (state S.Store conn.new)
-        (CommitsShowing text.now (bound params.now) (state S.Store conn.old)) }
 {
     let _settled = conn.is_autocommit();
     let mut read = Vec::new(alloc);
@@ -85,19 +70,24 @@ pub fn list<S: Alter, T: Stored>(
     text: &str,
     params: &[ValueRef<'_>],
 ) -> Result<Vec<T>, Unread>
-    ensures clean { IsCleanBook (state S.Store conn.new) → IsCleanBook (state S.Store conn.old) }
-    ensures read { HasCleanDisk (state S.Store conn.new)
-        → IfOk result (λ xs. (rows : _)
-        × Shown text.now (bound params.now) (state S.Store conn.old) (state S.Store conn.new) rows
-        × AreRead T.stands_for rows xs.items) }
+    ensures asked { Asked text.now (bound params.now) (state S.Store conn.old) (state S.Store conn.new) }
+    ensures read { HasCleanDisk (state S.Store conn.new) → IfOk result (λ xs.
+        ShowsAll T.stands_for text.now (bound params.now) (state S.Store conn.old) (state S.Store conn.new) xs.items) }
     ensures order { IfOk result (λ xs. IsInOrder T.Key.cmp T.key xs.items) }
-    ensures kept { IsCleanBook (state S.Store conn.new) → (state S.Store conn.old).in_transaction ≡ false
-        → IsPlain (understood (state S.Store conn.old).now.schema text.now)
-        → IsKept (state S.Store conn.old) (state S.Store conn.new) }
     ensures open { HasCleanDisk (state S.Store conn.new) → OnOk result (IsTrue (state S.Store conn.new).is_open) }
-    ensures crash { Survives (state S.Store conn.old) (state S.Store conn.new)
-        (CommitsShowing text.now (bound params.now) (state S.Store conn.old)) }
 {
     let read = gather(conn, alloc, text, params)?;
     in_order(read)
+}
+
+/// The rows, to be found by their keys.
+pub fn by_key<T: Keyed + Drop>(alloc: Global, rows: Vec<T>) -> Result<RowsByKey<T>, Unread>
+    requires { IsInOrder T.Key.cmp T.key rows.items }
+    ensures { IfOk result (λ found. found ≡ rows.items) }
+{
+    let mut found = RowsByKey::new(alloc);
+    'rows: for row in rows {
+        found.put(row).map_err(|_| Unread)?;
+    }
+    Ok(found)
 }

@@ -1,13 +1,7 @@
 //! A table that is read whole, by one statement.
-ghost use Rattle.std.specs.Prelude.{◌≡◌, false, map, IfOk, IsTrue, OnOk};
-ghost use Rattle.sqlite.specs.Held.{state};
-ghost use Rattle.sqlite.specs.Order.{Row as SqlRow, column};
-ghost use Rattle.sqlite.specs.Schema.{Schema};
-ghost use Rattle.sqlite.specs.State.{HasCleanDisk, Survives};
-ghost use Rattle.cpi_rows.specs.Keyed.{IsInOrder};
-ghost use Rattle.cpi_sql_rows.specs.Finding.{IsQuietOver};
-ghost use Rattle.cpi_sql_rows.specs.Lists.{listed};
-ghost use Rattle.cpi_sql_rows.specs.Shelf.{HasTables, IsCleanBook, IsKept, IsWhole, Looks};
+ghost use Rattle.cpi_sql_rows.specs.Common.{◌≡◌, HasCleanDisk, HasTables, IfOk, IsCleanBook, IsInOrder, IsOfOffice};
+ghost use Rattle.cpi_sql_rows.specs.Common.{IsTrue, IsWhole, Looks, LooksOver, OnOk, Row as SqlRow, Schema, column};
+ghost use Rattle.cpi_sql_rows.specs.Common.{listed, map, state};
 ghost use Rattle.cpi_sql_rows.specs.WholeTables.{WholeTable};
 
 use crate::stored::{Stored, Unread, list};
@@ -16,8 +10,8 @@ use std::alloc::Global;
 
 /// What the rows of one table stand for.
 pub trait Table: Stored {
-    /// The schemas that have the table.
-    ghost is_in: { Schema → Type 0 };
+    /// The schemas that have the table: both, where nothing else is said.
+    ghost is_in: { Schema → Type 0 } = { IsOfOffice };
 
     /// The table, and the statement that asks for all its rows, in the order of their keys.
     ghost table: { WholeTable Self is_in };
@@ -43,12 +37,8 @@ pub fn read_all<S: Alter, T: Table>(
     ensures order { IfOk result (λ xs. IsInOrder T.Key.cmp T.key xs.items) }
     ensures whole { IsCleanBook (state S.Store conn.new) → T.is_in (state S.Store conn.old).now.schema →
         OnOk result (IsWhole T.Key.cmp T.key T.table.entry ((state S.Store conn.old).now.trees T.table.tree)) }
-    ensures clean { IsCleanBook (state S.Store conn.new) → IsCleanBook (state S.Store conn.old) }
-    ensures kept { IsCleanBook (state S.Store conn.new) → (state S.Store conn.old).in_transaction ≡ false →
-        T.is_in (state S.Store conn.old).now.schema → IsKept (state S.Store conn.old) (state S.Store conn.new) }
+    ensures found { LooksOver T.is_in (state S.Store conn.old) (state S.Store conn.new) }
     ensures open { HasCleanDisk (state S.Store conn.new) → OnOk result (IsTrue (state S.Store conn.new).is_open) }
-    ensures crash { Survives (state S.Store conn.old) (state S.Store conn.new)
-        (λ _. IsQuietOver T.is_in (state S.Store conn.old)) }
 {
     list(conn, alloc, T::text(), &[])
 }

@@ -1,26 +1,14 @@
-//! The small tables and the headers of the releases, each read whole.
-ghost use Rattle.std.specs.Prelude.{◌≡◌, false, IsTrue, OnOk};
-ghost use Rattle.std.specs.Ordering.{nat_cmp};
-ghost use Rattle.sqlite.specs.Held.{state};
-ghost use Rattle.sqlite.specs.State.{HasCleanDisk, Survives};
-ghost use Rattle.cpi_sql_rows.specs.Shelf.{IsCleanBook, IsKept, IsWhole};
-ghost use Rattle.cpi_sql_rows.specs.Finding.{IsOfOffice, IsQuiet};
-ghost use Rattle.cpi_sql_rows.specs.Lists.{collector_in, outlet_in, item_in, calendar_in};
-ghost use Rattle.cpi_sql_rows.specs.Tables.{collector, outlet, item, calendar as months};
+//! The tables that are read whole, each by one statement.
+ghost use Rattle.cpi_sql_rows.specs.Common.{IsSecond, refl};
+ghost use Rattle.cpi_sql_rows.specs.WholeTables.{all_assignments_table, bearers_table, calendar_table, headers_table};
+ghost use Rattle.cpi_sql_rows.specs.WholeTables.{items_table, outlets_table};
 
 use crate::release_rows::Header;
-use crate::stored::Unread;
-use crate::table::{Table, read_all};
+use crate::table::Table;
 use cpi_plan::{CalendarRow, Item};
-use cpi_store::{Bearer, Outlet};
-use sqlite::{Alter, Connection};
-use std::alloc::Global;
+use cpi_store::{Bearer, HeldGiven, Outlet};
 
 impl Table for Header {
-    ghost use Rattle.std.specs.Prelude.{refl};
-    ghost use Rattle.cpi_sql_rows.specs.Finding.{IsSecond};
-    ghost use Rattle.cpi_sql_rows.specs.WholeTables.{headers_table};
-
     ghost is_in = { IsSecond };
 
     ghost table = { headers_table };
@@ -33,12 +21,6 @@ impl Table for Header {
 }
 
 impl Table for Bearer {
-    ghost use Rattle.std.specs.Prelude.{refl};
-    ghost use Rattle.cpi_sql_rows.specs.Finding.{IsOfOffice};
-    ghost use Rattle.cpi_sql_rows.specs.WholeTables.{bearers_table};
-
-    ghost is_in = { IsOfOffice };
-
     ghost table = { bearers_table };
 
     ghost same = { λ _. refl };
@@ -48,27 +30,7 @@ impl Table for Bearer {
     }
 }
 
-/// All collectors.
-pub fn bearers<S: Alter>(conn: &mut Connection<S>, alloc: Global) -> Result<Vec<Bearer>, Unread>
-    ensures clean { IsCleanBook (state S.Store conn.new) → IsCleanBook (state S.Store conn.old) }
-    ensures found_kept { IsCleanBook (state S.Store conn.new) → (state S.Store conn.old).in_transaction ≡ false →
-        IsOfOffice (state S.Store conn.old).now.schema → IsKept (state S.Store conn.old) (state S.Store conn.new) }
-    ensures found_whole { IsCleanBook (state S.Store conn.new) → IsOfOffice (state S.Store conn.old).now.schema →
-        OnOk result (IsWhole nat_cmp (λ b. b.number) collector_in ((state S.Store conn.old).now.trees collector.tree)) }
-    ensures open { HasCleanDisk (state S.Store conn.new) → OnOk result (IsTrue (state S.Store conn.new).is_open) }
-    ensures found_crash { Survives (state S.Store conn.old) (state S.Store conn.new)
-        (λ _. IsQuiet (state S.Store conn.old)) }
-{
-    read_all(conn, alloc)
-}
-
 impl Table for Outlet {
-    ghost use Rattle.std.specs.Prelude.{refl};
-    ghost use Rattle.cpi_sql_rows.specs.Finding.{IsOfOffice};
-    ghost use Rattle.cpi_sql_rows.specs.WholeTables.{outlets_table};
-
-    ghost is_in = { IsOfOffice };
-
     ghost table = { outlets_table };
 
     ghost same = { λ _. refl };
@@ -78,27 +40,7 @@ impl Table for Outlet {
     }
 }
 
-/// All outlets.
-pub fn outlets<S: Alter>(conn: &mut Connection<S>, alloc: Global) -> Result<Vec<Outlet>, Unread>
-    ensures clean { IsCleanBook (state S.Store conn.new) → IsCleanBook (state S.Store conn.old) }
-    ensures found_kept { IsCleanBook (state S.Store conn.new) → (state S.Store conn.old).in_transaction ≡ false →
-        IsOfOffice (state S.Store conn.old).now.schema → IsKept (state S.Store conn.old) (state S.Store conn.new) }
-    ensures found_whole { IsCleanBook (state S.Store conn.new) → IsOfOffice (state S.Store conn.old).now.schema →
-        OnOk result (IsWhole nat_cmp (λ u. u.number) outlet_in ((state S.Store conn.old).now.trees outlet.tree)) }
-    ensures open { HasCleanDisk (state S.Store conn.new) → OnOk result (IsTrue (state S.Store conn.new).is_open) }
-    ensures found_crash { Survives (state S.Store conn.old) (state S.Store conn.new)
-        (λ _. IsQuiet (state S.Store conn.old)) }
-{
-    read_all(conn, alloc)
-}
-
 impl Table for Item {
-    ghost use Rattle.std.specs.Prelude.{refl};
-    ghost use Rattle.cpi_sql_rows.specs.Finding.{IsOfOffice};
-    ghost use Rattle.cpi_sql_rows.specs.WholeTables.{items_table};
-
-    ghost is_in = { IsOfOffice };
-
     ghost table = { items_table };
 
     ghost same = { λ _. refl };
@@ -108,27 +50,7 @@ impl Table for Item {
     }
 }
 
-/// All items.
-pub fn items<S: Alter>(conn: &mut Connection<S>, alloc: Global) -> Result<Vec<Item>, Unread>
-    ensures clean { IsCleanBook (state S.Store conn.new) → IsCleanBook (state S.Store conn.old) }
-    ensures found_kept { IsCleanBook (state S.Store conn.new) → (state S.Store conn.old).in_transaction ≡ false →
-        IsOfOffice (state S.Store conn.old).now.schema → IsKept (state S.Store conn.old) (state S.Store conn.new) }
-    ensures found_whole { IsCleanBook (state S.Store conn.new) → IsOfOffice (state S.Store conn.old).now.schema →
-        OnOk result (IsWhole nat_cmp (λ i. i.code) item_in ((state S.Store conn.old).now.trees item.tree)) }
-    ensures open { HasCleanDisk (state S.Store conn.new) → OnOk result (IsTrue (state S.Store conn.new).is_open) }
-    ensures found_crash { Survives (state S.Store conn.old) (state S.Store conn.new)
-        (λ _. IsQuiet (state S.Store conn.old)) }
-{
-    read_all(conn, alloc)
-}
-
 impl Table for CalendarRow {
-    ghost use Rattle.std.specs.Prelude.{refl};
-    ghost use Rattle.cpi_sql_rows.specs.Finding.{IsOfOffice};
-    ghost use Rattle.cpi_sql_rows.specs.WholeTables.{calendar_table};
-
-    ghost is_in = { IsOfOffice };
-
     ghost table = { calendar_table };
 
     ghost same = { λ _. refl };
@@ -138,19 +60,15 @@ impl Table for CalendarRow {
     }
 }
 
-/// All rows of the calendar.
-pub fn calendar<S: Alter>(
-    conn: &mut Connection<S>,
-    alloc: Global,
-) -> Result<Vec<CalendarRow>, Unread>
-    ensures clean { IsCleanBook (state S.Store conn.new) → IsCleanBook (state S.Store conn.old) }
-    ensures found_kept { IsCleanBook (state S.Store conn.new) → (state S.Store conn.old).in_transaction ≡ false →
-        IsOfOffice (state S.Store conn.old).now.schema → IsKept (state S.Store conn.old) (state S.Store conn.new) }
-    ensures found_whole { IsCleanBook (state S.Store conn.new) → IsOfOffice (state S.Store conn.old).now.schema →
-        OnOk result (IsWhole nat_cmp (λ r. r.month) calendar_in ((state S.Store conn.old).now.trees months.tree)) }
-    ensures open { HasCleanDisk (state S.Store conn.new) → OnOk result (IsTrue (state S.Store conn.new).is_open) }
-    ensures found_crash { Survives (state S.Store conn.old) (state S.Store conn.new)
-        (λ _. IsQuiet (state S.Store conn.old)) }
-{
-    read_all(conn, alloc)
+impl Table for HeldGiven {
+    ghost is_in = { IsSecond };
+
+    ghost table = { all_assignments_table };
+
+    ghost same = { λ _. refl };
+
+    fn text() -> &'static str {
+        "SELECT collector, slot, outlet, item, first_month, last_month, series_collector, series_slot, copied \
+         FROM assignment_2 ORDER BY collector, slot"
+    }
 }

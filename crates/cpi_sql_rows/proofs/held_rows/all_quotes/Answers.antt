@@ -1,33 +1,25 @@
 use Rattle.std.proofs.Common.{refl}
 use Rattle.sqlite.specs.Held.{state}
-use Rattle.sqlite.specs.Order.{Row}
-use Rattle.sqlite.specs.State.{CommitsShowing, State, Survives}
 use Rattle.cpi_sql_rows.specs.Finding.{IsSecond}
 use Rattle.cpi_sql_rows.specs.Texts.{all_quotes_text}
 use Rattle.cpi_sql_rows.specs.WholeTables.{all_quotes_asked}
 use Rattle.cpi_sql_rows.proofs.FoundTables.{on_any}
-use Rattle.cpi_sql_rows.specs.Shelf.{HasTables}
-use Rattle.cpi_sql_rows.proofs.Whole.{both_ok, looked, looks_failed, quiet, quiet_office}
+use Rattle.cpi_sql_rows.proofs.Whole.{both_ok, looked, looked_over, looks_failed}
 use Rattle.cpi_sql_rows.proofs.HeldReads.{all_quotes_read, all_quotes_stand}
 use Rattle.cpi_sql_rows.proofs.held_rows.all_quotes.Goals as goal
-
-left_alone : (a b : State) (params : Row) → Survives a b (CommitsShowing all_quotes_text params a)
-    → Survives a b (λ _. HasTables a → ⊥)
-left_alone a b params h = quiet_office IsSecond refl a b
-    (quiet IsSecond all_quotes_text a b params (λ is. (all_quotes_asked _ is).plain) h)
 
 pub returns-in_err-read-clause-look : goal.returns-in_err-read-clause-look
 returns-in_err-read-clause-look g c =
     looks_failed c.from_residual.result (state g.S.Store c.args.conn.now) (state g.S.Store c.gather.new.conn)
     (looked c.gather.result IsSecond all_quotes_text (state g.S.Store c.args.conn.now)
-    (state g.S.Store c.gather.new.conn) _ refl (λ is. (all_quotes_asked _ is).plain) c.gather.ensures.clean
-    c.gather.ensures.kept c.gather.ensures.open c.gather.ensures.crash) c.from_residual.ensures.0
+    (state g.S.Store c.gather.new.conn) _ refl (λ is. (all_quotes_asked _ is).plain) c.gather.ensures.asked
+    c.gather.ensures.open) c.from_residual.ensures.0
 
 pub returns-clause-look : goal.returns-clause-look
 returns-clause-look g c =
     looked c.in_place.result IsSecond all_quotes_text (state g.S.Store c.args.conn.now)
-    (state g.S.Store c.gather.new.conn) _ refl (λ is. (all_quotes_asked _ is).plain) c.gather.ensures.clean
-    c.gather.ensures.kept (λ disk. on_any c.in_place.result _ (c.in_ok-read.ensures.open disk)) c.gather.ensures.crash
+    (state g.S.Store c.gather.new.conn) _ refl (λ is. (all_quotes_asked _ is).plain) c.gather.ensures.asked
+    (λ disk. on_any c.in_place.result _ (c.in_ok-read.ensures.open disk))
 
 pub returns-clause-read : goal.returns-clause-read
 returns-clause-read g c = λ clean has. let it = c.in_ok-read.ensures.read clean.disk in
@@ -43,10 +35,12 @@ returns-clause-stand g c = λ clean has. let it = c.in_ok-read.ensures.read clea
 pub returns-clause-open : goal.returns-clause-open
 returns-clause-open g c = λ disk. on_any c.in_place.result _ (c.in_ok-read.ensures.open disk)
 
-pub returns-in_err-read-clause-crash : goal.returns-in_err-read-clause-crash
-returns-in_err-read-clause-crash g c =
-    left_alone (state g.S.Store c.args.conn.now) (state g.S.Store c.gather.new.conn) _ c.gather.ensures.crash
+pub returns-in_err-read-clause-found : goal.returns-in_err-read-clause-found
+returns-in_err-read-clause-found g c =
+    looked_over IsSecond all_quotes_text (state g.S.Store c.args.conn.now) (state g.S.Store c.gather.new.conn) _
+    (λ is. (all_quotes_asked _ is).plain) c.gather.ensures.asked
 
-pub returns-clause-crash : goal.returns-clause-crash
-returns-clause-crash g c =
-    left_alone (state g.S.Store c.args.conn.now) (state g.S.Store c.gather.new.conn) _ c.gather.ensures.crash
+pub returns-clause-found : goal.returns-clause-found
+returns-clause-found g c =
+    looked_over IsSecond all_quotes_text (state g.S.Store c.args.conn.now) (state g.S.Store c.gather.new.conn) _
+    (λ is. (all_quotes_asked _ is).plain) c.gather.ensures.asked

@@ -1,100 +1,56 @@
-use Rattle.std.proofs.Common.{rules, ◌≡◌, false, not, List, [], ◌∷◌, ◌++◌, Some, Err, arith, ap, ◌∙◌}
+use Rattle.std.proofs.Common.{rules, ◌≡◌, not, List, [], ◌∷◌, ◌++◌, Some, Err, arith, ap, ◌∙◌}
 use Rattle.sqlite.specs.Order.{Row as SqlRow}
 use Rattle.sqlite.specs.Held.{state}
 use Rattle.sqlite.specs.Values.{bound}
-use Rattle.sqlite.specs.Listing.{understood}
 use Rattle.sqlite.specs.State.{HasCleanDisk, Shown, Survives, CommitsShowing}
 use Rattle.sqlite.proofs.StateLemmas.{survives_then}
-use Rattle.sqlite.proofs.Callers.{IsPlain}
-use Rattle.cpi_sql_rows.specs.Shelf.{IsCleanBook, IsKept}
-use Rattle.cpi_sql_rows.specs.Read.{AreRead}
+use Rattle.cpi_sql_rows.specs.Read.{AreRead, Asked}
 use Rattle.cpi_sql_rows.proofs.Asking.{asked_open, asked_same}
-use Rattle.cpi_sql_rows.proofs.Streaming.{IsUnderWay, at_end, changes_nothing, kept_after, kept_through, one_more}
-use Rattle.cpi_sql_rows.proofs.Streaming.{open_before, read_more, was_open, way_clean, way_kept}
+use Rattle.cpi_sql_rows.proofs.Streaming.{IsUnderWay, at_end, failed_asked, one_more, read_more, still_asked, way_asked}
 use Rattle.cpi_sql_rows.proofs.stored.gather.Goals as goal
 
 -- the query was refused
-pub returns-in_err-rows-clause-clean : goal.returns-in_err-rows-clause-clean
-returns-in_err-rows-clause-clean g c = λ clean.
+pub returns-in_err-rows-clause-asked : goal.returns-in_err-rows-clause-asked
+returns-in_err-rows-clause-asked g c =
     let held = rw (c.in_err-rows.was) at c.query.follows.holds-at-none in
+    let old = state g.S.Store c.args.conn.now in
+    let new = state g.S.Store c.query.follows.lender-at-none in
     record {
-      disk = let d = clean.disk in omega (arith, held.survives.clean);
-      is_open = asked_open (state g.S.Store c.args.conn.now) (state g.S.Store c.query.follows.lender-at-none)
-          (λ (rows : List SqlRow). rows) _ _ (Err c.in_err-rows.field-0.0) tt (held.err clean.disk) clean.is_open;
+      clean = λ clean. record {
+        disk = let d = clean.disk in omega (arith, held.survives.clean);
+        is_open = asked_open old new (λ (rows : List SqlRow). rows) _ _ (Err c.in_err-rows.field-0.0) tt
+            (held.err clean.disk) clean.is_open;
+      };
+      kept = λ clean alone plain. asked_same old new
+          (λ was. c.is_autocommit-settled.ensures.settled (c.is_autocommit-settled.ensures.value ∙ ap not alone) was)
+          alone clean.is_open (λ (rows : List SqlRow). rows) _ _ (Err c.in_err-rows.field-0.0) plain tt
+          (held.err clean.disk);
+      crash = search rules;
     }
 
-pub returns-in_err-rows-clause-kept : goal.returns-in_err-rows-clause-kept
-returns-in_err-rows-clause-kept g c = λ clean alone plain.
-    let held = rw (c.in_err-rows.was) at c.query.follows.holds-at-none in
-    asked_same (state g.S.Store c.args.conn.now) (state g.S.Store c.query.follows.lender-at-none)
-    (λ was. c.is_autocommit-settled.ensures.settled (c.is_autocommit-settled.ensures.value ∙ ap not alone) was) alone
-    clean.is_open (λ (rows : List SqlRow). rows) _ _ (Err c.in_err-rows.field-0.0) plain tt (held.err clean.disk)
-
 -- the next row couldn't be read
-pub returns-in_err-row-clause-clean : goal.returns-in_err-row-clause-clean
-returns-in_err-row-clause-clean g c =
+pub returns-in_err-row-clause-asked : goal.returns-in_err-row-clause-asked
+returns-in_err-row-clause-asked g c =
     let moved = c.next.follows.holds-at-none in
     let now = c.next.follows.lender-at-none.conn.now in
-    let it : IsCleanBook (state g.S.Store now) → IsCleanBook (state g.S.Store c.args.conn.now) = λ clean.
-    let before : HasCleanDisk (state g.S.Store c.rows.rows.conn.now) =
-    let d = clean.disk in omega (arith, moved.survives.clean) in
-    let way = c.rows.invariant.2 before in
-    let still = rw (c.in_err-row.was) at (moved.kept clean.disk) in
-    record {
-      disk = let d = before in omega (arith, c.rows.invariant.1.clean);
-      is_open = was_open g.S.Store c.args.text.now (bound c.args.params.now) c.args.conn.now
-          c.rows.rows.conn.now way.0 way.1
-          (open_before (state g.S.Store c.rows.rows.conn.now) (state g.S.Store now) _ clean.is_open still);
-    } in
-    search rules
-
-pub returns-in_err-row-clause-kept : goal.returns-in_err-row-clause-kept
-returns-in_err-row-clause-kept g c =
-    let moved = c.next.follows.holds-at-none in
-    let now = c.next.follows.lender-at-none.conn.now in
-    let old = state g.S.Store c.args.conn.now in
-    let it : IsCleanBook (state g.S.Store now) → old.in_transaction ≡ false
-    → IsPlain (understood old.now.schema c.args.text.now) → IsKept old (state g.S.Store now) = λ clean alone plain.
-    let before : HasCleanDisk (state g.S.Store c.rows.rows.conn.now) =
-    let d = clean.disk in omega (arith, moved.survives.clean) in
-    let way = c.rows.invariant.2 before in
-    let still = rw (c.in_err-row.was) at (moved.kept clean.disk) in
-    let same = changes_nothing g.S.Store c.args.text.now (bound c.args.params.now) c.args.conn.now
-    c.rows.rows.conn.now way.0 plain way.1 in
-    kept_after old (state g.S.Store c.rows.rows.conn.now) (state g.S.Store now) _ same
-    (λ was. c.is_autocommit-settled.ensures.settled (c.is_autocommit-settled.ensures.value ∙ ap not alone) was)
-    alone clean.is_open still in
+    let old = c.args.conn.now in
+    let it : Asked c.args.text.now (bound c.args.params.now) (state g.S.Store old) (state g.S.Store now) =
+    failed_asked g.S.Store _ _ old c.rows.rows.conn.now c.rows.invariant.1
+    (λ disk. let way = c.rows.invariant.2 disk in (way.0, way.1)) now moved.survives _
+    (λ was alone. c.is_autocommit-settled.ensures.settled (c.is_autocommit-settled.ensures.value ∙ ap not alone) was)
+    (λ disk. rw (c.in_err-row.was) at (moved.kept disk)) in
     search rules
 
 -- there was no further row
-pub returns-in_default-clause-clean : goal.returns-in_default-clause-clean
-returns-in_default-clause-clean g c =
+pub returns-in_default-clause-asked : goal.returns-in_default-clause-asked
+returns-in_default-clause-asked g c =
     let moved = c.next.follows.holds-at-none in
     let now = c.next.follows.lender-at-none.conn.now in
-    let old = state g.S.Store c.args.conn.now in
-    let mid = state g.S.Store c.rows.rows.conn.now in
-    let it : IsCleanBook (state g.S.Store now) → IsCleanBook old = λ clean.
-    let before : HasCleanDisk mid = let d = clean.disk in omega (arith, moved.survives.clean) in
-    let way = c.rows.invariant.2 before in
-    let same = rw (c.in_ok-row.was) at (moved.same clean.disk) in
-    way_clean g.S.Store c.args.text.now (bound c.args.params.now) c.args.conn.now _ c.rows.rows.conn.now way.0 way.1
-    c.rows.invariant.1 (record { disk = before; is_open = same.0.was_open }) in
-    search rules
-
-pub returns-in_default-clause-kept : goal.returns-in_default-clause-kept
-returns-in_default-clause-kept g c =
-    let moved = c.next.follows.holds-at-none in
-    let now = c.next.follows.lender-at-none.conn.now in
-    let old = state g.S.Store c.args.conn.now in
-    let mid = state g.S.Store c.rows.rows.conn.now in
-    let it : IsCleanBook (state g.S.Store now) → old.in_transaction ≡ false
-    → IsPlain (understood old.now.schema c.args.text.now) → IsKept old (state g.S.Store now) = λ clean alone plain.
-    let before : HasCleanDisk mid = let d = clean.disk in omega (arith, moved.survives.clean) in
-    let way = c.rows.invariant.2 before in
-    let same = rw (c.in_ok-row.was) at (moved.same clean.disk) in
-    kept_through old mid (state g.S.Store now)
-    (changes_nothing g.S.Store c.args.text.now (bound c.args.params.now) c.args.conn.now c.rows.rows.conn.now way.0
-    plain way.1) same alone in
+    let old = c.args.conn.now in
+    let it : Asked c.args.text.now (bound c.args.params.now) (state g.S.Store old) (state g.S.Store now) =
+    still_asked g.S.Store _ _ old c.rows.rows.conn.now c.rows.invariant.1
+    (λ disk. let way = c.rows.invariant.2 disk in (way.0, way.1)) now moved.survives
+    (λ disk. rw (c.in_ok-row.was) at (moved.same disk)) in
     search rules
 
 pub returns-in_default-clause-read : goal.returns-in_default-clause-read
@@ -121,65 +77,27 @@ returns-in_default-clause-read g c =
     (answer.0, search rules, answer.2)
 
 -- the row is none that the types take
-pub returns-in_err-x-clause-clean : goal.returns-in_err-x-clause-clean
-returns-in_err-x-clause-clean g c =
+pub returns-in_err-x-clause-asked : goal.returns-in_err-x-clause-asked
+returns-in_err-x-clause-asked g c =
     let moved = c.next.follows.holds-at-none in
     let now = c.next.follows.lender-at-none.conn.now in
-    let old = state g.S.Store c.args.conn.now in
-    let mid = state g.S.Store c.rows.rows.conn.now in
-    let it : IsCleanBook (state g.S.Store now) → IsCleanBook old = λ clean.
-    let before : HasCleanDisk mid = let d = clean.disk in omega (arith, moved.survives.clean) in
-    let way = c.rows.invariant.2 before in
-    let same = rw (c.in_ok-row.was) at (moved.same clean.disk) in
-    way_clean g.S.Store c.args.text.now (bound c.args.params.now) c.args.conn.now _ c.rows.rows.conn.now way.0 way.1
-    c.rows.invariant.1 (record { disk = before; is_open = same.0.was_open }) in
-    search rules
-
-pub returns-in_err-x-clause-kept : goal.returns-in_err-x-clause-kept
-returns-in_err-x-clause-kept g c =
-    let moved = c.next.follows.holds-at-none in
-    let now = c.next.follows.lender-at-none.conn.now in
-    let old = state g.S.Store c.args.conn.now in
-    let mid = state g.S.Store c.rows.rows.conn.now in
-    let it : IsCleanBook (state g.S.Store now) → old.in_transaction ≡ false
-    → IsPlain (understood old.now.schema c.args.text.now) → IsKept old (state g.S.Store now) = λ clean alone plain.
-    let before : HasCleanDisk mid = let d = clean.disk in omega (arith, moved.survives.clean) in
-    let way = c.rows.invariant.2 before in
-    let same = rw (c.in_ok-row.was) at (moved.same clean.disk) in
-    kept_through old mid (state g.S.Store now)
-    (changes_nothing g.S.Store c.args.text.now (bound c.args.params.now) c.args.conn.now c.rows.rows.conn.now way.0
-    plain way.1) same alone in
+    let old = c.args.conn.now in
+    let it : Asked c.args.text.now (bound c.args.params.now) (state g.S.Store old) (state g.S.Store now) =
+    still_asked g.S.Store _ _ old c.rows.rows.conn.now c.rows.invariant.1
+    (λ disk. let way = c.rows.invariant.2 disk in (way.0, way.1)) now moved.survives
+    (λ disk. rw (c.in_ok-row.was) at (moved.same disk)) in
     search rules
 
 -- memory was refused
-pub returns-in_err-map_err-clause-clean : goal.returns-in_err-map_err-clause-clean
-returns-in_err-map_err-clause-clean g c =
+pub returns-in_err-map_err-clause-asked : goal.returns-in_err-map_err-clause-asked
+returns-in_err-map_err-clause-asked g c =
     let moved = c.next.follows.holds-at-none in
     let now = c.next.follows.lender-at-none.conn.now in
-    let old = state g.S.Store c.args.conn.now in
-    let mid = state g.S.Store c.rows.rows.conn.now in
-    let it : IsCleanBook (state g.S.Store now) → IsCleanBook old = λ clean.
-    let before : HasCleanDisk mid = let d = clean.disk in omega (arith, moved.survives.clean) in
-    let way = c.rows.invariant.2 before in
-    let same = rw (c.in_ok-row.was) at (moved.same clean.disk) in
-    way_clean g.S.Store c.args.text.now (bound c.args.params.now) c.args.conn.now _ c.rows.rows.conn.now way.0 way.1
-    c.rows.invariant.1 (record { disk = before; is_open = same.0.was_open }) in
-    search rules
-
-pub returns-in_err-map_err-clause-kept : goal.returns-in_err-map_err-clause-kept
-returns-in_err-map_err-clause-kept g c =
-    let moved = c.next.follows.holds-at-none in
-    let now = c.next.follows.lender-at-none.conn.now in
-    let old = state g.S.Store c.args.conn.now in
-    let mid = state g.S.Store c.rows.rows.conn.now in
-    let it : IsCleanBook (state g.S.Store now) → old.in_transaction ≡ false
-    → IsPlain (understood old.now.schema c.args.text.now) → IsKept old (state g.S.Store now) = λ clean alone plain.
-    let before : HasCleanDisk mid = let d = clean.disk in omega (arith, moved.survives.clean) in
-    let way = c.rows.invariant.2 before in
-    let same = rw (c.in_ok-row.was) at (moved.same clean.disk) in
-    kept_through old mid (state g.S.Store now)
-    (changes_nothing g.S.Store c.args.text.now (bound c.args.params.now) c.args.conn.now c.rows.rows.conn.now way.0
-    plain way.1) same alone in
+    let old = c.args.conn.now in
+    let it : Asked c.args.text.now (bound c.args.params.now) (state g.S.Store old) (state g.S.Store now) =
+    still_asked g.S.Store _ _ old c.rows.rows.conn.now c.rows.invariant.1
+    (λ disk. let way = c.rows.invariant.2 disk in (way.0, way.1)) now moved.survives
+    (λ disk. rw (c.in_ok-row.was) at (moved.same disk)) in
     search rules
 
 pub rows-preserved : goal.rows-preserved
@@ -207,21 +125,11 @@ rows-preserved g c =
     ) in
     (search rules, survives, follows)
 
-pub returns-clause-clean : goal.returns-clause-clean
-returns-clause-clean g c =
+pub returns-clause-asked : goal.returns-clause-asked
+returns-clause-asked g c =
     let now = c.rows.rows.conn.now in
-    let it : IsCleanBook (state g.S.Store now) → IsCleanBook (state g.S.Store c.args.conn.now) = λ clean.
-    let way = c.rows.invariant.2 clean.disk in
-    way_clean g.S.Store c.args.text.now (bound c.args.params.now) c.args.conn.now _ now way.0 way.1
-    c.rows.invariant.1 clean in
-    search rules
-
-pub returns-clause-kept : goal.returns-clause-kept
-returns-clause-kept g c =
-    let now = c.rows.rows.conn.now in
-    let old = state g.S.Store c.args.conn.now in
-    let it : IsCleanBook (state g.S.Store now) → old.in_transaction ≡ false
-    → IsPlain (understood old.now.schema c.args.text.now) → IsKept old (state g.S.Store now) = λ clean alone plain.
-    let way = c.rows.invariant.2 clean.disk in
-    way_kept g.S.Store c.args.text.now (bound c.args.params.now) c.args.conn.now now way.0 plain way.1 alone in
+    let old = c.args.conn.now in
+    let it : Asked c.args.text.now (bound c.args.params.now) (state g.S.Store old) (state g.S.Store now) =
+    way_asked g.S.Store _ _ old now c.rows.invariant.1
+    (λ disk. let way = c.rows.invariant.2 disk in (way.0, way.1)) in
     search rules

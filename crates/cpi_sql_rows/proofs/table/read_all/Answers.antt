@@ -1,6 +1,6 @@
 use Rattle.std.proofs.Common.{sym, subst}
 use Rattle.sqlite.specs.Held.{state}
-use Rattle.cpi_sql_rows.proofs.Whole.{both_ok, on_both, looked, quiet, table_read, table_whole}
+use Rattle.cpi_sql_rows.proofs.Whole.{both_ok, on_both, looked, looked_over, table_read, table_whole}
 use Rattle.cpi_sql_rows.proofs.table.read_all.Goals as goal
 
 pub returns-clause-look : goal.returns-clause-look
@@ -8,7 +8,7 @@ returns-clause-look g c =
     let t = g.T.Table.table in
     looked c.list.result g.T.Table.is_in c.text.result.now (state g.S.Store c.args.conn.now)
     (state g.S.Store c.list.new.conn) _ t.in_office (λ is. rw c.text.ensures (t.asks _ is).plain)
-    c.list.ensures.clean c.list.ensures.kept c.list.ensures.open c.list.ensures.crash
+    c.list.ensures.asked c.list.ensures.open
 
 pub returns-clause-read : goal.returns-clause-read
 returns-clause-read g c = λ clean has.
@@ -27,11 +27,7 @@ returns-clause-whole g c = λ clean is.
     t.text t.tree t.shown g.met.T.Table.same (state g.S.Store c.args.conn.now)
     (state g.S.Store c.list.new.conn) it.0 xs.items (t.asks _ is) (rw c.text.ensures at it.1) it.2 order)
 
-pub returns-clause-kept : goal.returns-clause-kept
-returns-clause-kept g c = λ clean alone is.
-    c.list.ensures.kept clean alone (rw c.text.ensures (g.T.Table.table.asks _ is).plain)
-
-pub returns-clause-crash : goal.returns-clause-crash
-returns-clause-crash g c =
-    quiet g.T.Table.is_in c.text.result.now (state g.S.Store c.args.conn.now) (state g.S.Store c.list.new.conn) _
-    (λ is. rw c.text.ensures (g.T.Table.table.asks _ is).plain) c.list.ensures.crash
+pub returns-clause-found : goal.returns-clause-found
+returns-clause-found g c =
+    looked_over g.T.Table.is_in c.text.result.now (state g.S.Store c.args.conn.now) (state g.S.Store c.list.new.conn) _
+    (λ is. rw c.text.ensures (g.T.Table.table.asks _ is).plain) c.list.ensures.asked

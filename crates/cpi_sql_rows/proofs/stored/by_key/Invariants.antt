@@ -1,5 +1,5 @@
 use Rattle.std.proofs.Common.{◌≡◌, ◌++◌}
-use Rattle.cpi_sql_rows.proofs.lookup.by_key.Given as goal
+use Rattle.cpi_sql_rows.proofs.stored.by_key.Given as goal
 
 abbrev pub invariant-rows : goal.invariant-rows
 invariant-rows g l = record {

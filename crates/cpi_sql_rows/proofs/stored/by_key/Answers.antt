@@ -2,7 +2,7 @@ use Rattle.std.proofs.Common.{◌≡◌, ap, ◌∙◌, ◌++◌, ◌∷◌, [],
 use Rattle.std.proofs.lemmas.List.{append_assoc}
 use Rattle.cpi_rows.specs.Keyed.{put}
 use Rattle.cpi_sql_rows.proofs.Keyed.{put_next}
-use Rattle.cpi_sql_rows.proofs.lookup.by_key.Goals as goal
+use Rattle.cpi_sql_rows.proofs.stored.by_key.Goals as goal
 
 pub rows-preserved : goal.rows-preserved
 rows-preserved g c =
