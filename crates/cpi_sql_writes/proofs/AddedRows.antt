@@ -1,8 +1,8 @@
 -- Rows added to those of a holder one by one, and rows dropped before.
 use Rattle.std.proofs.Common.{◌≡◌, ◌⊎◌, inl, inr, ℕ, List, [], ◌∷◌, ◌++◌, Bool, true, false, Some, Option}
-use Rattle.std.proofs.Common.{Result, refl, sym, ap, subst, ◌∙◌, ◌+◌, ◌<◌, length, take, get_or}
+use Rattle.std.proofs.Common.{Result, refl, sym, ap, subst, ◌∙◌, ◌+◌, arith, take, drop, slice_range}
 use Rattle.std.proofs.lemmas.Bool.{cases_Bool}
-use Rattle.std.proofs.lemmas.List.{take_more}
+use Rattle.std.proofs.Math.Seq.{take-add}
 use Rattle.std.specs.Prelude.{is_some}
 use Rattle.std.specs.declared.cmp.Ordering.{Ordering}
 use Rattle.std.specs.Cmp.{IsTotalOrder}
@@ -95,20 +95,22 @@ module _ {X : Type 0} (entry : Row → Option (ℕ × X)) where
       others = λ n e. refl;
     })
 
-    -- one row more of a list
-    pub list_more : (xs : List X) (i : ℕ) (x : X) (a b c : State) → i < length xs → x ≡ get_or xs i x
-        → Inside a b (Lists (take i xs) a b) → Inside b c (Lists (x ∷ []) b c)
-        → Inside a c (Lists (take (i + 1) xs) a c)
-    list_more xs i x a b c low is p q = inside_then a b c p q (λ mid clean inside ready.
+    -- rows more of a list
+    pub list_then : (xs ys : List X) (a b c : State) → Inside a b (Lists xs a b) → Inside b c (Lists ys b c)
+        → Inside a c (Lists (xs ++ ys) a c)
+    list_then xs ys a b c p q = inside_then a b c p q (λ mid clean inside ready.
         let first = p.step mid inside ready in
         let next = q.step clean first.inside (step_ready tree _ a b first) in
-        subst (λ ys. IsStep tree (AddsTo entry GoesBy ys) a c) (sym (take_more xs i x low
-        ∙ ap (λ y. take i xs ++ y ∷ []) (sym is)))
-        (step_then tree (AddsTo entry GoesBy (take i xs)) (AddsTo entry GoesBy (x ∷ []))
-        (AddsTo entry GoesBy (take i xs ++ x ∷ []))
-        (λ d e f one two number named.
-        added_then number (take i xs) (x ∷ []) d e f (one number named) (two number named))
-        a b c first next))
+        step_then tree (AddsTo entry GoesBy xs) (AddsTo entry GoesBy ys) (AddsTo entry GoesBy (xs ++ ys))
+        (λ d e f one two number named. added_then number xs ys d e f (one number named) (two number named))
+        a b c first next)
+
+    -- the next rows of a list, which are so many from a place on
+    pub list_further : (xs : List X) (at count : ℕ) (a b c : State) → Inside a b (Lists (take at xs) a b)
+        → Inside b c (Lists (slice_range xs at (at + count)) b c) → Inside a c (Lists (take (at + count) xs) a c)
+    list_further xs at count a b c p q = subst (λ ys. Inside a c (Lists ys a c)) (sym (take-add at count xs))
+        (list_then (take at xs) (take count (drop at xs)) a b c p
+        (subst (λ n. Inside b c (Lists (take n (drop at xs)) b c)) (omega arith) q))
 
     -- the holder's rows dropped, and then a list added
     pub list_replaces : {A E : Type 0} (is_of : Row → Bool) (xs : List X) (a b c : State) (r : Result A E)

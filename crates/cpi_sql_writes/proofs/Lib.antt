@@ -21,3 +21,4 @@ pub mod HeaderColumns
 pub mod ReleaseReplaced
 pub mod MappedPut
 pub mod ReleaseOffice
+pub mod ManyRows

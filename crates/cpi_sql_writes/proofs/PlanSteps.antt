@@ -7,7 +7,6 @@ use Rattle.sqlite.specs.declared.types.Value.TheVariants.{Null, Int, Text}
 use Rattle.sqlite.specs.Order.{Row, column}
 use Rattle.sqlite.specs.Source.TheVariants.{Values}
 use Rattle.sqlite.specs.State.{State}
-use Rattle.sqlite.specs.Term.{lit, col}
 use Rattle.cpi_codes.specs.CodeOf.{code_of}
 use Rattle.cpi_codes.specs.ItemCode.{item_code_of}
 use Rattle.cpi_plan.specs.declared.plan_rows.Place.{Place}
@@ -18,18 +17,39 @@ use Rattle.cpi_sql_rows.specs.Shelf.{IsKeyed}
 use Rattle.cpi_sql_rows.specs.Tables.{node, plan_item, plan_ref}
 use Rattle.cpi_sql_rows.specs.declared.reference_months.ReferenceMonth.{ReferenceMonth}
 use Rattle.cpi_sql_rows.specs.Texts.{drop_places_text, drop_nodes_text, drop_references_text, add_reference_text}
-use Rattle.cpi_sql_rows.specs.Texts.{add_place_text, add_node_text, given_pair, is_first}
+use Rattle.cpi_sql_rows.specs.Texts.{given_pair, is_first}
 use Rattle.cpi_sql_rows.specs.Lists.{place_in, node_in, reference_row, month_from, ranged, name_of, and_then}
 use Rattle.cpi_sql_rows.proofs.Lists.{bound_is, ranged_is, same_number, equal_number, some_is}
 use Rattle.cpi_sql_rows.proofs.Reading.{equality}
-use Rattle.cpi_sql_rows.proofs.Texts.{drop_places_is, drop_nodes_is, add_place_is, add_node_is, drop_references_is}
+use Rattle.cpi_sql_rows.proofs.Texts.{drop_places_is, drop_nodes_is, drop_references_is}
 use Rattle.cpi_sql_rows.proofs.Texts.{add_reference_is}
 use Rattle.cpi_sql_rows.proofs.Writing.{cast_int, cast_null}
+use Rattle.cpi_sql_writes.specs.Columns.{AreColumns}
 use Rattle.cpi_sql_writes.specs.PlanSteps.{is_of_year, IsYearNumber}
 use Rattle.cpi_sql_writes.specs.Within.{AddsTo, Changes, Drops, Ran, Replaces, Within}
 use Rattle.cpi_sql_writes.proofs.AddedRows.{list_replaced}
 use Rattle.cpi_sql_writes.proofs.Replaced.{Replaced}
-use Rattle.cpi_sql_writes.proofs.TableSteps.{adds_numbered, adds_row, drops_rows}
+use Rattle.cpi_sql_writes.proofs.TableSteps.{adds_row, drops_rows}
+
+-- what the columns of a row stand for
+module _ (year : ℕ) where
+  pub node_columns : (c t : List ℕ) (n : Node) → code_of c ≡ Some n.code → name_of t ≡ Some n.title
+      → AreColumns node node_in (IsYearNumber year) n (Int (pos year) ∷ Text c ∷ Text t ∷ Int (pos n.weight) ∷ [])
+  node_columns c t n code title = record {
+    stand = λ id number is. rw (is, code, title) refl;
+    taken = simp (cast_null, cast_int);
+    bound = refl;
+    width = refl;
+  }
+
+  pub place_columns : (i c : List ℕ) (p : Place) → item_code_of i ≡ Some p.item → code_of c ≡ Some p.aggregate
+      → AreColumns plan_item place_in (IsYearNumber year) p (Int (pos year) ∷ Text i ∷ Text c ∷ [])
+  place_columns i c p item code = record {
+    stand = λ id number is. rw (is, item, code) refl;
+    taken = simp (cast_null, cast_int);
+    bound = refl;
+    width = refl;
+  }
 
 module _ {A E : Type 0} (old new : State) (result : Result A E) (year : ℕ) where
   abbrev key : Row
@@ -49,22 +69,6 @@ module _ {A E : Type 0} (old new : State) (result : Result A E) (year : ℕ) whe
       → Within old new result (Changes plan_ref.tree (Drops (is_of_year 0 year)))
   references_dropped ran = drops_rows plan_ref 19 refl drop_references_text key old new result ran (is_first 0)
       (is_of_year 0 year) drop_references_is (λ r. equality (column r 0) (pos year)) (λ db. refl)
-
-  pub node_added : (c t : List ℕ) (n : Node) → code_of c ≡ Some n.code → name_of t ≡ Some n.title
-      → Within old new result (Ran add_node_text (key ++ Text c ∷ Text t ∷ Int (pos n.weight) ∷ []))
-      → Within old new result (Changes node.tree (AddsTo node_in (IsYearNumber year) (n ∷ [])))
-  node_added c t n code title ran =
-      adds_numbered node 4 refl add_node_text _ old new result ran
-      (Values (lit Null ∷ col 0 0 ∷ col 0 1 ∷ col 0 2 ∷ col 0 3 ∷ []) 5) add_node_is (λ limit db rows h. h.1)
-      (λ db. simp (cast_null, cast_int)) node_in (IsYearNumber year) n (λ id number is. rw (is, code, title) refl)
-
-  pub place_added : (i c : List ℕ) (p : Place) → item_code_of i ≡ Some p.item → code_of c ≡ Some p.aggregate
-      → Within old new result (Ran add_place_text (key ++ Text i ∷ Text c ∷ []))
-      → Within old new result (Changes plan_item.tree (AddsTo place_in (IsYearNumber year) (p ∷ [])))
-  place_added i c p item code ran =
-      adds_numbered plan_item 5 refl add_place_text _ old new result ran
-      (Values (lit Null ∷ col 0 0 ∷ col 0 1 ∷ col 0 2 ∷ []) 4) add_place_is (λ limit db rows h. h.1)
-      (λ db. simp (cast_null, cast_int)) place_in (IsYearNumber year) p (λ id number is. rw (is, item, code) refl)
 
   pub reference_added : (m : ℕ) (r : ReferenceMonth) → month_from (Int (pos m)) ≡ Some r.month
       → Within old new result (Ran add_reference_text (key ++ Int (pos m) ∷ []))

@@ -15,20 +15,19 @@ use Rattle.cpi_index.specs.Carried.{Carried}
 use Rattle.cpi_release.specs.declared.level.Level.{Level}
 use Rattle.cpi_sql_rows.specs.declared.release_rows.Header.{Header}
 use Rattle.cpi_sql_rows.specs.Tables.{release_2, frozen_2, carried_2, level_2}
-use Rattle.cpi_sql_rows.specs.Texts.{add_header_text, add_header_terms, add_frozen_text, add_frozen_terms}
-use Rattle.cpi_sql_rows.specs.Texts.{add_carried_text, add_carried_terms, add_level_text, add_level_terms}
+use Rattle.cpi_sql_rows.specs.Texts.{add_header_text, add_header_terms}
 use Rattle.cpi_sql_rows.specs.Texts.{drop_frozen_text, drop_carried_text, drop_level_text, is_release}
 use Rattle.cpi_sql_rows.specs.Lists.{ranged, month_at, mark_from, flag_in, name_of, codes_of, frozen_in}
 use Rattle.cpi_sql_rows.specs.Lists.{carried_in, level_in, whole_or_none}
 use Rattle.cpi_sql_rows.specs.ReleaseRows.{annual}
 use Rattle.cpi_sql_rows.proofs.ReleaseRows.{release_tested}
-use Rattle.cpi_sql_rows.proofs.Texts.{add_header_is, add_frozen_is, add_carried_is, add_level_is, drop_frozen_is}
-use Rattle.cpi_sql_rows.proofs.Texts.{drop_carried_is, drop_level_is}
+use Rattle.cpi_sql_rows.proofs.Texts.{add_header_is, drop_frozen_is, drop_carried_is, drop_level_is}
 use Rattle.cpi_sql_rows.proofs.Writing.{cast_int, cast_null}
+use Rattle.cpi_sql_writes.specs.Columns.{AreColumns}
 use Rattle.cpi_sql_writes.specs.ReleaseSteps.{is_of_release, IsReleaseNumber, PutsHeader}
-use Rattle.cpi_sql_writes.specs.Within.{AddsTo, Changes, Drops, Ran, Within}
+use Rattle.cpi_sql_writes.specs.Within.{Changes, Drops, Ran, Within}
 use Rattle.cpi_sql_rows.proofs.TableRows.{adds_one}
-use Rattle.cpi_sql_writes.proofs.TableSteps.{adds_numbered, drops_rows}
+use Rattle.cpi_sql_writes.proofs.TableSteps.{drops_rows}
 use Rattle.cpi_sql_writes.proofs.Withins.{within_as}
 
 cast_annual : (y : Option ℤ) → cast Integer (annual y) ≡ annual y
@@ -42,6 +41,49 @@ annual_read (Some z) = refl
 pub bound_annual : (y : Option ℤ) → bound_value (annual y) ≡ annual y
 bound_annual None = refl
 bound_annual (Some z) = refl
+
+-- what the columns of a row stand for
+module _ (m v : ℕ) where
+  pub frozen_columns : (c s : ℕ) (i : List ℕ) (l : ℕ) (k : List ℕ) (w : ℕ) (x : Frozen)
+      → ranged 1 9999 (Int (pos c)) ≡ Some x.series.collector → ranged 1 400 (Int (pos s)) ≡ Some x.series.slot
+      → item_code_of i ≡ Some x.item → month_at l ≡ Some x.last_month → mark_from k w ≡ Some x.mark
+      → AreColumns frozen_2 frozen_in (IsReleaseNumber m v) x (Int (pos m) ∷ Int (pos v) ∷ Int (pos c)
+      ∷ Int (pos s) ∷ Text i ∷ Int (pos l) ∷ Text k ∷ Int (pos w) ∷ [])
+  frozen_columns c s i l k w x collector slot item last mark = record {
+    stand = λ id number is. rw (is, collector, slot, item, last, mark) refl;
+    taken = simp (cast_null, cast_int);
+    bound = refl;
+    width = refl;
+  }
+
+  pub carried_columns : (c s : ℕ) (i : List ℕ) (l t n d o u : ℕ) (x : Carried)
+      → ranged 1 9999 (Int (pos c)) ≡ Some x.series.collector → ranged 1 400 (Int (pos s)) ≡ Some x.series.slot
+      → item_code_of i ≡ Some x.item → month_at l ≡ Some x.last_month
+      → ranged 1 1000000000000000 (Int (pos t)) ≡ Some x.ticks → ranged 1 1000000000000000 (Int (pos n)) ≡ Some x.knum
+      → ranged 1 100000000 (Int (pos d)) ≡ Some x.kden → flag_in (Int (pos o)) ≡ Some x.observed
+      → flag_in (Int (pos u)) ≡ Some x.imputed
+      → AreColumns carried_2 carried_in (IsReleaseNumber m v) x (Int (pos m) ∷ Int (pos v) ∷ Int (pos c)
+      ∷ Int (pos s) ∷ Text i ∷ Int (pos l) ∷ Int (pos t) ∷ Int (pos n) ∷ Int (pos d) ∷ Int (pos o) ∷ Int (pos u) ∷ [])
+  carried_columns c s i l t n d o u x collector slot item last ticks knum kden observed imputed = record {
+    stand = λ id number is. rw (is, collector, slot, item, last, ticks, knum, kden, observed, imputed) refl;
+    taken = simp (cast_null, cast_int);
+    bound = refl;
+    width = refl;
+  }
+
+  pub level_columns : (c t : List ℕ) (u : ℕ) (x : Level) → code_of c ≡ Some x.code → name_of t ≡ Some x.title
+      → ranged 1 1000000000000000 (Int (pos x.weight)) ≡ Some x.weight
+      → ranged 1 10000000000000 (Int (pos x.within)) ≡ Some x.within
+      → ranged 1 1000000000000000 (Int (pos x.chained)) ≡ Some x.chained → flag_in (Int (pos u)) ≡ Some x.imputed
+      → AreColumns level_2 level_in (IsReleaseNumber m v) x (Int (pos m) ∷ Int (pos v) ∷ Text c ∷ Text t
+      ∷ Int (pos x.weight) ∷ Int (pos x.within) ∷ Int (pos x.chained) ∷ Int x.month_change
+      ∷ annual x.year_change ∷ Int (pos u) ∷ [])
+  level_columns c t u x code title weight within chained imputed = record {
+    stand = λ id number is. rw (is, code, title, weight, within, chained, annual_read x.year_change, imputed) refl;
+    taken = simp (cast_null, cast_int, cast_annual);
+    bound = rw (bound_annual x.year_change) refl;
+    width = refl;
+  }
 
 module _ {A E : Type 0} (old new : State) (result : Result A E) (m v : ℕ) where
   abbrev key : Row
@@ -61,43 +103,6 @@ module _ {A E : Type 0} (old new : State) (result : Result A E) (m v : ℕ) wher
       → Within old new result (Changes level_2.tree (Drops (is_of_release m v)))
   level_dropped ran = drops_rows level_2 18 refl drop_level_text key old new result ran is_release
       (is_of_release m v) drop_level_is (λ r. release_tested r m v) (λ db. refl)
-
-  pub frozen_added : (c s : ℕ) (i : List ℕ) (l : ℕ) (k : List ℕ) (w : ℕ) (x : Frozen)
-      → ranged 1 9999 (Int (pos c)) ≡ Some x.series.collector → ranged 1 400 (Int (pos s)) ≡ Some x.series.slot
-      → item_code_of i ≡ Some x.item → month_at l ≡ Some x.last_month → mark_from k w ≡ Some x.mark
-      → Within old new result (Ran add_frozen_text (key ++ Int (pos c) ∷ Int (pos s) ∷ Text i ∷ Int (pos l) ∷ Text k
-      ∷ Int (pos w) ∷ []))
-      → Within old new result (Changes frozen_2.tree (AddsTo frozen_in (IsReleaseNumber m v) (x ∷ [])))
-  frozen_added c s i l k w x collector slot item last mark ran =
-      adds_numbered frozen_2 16 refl add_frozen_text _ old new result ran (Values add_frozen_terms 9) add_frozen_is
-      (λ limit db rows h. h.1) (λ db. simp (cast_null, cast_int)) frozen_in (IsReleaseNumber m v) x
-      (λ id number is. rw (is, collector, slot, item, last, mark) refl)
-
-  pub carried_added : (c s : ℕ) (i : List ℕ) (l t n d o u : ℕ) (x : Carried)
-      → ranged 1 9999 (Int (pos c)) ≡ Some x.series.collector → ranged 1 400 (Int (pos s)) ≡ Some x.series.slot
-      → item_code_of i ≡ Some x.item → month_at l ≡ Some x.last_month
-      → ranged 1 1000000000000000 (Int (pos t)) ≡ Some x.ticks → ranged 1 1000000000000000 (Int (pos n)) ≡ Some x.knum
-      → ranged 1 100000000 (Int (pos d)) ≡ Some x.kden → flag_in (Int (pos o)) ≡ Some x.observed
-      → flag_in (Int (pos u)) ≡ Some x.imputed
-      → Within old new result (Ran add_carried_text (key ++ Int (pos c) ∷ Int (pos s) ∷ Text i ∷ Int (pos l)
-      ∷ Int (pos t) ∷ Int (pos n) ∷ Int (pos d) ∷ Int (pos o) ∷ Int (pos u) ∷ []))
-      → Within old new result (Changes carried_2.tree (AddsTo carried_in (IsReleaseNumber m v) (x ∷ [])))
-  carried_added c s i l t n d o u x collector slot item last ticks knum kden observed imputed ran =
-      adds_numbered carried_2 17 refl add_carried_text _ old new result ran (Values add_carried_terms 12) add_carried_is
-      (λ limit db rows h. h.1) (λ db. simp (cast_null, cast_int)) carried_in (IsReleaseNumber m v) x
-      (λ id number is. rw (is, collector, slot, item, last, ticks, knum, kden, observed, imputed) refl)
-
-  pub level_added : (c t : List ℕ) (u : ℕ) (x : Level) → code_of c ≡ Some x.code → name_of t ≡ Some x.title
-      → ranged 1 1000000000000000 (Int (pos x.weight)) ≡ Some x.weight
-      → ranged 1 10000000000000 (Int (pos x.within)) ≡ Some x.within
-      → ranged 1 1000000000000000 (Int (pos x.chained)) ≡ Some x.chained → flag_in (Int (pos u)) ≡ Some x.imputed
-      → Within old new result (Ran add_level_text (key ++ Text c ∷ Text t ∷ Int (pos x.weight) ∷ Int (pos x.within)
-      ∷ Int (pos x.chained) ∷ Int x.month_change ∷ annual x.year_change ∷ Int (pos u) ∷ []))
-      → Within old new result (Changes level_2.tree (AddsTo level_in (IsReleaseNumber m v) (x ∷ [])))
-  level_added c t u x code title weight within chained imputed ran =
-      adds_numbered level_2 18 refl add_level_text _ old new result ran (Values add_level_terms 11) add_level_is
-      (λ limit db rows h. h.1) (λ db. simp (cast_null, cast_int, cast_annual)) level_in (IsReleaseNumber m v) x
-      (λ id number is. rw (is, code, title, weight, within, chained, annual_read x.year_change, imputed) refl)
 
   pub header_added : (c : List ℕ) (h : Header) → ranged 0 9999999999 (Int (pos h.frozen_at)) ≡ Some h.frozen_at
       → ranged 0 9999999999 (Int (pos h.publishes)) ≡ Some h.publishes → codes_of c ≡ Some h.carry

@@ -5,12 +5,11 @@ use Rattle.std.proofs.lemmas.Bool.{both_ways, false_from_ne_true}
 use Rattle.std.specs.Ordering.{is_eq}
 use Rattle.std.specs.Cmp.{tied_itself}
 use Rattle.std.specs.List.{list_all}
-use Rattle.sqlite.specs.declared.types.Value.{Value}
 use Rattle.sqlite.specs.declared.types.Value.TheVariants.{Null, Int}
 use Rattle.sqlite.specs.Order.{Row, value_cmp}
 use Rattle.sqlite.specs.Tree.{Trees, put_row, rowid}
 use Rattle.sqlite.specs.Table.{Table}
-use Rattle.sqlite.specs.Edit.{edit_of, edited, id_in, next_rowid, without_all}
+use Rattle.sqlite.specs.Edit.{edit_of, edited, id_in, without_all}
 use Rattle.sqlite.specs.Source.{Source}
 use Rattle.sqlite.specs.Command.TheVariants.{Insert, Delete}
 use Rattle.sqlite.specs.Rowids.TheVariants.{Chosen, Given}
@@ -140,18 +139,6 @@ module _ (it : Table) (at : ℕ) (stands : slice_get office_schema.tables at ≡
           rowids = added.rowids ids;
           others = added.others;
         }))
-
-    -- a row whose columns stand behind a rowid of its own
-    pub adds_numbered : {X : Type 0} (from : Source) → Makes text (Insert at from)
-        → GivesOne it params from (Null ∷ params)
-        → ((db : Trees) → edited db (edit_of db (as_plain it) [] Chosen 0 ((Null ∷ params) ∷ []))
-        ≡ put_row (Int (next_rowid (db it.tree)) ∷ params) (db it.tree))
-        → (entry : Row → Option (ℕ × X)) (GoesBy : ℕ → Type 0) (x : X)
-        → ((id : Value) (number : ℕ) → GoesBy number → entry (id ∷ params) ≡ Some (number, x))
-        → Within old new result (Changes it.tree (AddsTo entry GoesBy (x ∷ [])))
-    adds_numbered from is one becomes entry GoesBy x reads =
-        adds_row from (Null ∷ params) (λ db. Int (next_rowid (db it.tree)) ∷ params) is one becomes entry GoesBy x
-        (reads _)
 
     pub drops_rows : (terms : List Term) (is_of : Row → Bool)
         → Makes text (Delete at (record { lets = []; body = whole_query it.tree terms (col 1 0 ∷ []) [] }))

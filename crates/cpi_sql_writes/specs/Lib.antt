@@ -3,3 +3,4 @@ pub mod ReleaseSteps
 pub mod Within
 pub mod Written
 pub mod PlanSteps
+pub mod Columns

@@ -1,7 +1,7 @@
 //! What a slot was given, as the columns of its row.
-ghost use Rattle.std.specs.Prelude.{◌≡◌, IfOk, Some};
-ghost use Rattle.cpi_sql_writes.specs.GivenColumns.{copied_column, given_of};
+ghost use Rattle.cpi_sql_rows.specs.Common.{◌≡◌, IfOk, Some};
 ghost use Rattle.cpi_sql_rows.specs.Lists.{price_or_none};
+ghost use Rattle.cpi_sql_writes.specs.GivenColumns.{copied_column, given_of};
 
 use cpi_codes::{CollectorId, Price, SeriesId};
 use cpi_sql_rows::{Unread, collector_number, item_text, month_number, outlet_number, slot_number};

@@ -1,12 +1,10 @@
 //! A series is handed over: the former slot's row ends, and the new slot's row is put, both or neither.
-ghost use Rattle.std.specs.Prelude.{◌≡◌, ℕ, IsTrue, OnOk, Some};
-ghost use Rattle.sqlite.specs.Held.{state};
-ghost use Rattle.sqlite.specs.State.{HasCleanDisk};
 ghost use Rattle.cpi_store.specs.declared.given.Given.{Given};
 ghost use Rattle.cpi_store.specs.Office.{HandsOver};
+ghost use Rattle.cpi_sql_rows.specs.Common.{ℕ, ◌≡◌, HasCleanDisk, IsTrue, OnOk, Some, state};
 ghost use Rattle.cpi_sql_rows.specs.Lists.{assignments_in};
 ghost use Rattle.cpi_sql_rows.specs.Tables.{assignment_2};
-ghost use Rattle.cpi_sql_writes.specs.GivenColumns.{columns_of, given_of, CanHandOver, IsFree, PutsGiven};
+ghost use Rattle.cpi_sql_writes.specs.GivenColumns.{CanHandOver, columns_of, given_of, IsFree, PutsGiven};
 ghost use Rattle.cpi_sql_writes.specs.Within.{Changes, Ran, Within};
 ghost use Rattle.cpi_sql_writes.specs.Written.{Written};
 
@@ -81,9 +79,6 @@ fn add_given<S: Alter>(tx: &mut Transaction<'_, S>, columns: &GivenColumns) -> R
 }
 
 impl OneChange for SeriesMove {
-    ghost use Rattle.cpi_store.specs.Office.{HandsOver};
-    ghost use Rattle.cpi_sql_writes.specs.GivenColumns.{CanHandOver};
-
     ghost change = { HandsOver };
 
     ghost fits = { λ handover office. CanHandOver handover office.assignments };

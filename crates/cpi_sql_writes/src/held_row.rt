@@ -1,21 +1,47 @@
 //! The lists that a table keeps for its holders, the releases or the years: one of them put, within a transaction, in
 //! place of what stands for its holder.
-ghost use Rattle.std.specs.Prelude.{◌≡◌, ℕ, [], ◌∷◌, Bool, Option};
-ghost use Rattle.sqlite.specs.Held.{state};
-ghost use Rattle.sqlite.specs.Order.{Row};
+ghost use Rattle.sqlite.specs.Table.{Table};
+ghost use Rattle.cpi_sql_rows.specs.Common.{ℕ, ◌<◌, ◌≡◌, ◌≤◌, Bool, bound, IfOk, length, Option, Row, state};
+ghost use Rattle.cpi_sql_writes.specs.Columns.{AddsColumns, AreColumns, AreColumnsOf, rows_at_once};
 ghost use Rattle.cpi_sql_writes.specs.Within.{AddsTo, Changes, Drops, Replaces, Within};
 
+use crate::values::lend_all;
 use cpi_sql_rows::Unread;
+use sqlite::types::{Value, ValueRef};
 use sqlite::{Alter, Transaction};
 use std::alloc::Global;
+
+// The rows that one statement adds, where so many are left.
+const AT_ONCE: usize = 16;
+
+// Runs the INSERT of sixteen rows, or of one.
+macro_rules! insert_rows {
+    ($tx:expr, $columns:expr, $many:expr, $table:literal, $row:literal) => {
+        if $many {
+            run_inside(
+                $tx,
+                concat!(
+                    "INSERT INTO ", $table, " VALUES ", $row, ", ", $row, ", ", $row, ", ", $row, ", ", $row, ", ",
+                    $row, ", ", $row, ", ", $row, ", ", $row, ", ", $row, ", ", $row, ", ", $row, ", ", $row, ", ",
+                    $row, ", ", $row, ", ", $row
+                ),
+                $columns,
+            )
+        } else {
+            run_inside($tx, concat!("INSERT INTO ", $table, " VALUES ", $row), $columns)
+        }
+    };
+}
+
+pub(crate) use insert_rows;
 
 /// A row of a list that a table keeps for each of its holders.
 pub trait HeldRow {
     /// What the rows of one list begin with.
     type Holder: Copy;
 
-    /// The tree of the table.
-    ghost tree: { ℕ };
+    /// The table.
+    ghost table: { Table };
 
     /// What a row of the table stands for, beside the number of its holder.
     ghost entry: { Row → Option (ℕ × Self) };
@@ -30,18 +56,56 @@ pub trait HeldRow {
     fn drop_of<S: Alter>(tx: &mut Transaction<'_, S>, holder: Self::Holder) -> Result<(), Unread>
         ensures same_reference { tx.new.conn.ghost_name ≡ tx.old.conn.ghost_name }
         ensures dropped { Within (state S.Store tx.old.conn.now) (state S.Store tx.new.conn.now) result
-            (Changes tree (Drops (is_of holder))) };
+            (Changes table.tree (Drops (is_of holder))) };
 
-    /// Adds the row to those of the holder.
-    fn add<S: Alter>(
-        &self,
+    /// The columns of the row in the list of the holder.
+    fn columns(&self, alloc: Global, holder: Self::Holder) -> Result<Vec<Value>, Unread>
+        ensures { IfOk result (λ c. AreColumns table entry (goes_by holder) self.now c.items) };
+
+    /// Adds the rows that have these columns, by one statement: sixteen, or one.
+    fn insert<S: Alter>(
         tx: &mut Transaction<'_, S>,
-        alloc: Global,
-        holder: Self::Holder,
+        columns: &[ValueRef<'_>],
+        many: bool,
     ) -> Result<(), Unread>
         ensures same_reference { tx.new.conn.ghost_name ≡ tx.old.conn.ghost_name }
         ensures added { Within (state S.Store tx.old.conn.now) (state S.Store tx.new.conn.now) result
-            (Changes tree (AddsTo entry (goes_by holder) (self.now ∷ []))) };
+            (λ old new. (holder : Self.Holder) →
+            AddsColumns table entry (goes_by holder) (rows_at_once many) (bound columns.now) old new) };
+}
+
+// The columns of the rows, one row behind the other.
+fn columns_of<T: HeldRow>(
+    alloc: Global,
+    holder: T::Holder,
+    rows: &[T],
+) -> Result<Vec<Value>, Unread>
+    ensures { IfOk result (λ all. AreColumnsOf T.table T.entry (T.goes_by holder) rows.now all.items) }
+{
+    let mut all = Vec::new(alloc);
+    'all: for row in rows {
+        let mut columns = row.columns(alloc, holder)?;
+        all.append(&mut columns).map_err(|_| Unread)?;
+    }
+    Ok(all)
+}
+
+// Adds the rows to those of the holder by one statement: sixteen, or one.
+fn add_at_once<S: Alter, T: HeldRow>(
+    tx: &mut Transaction<'_, S>,
+    alloc: Global,
+    holder: T::Holder,
+    rows: &[T],
+    many: bool,
+) -> Result<(), Unread>
+    requires at_once { length rows.now ≡ rows_at_once many }
+    ensures same_reference { tx.new.conn.ghost_name ≡ tx.old.conn.ghost_name }
+    ensures added { Within (state S.Store tx.old.conn.now) (state S.Store tx.new.conn.now) result
+        (Changes T.table.tree (AddsTo T.entry (T.goes_by holder) rows.now)) }
+{
+    let columns = columns_of(alloc, holder, rows)?;
+    let lent = lend_all(alloc, &columns)?;
+    T::insert(tx, &lent, many)
 }
 
 // Adds the rows to those of the holder.
@@ -53,10 +117,17 @@ fn add_all<S: Alter, T: HeldRow>(
 ) -> Result<(), Unread>
     ensures same_reference { tx.new.conn.ghost_name ≡ tx.old.conn.ghost_name }
     ensures added { Within (state S.Store tx.old.conn.now) (state S.Store tx.new.conn.now) result
-        (Changes T.tree (AddsTo T.entry (T.goes_by holder) rows.now)) }
+        (Changes T.table.tree (AddsTo T.entry (T.goes_by holder) rows.now)) }
 {
-    'all: for row in rows {
-        row.add(tx, alloc, holder)?;
+    let mut at = 0;
+    'all: while at < rows.len() {
+        if rows.len() - at >= AT_ONCE {
+            add_at_once(tx, alloc, holder, &rows[at..at + AT_ONCE], true)?;
+            at += AT_ONCE;
+        } else {
+            add_at_once(tx, alloc, holder, &rows[at..at + 1], false)?;
+            at += 1;
+        }
     }
     Ok(())
 }
@@ -70,7 +141,7 @@ pub fn replace<S: Alter, T: HeldRow>(
 ) -> Result<(), Unread>
     ensures same_reference { tx.new.conn.ghost_name ≡ tx.old.conn.ghost_name }
     ensures replaced { Within (state S.Store tx.old.conn.now) (state S.Store tx.new.conn.now) result
-        (Changes T.tree (Replaces T.entry (T.is_of holder) (T.goes_by holder) rows.now)) }
+        (Changes T.table.tree (Replaces T.entry (T.is_of holder) (T.goes_by holder) rows.now)) }
 {
     T::drop_of(tx, holder)?;
     add_all(tx, alloc, holder, rows)

@@ -1,7 +1,5 @@
 //! A statement of a transaction.
-ghost use Rattle.std.specs.Prelude.{◌≡◌};
-ghost use Rattle.sqlite.specs.Held.{state};
-ghost use Rattle.sqlite.specs.Values.{bound};
+ghost use Rattle.cpi_sql_rows.specs.Common.{◌≡◌, bound, state};
 ghost use Rattle.cpi_sql_writes.specs.Within.{Ran, Within};
 
 use cpi_sql_rows::Unread;

@@ -11,6 +11,7 @@ mod plans;
 mod put_header;
 mod release_rows;
 mod releases;
+mod values;
 mod writes;
 
 pub use handovers::put_handover;

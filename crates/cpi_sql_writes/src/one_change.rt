@@ -1,10 +1,8 @@
 //! A change of the office that is made in one transaction: all of its rows are written, or none.
-ghost use Rattle.std.specs.Prelude.{◌≡◌, false, IsTrue, OnErr, OnOk};
-ghost use Rattle.sqlite.specs.Held.{state};
-ghost use Rattle.sqlite.specs.State.{HasCleanDisk, Survives};
-ghost use Rattle.cpi_store.specs.Office.{Change, Office, changed};
+ghost use Rattle.cpi_store.specs.Office.{Change, changed, Office};
+ghost use Rattle.cpi_sql_rows.specs.Common.{◌≡◌, false, HasCleanDisk, HasTables, IsCleanBook, IsDone, IsTrue, OnErr};
+ghost use Rattle.cpi_sql_rows.specs.Common.{OnOk, state, Survives};
 ghost use Rattle.cpi_sql_rows.specs.Lists.{office_in};
-ghost use Rattle.cpi_sql_rows.specs.Shelf.{HasTables, IsCleanBook, IsDone};
 ghost use Rattle.cpi_sql_writes.specs.Within.{ChangesOffice, Within};
 ghost use Rattle.cpi_sql_writes.specs.Written.{Written};
 

@@ -1,23 +1,26 @@
 //! The rows of a year's plan: its nodes, its places and its reference month.
-use crate::held_row::HeldRow;
+ghost use Rattle.cpi_sql_rows.specs.Common.{[], ◌∷◌, ◌≡◌, state};
+ghost use Rattle.cpi_sql_rows.specs.Lists.{node_in, place_in, reference_row, references_for};
+ghost use Rattle.cpi_sql_rows.specs.Tables.{node, plan_item, plan_ref};
+ghost use Rattle.cpi_sql_writes.specs.PlanSteps.{is_of_year, IsYearNumber};
+ghost use Rattle.cpi_sql_writes.specs.Within.{AddsTo, Changes, Drops, Replaces, Within};
+
+use crate::held_row::{HeldRow, insert_rows};
 use crate::inside::run_inside;
+use crate::values::{text, whole};
+use cpi_codes::Month;
 use cpi_plan::{Node, Place};
-use cpi_sql_rows::{ReferenceMonth, Unread, code_text, item_text, month_number, name_text};
+use cpi_sql_rows::{Unread, code_text, item_text, month_number, name_text};
+use sqlite::types::{Value, ValueRef};
 use sqlite::{Alter, Transaction, params};
 use std::alloc::Global;
 
 const DROP_NODES: &str = "DELETE FROM node WHERE year = ?1";
 
-const ADD_NODE: &str = "INSERT INTO node (year, code, title, weight) VALUES (?1, ?2, ?3, ?4)";
-
 impl HeldRow for Node {
-    ghost use Rattle.cpi_sql_rows.specs.Lists.{node_in};
-    ghost use Rattle.cpi_sql_rows.specs.Tables.{node};
-    ghost use Rattle.cpi_sql_writes.specs.PlanSteps.{is_of_year, IsYearNumber};
-
     type Holder = u32;
 
-    ghost tree = { node.tree };
+    ghost table = { node };
 
     ghost entry = { node_in };
 
@@ -29,34 +32,35 @@ impl HeldRow for Node {
         run_inside(tx, DROP_NODES, params![year])
     }
 
-    fn add<S: Alter>(
-        &self,
-        tx: &mut Transaction<'_, S>,
-        alloc: Global,
-        year: u32,
-    ) -> Result<(), Unread> {
+    fn columns(&self, alloc: Global, year: u32) -> Result<Vec<Value>, Unread> {
         let code = code_text(alloc, self.code)?;
-        let title = name_text(&self.title);
-        run_inside(
+        let code = text(alloc, code.as_str())?;
+        let title = text(alloc, name_text(&self.title))?;
+        let columns = [whole(year), code, title, whole(self.weight)];
+        Vec::from_array(alloc, columns).map_err(|_| Unread)
+    }
+
+    fn insert<S: Alter>(
+        tx: &mut Transaction<'_, S>,
+        columns: &[ValueRef<'_>],
+        many: bool,
+    ) -> Result<(), Unread> {
+        insert_rows!(
             tx,
-            ADD_NODE,
-            params![year, code.as_str(), title, self.weight],
+            columns,
+            many,
+            "node (year, code, title, weight)",
+            "(?, ?, ?, ?)"
         )
     }
 }
 
 const DROP_PLACES: &str = "DELETE FROM plan_item WHERE year = ?1";
 
-const ADD_PLACE: &str = "INSERT INTO plan_item (year, item, code) VALUES (?1, ?2, ?3)";
-
 impl HeldRow for Place {
-    ghost use Rattle.cpi_sql_rows.specs.Lists.{place_in};
-    ghost use Rattle.cpi_sql_rows.specs.Tables.{plan_item};
-    ghost use Rattle.cpi_sql_writes.specs.PlanSteps.{is_of_year, IsYearNumber};
-
     type Holder = u32;
 
-    ghost tree = { plan_item.tree };
+    ghost table = { plan_item };
 
     ghost entry = { place_in };
 
@@ -68,48 +72,60 @@ impl HeldRow for Place {
         run_inside(tx, DROP_PLACES, params![year])
     }
 
-    fn add<S: Alter>(
-        &self,
-        tx: &mut Transaction<'_, S>,
-        alloc: Global,
-        year: u32,
-    ) -> Result<(), Unread> {
+    fn columns(&self, alloc: Global, year: u32) -> Result<Vec<Value>, Unread> {
         let item = item_text(alloc, self.item)?;
+        let item = text(alloc, item.as_str())?;
         let code = code_text(alloc, self.aggregate)?;
-        run_inside(tx, ADD_PLACE, params![year, item.as_str(), code.as_str()])
+        let code = text(alloc, code.as_str())?;
+        Vec::from_array(alloc, [whole(year), item, code]).map_err(|_| Unread)
+    }
+
+    fn insert<S: Alter>(
+        tx: &mut Transaction<'_, S>,
+        columns: &[ValueRef<'_>],
+        many: bool,
+    ) -> Result<(), Unread> {
+        insert_rows!(
+            tx,
+            columns,
+            many,
+            "plan_item (year, item, code)",
+            "(?, ?, ?)"
+        )
     }
 }
 
-const DROP_REFERENCES: &str = "DELETE FROM plan_ref WHERE year = ?1";
+const DROP_REFERENCE: &str = "DELETE FROM plan_ref WHERE year = ?1";
 
 const ADD_REFERENCE: &str = "INSERT INTO plan_ref (year, month) VALUES (?1, ?2)";
 
-impl HeldRow for ReferenceMonth {
-    ghost use Rattle.cpi_sql_rows.specs.Lists.{reference_row};
-    ghost use Rattle.cpi_sql_rows.specs.Tables.{plan_ref};
-    ghost use Rattle.cpi_sql_writes.specs.PlanSteps.{is_of_year, IsYearNumber};
-
-    type Holder = u32;
-
-    ghost tree = { plan_ref.tree };
-
-    ghost entry = { reference_row };
-
-    ghost is_of = { is_of_year 0 };
-
-    ghost goes_by = { IsYearNumber };
-
-    fn drop_of<S: Alter>(tx: &mut Transaction<'_, S>, year: u32) -> Result<(), Unread> {
-        run_inside(tx, DROP_REFERENCES, params![year])
+// Adds the reference month of the year, if the plan has one.
+fn add_reference<S: Alter>(
+    tx: &mut Transaction<'_, S>,
+    year: u32,
+    reference: Option<Month>,
+) -> Result<(), Unread>
+    ensures same_reference { tx.new.conn.ghost_name ≡ tx.old.conn.ghost_name }
+    ensures added { Within (state S.Store tx.old.conn.now) (state S.Store tx.new.conn.now) result
+        (Changes plan_ref.tree (AddsTo reference_row (IsYearNumber year) (references_for reference))) }
+{
+    match reference {
+        Some(month) => run_inside(tx, ADD_REFERENCE, params![year, month_number(month)]),
+        None => Ok(()),
     }
+}
 
-    fn add<S: Alter>(
-        &self,
-        tx: &mut Transaction<'_, S>,
-        _alloc: Global,
-        year: u32,
-    ) -> Result<(), Unread> {
-        let month = month_number(self.month);
-        run_inside(tx, ADD_REFERENCE, params![year, month])
-    }
+/// Puts the reference month of a year, if the plan has one, in place of the one that stands.
+pub fn replace_reference<S: Alter>(
+    tx: &mut Transaction<'_, S>,
+    year: u32,
+    reference: Option<Month>,
+) -> Result<(), Unread>
+    ensures same_reference { tx.new.conn.ghost_name ≡ tx.old.conn.ghost_name }
+    ensures replaced { Within (state S.Store tx.old.conn.now) (state S.Store tx.new.conn.now) result
+        (Changes plan_ref.tree
+        (Replaces reference_row (is_of_year 0 year) (IsYearNumber year) (references_for reference))) }
+{
+    run_inside(tx, DROP_REFERENCE, params![year])?;
+    add_reference(tx, year, reference)
 }

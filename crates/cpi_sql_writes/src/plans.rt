@@ -1,44 +1,17 @@
 //! A year's plan: its rows take the place of those that stand, all of them or none.
-ghost use Rattle.std.specs.Prelude.{◌≡◌, ⊤, IsTrue, OnOk};
-ghost use Rattle.sqlite.specs.Held.{state};
-ghost use Rattle.sqlite.specs.State.{HasCleanDisk};
 ghost use Rattle.cpi_store.specs.Office.{PutsPlan};
-ghost use Rattle.cpi_sql_rows.specs.Lists.{reference_row, references_for};
-ghost use Rattle.cpi_sql_rows.specs.Tables.{plan_ref};
-ghost use Rattle.cpi_sql_writes.specs.PlanSteps.{is_of_year, IsYearNumber};
-ghost use Rattle.cpi_sql_writes.specs.Within.{Changes, Replaces, Within};
+ghost use Rattle.cpi_sql_rows.specs.Common.{⊤, ◌≡◌, HasCleanDisk, IsTrue, OnOk, state};
 ghost use Rattle.cpi_sql_writes.specs.Written.{Written};
 
 use crate::held_row::replace;
 use crate::one_change::{OneChange, make_change};
-use cpi_codes::Month;
+use crate::plan_rows::replace_reference;
 use cpi_plan::YearPlan;
-use cpi_sql_rows::{ReferenceMonth, Unread};
+use cpi_sql_rows::Unread;
 use sqlite::{Alter, Connection, Transaction};
 use std::alloc::Global;
 
-// Puts the reference month of a year, if the plan has one, in place of the one that stands.
-fn replace_reference<S: Alter>(
-    tx: &mut Transaction<'_, S>,
-    alloc: Global,
-    year: u32,
-    reference: Option<Month>,
-) -> Result<(), Unread>
-    ensures same_reference { tx.new.conn.ghost_name ≡ tx.old.conn.ghost_name }
-    ensures replaced { Within (state S.Store tx.old.conn.now) (state S.Store tx.new.conn.now) result
-        (Changes plan_ref.tree
-        (Replaces reference_row (is_of_year 0 year) (IsYearNumber year) (references_for reference))) }
-{
-    match reference {
-        Some(month) => replace(tx, alloc, year, &[ReferenceMonth { month }]),
-        None => replace::<S, ReferenceMonth>(tx, alloc, year, &[]),
-    }
-}
-
 impl OneChange for YearPlan {
-    ghost use Rattle.std.specs.Prelude.{⊤};
-    ghost use Rattle.cpi_store.specs.Office.{PutsPlan};
-
     ghost change = { PutsPlan };
 
     ghost fits = { λ _ _. ⊤ };
@@ -48,7 +21,7 @@ impl OneChange for YearPlan {
         let year = u32::from(self.year());
         replace(tx, alloc, year, self.nodes())?;
         replace(tx, alloc, year, self.places())?;
-        replace_reference(tx, alloc, year, self.reference())
+        replace_reference(tx, year, self.reference())
     }
 }
 

@@ -1,19 +1,21 @@
 //! The rows of a release: its frozen quotes, its carried prices and its table.
-ghost use Rattle.std.specs.Prelude.{◌≡◌, Some, pos};
-ghost use Rattle.sqlite.specs.declared.types.Value.TheVariants.{Int};
 ghost use Rattle.cpi_index.specs.Carried.{IsTicks};
-ghost use Rattle.cpi_sql_rows.specs.Lists.{flag_in, ranged};
+ghost use Rattle.cpi_sql_rows.specs.Common.{◌≡◌, Int, pos, Some};
+ghost use Rattle.cpi_sql_rows.specs.Lists.{carried_in, flag_in, frozen_in, level_in, ranged};
 ghost use Rattle.cpi_sql_rows.specs.ReleaseRows.{annual};
+ghost use Rattle.cpi_sql_rows.specs.Tables.{carried_2, frozen_2, level_2};
+ghost use Rattle.cpi_sql_writes.specs.ReleaseSteps.{is_of_release, IsReleaseNumber};
 
-use crate::held_row::HeldRow;
+use crate::held_row::{HeldRow, insert_rows};
 use crate::inside::run_inside;
+use crate::values::{text, whole};
 use cpi_index::{CarriedPrice, ChainedLevel, FrozenQuote, Index, NodeWeight};
 use cpi_release::Level;
 use cpi_sql_rows::{
     Unread, code_text, collector_number, item_text, mark_text, mark_value, month_number, name_text,
     slot_number,
 };
-use sqlite::types::Value;
+use sqlite::types::{Value, ValueRef};
 use sqlite::{Alter, Transaction, params};
 use std::alloc::Global;
 
@@ -33,18 +35,10 @@ fn flag_number(flag: bool) -> u32
 
 const DROP_FROZEN: &str = "DELETE FROM frozen_2 WHERE month = ?1 AND revision = ?2";
 
-const ADD_FROZEN: &str =
-    "INSERT INTO frozen_2 (month, revision, collector, slot, item, last_month, mark, value) \
-    VALUES (?1, ?2, ?3, ?4, ?5, ?6, ?7, ?8)";
-
 impl HeldRow for FrozenQuote {
-    ghost use Rattle.cpi_sql_rows.specs.Lists.{frozen_in};
-    ghost use Rattle.cpi_sql_rows.specs.Tables.{frozen_2};
-    ghost use Rattle.cpi_sql_writes.specs.ReleaseSteps.{is_of_release, IsReleaseNumber};
-
     type Holder = ReleaseNumbers;
 
-    ghost tree = { frozen_2.tree };
+    ghost table = { frozen_2 };
 
     ghost entry = { frozen_in };
 
@@ -59,32 +53,32 @@ impl HeldRow for FrozenQuote {
         run_inside(tx, DROP_FROZEN, params![numbers.month, numbers.revision])
     }
 
-    fn add<S: Alter>(
-        &self,
-        tx: &mut Transaction<'_, S>,
-        alloc: Global,
-        numbers: ReleaseNumbers,
-    ) -> Result<(), Unread> {
-        let series = self.series;
-        let collector = collector_number(series.collector);
-        let slot = slot_number(series.slot);
+    fn columns(&self, alloc: Global, numbers: ReleaseNumbers) -> Result<Vec<Value>, Unread> {
         let item = item_text(alloc, self.item)?;
-        let last = month_number(self.last_month);
-        let word = mark_text(self.mark);
-        let value = mark_value(self.mark);
-        run_inside(
+        let columns = [
+            whole(numbers.month),
+            whole(numbers.revision),
+            whole(collector_number(self.series.collector)),
+            whole(slot_number(self.series.slot)),
+            text(alloc, item.as_str())?,
+            whole(month_number(self.last_month)),
+            text(alloc, mark_text(self.mark))?,
+            whole(mark_value(self.mark)),
+        ];
+        Vec::from_array(alloc, columns).map_err(|_| Unread)
+    }
+
+    fn insert<S: Alter>(
+        tx: &mut Transaction<'_, S>,
+        columns: &[ValueRef<'_>],
+        many: bool,
+    ) -> Result<(), Unread> {
+        insert_rows!(
             tx,
-            ADD_FROZEN,
-            params![
-                numbers.month,
-                numbers.revision,
-                collector,
-                slot,
-                item.as_str(),
-                last,
-                word,
-                value
-            ],
+            columns,
+            many,
+            "frozen_2 (month, revision, collector, slot, item, last_month, mark, value)",
+            "(?, ?, ?, ?, ?, ?, ?, ?)"
         )
     }
 }
@@ -105,18 +99,10 @@ fn denominator(price: &CarriedPrice) -> u32
 
 const DROP_CARRIED: &str = "DELETE FROM carried_2 WHERE month = ?1 AND revision = ?2";
 
-const ADD_CARRIED: &str =
-    "INSERT INTO carried_2 (month, revision, collector, slot, item, last_month, ticks, knum, kden, observed, imputed) \
-    VALUES (?1, ?2, ?3, ?4, ?5, ?6, ?7, ?8, ?9, ?10, ?11)";
-
 impl HeldRow for CarriedPrice {
-    ghost use Rattle.cpi_sql_rows.specs.Lists.{carried_in};
-    ghost use Rattle.cpi_sql_rows.specs.Tables.{carried_2};
-    ghost use Rattle.cpi_sql_writes.specs.ReleaseSteps.{is_of_release, IsReleaseNumber};
-
     type Holder = ReleaseNumbers;
 
-    ghost tree = { carried_2.tree };
+    ghost table = { carried_2 };
 
     ghost entry = { carried_in };
 
@@ -131,38 +117,36 @@ impl HeldRow for CarriedPrice {
         run_inside(tx, DROP_CARRIED, params![numbers.month, numbers.revision])
     }
 
-    fn add<S: Alter>(
-        &self,
-        tx: &mut Transaction<'_, S>,
-        alloc: Global,
-        numbers: ReleaseNumbers,
-    ) -> Result<(), Unread> {
+    fn columns(&self, alloc: Global, numbers: ReleaseNumbers) -> Result<Vec<Value>, Unread> {
         let series = self.series();
-        let collector = collector_number(series.collector);
-        let slot = slot_number(series.slot);
         let item = item_text(alloc, self.item())?;
-        let last = month_number(self.last_month());
-        let ticks = ticks_value(self.ticks());
-        let knum = ticks_value(self.knum());
-        let kden = denominator(self);
-        let observed = flag_number(self.was_observed());
-        let imputed = flag_number(self.was_imputed());
-        run_inside(
+        let columns = [
+            whole(numbers.month),
+            whole(numbers.revision),
+            whole(collector_number(series.collector)),
+            whole(slot_number(series.slot)),
+            text(alloc, item.as_str())?,
+            whole(month_number(self.last_month())),
+            ticks_value(self.ticks()),
+            ticks_value(self.knum()),
+            whole(denominator(self)),
+            whole(flag_number(self.was_observed())),
+            whole(flag_number(self.was_imputed())),
+        ];
+        Vec::from_array(alloc, columns).map_err(|_| Unread)
+    }
+
+    fn insert<S: Alter>(
+        tx: &mut Transaction<'_, S>,
+        columns: &[ValueRef<'_>],
+        many: bool,
+    ) -> Result<(), Unread> {
+        insert_rows!(
             tx,
-            ADD_CARRIED,
-            params![
-                numbers.month,
-                numbers.revision,
-                collector,
-                slot,
-                item.as_str(),
-                last,
-                &ticks,
-                &knum,
-                kden,
-                observed,
-                imputed
-            ],
+            columns,
+            many,
+            "carried_2 (month, revision, collector, slot, item, last_month, ticks, knum, kden, observed, imputed)",
+            "(?, ?, ?, ?, ?, ?, ?, ?, ?, ?, ?)"
         )
     }
 }
@@ -205,18 +189,10 @@ fn year_change(level: &Level) -> Value
 
 const DROP_LEVEL: &str = "DELETE FROM level_2 WHERE month = ?1 AND revision = ?2";
 
-const ADD_LEVEL: &str =
-    "INSERT INTO level_2 (month, revision, code, title, weight, within, chained, month_change, year_change, imputed) \
-    VALUES (?1, ?2, ?3, ?4, ?5, ?6, ?7, ?8, ?9, ?10)";
-
 impl HeldRow for Level {
-    ghost use Rattle.cpi_sql_rows.specs.Lists.{level_in};
-    ghost use Rattle.cpi_sql_rows.specs.Tables.{level_2};
-    ghost use Rattle.cpi_sql_writes.specs.ReleaseSteps.{is_of_release, IsReleaseNumber};
-
     type Holder = ReleaseNumbers;
 
-    ghost tree = { level_2.tree };
+    ghost table = { level_2 };
 
     ghost entry = { level_in };
 
@@ -231,35 +207,34 @@ impl HeldRow for Level {
         run_inside(tx, DROP_LEVEL, params![numbers.month, numbers.revision])
     }
 
-    fn add<S: Alter>(
-        &self,
-        tx: &mut Transaction<'_, S>,
-        alloc: Global,
-        numbers: ReleaseNumbers,
-    ) -> Result<(), Unread> {
+    fn columns(&self, alloc: Global, numbers: ReleaseNumbers) -> Result<Vec<Value>, Unread> {
         let code = code_text(alloc, self.code)?;
-        let title = name_text(&self.title);
-        let weight = weight_value(self.weight);
-        let within = index_value(self.within);
-        let chained = chained_value(self.chained);
-        let month_change = month_change(self);
-        let year_change = year_change(self);
-        let imputed = flag_number(self.imputed);
-        run_inside(
+        let columns = [
+            whole(numbers.month),
+            whole(numbers.revision),
+            text(alloc, code.as_str())?,
+            text(alloc, name_text(&self.title))?,
+            weight_value(self.weight),
+            index_value(self.within),
+            chained_value(self.chained),
+            month_change(self),
+            year_change(self),
+            whole(flag_number(self.imputed)),
+        ];
+        Vec::from_array(alloc, columns).map_err(|_| Unread)
+    }
+
+    fn insert<S: Alter>(
+        tx: &mut Transaction<'_, S>,
+        columns: &[ValueRef<'_>],
+        many: bool,
+    ) -> Result<(), Unread> {
+        insert_rows!(
             tx,
-            ADD_LEVEL,
-            params![
-                numbers.month,
-                numbers.revision,
-                code.as_str(),
-                title,
-                &weight,
-                &within,
-                &chained,
-                &month_change,
-                &year_change,
-                imputed
-            ],
+            columns,
+            many,
+            "level_2 (month, revision, code, title, weight, within, chained, month_change, year_change, imputed)",
+            "(?, ?, ?, ?, ?, ?, ?, ?, ?, ?)"
         )
     }
 }

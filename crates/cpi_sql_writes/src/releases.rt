@@ -1,9 +1,6 @@
 //! A release is put: its rows are written in one transaction, all of them or none.
-ghost use Rattle.std.specs.Prelude.{◌≡◌, IsTrue, OnOk, Some, pos};
-ghost use Rattle.sqlite.specs.declared.types.Value.TheVariants.{Int};
-ghost use Rattle.sqlite.specs.Held.{state};
-ghost use Rattle.sqlite.specs.State.{HasCleanDisk};
 ghost use Rattle.cpi_store.specs.Office.{Freezes};
+ghost use Rattle.cpi_sql_rows.specs.Common.{◌≡◌, HasCleanDisk, Int, IsTrue, OnOk, pos, Some, state};
 ghost use Rattle.cpi_sql_rows.specs.Lists.{month_at, revision_from};
 ghost use Rattle.cpi_sql_writes.specs.ReleaseSteps.{FitsTables, IsNew};
 ghost use Rattle.cpi_sql_writes.specs.Written.{Written};
@@ -41,9 +38,6 @@ fn fits_tables(release: &Release) -> bool
 }
 
 impl OneChange for Release {
-    ghost use Rattle.cpi_store.specs.Office.{Freezes};
-    ghost use Rattle.cpi_sql_writes.specs.ReleaseSteps.{IsNew};
-
     ghost change = { Freezes };
 
     ghost fits = { IsNew };

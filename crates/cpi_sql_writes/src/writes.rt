@@ -1,12 +1,7 @@
 //! The statements that put one row.
-ghost use Rattle.std.specs.Prelude.{◌≡◌, ⊤, false, IfOk, IsTrue, OnOk, None, Some, pos};
-ghost use Rattle.std.specs.String.{string_bytes};
-ghost use Rattle.sqlite.specs.declared.types.Value.TheVariants.{Int, Text};
-ghost use Rattle.sqlite.specs.Held.{state};
-ghost use Rattle.sqlite.specs.State.{HasCleanDisk};
-ghost use Rattle.sqlite.specs.Values.{bound};
-ghost use Rattle.cpi_rows.specs.Keyed.{at};
-ghost use Rattle.cpi_store.specs.Office.{Registers, PutsOutlet, PutsItem, PutsCalendar, Assigns, Quotes};
+ghost use Rattle.cpi_store.specs.Office.{Assigns, PutsCalendar, PutsItem, PutsOutlet, Quotes, Registers};
+ghost use Rattle.cpi_sql_rows.specs.Common.{⊤, ◌≡◌, at, bound, false, HasCleanDisk, IfOk, Int, IsTrue, None, OnOk};
+ghost use Rattle.cpi_sql_rows.specs.Common.{pos, Some, state, string_bytes, Text};
 ghost use Rattle.cpi_sql_rows.specs.Lists.{bearer_from, calendar_from, month_at};
 ghost use Rattle.cpi_sql_writes.specs.GivenColumns.{IsFree};
 ghost use Rattle.cpi_sql_writes.specs.Within.{RunsAlone};

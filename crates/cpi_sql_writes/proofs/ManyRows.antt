@@ -1,0 +1,252 @@
+-- An INSERT of rows whose columns stand one behind the other among its parameters.
+use Rattle.std.proofs.Common.{◌≡◌, inl, inr, ℕ, zero, suc, ◌+◌, ◌*◌, ◌/◌, List, [], ◌∷◌, ◌++◌, length, map, take}
+use Rattle.std.proofs.Common.{drop, get_or, slice_get, Some, Option, Result, refl, sym, ap, ap₂, subst, subst₂, ◌∙◌}
+use Rattle.std.proofs.Common.{arith, ◌<◌, Vec, Global, Ok, Err, IfOk, IsErrAnd, MatchResult}
+use Rattle.std.proofs.Common.{append_assoc, append-nil, zero-lt-suc, zero-mul, Bool, true, false, IsTrue}
+use Rattle.std.proofs.Math.Nat.{mul-div_cancel}
+use Rattle.std.proofs.Math.Seq.{get_or-append_seam}
+use Rattle.std.proofs.lemmas.List.{length-append, map-append, take_more}
+use Rattle.sqlite.specs.Values.{bound_value}
+use Rattle.sqlite.specs.Cast.{cast_row}
+use Rattle.sqlite.specs.Command.TheVariants.{Insert}
+use Rattle.sqlite.specs.declared.types.Value.{Value}
+use Rattle.sqlite.specs.declared.types.Value.TheVariants.{Null}
+use Rattle.sqlite.specs.Edit.{are_fresh, numbered, put_all, with_rowid}
+use Rattle.sqlite.specs.Effect.{value_rows}
+use Rattle.sqlite.specs.Order.{Row}
+use Rattle.sqlite.specs.Rowids.TheVariants.{Chosen}
+use Rattle.sqlite.specs.Source.TheVariants.{Values}
+use Rattle.sqlite.specs.State.{State}
+use Rattle.sqlite.specs.Table.{Table}
+use Rattle.sqlite.specs.Term.{Term, col, eval_all}
+use Rattle.sqlite.specs.Tree.{put_row}
+use Rattle.sqlite_rules.specs.Lists.{Has}
+use Rattle.sqlite_rules.proofs.TableLemmas.{put_all_adds, put_all_has, put_all_keeps}
+use Rattle.cpi_sql_rows.specs.Tables.{office_schema}
+use Rattle.cpi_sql_rows.specs.Texts.{given_columns, given_rows}
+use Rattle.cpi_sql_rows.proofs.TableRows.{Gives, adds_rows}
+use Rattle.cpi_sql_rows.proofs.Texts.{Makes}
+use Rattle.cpi_sql_rows.proofs.Writing.{as_plain}
+use Rattle.cpi_sql_writes.specs.Columns.{AddsColumns, AreColumns, AreColumnsOf, rows_at_once}
+use Rattle.cpi_sql_writes.specs.Within.{AddsTo, Changes, Ran, Within}
+use Rattle.cpi_sql_writes.proofs.TableSteps.{made_step}
+use Rattle.cpi_sql_writes.proofs.Withins.{within_as}
+
+-- ---- the terms
+
+first_terms : (width from : ℕ) (rest : List Term)
+    → take width (given_columns width from ++ rest) ≡ given_columns width from
+first_terms zero from rest = refl
+first_terms (suc width) from rest = ap (λ ts. col 0 from ∷ ts) (first_terms width (suc from) rest)
+
+later_terms : (width from : ℕ) (rest : List Term) → drop width (given_columns width from ++ rest) ≡ rest
+later_terms zero from rest = refl
+later_terms (suc width) from rest = later_terms width (suc from) rest
+
+columns_counted : (width from : ℕ) → length (given_columns width from) ≡ width
+columns_counted zero from = refl
+columns_counted (suc width) from = ap suc (columns_counted width (suc from))
+
+rows_counted : (width count from : ℕ) → length (given_rows width count from) ≡ count * suc width
+rows_counted width zero from = sym (zero-mul (suc width))
+rows_counted width (suc count) from =
+    ap suc (length-append (given_columns width from) (given_rows width count (from + width))
+    ∙ ap₂ (λ (m n : ℕ). m + n) (columns_counted width from) (rows_counted width count (from + width)))
+    ∙ omega arith
+
+-- ---- the parameters
+
+more_counted : {X : Type 0} (front : List X) (x : X) (from : ℕ) → length front ≡ from
+    → length (front ++ x ∷ []) ≡ suc from
+more_counted front x from is = length-append front (x ∷ []) ∙ omega (arith, is)
+
+-- the columns from a place on
+columns_read : (front columns back : Row) (from : ℕ) → length front ≡ from
+    → eval_all (given_columns (length columns) from) ((front ++ (columns ++ back)) ∷ []) ≡ columns
+columns_read front [] back from is = refl
+columns_read front (v ∷ columns) back from is =
+    ap₂ (λ (x : Value) (xs : Row). x ∷ xs)
+    (subst (λ n. get_or (front ++ v ∷ (columns ++ back)) n Null ≡ v) is
+    (get_or-append_seam front v (columns ++ back) Null))
+    (subst (λ p. eval_all (given_columns (length columns) (suc from)) (p ∷ []) ≡ columns)
+    (append_assoc front (v ∷ []) (columns ++ back))
+    (columns_read (front ++ v ∷ []) columns back (suc from) (more_counted front v from is)))
+
+module _ {X : Type 0} (it : Table) (entry : Row → Option (ℕ × X)) (GoesBy : ℕ → Type 0) where
+  abbrev width : ℕ
+  width = length it.columns
+
+  -- the rows that the columns make
+  abbrev sources : (xs : List X) (values : Row) → AreColumnsOf it entry GoesBy xs values → List Row
+  sources [] values p = []
+  sources (x ∷ xs) values p = (Null ∷ p.0) ∷ sources xs p.1 p.3
+
+  rows_read : (xs : List X) (front values : Row) (from : ℕ) (p : AreColumnsOf it entry GoesBy xs values)
+      → length front ≡ from
+      → value_rows (front ++ values) (suc width) (length xs) (given_rows width (length xs) from) ≡ sources xs values p
+  rows_read [] front values from p is = refl
+  rows_read (x ∷ xs) front values from p is =
+      let rest = given_rows width (length xs) (from + width) in
+      let params : front ++ values ≡ front ++ (p.0 ++ p.1) = ap (λ v. front ++ v) p.4 in
+      let read : eval_all (take width (given_columns width from ++ rest)) ((front ++ values) ∷ []) ≡ p.0 =
+      ap₂ (λ (ts : List Term) (v : Row). eval_all ts (v ∷ [])) (first_terms width from rest) params
+      ∙ subst (λ n. eval_all (given_columns n from) ((front ++ (p.0 ++ p.1)) ∷ []) ≡ p.0) p.2.width
+      (columns_read front p.0 p.1 from is) in
+      let counted : length (front ++ p.0) ≡ from + width =
+      length-append front p.0 ∙ ap₂ (λ (m n : ℕ). m + n) is p.2.width in
+      let later : value_rows (front ++ values) (suc width) (length xs) (drop width (given_columns width from ++ rest))
+      ≡ sources xs p.1 p.3 =
+      ap₂ (λ (ts : List Term) (v : Row). value_rows v (suc width) (length xs) ts) (later_terms width from rest)
+      (params ∙ sym (append_assoc front p.0 p.1))
+      ∙ rows_read xs (front ++ p.0) p.1 (from + width) p.3 counted in
+      ap₂ (λ (r : Row) (rs : List Row). (Null ∷ r) ∷ rs) read later
+
+  -- the columns of more rows behind them
+  pub columns_then : (xs ys : List X) (values more : Row) → AreColumnsOf it entry GoesBy xs values
+      → AreColumnsOf it entry GoesBy ys more → AreColumnsOf it entry GoesBy (xs ++ ys) (values ++ more)
+  columns_then [] ys values more p q = subst (λ v. AreColumnsOf it entry GoesBy ys (v ++ more)) (sym p) q
+  columns_then (x ∷ xs) ys values more p q = (
+    p.0,
+    p.1 ++ more,
+    p.2,
+    columns_then xs ys p.1 more p.3 q,
+    ap (λ v. v ++ more) p.4 ∙ append_assoc p.0 p.1 more,
+  )
+
+  -- the columns of one row more
+  pub columns_more : (rows : List X) (i : ℕ) (x : X) (all columns new : Row) → i < length rows → x ≡ get_or rows i x
+      → new ≡ all ++ columns → AreColumnsOf it entry GoesBy (take i rows) all → AreColumns it entry GoesBy x columns
+      → AreColumnsOf it entry GoesBy (take (i + 1) rows) new
+  columns_more rows i x all columns new low at is p one =
+      subst₂ (AreColumnsOf it entry GoesBy) (sym (take_more rows i x low ∙ ap (λ y. take i rows ++ y ∷ []) (sym at)))
+      (sym is) (columns_then (take i rows) (x ∷ []) all columns p
+      (columns, [], one, refl, sym (append-nil columns)))
+
+  -- a statement is given them as they are
+  pub columns_bound : (xs : List X) (values : Row) → AreColumnsOf it entry GoesBy xs values
+      → map bound_value values ≡ values
+  columns_bound [] values p = subst (λ v. map bound_value v ≡ v) (sym p) refl
+  columns_bound (x ∷ xs) values p = subst (λ v. map bound_value v ≡ v) (sym p.4)
+      (map-append bound_value p.0 p.1 ∙ ap₂ (λ (a b : Row). a ++ b) p.2.bound (columns_bound xs p.1 p.3))
+
+  -- ---- the rows that they become
+
+  -- each row stands for the one at its place
+  abbrev Stand : List X → List Row → Type 0
+  Stand [] news = news ≡ []
+  Stand (x ∷ xs) news = (row : Row) × (more : List Row)
+      × ((number : ℕ) → GoesBy number → entry row ≡ Some (number, x)) × Stand xs more × (news ≡ row ∷ more)
+
+  numbered_stand : (xs : List X) (values : Row) (p : AreColumnsOf it entry GoesBy xs values) (rows : List Row)
+      → Stand xs (numbered Chosen rows (map (λ s. cast_row (as_plain it) (drop 0 s)) (sources xs values p)))
+  numbered_stand [] values p rows = refl
+  numbered_stand (x ∷ xs) values p rows =
+      let new = with_rowid Chosen rows (cast_row (as_plain it) (Null ∷ p.0)) in (
+        new,
+        numbered Chosen (put_row new rows) (map (λ s. cast_row (as_plain it) (drop 0 s)) (sources xs p.1 p.3)),
+        λ number named. subst (λ row. entry (with_rowid Chosen rows row) ≡ Some (number, x)) (sym p.2.taken)
+            (p.2.stand _ number named),
+        numbered_stand xs p.1 p.3 (put_row new rows),
+        refl,
+      )
+
+  each_stands : (xs : List X) (news : List Row) → Stand xs news → (r : Row) → Has news r
+      → (x : X) × Has xs x × ((number : ℕ) → GoesBy number → entry r ≡ Some (number, x))
+  each_stands [] news p r h = absurd (subst (λ l. Has l r) p h)
+  each_stands (x ∷ xs) news p r h = elim (subst (λ l. Has l r) p.4 h) [
+    | inl same ↦ (x, inl refl, λ number named. ap entry same ∙ p.2 number named)
+    | inr more ↦ let it = each_stands xs p.1 p.3 r more in (it.0, inr it.1, it.2)
+  ]
+
+  each_there : (xs : List X) (news : List Row) → Stand xs news → (x : X) → Has xs x
+      → (r : Row) × Has news r × ((number : ℕ) → GoesBy number → entry r ≡ Some (number, x))
+  each_there [] news p x h = absurd h
+  each_there (y ∷ xs) news p x (inl same) = (
+    p.0,
+    subst (λ l. Has l p.0) (sym p.4) (inl refl),
+    λ number named. p.2 number named ∙ ap (λ z. Some (number, z)) (sym same),
+  )
+  each_there (y ∷ xs) news p x (inr more) =
+      let it = each_there xs p.1 p.3 x more in (it.0, subst (λ l. Has l it.0) (sym p.4) (inr it.1), it.2)
+
+  added_all : (xs : List X) (news old new : List Row) → Stand xs news → new ≡ put_all old news
+      → are_fresh old news ≡ true → AddsTo entry GoesBy xs old new
+  added_all xs news old new stand rows fresh = λ number named. record {
+    others = λ r h. elim (put_all_has news old r (subst (λ l. Has l r) rows h)) [
+      | inl added ↦ let it = each_stands xs news stand r added in inr (it.0, it.1, it.2 number named)
+      | inr was ↦ inl was
+    ];
+    kept = λ r h. subst (λ l. Has l r) (sym rows) (put_all_keeps news old r fresh h);
+    there = λ x h.
+        let it = each_there xs news stand x h in
+        (it.0, subst (λ l. Has l it.0) (sym rows) (put_all_adds news old it.0 fresh it.1), it.2 number named);
+  }
+
+  module _ (at : ℕ) (stands : slice_get office_schema.tables at ≡ Some (as_plain it)) (count : ℕ) where
+    abbrev terms : List Term
+    terms = given_rows width count 0
+
+    gives_rows : (values : Row) (xs : List X) (p : AreColumnsOf it entry GoesBy xs values) → length xs ≡ count
+        → Gives it values (Values terms (suc width)) (sources xs values p)
+    gives_rows values xs p counted limit db rows given =
+        let rows_in : length terms / suc width ≡ length xs =
+        ap (λ n. n / suc width) (rows_counted width count 0) ∙ mul-div_cancel count (zero-lt-suc width) ∙ sym counted in
+        given.1 ∙ ap₂ (λ (v : Row) (n : ℕ). value_rows v (suc width) n terms) (append-nil values) rows_in
+        ∙ ap (λ n. value_rows values (suc width) (length xs) (given_rows width n 0)) (sym counted)
+        ∙ rows_read xs [] values 0 p refl
+
+    -- where the statement was run
+    rows_added : (text : List ℕ) (values : Row) (old new : State) → Makes text (Insert at (Values terms (suc width)))
+        → IsTrue old.in_transaction → Ran text values old new → AddsColumns it entry GoesBy count values old new
+    rows_added text values old new is inside run xs counted p =
+        let gives = gives_rows values xs p counted in
+        let from = Values terms (suc width) in
+        made_step it.tree text values _ (adds_rows it at stands values from (sources xs values p) gives text is)
+        (AddsTo entry GoesBy xs) old new (λ ids added. record {
+          schema = added.schema;
+          rows = added_all xs _ (old.now.trees it.tree) (new.now.trees it.tree)
+              (numbered_stand xs values p (old.now.trees it.tree)) added.rows added.fresh;
+          rowids = added.rowids ids;
+          others = added.others;
+        }) inside run
+
+-- the statement of one row, or of sixteen, of a table
+module _ {X H A E : Type 0} (it : Table) (at : ℕ) (stands : slice_get office_schema.tables at ≡ Some (as_plain it))
+    (one sixteen : List ℕ) (entry : Row → Option (ℕ × X)) (GoesBy : H → ℕ → Type 0)
+    (makes_one : Makes one (Insert at (Values (given_rows (length it.columns) 1 0) (suc (length it.columns)))))
+    (makes_sixteen : Makes sixteen (Insert at (Values (given_rows (length it.columns) 16 0) (suc (length it.columns)))))
+    (values : Row) (old new : State) (result : Result A E) where
+  abbrev Step : Bool → State → State → Type 0
+  Step many a b = (h : H) → AddsColumns it entry (GoesBy h) (rows_at_once many) values a b
+
+  pub many_inserted : (many : Bool) → many ≡ true → Within old new result (Ran sixteen values)
+      → Within old new result (Step many)
+  many_inserted many is ran = subst (λ b. Within old new result (Step b)) (sym is)
+      (within_as old new result (Ran sixteen values) (Step true) ran
+      (λ inside run h. rows_added it entry (GoesBy h) at stands 16 sixteen values old new makes_sixteen inside run))
+
+  pub one_inserted : (many : Bool) → many ≡ false → Within old new result (Ran one values)
+      → Within old new result (Step many)
+  one_inserted many is ran = subst (λ b. Within old new result (Step b)) (sym is)
+      (within_as old new result (Ran one values) (Step false) ran
+      (λ inside run h. rows_added it entry (GoesBy h) at stands 1 one values old new makes_one inside run))
+
+-- the rows of one holder are added
+pub added_for : {X H A E : Type 0} (it : Table) (entry : Row → Option (ℕ × X)) (GoesBy : H → ℕ → Type 0) (count : ℕ)
+    (values : Row) (holder : H) (xs : List X) → length xs ≡ count → AreColumnsOf it entry (GoesBy holder) xs values
+    → (old new : State) (result : Result A E)
+    → Within old new result (λ a b. (h : H) → AddsColumns it entry (GoesBy h) count values a b)
+    → Within old new result (Changes it.tree (AddsTo entry (GoesBy holder) xs))
+added_for it entry GoesBy count values holder xs counted are old new result added =
+    within_as old new result (λ a b. (h : _) → AddsColumns it entry (GoesBy h) count values a b)
+    (Changes it.tree (AddsTo entry (GoesBy holder) xs)) added (λ inside step. step holder xs counted are)
+
+-- a list of columns that was made, whatever else went wrong
+pub columns_kept : {D E : Type 0} (Post : E → D → Type 0) (made : Result (Vec Value Global) E)
+    (result : Result (Vec Value Global) D) (P : Row → Type 0) (columns : Row) → P columns
+    → IfOk made (λ v. v.items ≡ columns) → MatchResult made (λ v. result ≡ Ok v) (λ e. IsErrAnd result (Post e))
+    → IfOk result (λ v. P v.items)
+columns_kept Post (Ok v) result P columns holds is same =
+    subst (λ r. IfOk r (λ (w : Vec Value Global). P w.items)) (sym same) (subst P (sym is) holds)
+columns_kept Post (Err e) (Ok v) P columns holds is none = absurd none
+columns_kept Post (Err e) (Err d) P columns holds is some = tt

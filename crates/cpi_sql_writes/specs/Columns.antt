@@ -1,0 +1,34 @@
+-- The columns that rows are written as, one row behind the other.
+use Rattle.std.specs.Prelude.{◌≡◌, ℕ, Bool, List, [], ◌∷◌, ◌++◌, Option, Some, length, map}
+use Rattle.std.specs.Prelude.{if◌then◌else◌}
+use Rattle.sqlite.specs.Cast.{cast_row}
+use Rattle.sqlite.specs.declared.types.Value.{Value}
+use Rattle.sqlite.specs.declared.types.Value.TheVariants.{Null}
+use Rattle.sqlite.specs.Order.{Row}
+use Rattle.sqlite.specs.State.{State}
+use Rattle.sqlite.specs.Table.{Table}
+use Rattle.sqlite.specs.Values.{bound_value}
+use Rattle.cpi_sql_writes.specs.Within.{AddsTo, Changes}
+
+-- the rows that one statement adds
+abbrev pub rows_at_once : Bool → ℕ
+rows_at_once many = if many then 16 else 1
+
+module _ {X : Type 0} (it : Table) (entry : Row → Option (ℕ × X)) (GoesBy : ℕ → Type 0) where
+  -- The columns stand for this, whatever rowid is before them, and the table takes them as they are.
+  pub record AreColumns (x : X) (columns : Row) : Type 0 where
+    pub stand : (id : Value) (number : ℕ) → GoesBy number → entry (id ∷ columns) ≡ Some (number, x)
+    pub taken : cast_row it (Null ∷ columns) ≡ Null ∷ columns
+    pub bound : map bound_value columns ≡ columns
+    pub width : length columns ≡ length it.columns
+
+  -- the columns of each, one behind the other
+  abbrev pub AreColumnsOf : List X → Row → Type 0
+  AreColumnsOf [] values = values ≡ []
+  AreColumnsOf (x ∷ xs) values =
+      (columns : Row) × (behind : Row) × AreColumns x columns × AreColumnsOf xs behind × (values ≡ columns ++ behind)
+
+  -- what a statement adds that is given the columns of so many rows
+  abbrev pub AddsColumns : ℕ → Row → State → State → Type 0
+  AddsColumns count values old new = (xs : List X) → length xs ≡ count → AreColumnsOf xs values
+      → Changes it.tree (AddsTo entry GoesBy xs) old new
