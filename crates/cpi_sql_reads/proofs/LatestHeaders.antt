@@ -1,30 +1,37 @@
--- The latest header of a month among those whose tables are published, one header after another.
-use Rattle.std.proofs.Common.{◌≡◌, ◌≢◌, ◌⊎◌, inl, inr, ℕ, ◌&&◌, ◌==◌, Bool, true, false, List, [], ◌∷◌, ◌++◌}
-use Rattle.std.proofs.Common.{Some, ap, ◌∙◌}
-use Rattle.std.specs.Prelude.{nat_le, option_map, if◌then◌else◌}
-use Rattle.std.proofs.lemmas.Bool.Decides.{eqb_tells}
-use Rattle.std.proofs.lemmas.List.{append-nil}
-use Rattle.std.proofs.lemmas.List.Elements.{filter-append}
-use Rattle.cpi_release.proofs.LatestRows.{latest_own, latest_other}
-use Rattle.cpi_sql_rows.specs.declared.release_rows.Header.{Header}
-use Rattle.cpi_sql_reads.specs.Headers.{headers_until, latest_header, revision_published}
+-- The latest row of a month is the first from behind.
+use Rattle.std.proofs.Common.{◌≡◌, ◌&&◌, ◌==◌, ℕ, Bool, true, false, List, [], ◌∷◌, Option, Some, None, reverse, refl}
+use Rattle.std.proofs.Common.{ap, ◌∙◌}
+use Rattle.std.specs.List.{find}
+use Rattle.std.specs.Option.{option_or}
+use Rattle.std.specs.Prelude.{filter, if◌then◌else◌}
+use Rattle.std.proofs.lemmas.List.{reverse-append}
+use Rattle.std.proofs.lemmas.List.Folds.{find-append}
+use Rattle.cpi_release.specs.Latest.{latest}
 
--- one header more: its revision is the latest, where its table is published and it is of the month
-pub revision_more : (month until : ℕ) (xs : List Header) (x : Header) → revision_published month until (xs ++ x ∷ [])
-    ≡ (if nat_le x.publishes until && (x.month == month) then Some x.revision else revision_published month until xs)
-revision_more month until xs x =
-    ap (λ hs. option_map (λ (h : Header). h.revision) (latest_header month hs))
-    (filter-append (λ (h : Header). nat_le h.publishes until) xs (x ∷ []))
-    ∙ by (nat_le x.publishes until) (eqb_tells x.month month)
-  where
-    by : (b : Bool)
-        → (((x.month == month) ≡ true) × (x.month ≡ month)) ⊎ (((x.month == month) ≡ false) × (x.month ≢ month))
-        → option_map (λ (h : Header). h.revision)
-        (latest_header month (headers_until until xs ++ (if b then x ∷ [] else [])))
-        ≡ (if b && (x.month == month) then Some x.revision else revision_published month until xs)
-    by false tells = ap (λ hs. option_map (λ (h : Header). h.revision) (latest_header month hs))
-        (append-nil (headers_until until xs))
-    by true (inl same) = rw same.0 (ap (option_map (λ (h : Header). h.revision))
-        (latest_own (λ (h : Header). h.month) month (headers_until until xs) x same.1))
-    by true (inr apart) = rw apart.0 (ap (option_map (λ (h : Header). h.revision))
-        (latest_other (λ (h : Header). h.month) month (headers_until until xs) x apart.1))
+module _ {X : Type 0} (month_of : X → ℕ) (month : ℕ) where
+  -- the row before the others is found last
+  found_behind : (test : X → Bool) (x : X) (xs : List X)
+      → find test (reverse (x ∷ xs)) ≡ option_or (find test (reverse xs)) (if test x then Some x else None)
+  found_behind test x xs =
+      ap (find test) (reverse-append (x ∷ []) xs) ∙ find-append test (reverse xs) (x ∷ [])
+
+  pub latest_last : (xs : List X) → find (λ x. month_of x == month) (reverse xs) ≡ latest month_of month xs
+  latest_last [] = refl
+  latest_last (x ∷ xs) = found_behind (λ y. month_of y == month) x xs
+      ∙ ap (λ o. option_or o (if month_of x == month then Some x else None)) (latest_last xs)
+
+  -- the same among those that pass a test
+  pub latest_passing : (test : X → Bool) (xs : List X)
+      → find (λ x. test x && (month_of x == month)) (reverse xs) ≡ latest month_of month (filter test xs)
+  latest_passing test [] = refl
+  latest_passing test (x ∷ xs) =
+      found_behind (λ y. test y && (month_of y == month)) x xs
+      ∙ ap (λ o. option_or o (if test x && (month_of x == month) then Some x else None)) (latest_passing test xs)
+      ∙ elim (test x) as (λ b. option_or (latest month_of month (filter test xs))
+      (if b && (month_of x == month) then Some x else None)
+      ≡ latest month_of month (if b then x ∷ filter test xs else filter test xs))
+      [ true ↦ refl | false ↦ or_none (latest month_of month (filter test xs)) ]
+    where
+      or_none : (o : Option X) → option_or o None ≡ o
+      or_none None = refl
+      or_none (Some y) = refl

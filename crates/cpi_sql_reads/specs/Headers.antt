@@ -2,23 +2,18 @@
 use Rattle.std.specs.Prelude.{◌≡◌, ℕ, ◌==◌, ◌&&◌, nat_le, Bool, List, Option, Some, filter, map, option_map}
 use Rattle.std.specs.List.{list_any}
 use Rattle.sqlite.specs.Order.{Row}
-use Rattle.sqlite.specs.State.{State}
 use Rattle.sqlite.specs.Tree.{Trees}
 use Rattle.cpi_release.specs.Latest.{latest}
 use Rattle.cpi_release.specs.declared.frozen_month.FrozenMonth.{FrozenMonth}
 use Rattle.cpi_sql_rows.specs.declared.release_rows.Header.{Header}
 use Rattle.cpi_sql_rows.specs.Lists.{header_in, headers_in, release_number}
-use Rattle.cpi_sql_rows.specs.Shelf.{AllStand, AllStandOf, HasTables, IsCleanBook}
+use Rattle.cpi_sql_rows.specs.Shelf.{AllStand, AllStandOf}
+use Rattle.cpi_sql_rows.specs.Tables.{release_2}
 
 -- what the rows of the releases say beside their lists, each of which the types take
 pub record AreHeadersOf (trees : Trees) (headers : List Header) : Type 0 where
-  pub read : headers ≡ headers_in (trees 26)
-  pub taken : AllStand header_in (trees 26)
-
--- what a look tells of the rows as they were, by the headers of all releases
-abbrev pub TellsBy : List Header → State → State → (Trees → Type 0) → Type 0
-TellsBy headers old new Told =
-    IsCleanBook new → HasTables old → headers ≡ headers_in (old.now.trees 26) → Told old.now.trees
+  pub read : headers ≡ headers_in (trees release_2.tree)
+  pub taken : AllStand header_in (trees release_2.tree)
 
 -- the frozen month of a header
 abbrev pub header_month : Header → FrozenMonth
@@ -42,7 +37,7 @@ latest_header month headers = latest (λ h. h.month) month headers
 
 -- each row of the month's latest release stands for something, in the table with that tree
 abbrev pub LatestStands : {X : Type 0} → (Row → Option X) → ℕ → ℕ → Trees → Type 0
-LatestStands entry tree month trees = (h : Header) → latest_header month (headers_in (trees 26)) ≡ Some h →
+LatestStands entry tree month trees = (h : Header) → latest_header month (headers_in (trees release_2.tree)) ≡ Some h →
     AllStandOf entry (release_number month h.revision) (trees tree)
 
 -- the latest revision whose moment of publishing has come

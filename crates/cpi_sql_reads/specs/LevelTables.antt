@@ -9,6 +9,7 @@ use Rattle.cpi_release.specs.declared.level.Level.{Level}
 use Rattle.cpi_release.specs.declared.release.Release.{Release}
 use Rattle.cpi_sql_rows.specs.Lists.{headers_in, level_in, release_number, releases_in}
 use Rattle.cpi_sql_rows.specs.Shelf.{AllStandOf}
+use Rattle.cpi_sql_rows.specs.Tables.{level_2, release_2}
 use Rattle.cpi_sql_reads.specs.Headers.{has_release}
 
 -- the rows of the table of a release, by code
@@ -28,8 +29,8 @@ levels_at releases key = option_map_or (λ r. r.levels) (row_at release_cmp rele
 -- it is the table of its release, where there is one, each of whose rows the types take
 pub record IsTableOf (trees : Trees) (t : ReleaseLevels) : Type 0 where
   pub levels : t.levels ≡ levels_at (releases_in trees) (table_key t)
-  pub taken : IsTrue (has_release t.month t.revision (headers_in (trees 26))) →
-      AllStandOf level_in (release_number t.month t.revision) (trees 32)
+  pub taken : IsTrue (has_release t.month t.revision (headers_in (trees release_2.tree))) →
+      AllStandOf level_in (release_number t.month t.revision) (trees level_2.tree)
 
 -- each is so
 abbrev pub AreTablesOf : Trees → List ReleaseLevels → Type 0

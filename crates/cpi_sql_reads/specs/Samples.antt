@@ -7,14 +7,15 @@ use Rattle.cpi_release.specs.KeptSamples.{AreGroupsOf, Samples}
 use Rattle.cpi_release.specs.Releases.{link_month}
 use Rattle.cpi_store.specs.Sources.{office_sources}
 use Rattle.cpi_sql_rows.specs.Lists.{carried_in, frozen_in, office_in}
+use Rattle.cpi_sql_rows.specs.Tables.{carried_2, frozen_2}
 use Rattle.cpi_sql_reads.specs.Headers.{LatestStands}
 
 -- each row that the samples of a month are made from stands for something: the carried prices and the frozen quotes of
 -- its link month, and the carried prices of the month before
 pub record SamplesStand (month : ℕ) (trees : Trees) : Type 0 where
-  pub link_carried : LatestStands carried_in 30 (link_month month) trees
-  pub link_frozen : LatestStands frozen_in 28 (link_month month) trees
-  pub last_carried : LatestStands carried_in 30 (month - 1) trees
+  pub link_carried : LatestStands carried_in carried_2.tree (link_month month) trees
+  pub link_frozen : LatestStands frozen_in frozen_2.tree (link_month month) trees
+  pub last_carried : LatestStands carried_in carried_2.tree (month - 1) trees
 
 -- they do where the month has samples: it is not of the first year, and its year has a plan
 abbrev pub SamplesTaken : ℕ → Trees → Type 0

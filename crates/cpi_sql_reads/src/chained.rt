@@ -1,13 +1,12 @@
 //! The chained levels of earlier months, read a table at a time.
-ghost use Rattle.std.specs.Prelude.{◌≡◌, IfOk, IsSome, OnOk};
-ghost use Rattle.cpi_rows.specs.Keyed.{row_at};
-ghost use Rattle.sqlite.specs.Held.{state};
 ghost use Rattle.cpi_release.specs.FrozenMonths.{release_cmp};
 ghost use Rattle.cpi_release.specs.Releases.{level_at};
-ghost use Rattle.cpi_sql_rows.specs.Lists.{headers_in, level_in, releases_in};
-ghost use Rattle.cpi_sql_rows.specs.Shelf.{IsCleanBook, HasTables, Looks};
-ghost use Rattle.cpi_sql_reads.specs.Headers.{LatestStands, TellsBy};
+ghost use Rattle.cpi_sql_rows.specs.Common.{◌≡◌, row_at, state, IfOk, IsSome, Looks, OnOk};
+ghost use Rattle.cpi_sql_rows.specs.Lists.{level_in, releases_in};
+ghost use Rattle.cpi_sql_rows.specs.Tables.{level_2};
+ghost use Rattle.cpi_sql_reads.specs.Headers.{LatestStands};
 ghost use Rattle.cpi_sql_reads.specs.LevelTables.{AreTablesOf, IsTableOf, table_key};
+ghost use Rattle.cpi_sql_reads.specs.Tells.{KnowsBy};
 
 use crate::earlier::earlier_levels;
 use crate::headers::header_of;
@@ -31,7 +30,7 @@ fn table_at<S: Alter>(
     ensures look { Looks (state S.Store conn.old) (state S.Store conn.new) result }
     ensures key { IfOk result (λ t. table_key t ≡ (month, revision)) }
     ensures left { (trees : _) → AreTablesOf trees tables.old.items → AreTablesOf trees tables.new.items }
-    ensures read { TellsBy headers.now (state S.Store conn.old) (state S.Store conn.new) (λ trees.
+    ensures read { KnowsBy headers.now S.Store conn.old conn.new (λ trees.
         AreTablesOf trees tables.old.items → IfOk result (IsTableOf trees)) }
 {
     if let Some(table) = take_table(tables, month, revision) {
@@ -51,10 +50,8 @@ pub fn ready_table<S: Alter>(
     revision: Revision,
 ) -> Result<(), Unread>
     ensures look { Looks (state S.Store conn.old) (state S.Store conn.new) result }
-    ensures kept { IsCleanBook (state S.Store conn.new) → HasTables (state S.Store conn.old) →
-        headers.now ≡ headers_in ((state S.Store conn.old).now.trees 26) →
-        let trees = (state S.Store conn.old).now.trees in
-        AreTablesOf trees tables.old.items → AreTablesOf trees tables.new.items }
+    ensures kept { KnowsBy headers.now S.Store conn.old conn.new (λ trees.
+        AreTablesOf trees tables.old.items → AreTablesOf trees tables.new.items) }
     ensures ready { OnOk result (IsSome (row_at release_cmp table_key (month, revision) tables.new.items)) }
 {
     let table = table_at(conn, alloc, headers, tables, month, revision)?;
@@ -72,18 +69,12 @@ pub fn chained_level<S: Alter>(
     code: Code,
 ) -> Result<Option<ChainedLevel>, Unread>
     ensures look { Looks (state S.Store conn.old) (state S.Store conn.new) result }
-    ensures kept { IsCleanBook (state S.Store conn.new) → HasTables (state S.Store conn.old) →
-        headers.now ≡ headers_in ((state S.Store conn.old).now.trees 26) →
-        let trees = (state S.Store conn.old).now.trees in
-        AreTablesOf trees tables.old.items → AreTablesOf trees tables.new.items }
-    ensures read { IsCleanBook (state S.Store conn.new) → HasTables (state S.Store conn.old) →
-        headers.now ≡ headers_in ((state S.Store conn.old).now.trees 26) →
-        let trees = (state S.Store conn.old).now.trees in
-        AreTablesOf trees tables.old.items → IfOk result (λ level. level ≡ level_at (releases_in trees) month code) }
-    ensures taken { IsCleanBook (state S.Store conn.new) → HasTables (state S.Store conn.old) →
-        headers.now ≡ headers_in ((state S.Store conn.old).now.trees 26) →
-        let trees = (state S.Store conn.old).now.trees in
-        AreTablesOf trees tables.old.items → OnOk result (LatestStands level_in 32 month trees) }
+    ensures kept { KnowsBy headers.now S.Store conn.old conn.new (λ trees.
+        AreTablesOf trees tables.old.items → AreTablesOf trees tables.new.items) }
+    ensures read { KnowsBy headers.now S.Store conn.old conn.new (λ trees. AreTablesOf trees tables.old.items →
+        IfOk result (λ level. level ≡ level_at (releases_in trees) month code)) }
+    ensures taken { KnowsBy headers.now S.Store conn.old conn.new (λ trees. AreTablesOf trees tables.old.items →
+        OnOk result (LatestStands level_in level_2.tree month trees)) }
 {
     let Some(header) = header_of(headers, month) else {
         return Ok(None);

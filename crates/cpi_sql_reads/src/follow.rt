@@ -1,11 +1,9 @@
 //! What is kept of the survey, after a row was stored: it has the row too, or counts as not read, where memory was
 //! refused.
-ghost use Rattle.std.specs.Prelude.{◌≡◌, IsSome, IsTrue, None};
-ghost use Rattle.cpi_rows.specs.Held.{held_by};
-ghost use Rattle.cpi_rows.specs.Keyed.{at};
-ghost use Rattle.cpi_store.specs.Office.{changed, PutsItem, PutsPlan, PutsCalendar, Registers, PutsOutlet, Assigns};
-ghost use Rattle.cpi_store.specs.Office.{HandsOver, Quotes};
-ghost use Rattle.cpi_store.specs.Outlet.{with_name};
+ghost use Rattle.std.specs.Prelude.{IsTrue};
+ghost use Rattle.cpi_store.specs.Office.{Assigns, HandsOver, PutsCalendar, PutsItem, PutsOutlet, PutsPlan, Quotes};
+ghost use Rattle.cpi_store.specs.Office.{Registers};
+ghost use Rattle.cpi_sql_reads.specs.Following.{CanPass, CanTake, Follows, HasOutlet};
 
 use cpi_codes::CollectorId;
 use cpi_plan::{CalendarRow, Item, YearPlan};
@@ -14,28 +12,28 @@ use cpi_survey::{Assigned, Quote};
 
 /// Puts an item.
 pub fn follow_item(survey: &mut Survey, is_read: &mut bool, item: Item)
-    ensures { IsTrue is_read.new → IsTrue is_read.old × (survey.new ≡ changed (PutsItem item) survey.old) }
+    ensures { Follows (PutsItem item) survey.old survey.new is_read.old is_read.new }
 {
     *is_read = survey.put_item(item).is_ok() && *is_read;
 }
 
 /// Puts a year's plan.
 pub fn follow_plan(survey: &mut Survey, is_read: &mut bool, plan: YearPlan)
-    ensures { IsTrue is_read.new → IsTrue is_read.old × (survey.new ≡ changed (PutsPlan plan) survey.old) }
+    ensures { Follows (PutsPlan plan) survey.old survey.new is_read.old is_read.new }
 {
     *is_read = survey.put_plan(plan).is_ok() && *is_read;
 }
 
 /// Puts a month's calendar row.
 pub fn follow_calendar(survey: &mut Survey, is_read: &mut bool, row: CalendarRow)
-    ensures { IsTrue is_read.new → IsTrue is_read.old × (survey.new ≡ changed (PutsCalendar row) survey.old) }
+    ensures { Follows (PutsCalendar row) survey.old survey.new is_read.old is_read.new }
 {
     *is_read = survey.put_calendar(row).is_ok() && *is_read;
 }
 
 /// Puts a collector.
 pub fn follow_collector(survey: &mut Survey, is_read: &mut bool, bearer: Bearer)
-    ensures { IsTrue is_read.new → IsTrue is_read.old × (survey.new ≡ changed (Registers bearer) survey.old) }
+    ensures { Follows (Registers bearer) survey.old survey.new is_read.old is_read.new }
 {
     *is_read = survey.bearer_at(bearer.number).is_none()
         && survey.bearer_of(bearer.key).is_none()
@@ -45,7 +43,7 @@ pub fn follow_collector(survey: &mut Survey, is_read: &mut bool, bearer: Bearer)
 
 /// Puts an outlet.
 pub fn follow_outlet(survey: &mut Survey, is_read: &mut bool, outlet: Outlet)
-    ensures { IsTrue is_read.new → IsTrue is_read.old × (survey.new ≡ changed (PutsOutlet outlet) survey.old) }
+    ensures { Follows (PutsOutlet outlet) survey.old survey.new is_read.old is_read.new }
 {
     *is_read = survey.outlet(outlet.number).is_none()
         && survey.put_outlet(outlet).is_ok()
@@ -53,9 +51,8 @@ pub fn follow_outlet(survey: &mut Survey, is_read: &mut bool, outlet: Outlet)
 }
 
 // Whether the outlet is there, and the name is its own.
-fn has_name(survey: &Survey, assigned: &Assigned) -> bool
-    ensures there { IsTrue result → IsSome (at (λ u. u.number) assigned.now.assignment.outlet survey.now.outlets) }
-    ensures name { IsTrue result → assigned.now ≡ with_name survey.now.outlets assigned.now.assignment }
+fn has_outlet(survey: &Survey, assigned: &Assigned) -> bool
+    ensures { IsTrue result → HasOutlet survey.now assigned.now }
 {
     match survey.outlet(assigned.assignment.outlet) {
         Some(outlet) => outlet.name.is_same(&assigned.outlet_name),
@@ -65,15 +62,11 @@ fn has_name(survey: &Survey, assigned: &Assigned) -> bool
 
 // Whether the collector is there, the slot is free, the outlet is there, and the name is its own.
 fn can_take(survey: &Survey, collector: CollectorId, assigned: &Assigned) -> bool
-    ensures known { IsTrue result → IsSome (at (λ b. b.number) collector survey.now.collectors) }
-    ensures new { IsTrue result → at (λ g. g.assignment.slot) assigned.now.assignment.slot
-        (held_by collector survey.now.assignments) ≡ None }
-    ensures there { IsTrue result → IsSome (at (λ u. u.number) assigned.now.assignment.outlet survey.now.outlets) }
-    ensures name { IsTrue result → assigned.now ≡ with_name survey.now.outlets assigned.now.assignment }
+    ensures { IsTrue result → CanTake survey.now collector assigned.now }
 {
     survey.bearer_at(collector).is_some()
         && survey.given(collector, assigned.assignment.slot).is_none()
-        && has_name(survey, assigned)
+        && has_outlet(survey, assigned)
 }
 
 /// Puts an assignment of a collector, as a series of its own.
@@ -83,7 +76,7 @@ pub fn follow_assignment(
     bearer: Bearer,
     assigned: Assigned,
 )
-    ensures { IsTrue is_read.new → IsTrue is_read.old × (survey.new ≡ changed (Assigns bearer assigned) survey.old) }
+    ensures { Follows (Assigns bearer assigned) survey.old survey.new is_read.old is_read.new }
 {
     *is_read = can_take(survey, bearer.number, &assigned)
         && survey.put_assignment(bearer, assigned).is_ok()
@@ -92,15 +85,7 @@ pub fn follow_assignment(
 
 // Whether the assignment that ends is there, and the taker can take the new one.
 fn can_pass(survey: &Survey, handover: &SeriesMove) -> bool
-    ensures stands { IsTrue result → IsSome (at (λ g. g.assignment.slot) handover.now.ended.assignment.slot
-        (held_by handover.now.former.number survey.now.assignments)) }
-    ensures taker { IsTrue result → IsSome (at (λ b. b.number) handover.now.taker.number survey.now.collectors) }
-    ensures new { IsTrue result → at (λ g. g.assignment.slot) handover.now.assigned.assignment.slot
-        (held_by handover.now.taker.number survey.now.assignments) ≡ None }
-    ensures there { IsTrue result →
-        IsSome (at (λ u. u.number) handover.now.assigned.assignment.outlet survey.now.outlets) }
-    ensures name { IsTrue result →
-        handover.now.assigned ≡ with_name survey.now.outlets handover.now.assigned.assignment }
+    ensures { IsTrue result → CanPass survey.now handover.now }
 {
     let ended = survey.given(handover.former.number, handover.ended.assignment.slot);
     ended.is_some() && can_take(survey, handover.taker.number, &handover.assigned)
@@ -108,21 +93,17 @@ fn can_pass(survey: &Survey, handover: &SeriesMove) -> bool
 
 /// Hands a series over.
 pub fn follow_handover(survey: &mut Survey, is_read: &mut bool, handover: SeriesMove)
-    ensures { IsTrue is_read.new → IsTrue is_read.old × (survey.new ≡ changed (HandsOver handover) survey.old) }
+    ensures { Follows (HandsOver handover) survey.old survey.new is_read.old is_read.new }
 {
     *is_read = can_pass(survey, &handover) && survey.put_handover(handover).is_ok() && *is_read;
 }
 
 /// Puts a quote of a collector.
 pub fn follow_quote(survey: &mut Survey, is_read: &mut bool, bearer: Bearer, quote: Quote)
-    ensures { IsTrue is_read.new → IsTrue is_read.old × (survey.new ≡ changed (Quotes bearer quote) survey.old) }
+    ensures { Follows (Quotes bearer quote) survey.old survey.new is_read.old is_read.new }
 {
-    if survey.bearer_at(bearer.number).is_some()
+    *is_read = survey.bearer_at(bearer.number).is_some()
         && survey.own(bearer.number).greatest_receipt() < quote.receipt
-    {
-        if survey.put_quote(bearer, quote).is_ok() {
-            return;
-        }
-    }
-    *is_read = false;
+        && survey.put_quote(bearer, quote).is_ok()
+        && *is_read;
 }

@@ -1,9 +1,8 @@
 //! What the headers tell of the releases without the rows of their lists.
-ghost use Rattle.std.specs.Prelude.{◌≡◌, ◌==◌, ◌&&◌, nat_le, IfOk};
 ghost use Rattle.std.specs.Option.{option_copied};
+ghost use Rattle.cpi_sql_rows.specs.Common.{◌≡◌, ◌==◌, ◌&&◌, nat_le, IfOk};
 ghost use Rattle.cpi_sql_reads.specs.Headers.{has_release as release_in, header_month, is_there as there_in};
-ghost use Rattle.cpi_sql_reads.specs.Headers.{latest_header};
-ghost use Rattle.cpi_sql_reads.specs.Headers.{months_of, months_until, revision_published as revision_in};
+ghost use Rattle.cpi_sql_reads.specs.Headers.{latest_header, months_of, months_until, revision_published as latest_in};
 
 use cpi_codes::{Moment, Month};
 use cpi_release::{FrozenMonth, Revision};
@@ -25,11 +24,7 @@ fn month_of(header: &Header) -> FrozenMonth
 pub fn frozen_months(alloc: Global, headers: &[Header]) -> Result<Vec<FrozenMonth>, AllocError>
     ensures { IfOk result (λ found. found.items ≡ months_of headers.now) }
 {
-    let mut found = Vec::new(alloc);
-    for header in headers {
-        found.push(month_of(header))?;
-    }
-    Ok(found)
+    headers.iter().map(|header| month_of(header)).collect(alloc)
 }
 
 /// The months and revisions whose tables are published by the moment, by month and revision.
@@ -40,26 +35,15 @@ pub fn published_months(
 ) -> Result<Vec<FrozenMonth>, AllocError>
     ensures { IfOk result (λ found. found.items ≡ months_until until headers.now) }
 {
-    let mut found = Vec::new(alloc);
-    for header in headers {
-        if header.publishes <= until {
-            found.push(month_of(header))?;
-        }
-    }
-    Ok(found)
+    let published = headers.iter().filter(|header| header.publishes <= until);
+    published.map(|header| month_of(header)).collect(alloc)
 }
 
 /// The header of the month's latest release, if it has one.
 pub fn header_of(headers: &[Header], month: Month) -> Option<&Header>
     ensures { option_copied result ≡ latest_header month headers.now }
 {
-    let mut found = None;
-    for header in headers {
-        if header.month == month {
-            found = Some(header);
-        }
-    }
-    found
+    headers.iter().rev().find(|header| header.month == month)
 }
 
 /// Whether there is that release.
@@ -69,24 +53,13 @@ pub fn has_release(headers: &[Header], month: Month, revision: Revision) -> bool
     headers.iter().any(|header| header.month == month && header.revision == revision)
 }
 
-// Whether the release is of the month, and its table is published by the moment.
-fn is_due(header: &Header, month: Month, until: Moment) -> bool
-    ensures { result ≡ (nat_le header.now.publishes until && (header.now.month == month)) }
-{
-    header.publishes <= until && header.month == month
-}
-
 /// The latest revision of the month whose table is published by the moment.
 pub fn revision_published(headers: &[Header], month: Month, until: Moment) -> Option<Revision>
-    ensures { result ≡ revision_in month until headers.now }
+    ensures { result ≡ latest_in month until headers.now }
 {
-    let mut found = None;
-    for header in headers {
-        if is_due(header, month, until) {
-            found = Some(header.revision);
-        }
-    }
-    found
+    let is_due = |header: &&Header| header.publishes <= until && header.month == month;
+    let latest = headers.iter().rev().find(is_due);
+    latest.map(|header| header.revision)
 }
 
 /// Whether the month's table in the revision is published by the moment.

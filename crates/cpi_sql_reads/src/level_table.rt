@@ -1,9 +1,9 @@
 //! The table of a release, kept to look up its levels.
-ghost use Rattle.std.specs.Prelude.{◌≡◌, ◌==◌, ◌&&◌, ◌<◌, IfSome, IsSome, OnOk, length, option_map, slice_index_or};
 ghost use Rattle.std.specs.Option.{option_copied};
 ghost use Rattle.cpi_codes.specs.CodeOrder.{code_cmp};
-ghost use Rattle.cpi_rows.specs.Keyed.{IsInOrder, row_at};
 ghost use Rattle.cpi_release.specs.FrozenMonths.{release_cmp};
+ghost use Rattle.cpi_sql_rows.specs.Common.{◌≡◌, ◌<◌, length, option_map, row_at, slice_index_or};
+ghost use Rattle.cpi_sql_rows.specs.Common.{IfSome, IsInOrder, IsSome, OnOk};
 ghost use Rattle.cpi_sql_reads.specs.LevelTables.{AreTablesOf, IsTableOf, ReleaseLevels, table_key};
 
 use cpi_codes::{Code, Month};
@@ -26,10 +26,6 @@ pub struct LevelTable {
 }
 
 impl Model for LevelTable {
-    ghost use Rattle.cpi_codes.specs.CodeOrder.{code_cmp};
-    ghost use Rattle.cpi_rows.specs.Keyed.{IsInOrder};
-    ghost use Rattle.cpi_sql_reads.specs.LevelTables.{ReleaseLevels};
-
     ghost Value = { ReleaseLevels };
 
     ghost view = { λ t. record { month = t.month; revision = t.revision; levels = t.levels } };
@@ -50,28 +46,11 @@ impl LevelTable {
         }
     }
 
-    /// Whether it is the table of that release.
-    pub fn is_of(&self, month: Month, revision: Revision) -> bool
-        ensures { result ≡ (self.now.month == month && self.now.revision == revision) }
-    {
-        self.month == month && self.revision == revision
-    }
-
-    /// The rows, by code.
-    pub fn levels(&self) -> &Rows<Level>
-        ensures { result.now ≡ self.now.levels }
-    {
-        &self.levels
-    }
-
     /// The chained level of a code, if the table has a row for that. O(log n) for n rows.
     pub fn chained(&self, code: Code) -> Option<ChainedLevel>
         ensures { result ≡ option_map (λ l. l.chained) (row_at code_cmp (λ l. l.code) code self.now.levels) }
     {
-        match find_row(self.levels.as_slice(), &code) {
-            Some(level) => Some(level.chained),
-            None => None,
-        }
+        find_row(self.levels.as_slice(), &code).map(|level| level.chained)
     }
 }
 
@@ -82,7 +61,8 @@ fn place_of(tables: &[LevelTable], month: Month, revision: Revision) -> Option<u
         ≡ option_map (λ i. slice_index_or tables.now i d) result }
 {
     for i in 0..tables.len() {
-        if tables[i].is_of(month, revision) {
+        let table = &tables[i];
+        if table.month == month && table.revision == revision {
             return Some(i);
         }
     }
@@ -123,5 +103,6 @@ pub fn lent_table(tables: &[LevelTable], month: Month, revision: Revision) -> Op
         ≡ option_map (λ t. t.levels) (row_at release_cmp table_key (month, revision) tables.now) }
 {
     let place = place_of(tables, month, revision)?;
-    Some(tables[place].levels())
+    let table = &tables[place];
+    Some(&table.levels)
 }

@@ -1,16 +1,14 @@
 //! The releases, read from the tables.
-ghost use Rattle.std.specs.Prelude.{◌≡◌, ◌≤◌, List, IfOk, IsTrue, OnOk};
-ghost use Rattle.sqlite.specs.Held.{state};
-ghost use Rattle.sqlite.specs.State.{HasCleanDisk, Survives};
-ghost use Rattle.cpi_rows.specs.Keyed.{IsInOrder};
-ghost use Rattle.cpi_rows.specs.Held.{held_by, held_cmp, held_key};
 ghost use Rattle.cpi_release.specs.FrozenMonths.{release_cmp};
 ghost use Rattle.cpi_release.specs.declared.release.Release.{Release as Released};
+ghost use Rattle.cpi_sql_rows.specs.Common.{◌≡◌, List, held_by, held_cmp, held_key, state, AllStandOf, HasCleanDisk};
+ghost use Rattle.cpi_sql_rows.specs.Common.{HasTables, IfOk, IsInOrder, IsTrue, Looks, OnOk, Survives, refl};
 ghost use Rattle.cpi_sql_rows.specs.HeldTables.{HeldTable, OfReleases, beside, release_in};
+ghost use Rattle.cpi_sql_rows.specs.HeldTables.{carried_table, frozen_table, level_table};
 ghost use Rattle.cpi_sql_rows.specs.Lists.{header_key, listed, release_number};
-ghost use Rattle.cpi_sql_rows.specs.Shelf.{AllStandOf, HasTables, IsCleanBook, Looks};
-ghost use Rattle.cpi_sql_reads.specs.Headers.{AreHeadersOf};
 ghost use Rattle.cpi_sql_rows.specs.Texts.{is_release};
+ghost use Rattle.cpi_sql_reads.specs.Headers.{AreHeadersOf};
+ghost use Rattle.cpi_sql_reads.specs.Tells.{Tells};
 
 use cpi_codes::Month;
 use cpi_index::{CarriedPrice, FrozenQuote};
@@ -25,22 +23,13 @@ pub fn read_headers<S: Alter>(
     alloc: Global,
 ) -> Result<Vec<Header>, Unread>
     ensures look { Looks (state S.Store conn.old) (state S.Store conn.new) result }
-    ensures read { IsCleanBook (state S.Store conn.new) → HasTables (state S.Store conn.old) →
-        IfOk result (λ hs. AreHeadersOf (state S.Store conn.old).now.trees hs.items) }
+    ensures read { Tells S.Store conn.old conn.new result (λ trees hs. AreHeadersOf trees hs.items) }
     ensures order { IfOk result (λ hs. IsInOrder release_cmp header_key hs.items) }
     ensures open { HasCleanDisk (state S.Store conn.new) → OnOk result (IsTrue (state S.Store conn.new).is_open) }
     ensures crash { Survives (state S.Store conn.old) (state S.Store conn.new)
         (λ _. HasTables (state S.Store conn.old) → ⊥) }
 {
     read_all(conn, alloc)
-}
-
-/// The number of a revision, as the tables have it.
-pub fn revision_number(revision: Revision) -> u32
-    ensures value { result ≡ revision }
-    ensures range { (1 ≤ result) × (result ≤ 9) }
-{
-    u32::from(revision.number())
 }
 
 /// A row of a list that a table keeps for each release.
@@ -60,9 +49,6 @@ pub trait ReleaseRow: Stored {
 }
 
 impl ReleaseRow for FrozenQuote {
-    ghost use Rattle.std.specs.Prelude.{refl};
-    ghost use Rattle.cpi_sql_rows.specs.HeldTables.{frozen_table};
-
     ghost table = { frozen_table };
 
     ghost listed_by = { λ r. r.frozen };
@@ -79,9 +65,6 @@ impl ReleaseRow for FrozenQuote {
 }
 
 impl ReleaseRow for CarriedPrice {
-    ghost use Rattle.std.specs.Prelude.{refl};
-    ghost use Rattle.cpi_sql_rows.specs.HeldTables.{carried_table};
-
     ghost table = { carried_table };
 
     ghost listed_by = { λ r. r.carried };
@@ -98,9 +81,6 @@ impl ReleaseRow for CarriedPrice {
 }
 
 impl ReleaseRow for Level {
-    ghost use Rattle.std.specs.Prelude.{refl};
-    ghost use Rattle.cpi_sql_rows.specs.HeldTables.{level_table};
-
     ghost table = { level_table };
 
     ghost listed_by = { λ r. r.levels };
@@ -124,15 +104,14 @@ pub fn rows_of_release<S: Alter, T: ReleaseRow>(
     revision: Revision,
 ) -> Result<Vec<T>, Unread>
     ensures look { Looks (state S.Store conn.old) (state S.Store conn.new) result }
-    ensures read { IsCleanBook (state S.Store conn.new) → HasTables (state S.Store conn.old) →
-        IfOk result (λ xs. xs.items ≡ held_by (release_number month revision) (listed (held_cmp T.Key.cmp)
-        (held_key T.key) (beside release_in T.table.after) ((state S.Store conn.old).now.trees T.table.tree))) }
-    ensures stand { IsCleanBook (state S.Store conn.new) → HasTables (state S.Store conn.old) →
-        OnOk result (AllStandOf (beside release_in T.table.after) (release_number month revision)
-        ((state S.Store conn.old).now.trees T.table.tree)) }
+    ensures read { Tells S.Store conn.old conn.new result (λ trees xs.
+        xs.items ≡ held_by (release_number month revision) (listed (held_cmp T.Key.cmp) (held_key T.key)
+        (beside release_in T.table.after) (trees T.table.tree))) }
+    ensures stand { Tells S.Store conn.old conn.new result (λ trees _.
+        AllStandOf (beside release_in T.table.after) (release_number month revision) (trees T.table.tree)) }
     ensures order { IfOk result (λ xs. IsInOrder T.Key.cmp T.key xs.items) }
 {
     let month = month_number(month);
-    let revision = revision_number(revision);
+    let revision = u32::from(revision.number());
     list(conn, alloc, T::text(), params![month, revision])
 }

@@ -1,8 +1,7 @@
-use Rattle.std.proofs.Common.{IsTrue, sym, subst}
+use Rattle.std.proofs.Common.{sym}
 use Rattle.sqlite.specs.Held.{state}
 use Rattle.cpi_rows.proofs.Found.{row_key}
 use Rattle.cpi_release.specs.FrozenMonths.{release_cmp}
-use Rattle.cpi_sql_reads.specs.Headers.{has_release}
 use Rattle.cpi_sql_reads.specs.LevelTables.{table_key}
 use Rattle.cpi_sql_reads.proofs.HeaderLists.{kept_is, key_is}
 use Rattle.cpi_sql_reads.proofs.chained.table_at.Goals as goal
@@ -20,8 +19,4 @@ returns-in-Some-clause-read g c = λ clean has is stand.
     c.in-Some.table stand (sym c.in-Some.ensures.taken)).0
 
 pub returns-clause-read : goal.returns-clause-read
-returns-clause-read g c = λ clean has is stand. rw c.new.ensures (record {
-  levels = c.in_ok-levels.ensures.read clean has is;
-  taken = λ there. c.in_ok-levels.ensures.stand clean has (subst (λ hs. IsTrue (has_release c.args.month c.args.revision
-      hs)) (sym is) there);
-})
+returns-clause-read g c = λ clean has is stand. rw c.new.ensures (c.in_ok-levels.ensures.read clean has is)

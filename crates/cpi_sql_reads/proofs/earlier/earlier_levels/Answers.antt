@@ -5,9 +5,9 @@ use Rattle.cpi_rows.proofs.Places.{none_in_order}
 use Rattle.cpi_release.specs.declared.level.Level.{Level}
 use Rattle.cpi_sql_reads.specs.Headers.{has_release}
 use Rattle.cpi_sql_rows.specs.Lists.{headers_in}
+use Rattle.cpi_sql_rows.proofs.Whole.{both_ok}
 use Rattle.cpi_sql_reads.proofs.HeaderLists.{levels_none, levels_there}
 use Rattle.cpi_sql_reads.proofs.Looking.{looks_none}
-use Rattle.cpi_sql_reads.proofs.ReleaseLists.{read_found}
 use Rattle.cpi_sql_reads.proofs.earlier.earlier_levels.Goals as goal
 
 pub returns-then-not-has_release-clause-look : goal.returns-then-not-has_release-clause-look
@@ -18,8 +18,10 @@ returns-then-not-has_release-clause-read g c = λ clean has is.
     let trees = (state g.S.Store c.args.conn.now).now.trees in
     let no : c.has_release.result ≡ false = search rules in
     let none : has_release c.args.month c.args.revision (headers_in (trees 26)) ≡ false =
-    ap (has_release c.args.month c.args.revision) (sym is) ∙ sym c.has_release.ensures ∙ no in
-    c.new.ensures.items ∙ sym (levels_none trees c.args.month c.args.revision none)
+    ap (has_release c.args.month c.args.revision) (sym is) ∙ sym c.has_release.ensures ∙ no in record {
+      levels = c.new.ensures.items ∙ sym (levels_none trees c.args.month c.args.revision none);
+      taken = λ there. let no : true ≡ false = sym there ∙ none in absurd (cc);
+    }
 
 pub returns-then-not-has_release-clause-order : goal.returns-then-not-has_release-clause-order
 returns-then-not-has_release-clause-order g c = rw c.new.ensures.items (none_in_order code_cmp (λ (l : Level). l.code))
@@ -30,5 +32,8 @@ returns-clause-read g c = λ clean has is.
     let yes : c.has_release.result ≡ true = search rules in
     let found : has_release c.args.month c.args.revision (headers_in (trees 26)) ≡ true =
     ap (has_release c.args.month c.args.revision) (sym is) ∙ sym c.has_release.ensures ∙ yes in
-    read_found c.rows_of_release.result _ _ (c.rows_of_release.ensures.read clean has)
-    (levels_there trees c.args.month c.args.revision found)
+    both_ok c.rows_of_release.result _ _ _ (c.rows_of_release.ensures.read clean has)
+    (c.rows_of_release.ensures.stand clean has) (λ xs is stand. record {
+      levels = is ∙ sym (levels_there trees c.args.month c.args.revision found);
+      taken = λ _. stand;
+    })

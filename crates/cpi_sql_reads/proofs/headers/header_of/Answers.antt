@@ -1,26 +1,12 @@
-use Rattle.std.proofs.Common.{◌≡◌, ◌≢◌, ◌++◌, ◌∷◌, [], take, sym, ap, ◌∙◌, rules}
-use Rattle.std.specs.Option.{option_copied}
-use Rattle.std.proofs.lemmas.List.{take_more}
-use Rattle.cpi_release.proofs.LatestRows.{latest_own, latest_other}
+use Rattle.std.proofs.Common.{rules, tests, ◌==◌, ◌∙◌}
+use Rattle.std.proofs.lemmas.Iterator.Adapters.{YieldsList-from_rev_slice}
+use Rattle.std.proofs.lemmas.Iterator.Search.{find_from_yields_List}
 use Rattle.cpi_sql_rows.specs.declared.release_rows.Header.{Header}
-use Rattle.cpi_sql_reads.specs.Headers.{latest_header}
+use Rattle.cpi_sql_reads.proofs.LatestHeaders.{latest_last}
 use Rattle.cpi_sql_reads.proofs.headers.header_of.Goals as goal
-use Rattle.cpi_sql_reads.proofs.headers.header_of.Goals.{then-eq, else-eq}
 
-pub loop-header-preserved : goal.loop-header-preserved
-loop-header-preserved c =
-    let hs = c.args.headers.now in
-    let i = c.loop-header.header-index in
-    let x = c.header-item.result in
-    let more = ap (latest_header c.args.month) (take_more hs i x c.loop-header-test.true
-    ∙ ap (λ (z : Header). take i hs ++ z ∷ []) (sym c.header-item.is)) in
-    elim c.if-eq.branch [
-      | then-eq w ↦
-          let same : x.month ≡ c.args.month = search rules in
-          ap option_copied w.found-is
-          ∙ sym (more ∙ latest_own (λ (h : Header). h.month) c.args.month (take i hs) x same)
-      | else-eq w ↦
-          let apart : x.month ≢ c.args.month = search rules in
-          ap option_copied w.found-is ∙ c.loop-header.invariant
-          ∙ sym (more ∙ latest_other (λ (h : Header). h.month) c.args.month (take i hs) x apart)
-    ]
+pub returns : goal.returns
+returns c =
+    find_from_yields_List (λ (h : Header). h.month == c.args.month) _ _ c.find.result c.find.ensures.ran
+    (YieldsList-from_rev_slice c.args.headers.now (cc)) (λ x b q k. search (rules, tests))
+    ∙ latest_last (λ (h : Header). h.month) c.args.month c.args.headers.now

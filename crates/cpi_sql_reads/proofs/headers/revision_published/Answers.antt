@@ -1,27 +1,19 @@
-use Rattle.std.proofs.Common.{rules, ◌≡◌, ◌&&◌, ◌==◌, ◌++◌, ◌∷◌, [], true, false, take, sym, ap, ◌∙◌}
-use Rattle.std.specs.Prelude.{nat_le}
-use Rattle.std.proofs.lemmas.List.{take_more}
+use Rattle.std.proofs.Common.{rules, tests, ◌≡◌, ◌==◌, ◌&&◌, ap, ◌∙◌}
+use Rattle.std.specs.Option.{option_copied}
+use Rattle.std.specs.Prelude.{nat_le, option_map}
+use Rattle.std.proofs.lemmas.Iterator.Adapters.{YieldsList-from_rev_slice}
+use Rattle.std.proofs.lemmas.Iterator.Search.{find_from_yields_List}
 use Rattle.cpi_sql_rows.specs.declared.release_rows.Header.{Header}
-use Rattle.cpi_sql_reads.specs.Headers.{revision_published}
-use Rattle.cpi_sql_reads.proofs.LatestHeaders.{revision_more}
+use Rattle.cpi_sql_reads.proofs.LatestHeaders.{latest_passing}
 use Rattle.cpi_sql_reads.proofs.headers.revision_published.Goals as goal
-use Rattle.cpi_sql_reads.proofs.headers.revision_published.Goals.{then-is_due, else-is_due}
 
-pub loop-header-preserved : goal.loop-header-preserved
-loop-header-preserved c =
-    let hs = c.args.headers.now in
-    let i = c.loop-header.header-index in
-    let x = c.header-item.result in
-    let month = c.args.month in
-    let until = c.args.until in
-    let more = ap (revision_published month until) (take_more hs i x c.loop-header-test.true
-    ∙ ap (λ (z : Header). take i hs ++ z ∷ []) (sym c.header-item.is))
-    ∙ revision_more month until (take i hs) x in
-    elim c.if-is_due.branch [
-      | then-is_due w ↦
-          let is : (nat_le x.publishes until && (x.month == month)) ≡ true = search rules in
-          w.found-is ∙ sym (rw is at more)
-      | else-is_due w ↦
-          let is : (nat_le x.publishes until && (x.month == month)) ≡ false = search rules in
-          w.found-is ∙ c.loop-header.invariant ∙ sym (rw is at more)
-    ]
+pub returns : goal.returns
+returns c =
+    let shown : c.map.result ≡ option_map (λ (h : Header). h.revision) (option_copied c.find-latest.result) =
+    search rules in
+    shown ∙ ap (option_map (λ (h : Header). h.revision)) (
+    find_from_yields_List (λ (h : Header). nat_le h.publishes c.args.until && (h.month == c.args.month)) _ _
+    c.find-latest.result c.find-latest.ensures.ran (YieldsList-from_rev_slice c.args.headers.now (cc))
+    (λ x b q k. search (rules, tests))
+    ∙ latest_passing (λ (h : Header). h.month) c.args.month (λ h. nat_le h.publishes c.args.until) c.args.headers.now
+    )

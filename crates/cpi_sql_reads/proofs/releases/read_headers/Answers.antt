@@ -11,4 +11,4 @@ returns-clause-read g c = λ clean has.
 
 pub returns-clause-crash : goal.returns-clause-crash
 returns-clause-crash g c = quiet_office IsSecond refl (state g.S.Store c.args.conn.now)
-    (state g.S.Store c.read_all.new.conn) c.read_all.ensures.crash
+    (state g.S.Store c.read_all.new.conn) c.read_all.ensures.found.crash

@@ -24,7 +24,7 @@ returns-clause-read g c = λ clean has.
     let trees = (state g.S.Store c.args.conn.now).now.trees in
     let one = c.in_ok-read.ensures.look in
     let two = c.in_ok-plans.ensures.look in
-    let before = c.read_all-2.ensures.clean clean in
+    let before = c.read_all-2.ensures.look.still.clean clean in
     let items : c.in_ok-items.items ≡ items_in (trees 4) =
     c.in_ok-items.ensures ∙ c.in_ok-read.ensures.read (two.still.clean before) has in
     let plans : c.in_ok-plans.plans.items ≡ plans_in trees =

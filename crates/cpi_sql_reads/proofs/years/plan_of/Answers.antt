@@ -1,4 +1,4 @@
-use Rattle.std.proofs.Common.{◌≡◌, ap, ◌∙◌}
+use Rattle.std.proofs.Common.{◌≡◌, ◌∙◌}
 use Rattle.sqlite.specs.Held.{state}
 use Rattle.cpi_rows.specs.Held.{held_by}
 use Rattle.cpi_plan.specs.Stored.{plan_from}
@@ -25,7 +25,7 @@ returns-clause-read g c = λ clean has.
     (λ t. c.in_ok-references.references.items ≡ held_by year (references_in (t 34))) three
     c.in_ok-references.ensures.read clean has in
     if_ok c.made.result _ _ c.made.ensures (λ p e. e ∙ (λ n. if_whole (plan_from year (nodes n) (places n)
-    ((c.first_month.ensures ∙ ap reference_of references) n))))
+    (reference_of (references n)))))
 
 pub returns-in_err-places-clause-look : goal.returns-in_err-places-clause-look
 returns-in_err-places-clause-look g c = looks_refused c.in_ok-nodes.ensures.look c.from_residual-in_err-places.result

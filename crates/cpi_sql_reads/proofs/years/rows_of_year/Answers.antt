@@ -9,8 +9,7 @@ use Rattle.cpi_sql_reads.proofs.years.rows_of_year.Goals as goal
 pub returns-clause-look : goal.returns-clause-look
 returns-clause-look g c =
     looked c.list.result IsSecond c.text.result.now (state g.S.Store c.args.conn.now) (state g.S.Store c.list.new.conn)
-    _ refl (λ is. rw (c.text.ensures, is) g.T.YearRow.table.asks.plain) c.list.ensures.clean c.list.ensures.kept
-    c.list.ensures.open c.list.ensures.crash
+    _ refl (λ is. rw (c.text.ensures, is) g.T.YearRow.table.asks.plain) c.list.ensures.asked c.list.ensures.open
 
 pub returns-clause-read : goal.returns-clause-read
 returns-clause-read g c = λ clean has.

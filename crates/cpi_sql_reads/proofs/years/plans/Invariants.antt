@@ -2,7 +2,7 @@ use Rattle.std.proofs.Common.{◌≡◌}
 use Rattle.sqlite.specs.Held.{state}
 use Rattle.cpi_sql_rows.specs.Shelf.{IsCleanBook, HasTables, Looked, StaysOpen}
 use Rattle.cpi_sql_rows.specs.Lists.{years, plans_of, nodes_in, places_in, references_in}
-use Rattle.cpi_sql_reads.proofs.years.plans_until.Given as goal
+use Rattle.cpi_sql_reads.proofs.years.plans.Given as goal
 
 abbrev pub invariant-years : goal.invariant-years
 invariant-years g l =

@@ -1,0 +1,27 @@
+-- What is said of the rows as they were before a look, where the disk returned what was written.
+use Rattle.std.specs.Prelude.{◌≡◌, List, Result, IfOk}
+use Rattle.sqlite.specs.Held.{Held, state}
+use Rattle.sqlite.specs.Store.{Ghosts}
+use Rattle.sqlite.specs.Tree.{Trees}
+use Rattle.cpi_sql_rows.specs.Lists.{headers_in}
+use Rattle.cpi_sql_rows.specs.Shelf.{HasTables, IsCleanBook}
+use Rattle.cpi_sql_rows.specs.Tables.{release_2}
+use Rattle.cpi_sql_rows.specs.declared.release_rows.Header.{Header}
+
+-- what is known of them
+abbrev pub Knows : {S : Type 0} → Ghosts S → Held S → Held S → (Trees → Type 0) → Type 0
+Knows store old new Told =
+    IsCleanBook (state store new) → HasTables (state store old) → Told (state store old).now.trees
+
+-- what an answer tells of them
+abbrev pub Tells : {S A E : Type 0} → Ghosts S → Held S → Held S → Result A E → (Trees → A → Type 0) → Type 0
+Tells store old new result Told = Knows store old new (λ trees. IfOk result (Told trees))
+
+-- the same by the headers of all releases
+abbrev pub KnowsBy : {S : Type 0} → List Header → Ghosts S → Held S → Held S → (Trees → Type 0) → Type 0
+KnowsBy headers store old new Told =
+    Knows store old new (λ trees. headers ≡ headers_in (trees release_2.tree) → Told trees)
+
+abbrev pub TellsBy : {S A E : Type 0} → List Header → Ghosts S → Held S → Held S → Result A E
+    → (Trees → A → Type 0) → Type 0
+TellsBy headers store old new result Told = KnowsBy headers store old new (λ trees. IfOk result (Told trees))
