@@ -1,21 +1,25 @@
 -- The calls of a book over a database: what they show, and what a crash leaves.
-use Rattle.std.proofs.Common.{◌≡◌, ◌⊎◌, ℕ, ◌<◌, Result, Ok, Err, IsTrue, false, arith, ap, inl, inr, ◌∙◌}
-use Rattle.sqlite.specs.Tree.{Trees}
+use Rattle.std.proofs.Common.{◌≡◌, ◌⊎◌, ℕ, Result, Ok, Err, IsTrue, false, arith, ap, inl, inr, refl, ◌∙◌}
+use Rattle.std.specs.Prelude.{OnOk}
+use Rattle.std.specs.Result.{IsErr, is_ok}
 use Rattle.sqlite.specs.Effect.{Database}
 use Rattle.sqlite.specs.State.{State, HasCleanDisk}
 use Rattle.cpi_release.specs.State.{State as BookState, Keeps, Reads}
 use Rattle.cpi_release.proofs.PassLemmas.{keeps_more, stays_more}
 use Rattle.cpi_store.specs.Office.{Change, Office, changed}
 use Rattle.cpi_store.specs.Calls.{Writes}
+use Rattle.cpi_sql_rows.specs.Finding.{IsSettled}
 use Rattle.cpi_sql_rows.specs.Lists.{office_in}
-use Rattle.cpi_sql_rows.specs.Shelf.{HasTables, IsCleanBook, IsDone, IsLook, StaysOpen, office_state}
+use Rattle.cpi_sql_rows.specs.Shelf.{HasTables, IsCleanBook, IsDone, IsLook, Looks, office_state}
 use Rattle.cpi_sql_writes.specs.Written.{Written}
+use Rattle.cpi_sql.specs.Calls.{IsCounted}
+use Rattle.cpi_sql.proofs.Counted.{on_err, on_ok}
 
 -- ---- a read
 
-module _ (old new : State) (n : ℕ) (tables : IsCleanBook old → HasTables old) where
-  keeps : (m : ℕ) → IsLook old new → Keeps (office_state old n) (office_state new m)
-  keeps m look = record {
+module _ (old new : State) (n m : ℕ) (tables : IsCleanBook old → HasTables old) where
+  keeps : IsLook old new → Keeps (office_state old n) (office_state new m)
+  keeps look = record {
     was_kept = λ disk. omega (arith, disk, look.crash.clean);
     was_clean = look.clean;
     kept = λ clean. ap (λ (d : Database). office_in d.trees) (look.kept clean (tables (look.clean clean))).now;
@@ -25,25 +29,23 @@ module _ (old new : State) (n : ℕ) (tables : IsCleanBook old → HasTables old
     ];
   }
 
-  pub reads : {T F : Type 0} (x : T) (Shown : T → Type 0) → IsLook old new → StaysOpen old new
-      → (IsCleanBook new → Shown x)
-      → Reads (office_state old n) (office_state new n) {T = T} {F = F} (Ok x) Shown
-  reads x Shown look stays shown = record {
-    keeps = keeps n look;
-    stays = λ clean disk. record { disk = disk; is_open = stays disk clean.is_open };
-    shown = shown;
-    count = omega arith;
+  pub looks : {T E F : Type 0} {Shown : T → Type 0} (found : Result T E) (result : Result T F)
+      → Looks old new found → IsCounted found result n m → (IsCleanBook new → (x : T) → found ≡ Ok x → Shown x)
+      → Reads (office_state old n) (office_state new m) result Shown
+  looks (Ok x) result look counted shown = rw counted.answered (record {
+    keeps = keeps look.still;
+    stays = λ clean disk. record { disk = disk; is_open = look.stays disk clean.is_open };
+    shown = λ clean. shown clean x refl;
+    count = omega (arith, counted.same);
     fault = tt;
-  }
-
-  pub read_fails : {T F : Type 0} (e : F) (Shown : T → Type 0) (m : ℕ) → IsLook old new → n < m
-      → Reads (office_state old n) (office_state new m) {T = T} {F = F} (Err e) Shown
-  read_fails e Shown m look more = record {
-    keeps = keeps m look;
+  })
+  looks (Err e) (Ok y) look counted shown = absurd (let no = counted.failed in cc)
+  looks (Err e) (Err f) look counted shown = record {
+    keeps = keeps look.still;
     stays = tt;
     shown = λ clean. tt;
-    count = omega (arith, more);
-    fault = more;
+    count = omega (arith, counted.more);
+    fault = omega (arith, counted.more);
   }
 
 -- ---- a write
@@ -58,43 +60,44 @@ module _ {change : Change} {fits : Office → Type 0} {A E : Type 0} (old new : 
     | inr made ↦ inr (may.2 ∙ made (tables was) (owed was))
   ]
 
-  pub puts : {T F : Type 0} (u : A) (x : T) → Written {A = A} {E = E} change fits old new (Ok u)
-      → (IsCleanBook old → HasTables old) → (IsCleanBook old → fits (office_in old.now.trees))
-      → (HasCleanDisk new → old.in_transaction ≡ false → IsTrue new.is_open)
-      → (IsTrue new.is_open → new.in_transaction ≡ false → (db : Trees) → new.may_leave db → db ≡ new.now.trees)
-      → Writes (office_state old n) (office_state new n) {T = T} {F = F} (Ok x)
-      (changed change (office_in old.now.trees))
-  puts u x written tables owed opens settled =
-      let done : IsCleanBook new → IsDone change old new = λ clean. let was = written.clean clean in
-      written.done clean (tables was) (owed was) in
-      record {
-        was_kept = λ disk. omega (arith, disk, written.crash.clean);
-        was_clean = written.clean;
-        stays = λ was disk. record { disk = disk; is_open = opens disk (tables was).alone };
-        done = λ clean. (done clean).office;
-        kept = λ clean. tt;
-        count = omega arith;
-        fault = tt;
-        crash = left (Ok u) written tables owed;
-        answered = λ clean o may.
-            may.2 ∙ ap office_in (settled clean.is_open (done clean).tables.alone may.0 may.1) ∙ (done clean).office;
-      }
+  module _ {F : Type 0} (put : Result A E) (m : ℕ) (written : Written change fits old new put)
+      (tables : IsCleanBook old → HasTables old) (owed : IsCleanBook old → fits (office_in old.now.trees)) where
+    pub puts : {u : A} → IsCounted {F = F} put (Ok u) n m
+        → (HasCleanDisk new → old.in_transaction ≡ false → OnOk put (IsTrue new.is_open))
+        → (IsTrue new.is_open → new.in_transaction ≡ false → IsSettled new)
+        → Writes (office_state old n) (office_state new m) {T = A} {F = F} (Ok u)
+        (changed change (office_in old.now.trees))
+    puts counted opens settled =
+        let done : IsCleanBook new → IsDone change old new = λ clean. let was = written.clean clean in
+        on_ok put counted (written.done clean (tables was) (owed was)) in
+        record {
+          was_kept = λ disk. omega (arith, disk, written.crash.clean);
+          was_clean = written.clean;
+          stays = λ was disk. record { disk = disk; is_open = on_ok put counted (opens disk (tables was).alone) };
+          done = λ clean. (done clean).office;
+          kept = λ clean. tt;
+          count = omega (arith, on_ok put counted counted.same);
+          fault = tt;
+          crash = left put written tables owed;
+          answered = λ clean o may.
+              may.2 ∙ ap office_in (settled clean.is_open (done clean).tables.alone may.0 may.1) ∙ (done clean).office;
+        }
 
-  pub put_fails : {T F : Type 0} (e : E) (fault : F) (m : ℕ) → Written {A = A} {E = E} change fits old new (Err e)
-      → (IsCleanBook old → HasTables old) → (IsCleanBook old → fits (office_in old.now.trees)) → n < m
-      → Writes (office_state old n) (office_state new m) {T = T} {F = F} (Err fault)
-      (changed change (office_in old.now.trees))
-  put_fails e fault m written tables owed more = record {
-    was_kept = λ disk. omega (arith, disk, written.crash.clean);
-    was_clean = written.clean;
-    stays = tt;
-    done = λ clean. tt;
-    kept = λ clean. ap (λ (d : Database). office_in d.trees) (written.kept clean (tables (written.clean clean))).now;
-    count = omega (arith, more);
-    fault = more;
-    crash = left (Err e) written tables owed;
-    answered = λ clean. tt;
-  }
+    pub put_fails : {T G : Type 0} {f : F} (r : Result T G) → IsErr r → IsCounted put (Err f) n m
+        → Writes (office_state old n) (office_state new m) r (changed change (office_in old.now.trees))
+    put_fails (Ok x) is_err counted = absurd (let no = is_err in cc)
+    put_fails (Err e) is_err counted = record {
+      was_kept = λ disk. omega (arith, disk, written.crash.clean);
+      was_clean = written.clean;
+      stays = tt;
+      done = λ clean. tt;
+      kept = λ clean. ap (λ (d : Database). office_in d.trees)
+          (on_err put counted (written.kept clean (tables (written.clean clean)))).now;
+      count = omega (arith, on_err put counted counted.more);
+      fault = omega (arith, on_err put counted counted.more);
+      crash = left put written tables owed;
+      answered = λ clean. tt;
+    }
 
 -- ---- what follows a read that was answered
 
@@ -110,10 +113,14 @@ module _ {T U F G : Type 0} {P : U → Type 0} (a : BookState Office) (u : U) (S
     fault = tt;
   }
 
-  -- memory was refused for it
-  pub then_refused : (s : State) (n m : ℕ) (e : G) → Reads a (office_state s n) {T = U} {F = F} (Ok u) P → n < m
-      → Reads a (office_state s m) {T = T} {F = G} (Err e) Shown
-  then_refused s n m e r more = record {
+  -- it is found in memory, or memory is refused for it
+  pub then_found : {E : Type 0} (s : State) (n m : ℕ) (found : Result T E) (result : Result T G)
+      → Reads a (office_state s n) {T = U} {F = F} (Ok u) P → IsCounted found result n m
+      → (IsCleanBook s → (x : T) → found ≡ Ok x → Shown x) → Reads a (office_state s m) {T = T} {F = G} result Shown
+  then_found s n m (Ok x) result r counted shown =
+      rw counted.answered (rw counted.same (then_shown (office_state s n) x r (λ clean. shown clean x refl)))
+  then_found s n m (Err e) (Ok y) r counted shown = absurd (let no = counted.failed in cc)
+  then_found s n m (Err e) (Err f) r counted shown = record {
     keeps = record {
       was_kept = r.keeps.was_kept;
       was_clean = r.keeps.was_clean;
@@ -122,29 +129,38 @@ module _ {T U F G : Type 0} {P : U → Type 0} (a : BookState Office) (u : U) (S
     };
     stays = tt;
     shown = λ clean. tt;
-    count = omega (arith, r.count, more);
-    fault = omega (arith, r.count, more);
+    count = omega (arith, r.count, counted.more);
+    fault = omega (arith, r.count, counted.more);
   }
 
   -- it is read next
-  pub then_read : {K V : Type 0} {v : V} {Q : V → Type 0} (b c : BookState Office) (x : T)
-      → Reads a b {T = U} {F = F} (Ok u) P → Reads b c {T = V} {F = K} (Ok v) Q → (c.is_clean → Shown x) →
-      Reads a c {T = T} {F = G} (Ok x) Shown
-  then_read b c x r next shown = record {
+  pub then_read : (b c : BookState Office) (result : Result T G) → Reads a b {T = U} {F = F} (Ok u) P
+      → Reads b c result Shown → Reads a c result Shown
+  then_read b c (Ok x) r next = record {
     keeps = keeps_more a b c r.keeps r.stays next.keeps;
     stays = stays_more a b c r.stays next.keeps next.stays;
-    shown = shown;
+    shown = next.shown;
     count = omega (arith, r.count, next.count);
     fault = tt;
   }
-
-  pub then_fails : {K V : Type 0} {k : K} {Q : V → Type 0} (b c : BookState Office) (e : G)
-      → Reads a b {T = U} {F = F} (Ok u) P → Reads b c {T = V} {F = K} (Err k) Q →
-      Reads a c {T = T} {F = G} (Err e) Shown
-  then_fails b c e r next = record {
+  then_read b c (Err e) r next = record {
     keeps = keeps_more a b c r.keeps r.stays next.keeps;
     stays = tt;
     shown = λ clean. tt;
     count = omega (arith, r.count, next.count);
     fault = omega (arith, r.count, next.fault);
   }
+
+-- ---- what follows a read that failed
+
+pub then_fault : {T U F G : Type 0} {P : U → Type 0} (a b : BookState Office) (was : Result U F) (r : Result T G)
+    (Shown : T → Type 0) → false ≡ is_ok was → IsErr r → Reads a b was P → Reads a b r Shown
+then_fault a b (Ok u) r Shown failed is_err next = absurd (let no = failed in cc)
+then_fault a b (Err f) (Ok x) Shown failed is_err next = absurd (let no = is_err in cc)
+then_fault a b (Err f) (Err e) Shown failed is_err next = record {
+  keeps = next.keeps;
+  stays = tt;
+  shown = λ clean. tt;
+  count = next.count;
+  fault = next.fault;
+}

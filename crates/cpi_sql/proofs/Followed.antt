@@ -1,14 +1,14 @@
 -- What is kept in memory after a look and after a write.
-use Rattle.std.proofs.Common.{◌≡◌, ℕ, Bool, false, None, Option, Ok, Err, IsTrue, List, [], ◌∷◌, inl, inr, map, sym}
-use Rattle.std.proofs.Common.{ap, subst, ◌∙◌}
+use Rattle.std.proofs.Common.{◌≡◌, ℕ, Bool, false, None, Option, Result, Ok, Err, IsTrue, List, [], ◌∷◌, inl, inr, map}
+use Rattle.std.proofs.Common.{ap, subst, sym, ◌∙◌}
 use Rattle.sqlite.specs.Order.{Row}
 use Rattle.sqlite.specs.State.{State}
 use Rattle.sqlite.specs.Tree.{Trees}
 use Rattle.sqlite.specs.Effect.{Database}
 use Rattle.cpi_sql_rows.specs.declared.release_rows.Header.{Header}
 use Rattle.cpi_store.specs.Office.{Office, Change, changed}
-use Rattle.cpi_sql_rows.specs.Lists.{headers_in, level_in, office_in, releases_in, release_number}
-use Rattle.cpi_sql_rows.specs.Shelf.{AllStand, AllStandFor, AllStandOf, AreTaken, HasTables, IsCleanBook, IsDone}
+use Rattle.cpi_sql_rows.specs.Lists.{headers_in, office_in, releases_in, release_number}
+use Rattle.cpi_sql_rows.specs.Shelf.{AllStand, AllStandFor, AreTaken, HasTables, IsCleanBook, IsDone}
 use Rattle.cpi_sql_rows.specs.Shelf.{IsLook, Takes, WritesTaken, survey_of}
 use Rattle.cpi_sql_rows.proofs.Kept.{kept_tables}
 use Rattle.cpi_sql_writes.specs.Written.{Written}
@@ -16,6 +16,8 @@ use Rattle.cpi_sql_reads.specs.Headers.{AreHeadersOf, has_release}
 use Rattle.cpi_sql_reads.specs.LevelTables.{ReleaseLevels, AreTablesOf, IsTableOf, levels_at, table_key}
 use Rattle.cpi_sql_reads.proofs.HeaderLists.{header_of, headers_told}
 use Rattle.cpi_sql.specs.Caches.{AreOf, Caches, IsSound, Stands}
+use Rattle.cpi_sql.specs.Calls.{IsCounted}
+use Rattle.cpi_sql.proofs.Counted.{on_err, on_ok}
 
 -- ---- looks
 
@@ -30,17 +32,28 @@ look_sound old new c after look sound read = λ clean.
       kept = subst (λ (d : Database). AreOf d.trees after) (sym kept.now) (read clean before);
     }
 
+-- the same, of a look that reads tables of earlier releases
+pub tables_sound : (old new : State) (c : Caches) (tables : List ReleaseLevels) → IsLook old new → IsSound old c
+    → (IsCleanBook new → Stands old c → AreTablesOf old.now.trees tables) → IsSound new (record c { tables = tables })
+tables_sound old new c tables look sound read = look_sound old new c _ look sound (λ clean st. record {
+  survey = st.kept.survey;
+  headers = st.kept.headers;
+  tables = read clean st;
+  samples = st.kept.samples;
+})
+
 pub tables_of : (s : State) (c : Caches) → IsSound s c → IsCleanBook s → HasTables s
 tables_of s c sound clean = (sound clean).tables
 
 -- ---- writes
 
 -- a write that failed left the rows as they were
-pub kept_sound : {change : Change} {fits : Office → Type 0} {A E : Type 0} {e : E} (old new : State) (c : Caches)
-    → Written {A = A} {E = E} change fits old new (Err e) → IsSound old c → IsSound new c
-kept_sound old new c written sound = λ clean.
+pub kept_sound : {change : Change} {fits : Office → Type 0} {A E F : Type 0} {f : F} {n m : ℕ} {put : Result A E}
+    → (old new : State) (c : Caches) → Written change fits old new put → IsCounted {F = F} put (Err f) n m
+    → IsSound old c → IsSound new c
+kept_sound {put = put} old new c written counted sound = λ clean.
     let before = sound (written.clean clean) in
-    let same = written.kept clean before.tables in
+    let same = on_err put counted (written.kept clean before.tables) in
     record {
       tables = kept_tables old new same before.tables;
       kept = subst (λ (d : Database). AreOf d.trees c) (sym same.now) before.kept;
@@ -84,9 +97,10 @@ module _ (old new : Trees) (rows : WritesTaken old new) (same : releases_in new 
   tables_stand [] all = tt
   tables_stand (t ∷ tables) all = (table_stands t all.0, tables_stand tables all.1)
 
-module _ {change : Change} {fits : Office → Type 0} {A E : Type 0} {u : A} (old new : State) (c : Caches)
-    (written : Written {A = A} {E = E} change fits old new (Ok u))
-    (owed : IsCleanBook old → fits (office_in old.now.trees)) (sound : IsSound old c) where
+module _ {change : Change} {fits : Office → Type 0} {A E F : Type 0} {u : A} {n m : ℕ} {put : Result A E}
+    (old new : State) (c : Caches) (written : Written change fits old new put)
+    (counted : IsCounted {F = F} put (Ok u) n m) (owed : IsCleanBook old → fits (office_in old.now.trees))
+    (sound : IsSound old c) where
   -- a write of the survey: what is kept of it has the row too, or counts as not read; the samples are dropped
   pub survey_sound : (is_read : Bool) (survey : Office)
       → ((o : Office) → survey_of (changed change o) ≡ changed change (survey_of o))
@@ -96,7 +110,7 @@ module _ {change : Change} {fits : Office → Type 0} {A E : Type 0} {u : A} (ol
   survey_sound is_read survey passes still follows = λ clean.
       let was = written.clean clean in
       let st = sound was in
-      let done : IsDone change old new = written.done clean st.tables (owed was) in
+      let done : IsDone change old new = on_ok put counted (written.done clean st.tables (owed was)) in
       let same : releases_in new.now.trees ≡ releases_in old.now.trees =
       ap (λ (o : Office). o.releases) done.office ∙ still (office_in old.now.trees) in
       record {
@@ -123,7 +137,7 @@ module _ {change : Change} {fits : Office → Type 0} {A E : Type 0} {u : A} (ol
   release_sound headers tables passes none = λ clean.
       let was = written.clean clean in
       let st = sound was in
-      let done : IsDone change old new = written.done clean st.tables (owed was) in
+      let done : IsDone change old new = on_ok put counted (written.done clean st.tables (owed was)) in
       record {
         tables = done.tables;
         kept = record {

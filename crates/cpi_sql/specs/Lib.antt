@@ -1,2 +1,4 @@
 pub mod Caches
+pub mod Calls
+pub mod Opens
 pub mod WorkedRows

@@ -12,6 +12,10 @@ invariant_of-result g c = λ clean. record {
   };
 }
 
-pub returns-in-Err-clause-unknown : goal.returns-in-Err-clause-unknown
-returns-in-Err-clause-unknown g c = λ clean is_unknown. c.open_office-found.ensures.unknown clean
-    (c.in-Err.is ∙ ap Err is_unknown)
+pub returns-in-Err : goal.returns-in-Err
+returns-in-Err g c = record {
+  kept = c.in-Err.ensures.kept;
+  settled_fault = λ clean. c.settle.ensures clean.is_open (c.in-Err.ensures.kept clean).alone;
+  crash_fault = c.in-Err.ensures.crash;
+  unknown = λ clean is_unknown. c.open_office-found.ensures.unknown clean (c.in-Err.is ∙ ap Err is_unknown);
+}

@@ -1,29 +1,31 @@
-use Rattle.std.proofs.Common.{arith, refl}
+use Rattle.std.proofs.Common.{refl}
 use Rattle.cpi_sql.proofs.Calls.{puts, put_fails}
 use Rattle.cpi_sql.proofs.Followed.{kept_sound, survey_sound, tables_of}
 use Rattle.cpi_sql.proofs.sql_book.SqlBookBook.put_assignment.Goals as goal
 
-pub returns-in-Ok : goal.returns-in-Ok
-returns-in-Ok g c =
+pub returns : goal.returns
+returns g c =
     let owed = rw (← c.self.view_is) at c.requires.new in
     rw (← c.self.view_is) (record {
-      writes = puts _ _ _ _ _ c.in-Ok.ensures.written (tables_of _ _ c.self.invariant)
-          owed c.in-Ok.ensures.open c.settle.ensures;
+      writes = puts _ _ _ _ _ c.put_assignment-put.ensures.written (tables_of _ _ c.self.invariant) owed
+          c.in_ok-stored.ensures.counted c.put_assignment-put.ensures.open c.in_ok-stored.ensures.settled;
     })
 
-pub returns-in-Err : goal.returns-in-Err
-returns-in-Err g c =
+pub returns-in_err-stored : goal.returns-in_err-stored
+returns-in_err-stored g c =
     let owed = rw (← c.self.view_is) at c.requires.new in
     rw (← c.self.view_is) (record {
-      writes = put_fails _ _ _ _ _ _ c.in-Err.ensures.written (tables_of _ _ c.self.invariant)
-          owed (omega (arith, c.counted.ensures.count));
+      writes = put_fails _ _ _ _ _ c.put_assignment-put.ensures.written (tables_of _ _ c.self.invariant) owed
+          _ c.from_residual.ensures.0 c.in_err-stored.ensures.counted;
     })
+
+pub invariant_of-self-2 : goal.invariant_of-self-2
+invariant_of-self-2 g c =
+    let owed = rw (← c.self.view_is) at c.requires.new in
+    rw c.in_ok-stored.ensures.cleared (survey_sound _ _ _ c.put_assignment-put.ensures.written
+    c.in_ok-stored.ensures.counted owed c.self.invariant _ _ (λ o. refl) (λ o. refl) c.follow_assignment.ensures)
 
 pub invariant_of-self : goal.invariant_of-self
 invariant_of-self g c =
-    let owed = rw (← c.self.view_is) at c.requires.new in
-    rw c.clear.ensures (survey_sound _ _ _ c.in-Ok.ensures.written owed c.self.invariant _ _
-    (λ o. refl) (λ o. refl) c.follow_assignment.ensures)
-
-pub invariant_of-self-in-Err-1 : goal.invariant_of-self-in-Err-1
-invariant_of-self-in-Err-1 g c = kept_sound _ _ _ c.in-Err.ensures.written c.self.invariant
+    rw c.in_err-stored.ensures.kept (kept_sound _ _ _ c.put_assignment-put.ensures.written
+    c.in_err-stored.ensures.counted c.self.invariant)

@@ -1,34 +1,37 @@
-use Rattle.std.proofs.Common.{arith, refl}
+use Rattle.std.proofs.Common.{refl}
 use Rattle.cpi_sql.proofs.Calls.{puts, put_fails}
 use Rattle.cpi_sql.proofs.Followed.{kept_sound, survey_sound, tables_of}
 use Rattle.cpi_sql.proofs.sql_book.SqlBookBook.put_handover.Goals as goal
 
-pub returns-in-Ok : goal.returns-in-Ok
-returns-in-Ok g c =
+pub returns : goal.returns
+returns g c =
     let stands = rw (← c.self.view_is) at c.requires.stands in
     let free = rw (← c.self.view_is) at c.requires.new in
     rw (← c.self.view_is) (record {
-      writes = puts _ _ _ _ _ c.in-Ok.ensures.written (tables_of _ _ c.self.invariant)
-          (λ clean. record { stands = stands clean; free = free clean }) (λ disk _. c.in-Ok.ensures.open disk)
-          c.settle.ensures;
+      writes = puts _ _ _ _ _ c.put_handover-put.ensures.written (tables_of _ _ c.self.invariant)
+          (λ clean. record { stands = stands clean; free = free clean }) c.in_ok-stored.ensures.counted
+          (λ disk _. c.put_handover-put.ensures.open disk) c.in_ok-stored.ensures.settled;
     })
 
-pub returns-in-Err : goal.returns-in-Err
-returns-in-Err g c =
+pub returns-in_err-stored : goal.returns-in_err-stored
+returns-in_err-stored g c =
     let stands = rw (← c.self.view_is) at c.requires.stands in
     let free = rw (← c.self.view_is) at c.requires.new in
     rw (← c.self.view_is) (record {
-      writes = put_fails _ _ _ _ _ _ c.in-Err.ensures.written (tables_of _ _ c.self.invariant)
-          (λ clean. record { stands = stands clean; free = free clean }) (omega (arith, c.counted.ensures.count));
+      writes = put_fails _ _ _ _ _ c.put_handover-put.ensures.written (tables_of _ _ c.self.invariant)
+          (λ clean. record { stands = stands clean; free = free clean }) _ c.from_residual.ensures.0
+          c.in_err-stored.ensures.counted;
     })
+
+pub invariant_of-self-2 : goal.invariant_of-self-2
+invariant_of-self-2 g c =
+    let stands = rw (← c.self.view_is) at c.requires.stands in
+    let free = rw (← c.self.view_is) at c.requires.new in
+    rw c.in_ok-stored.ensures.cleared (survey_sound _ _ _ c.put_handover-put.ensures.written
+    c.in_ok-stored.ensures.counted (λ clean. record { stands = stands clean; free = free clean }) c.self.invariant _ _
+    (λ o. refl) (λ o. refl) c.follow_handover.ensures)
 
 pub invariant_of-self : goal.invariant_of-self
 invariant_of-self g c =
-    let stands = rw (← c.self.view_is) at c.requires.stands in
-    let free = rw (← c.self.view_is) at c.requires.new in
-    rw c.clear.ensures (survey_sound _ _ _ c.in-Ok.ensures.written
-    (λ clean. record { stands = stands clean; free = free clean }) c.self.invariant _ _
-    (λ o. refl) (λ o. refl) c.follow_handover.ensures)
-
-pub invariant_of-self-in-Err-1 : goal.invariant_of-self-in-Err-1
-invariant_of-self-in-Err-1 g c = kept_sound _ _ _ c.in-Err.ensures.written c.self.invariant
+    rw c.in_err-stored.ensures.kept (kept_sound _ _ _ c.put_handover-put.ensures.written
+    c.in_err-stored.ensures.counted c.self.invariant)

@@ -1,31 +1,34 @@
-use Rattle.std.proofs.Common.{arith, refl}
+use Rattle.std.proofs.Common.{refl}
 use Rattle.cpi_sql_reads.proofs.HeaderLists.{releases_ordered}
 use Rattle.cpi_sql.proofs.Calls.{puts, put_fails}
 use Rattle.cpi_sql.proofs.Followed.{kept_sound, release_sound, tables_of}
 use Rattle.cpi_sql.proofs.sql_book.SqlBookBook.put_release.Goals as goal
 
-pub returns-in-Ok : goal.returns-in-Ok
-returns-in-Ok g c =
-    let new = rw (← c.self.view_is) at c.requires.new in
-    rw (← c.self.view_is) (record {
-      writes = puts _ _ _ _ _ c.in-Ok.ensures.written (tables_of _ _ c.self.invariant)
-          (λ clean. new clean (releases_ordered _)) (λ disk _. c.in-Ok.ensures.open disk) c.settle.ensures;
-    })
-
 pub returns : goal.returns
 returns g c =
     let new = rw (← c.self.view_is) at c.requires.new in
     rw (← c.self.view_is) (record {
-      writes = put_fails _ _ _ _ _ _ c.in-Err.ensures.written (tables_of _ _ c.self.invariant)
-          (λ clean. new clean (releases_ordered _)) (omega (arith, c.counted.ensures.count));
+      writes = puts _ _ _ _ _ c.put_release-put.ensures.written (tables_of _ _ c.self.invariant)
+          (λ clean. new clean (releases_ordered _)) c.in_ok-stored.ensures.counted
+          (λ disk _. c.put_release-put.ensures.open disk) c.in_ok-stored.ensures.settled;
     })
+
+pub returns-in_err-stored : goal.returns-in_err-stored
+returns-in_err-stored g c =
+    let new = rw (← c.self.view_is) at c.requires.new in
+    rw (← c.self.view_is) (record {
+      writes = put_fails _ _ _ _ _ c.put_release-put.ensures.written (tables_of _ _ c.self.invariant)
+          (λ clean. new clean (releases_ordered _)) _ c.from_residual.ensures.0 c.in_err-stored.ensures.counted;
+    })
+
+pub invariant_of-self-2 : goal.invariant_of-self-2
+invariant_of-self-2 g c =
+    let new = rw (← c.self.view_is) at c.requires.new in
+    rw c.in_ok-stored.ensures.cleared (release_sound _ _ _ c.put_release-put.ensures.written
+    c.in_ok-stored.ensures.counted (λ clean. new clean (releases_ordered _)) c.self.invariant _ _ (λ o. refl)
+    c.clear.ensures.items)
 
 pub invariant_of-self : goal.invariant_of-self
 invariant_of-self g c =
-    let new = rw (← c.self.view_is) at c.requires.new in
-    rw c.clear.ensures (release_sound _ _ _ c.in-Ok.ensures.written
-    (λ clean. new clean (releases_ordered _)) c.self.invariant _ _
-    (λ o. refl) c.clear-in-Ok.ensures.items)
-
-pub invariant_of-self-in-Err : goal.invariant_of-self-in-Err
-invariant_of-self-in-Err g c = kept_sound _ _ _ c.in-Err.ensures.written c.self.invariant
+    rw c.in_err-stored.ensures.kept (kept_sound _ _ _ c.put_release-put.ensures.written c.in_err-stored.ensures.counted
+    c.self.invariant)

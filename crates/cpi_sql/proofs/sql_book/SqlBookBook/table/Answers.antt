@@ -1,4 +1,4 @@
-use Rattle.std.proofs.Common.{rules, ◌≡◌, [], Some, true, false, arith, refl, sym, ap, ◌∙◌}
+use Rattle.std.proofs.Common.{rules, ◌≡◌, [], Some, true, false, refl, sym, ap, ◌∙◌}
 use Rattle.std.specs.Prelude.{⊤, option_map}
 use Rattle.sqlite.specs.Held.{state}
 use Rattle.cpi_release.specs.PublishedTables.{PublishedTable}
@@ -6,8 +6,9 @@ use Rattle.cpi_store.specs.Office.{Office}
 use Rattle.cpi_store.specs.Tables.{table_until}
 use Rattle.cpi_sql_reads.specs.Headers.{is_there}
 use Rattle.cpi_sql_reads.proofs.HeaderLists.{table_shown}
-use Rattle.cpi_sql.proofs.Calls.{reads, read_fails, then_shown, then_read, then_fails}
-use Rattle.cpi_sql.proofs.Followed.{look_sound, tables_of}
+use Rattle.cpi_sql.proofs.Calls.{looks, then_fault, then_read, then_shown}
+use Rattle.cpi_sql.proofs.Counted.{on_ok}
+use Rattle.cpi_sql.proofs.Followed.{tables_of, tables_sound}
 use Rattle.cpi_sql.proofs.sql_book.SqlBookBook.table.Goals as goal
 
 pub returns-then-not-is_there : goal.returns-then-not-is_there
@@ -30,72 +31,59 @@ returns-then-not-is_there g c =
       record { reads = tt; always = λ never. absurd never },
     )
 
-pub invariant_of-self-in-Ok : goal.invariant_of-self-in-Ok
-invariant_of-self-in-Ok g c =
+pub invariant_of-self-2 : goal.invariant_of-self-2
+invariant_of-self-2 g c =
     let ready = rw (← c.self.view_is) at c.in_ok-ready_headers.ensures.ready in
-    look_sound (state g.S.Store c.self.inside.conn) (state g.S.Store c.ready_table.new.conn) _ _
-    c.ready_table.ensures.look.still c.self.invariant
-    (λ clean st. record {
-      survey = st.kept.survey;
-      headers = st.kept.headers;
-      tables = c.ready_table.ensures.kept clean st.tables (c.deref-2.ensures.value ∙ (st.kept.headers ready).read)
-          st.kept.tables;
-      samples = st.kept.samples;
-    })
+    tables_sound (state g.S.Store c.self.inside.conn) (state g.S.Store c.ready_table-read.new.conn) _ _
+    c.ready_table-read.ensures.look.still c.self.invariant (λ clean st. c.ready_table-read.ensures.kept clean st.tables
+    (c.deref-2.ensures.value ∙ (st.kept.headers ready).read) st.kept.tables)
 
-pub invariant_of-self-in-Err : goal.invariant_of-self-in-Err
-invariant_of-self-in-Err g c =
+pub invariant_of-self-in-Break-branch-2 : goal.invariant_of-self-in-Break-branch-2
+invariant_of-self-in-Break-branch-2 g c =
     let ready = rw (← c.self.view_is) at c.in_ok-ready_headers.ensures.ready in
-    look_sound (state g.S.Store c.self.inside.conn) (state g.S.Store c.ready_table.new.conn) _ _
-    c.ready_table.ensures.look.still c.self.invariant
-    (λ clean st. record {
-      survey = st.kept.survey;
-      headers = st.kept.headers;
-      tables = c.ready_table.ensures.kept clean st.tables (c.deref-2.ensures.value ∙ (st.kept.headers ready).read)
-          st.kept.tables;
-      samples = st.kept.samples;
-    })
+    tables_sound (state g.S.Store c.self.inside.conn) (state g.S.Store c.ready_table-read.new.conn) _ _
+    c.ready_table-read.ensures.look.still c.self.invariant (λ clean st. c.ready_table-read.ensures.kept clean st.tables
+    (c.deref-2.ensures.value ∙ (st.kept.headers ready).read) st.kept.tables)
 
-pub returns-in-Ok : goal.returns-in-Ok
-returns-in-Ok g c =
+pub returns : goal.returns
+returns g c =
     let now = state g.S.Store c.self.inside.conn in
-    let new = state g.S.Store c.ready_table.new.conn in
+    let new = state g.S.Store c.ready_table-read.new.conn in
     let ready = rw (← c.self.view_is) at c.in_ok-ready_headers.ensures.ready in
     let read = rw (← c.self.view_is) at c.in_ok-ready_headers.ensures.reads in
     let yes : c.is_there.result ≡ true = search rules in (
       (
         refl,
         (λ _. tt),
-        then_read _ _ _ _ _ _ read
-            (reads now new c.self.inside.failed.count (tables_of now _ c.self.invariant) {T = ⊤} {F = ⊤} tt (λ _. ⊤)
-            c.ready_table.ensures.look.still c.in-Ok.ensures.look.stays (λ _. tt))
+        then_shown _ _ _ _ _ (then_read _ _ _ _ _ _ read (looks now new _ _ (tables_of now _ c.self.invariant)
+            {Shown = λ _. ⊤} _ _ c.ready_table-read.ensures.look c.in_ok-counted.ensures (λ _ _ _. tt)))
             (λ clean.
-            let before = c.ready_table.ensures.look.still.clean clean in
+            let before = c.ready_table-read.ensures.look.still.clean clean in
             let st = c.self.invariant before in
             let rows = (st.kept.headers ready).read in
-            let lent = rw c.deref-in-Ok.ensures.value at c.lent_table.ensures in
-            lent ∙ table_shown now.now.trees c.args.month c.args.revision c.args.until c.ready_table.new.tables.items
-            true (sym yes ∙ c.is_there.ensures ∙ ap (is_there c.args.month c.args.revision c.args.until)
-            (c.deref.ensures.value ∙ rows))
-            (c.ready_table.ensures.kept clean st.tables (c.deref-2.ensures.value ∙ rows) st.kept.tables)
-            (λ _. c.in-Ok.ensures.ready)
+            let lent = rw c.deref-3.ensures.value at c.lent_table.ensures in
+            lent ∙ table_shown now.now.trees c.args.month c.args.revision c.args.until
+            c.ready_table-read.new.tables.items true (sym yes ∙ c.is_there.ensures
+            ∙ ap (is_there c.args.month c.args.revision c.args.until) (c.deref.ensures.value ∙ rows))
+            (c.ready_table-read.ensures.kept clean st.tables (c.deref-2.ensures.value ∙ rows) st.kept.tables)
+            (λ _. on_ok _ c.in_ok-counted.ensures c.ready_table-read.ensures.ready)
             ∙ ap (λ (o : Office). option_map (λ (t : PublishedTable). t.levels)
             (table_until c.args.month (Some c.args.revision) c.args.until o.releases)) (read.keeps.kept before)),
       ),
       record { reads = tt; always = λ never. absurd never },
     )
 
-pub returns-in-Err : goal.returns-in-Err
-returns-in-Err g c =
+pub returns-in_err-counted : goal.returns-in_err-counted
+returns-in_err-counted g c =
     let now = state g.S.Store c.self.inside.conn in
-    let new = state g.S.Store c.ready_table.new.conn in
+    let new = state g.S.Store c.ready_table-read.new.conn in
     let read = rw (← c.self.view_is) at c.in_ok-ready_headers.ensures.reads in (
       (
         refl,
         (λ _. tt),
-        then_fails _ _ _ _ _ _ read (read_fails now new c.self.inside.failed.count
-            (tables_of now _ c.self.invariant) {T = ⊤} {F = ⊤} tt (λ _. ⊤) _ c.ready_table.ensures.look.still
-            (omega (arith, c.counted.ensures.count))),
+        then_fault _ _ _ _ _ refl c.from_residual-in_err-counted.ensures.0
+            (then_read _ _ _ _ _ _ read (looks now new _ _ (tables_of now _ c.self.invariant) {Shown = λ _. ⊤} _ _
+            c.ready_table-read.ensures.look c.in_err-counted.ensures (λ _ _ _. tt))),
       ),
       record { reads = tt; always = λ never. absurd never },
     )

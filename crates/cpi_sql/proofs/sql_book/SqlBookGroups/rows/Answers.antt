@@ -1,5 +1,5 @@
-use Rattle.std.proofs.Common.{◌≡◌, arith, subst, ◌∙◌}
-use Rattle.std.specs.Prelude.{⊤}
+use Rattle.std.proofs.Common.{◌≡◌, IsTrue, subst, sym, ◌∙◌}
+use Rattle.std.specs.Prelude.{OnOk}
 use Rattle.sqlite.specs.Effect.{Database}
 use Rattle.sqlite.specs.Held.{state}
 use Rattle.cpi_codes.specs.Month.{year_of}
@@ -10,71 +10,65 @@ use Rattle.cpi_store.specs.Office.{Office}
 use Rattle.cpi_store.specs.Sources.{office_sources}
 use Rattle.cpi_sql_rows.specs.Lists.{office_in}
 use Rattle.cpi_sql_reads.specs.Samples.{SamplesTaken}
-use Rattle.cpi_sql.proofs.Calls.{reads, read_fails, then_read, then_fails}
+use Rattle.cpi_sql.proofs.Calls.{looks, then_fault, then_read}
+use Rattle.cpi_sql.proofs.Counted.{answers, was_ok}
 use Rattle.cpi_sql.proofs.Followed.{look_sound, tables_of}
 use Rattle.cpi_sql.proofs.sql_book.SqlBookGroups.rows.Goals as goal
 
+-- the headers and the survey are read
+ready : (g : _) (c : goal.After-counted g) → IsTrue c.self.inside.has_headers × IsTrue c.self.inside.is_read
+ready g c = (
+  rw (← c.self.view_is) at (subst IsTrue (sym c.ready_survey.ensures.kept)
+      (rw (was_ok _ c.in_ok-map_err.ensures.variant) at c.ready_headers.ensures.ready)),
+  rw (← c.self.view_is) at (rw (was_ok _ c.in_ok-map_err-2.ensures.variant) at c.ready_survey.ensures.ready),
+)
+
 pub invariant_of-self : goal.invariant_of-self
 invariant_of-self g c =
-    let ready = rw (← c.self.view_is) at c.in_ok-ready_samples.ensures.ready in
-    look_sound (state g.S.Store c.self.inside.conn) (state g.S.Store c.sample_of.new.conn) _ _
-    c.sample_of.ensures.look.still c.self.invariant
+    look_sound (state g.S.Store c.self.inside.conn) (state g.S.Store c.sample_of-found.new.conn) _ _
+    c.sample_of-found.ensures.look.still c.self.invariant
     (λ clean st. record {
       survey = st.kept.survey;
       headers = st.kept.headers;
       tables = st.kept.tables;
-      samples = c.sample_of.ensures.kept clean st.tables (c.deref.ensures.value ∙ (st.kept.headers ready.0).read)
-          (st.kept.survey ready.1).read st.kept.samples;
+      samples = c.sample_of-found.ensures.kept clean st.tables
+          (c.deref.ensures.value ∙ (st.kept.headers (ready g c).0).read) (st.kept.survey (ready g c).1).read
+          st.kept.samples;
     })
 
-pub invariant_of-self-in-Err : goal.invariant_of-self-in-Err
-invariant_of-self-in-Err g c =
-    let ready = rw (← c.self.view_is) at c.in_ok-ready_samples.ensures.ready in
-    look_sound (state g.S.Store c.self.inside.conn) (state g.S.Store c.sample_of.new.conn) _ _
-    c.sample_of.ensures.look.still c.self.invariant
-    (λ clean st. record {
-      survey = st.kept.survey;
-      headers = st.kept.headers;
-      tables = st.kept.tables;
-      samples = c.sample_of.ensures.kept clean st.tables (c.deref.ensures.value ∙ (st.kept.headers ready.0).read)
-          (st.kept.survey ready.1).read st.kept.samples;
-    })
-
-pub returns-in-Ok-clause-reads : goal.returns-in-Ok-clause-reads
-returns-in-Ok-clause-reads g c =
+pub returns-clause-reads : goal.returns-clause-reads
+returns-clause-reads g c =
     let now = state g.S.Store c.self.inside.conn in
-    let new = state g.S.Store c.sample_of.new.conn in
-    let ready = rw (← c.self.view_is) at c.in_ok-ready_samples.ensures.ready in
-    let read = rw (← c.self.view_is) at c.in_ok-ready_samples.ensures.reads in
-    then_read _ _ _ _ _ _ read
-    (reads now new c.self.inside.failed.count (tables_of now _ c.self.invariant) {T = ⊤} {F = ⊤} tt (λ _. ⊤)
-    c.sample_of.ensures.look.still c.in-Ok.ensures.look.stays (λ _. tt))
-    (λ clean.
-    let before = c.sample_of.ensures.look.still.clean clean in
+    let new = state g.S.Store c.sample_of-found.new.conn in
+    let read = rw (← c.self.view_is) at (then_read _ _ _ _ _ _
+    (rw (was_ok _ c.in_ok-map_err.ensures.variant) at c.ready_headers.ensures.reads)
+    (rw (was_ok _ c.in_ok-map_err-2.ensures.variant) at c.ready_survey.ensures.reads)) in
+    then_read _ _ _ _ _ _ read (looks now new _ _ (tables_of now _ c.self.invariant) _ _ c.sample_of-found.ensures.look
+    c.counted.ensures (λ clean rows is.
+    let before = c.sample_of-found.ensures.look.still.clean clean in
     let st = c.self.invariant before in
     subst (λ (o : Office). IsFit (office_sources o) → c.args._year ≡ year_of c.args.month →
     IsAfterFrozen (office_sources o) c.args.month →
-    c.in-Ok.rows.items ≡ group_of (office_sources o) c.args.month c.args.code)
-    (read.keeps.kept before) (λ fit _ after.
-    c.in-Ok.ensures.read clean st.tables (c.deref.ensures.value ∙ (st.kept.headers ready.0).read)
-    (st.kept.survey ready.1).read st.kept.samples fit
-    (late (office_sources (office_in now.now.trees)) c.args.month fit.0 after)))
+    rows.items ≡ group_of (office_sources o) c.args.month c.args.code)
+    (read.keeps.kept before) (λ fit _ after. rw is at (
+    c.sample_of-found.ensures.read clean st.tables (c.deref.ensures.value ∙ (st.kept.headers (ready g c).0).read)
+    (st.kept.survey (ready g c).1).read st.kept.samples fit
+    (late (office_sources (office_in now.now.trees)) c.args.month fit.0 after)))))
 
-pub returns-in-Err-clause-reads : goal.returns-in-Err-clause-reads
-returns-in-Err-clause-reads g c =
-    let now = state g.S.Store c.self.inside.conn in
-    let new = state g.S.Store c.sample_of.new.conn in
-    let read = rw (← c.self.view_is) at c.in_ok-ready_samples.ensures.reads in
-    then_fails _ _ _ _ _ _ read (read_fails now new c.self.inside.failed.count
-    (tables_of now _ c.self.invariant) {T = ⊤} {F = ⊤} tt (λ _. ⊤) _ c.sample_of.ensures.look.still
-    (omega (arith, c.counted.ensures.count)))
-
-pub returns-in-Ok-clause-lists : goal.returns-in-Ok-clause-lists
-returns-in-Ok-clause-lists g c = λ clean.
-    let ready = rw (← c.self.view_is) at c.in_ok-ready_samples.ensures.ready in
-    let same = rw (← c.self.view_is) at c.in_ok-ready_samples.ensures.now in
-    let before = c.sample_of.ensures.look.still.clean clean in
+pub returns-clause-lists : goal.returns-clause-lists
+returns-clause-lists g c = λ clean.
+    let before = c.sample_of-found.ensures.look.still.clean clean in
+    let second = rw (← c.self.view_is) at c.ready_survey.ensures.reads in
+    let same = (rw (← c.self.view_is) at c.ready_survey.ensures.now) before
+    ∙ c.ready_headers.ensures.now (second.keeps.was_clean before) in
     let st = c.self.invariant before in
-    subst (λ (d : Database). SamplesTaken c.args.month d.trees) (same before)
-    (c.in-Ok.ensures.taken clean st.tables (c.deref.ensures.value ∙ (st.kept.headers ready.0).read)
-    (st.kept.survey ready.1).read st.kept.samples)
+    subst (λ (d : Database). OnOk c.counted.result (SamplesTaken c.args.month d.trees)) same
+    (answers _ _ _ c.counted.ensures
+    (c.sample_of-found.ensures.taken clean st.tables (c.deref.ensures.value ∙ (st.kept.headers (ready g c).0).read)
+    (st.kept.survey (ready g c).1).read st.kept.samples))
+
+pub returns-in_err-map_err-2-clause-reads : goal.returns-in_err-map_err-2-clause-reads
+returns-in_err-map_err-2-clause-reads g c =
+    then_fault _ _ _ _ _ c.in_err-map_err-2.ensures.variant c.from_residual-in_err-map_err-2.ensures.0
+    (then_read _ _ _ _ _ _ (rw (was_ok _ c.in_ok-map_err.ensures.variant) at c.ready_headers.ensures.reads)
+    c.ready_survey.ensures.reads)

@@ -1,0 +1,40 @@
+-- What the calls of a book over a database say of the office that it holds, and of its tables.
+use Rattle.std.specs.Prelude.{◌≡◌, ◌+◌, ℕ, Result, Ok, IfOk, OnErr, OnOk}
+use Rattle.std.specs.Result.{IsErr}
+use Rattle.sqlite.specs.Held.{state}
+use Rattle.sqlite.specs.Tree.{Trees}
+use Rattle.sqlite_trees.specs.declared.store.Store.{Ghosts}
+use Rattle.cpi_release.specs.State.{Reads}
+use Rattle.cpi_store.specs.Office.{Office}
+use Rattle.cpi_sql_rows.specs.Lists.{header_in}
+use Rattle.cpi_sql_rows.specs.Shelf.{AllStand, IsCleanBook, Shelf, book_state}
+use Rattle.cpi_sql_rows.specs.Tables.{release_2}
+
+-- what was found is answered; or a fault is, and one more failure is counted
+pub record IsCounted {T E F : Type 0} (found : Result T E) (result : Result T F) (before after : ℕ) : Type 0 where
+  pub answered : IfOk found (λ x. result ≡ Ok x)
+  pub same : OnOk found (after ≡ before)
+  pub failed : OnErr found (IsErr result)
+  pub more : OnErr found (after ≡ before + 1)
+
+-- the types take each header of a release
+abbrev pub HeadersTaken : Trees → Type 0
+HeadersTaken trees = AllStand header_in (trees release_2.tree)
+
+module _ {S : Type 0} (store : Ghosts S) (old new : Shelf S) where
+  -- where the book is clean, the rows are as they were
+  abbrev pub KeepsRows : Type 0
+  KeepsRows = IsCleanBook (state store new.held) → (state store new.held).now ≡ (state store old.held).now
+
+  -- a read shows something of the office that the book held
+  abbrev pub ReadsOffice : {T F : Type 0} → Result T F → (Office → T → Type 0) → Type 0
+  ReadsOffice result Shown =
+      Reads (book_state store old) (book_state store new) result (Shown (book_state store old).held)
+
+  -- where the book is clean, what is answered rests on tables that are so
+  abbrev pub RestsOn : {T F : Type 0} → Result T F → (Trees → Type 0) → Type 0
+  RestsOn result AreSo = IsCleanBook (state store new.held) → OnOk result (AreSo (state store old.held).now.trees)
+
+  -- a look-up shows what the office that the book held gives
+  abbrev pub Finds : {T F : Type 0} → Result T F → (Office → T) → Type 0
+  Finds result gives = ReadsOffice result (λ office found. found ≡ gives office)
