@@ -1,5 +1,5 @@
 //! The office in a database: a book whose survey is read once and kept, and whose releases stay in the tables.
-ghost use Rattle.std.specs.Prelude.{IfOk, MatchResult};
+ghost use Rattle.std.specs.Prelude.{◌≡◌, IfOk, MatchResult};
 ghost use Rattle.cpi_codes.specs.Month.{year_of};
 ghost use Rattle.cpi_index.specs.Series.{frozen_serial, is_by_series};
 ghost use Rattle.cpi_release.specs.FrozenMonths.{frozen_months};
@@ -11,7 +11,7 @@ ghost use Rattle.cpi_store.specs.Bearer.{bearer_of, collector_key, collector_of}
 ghost use Rattle.cpi_store.specs.Office.{Office, month_rows as rows_of_month};
 ghost use Rattle.cpi_store.specs.Sources.{office_sources};
 ghost use Rattle.cpi_store.specs.Tables.{table_until};
-ghost use Rattle.cpi_sql_rows.specs.Common.{◌≡◌, ⊤, AreTaken, IsTrue, None, OnErr, OnOk, at, book_state, false};
+ghost use Rattle.cpi_sql_rows.specs.Common.{⊤, AreTaken, IsTrue, None, OnErr, OnOk, at, book_state, false};
 ghost use Rattle.cpi_sql_rows.specs.Common.{held_by, map, option_map, refl, state, true};
 ghost use Rattle.cpi_sql_rows.specs.Finding.{IsSettled};
 ghost use Rattle.cpi_sql_rows.specs.Lists.{level_in};

@@ -1,7 +1,8 @@
 //! What is tested of the tables that an open finds.
+ghost use Rattle.std.specs.Prelude.{◌≡◌};
 ghost use Rattle.std.specs.List.{AllByRecursion};
 ghost use Rattle.sqlite.specs.Steps.{over_memory};
-ghost use Rattle.cpi_sql_rows.specs.Common.{◌≡◌, ℕ, AreWhole, HasCleanDisk, HasRowids, IfOk, IsCleanBook, IsLive};
+ghost use Rattle.cpi_sql_rows.specs.Common.{ℕ, AreWhole, HasCleanDisk, HasRowids, IfOk, IsCleanBook, IsLive};
 ghost use Rattle.cpi_sql_rows.specs.Common.{IsOfOffice, IsTrue, List, LooksOver, OnOk, StaysOpen, false, first_schema};
 ghost use Rattle.cpi_sql_rows.specs.Common.{map, state};
 ghost use Rattle.cpi_sql_open.specs.Looks.{AreTestsOf, AskEach, Finds, FindsOffice, IsTest, first_trees};

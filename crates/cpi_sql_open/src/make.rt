@@ -1,5 +1,6 @@
 //! The tables of an empty database, and those that schema 2 adds.
-ghost use Rattle.cpi_sql_rows.specs.Common.{◌≡◌, HasCleanDisk, IsTrue, KeepsCommit, OnErr, OnOk, Survives, false};
+ghost use Rattle.std.specs.Prelude.{◌≡◌};
+ghost use Rattle.cpi_sql_rows.specs.Common.{HasCleanDisk, IsTrue, KeepsCommit, OnErr, OnOk, Survives, false};
 ghost use Rattle.cpi_sql_rows.specs.Common.{first_schema, map, state};
 ghost use Rattle.cpi_sql_rows.specs.Making.{IsBlank, IsNew, no_schema};
 ghost use Rattle.cpi_sql_open.specs.Making.{MakeEach};

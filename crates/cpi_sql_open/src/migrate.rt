@@ -1,5 +1,6 @@
 //! The rows of schema 1, brought into the tables of schema 2 in one transaction.
-ghost use Rattle.cpi_sql_rows.specs.Common.{◌≡◌, HasCleanDisk, IsCleanBook, IsTrue, KeepsCommit, OnErr, OnOk, Survives};
+ghost use Rattle.std.specs.Prelude.{◌≡◌};
+ghost use Rattle.cpi_sql_rows.specs.Common.{HasCleanDisk, IsCleanBook, IsTrue, KeepsCommit, OnErr, OnOk, Survives};
 ghost use Rattle.cpi_sql_rows.specs.Common.{false, first_schema, state};
 ghost use Rattle.cpi_sql_rows.specs.Finding.{HaveFirstRowids, IsMigrated, IsMoved};
 

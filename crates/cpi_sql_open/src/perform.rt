@@ -1,5 +1,6 @@
 //! Statements that are run in turn within a transaction.
-ghost use Rattle.cpi_sql_rows.specs.Common.{◌≡◌, HasCleanDisk, KeepsCommit, OnOk, Survives, map, state};
+ghost use Rattle.std.specs.Prelude.{◌≡◌};
+ghost use Rattle.cpi_sql_rows.specs.Common.{HasCleanDisk, KeepsCommit, OnOk, Survives, map, state};
 ghost use Rattle.cpi_sql_open.specs.Stages.{RanEach, stage_of};
 
 use sqlite::{Alter, Error, Transaction};

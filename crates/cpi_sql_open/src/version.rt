@@ -1,5 +1,6 @@
 //! The number of the schema, which is in the one row of `version`.
-ghost use Rattle.cpi_sql_rows.specs.Common.{◌≡◌, [], HasCleanDisk, IfOk, IsCleanBook, IsTrue, KeepsCommit, Shown};
+ghost use Rattle.std.specs.Prelude.{◌≡◌};
+ghost use Rattle.cpi_sql_rows.specs.Common.{[], HasCleanDisk, IfOk, IsCleanBook, IsTrue, KeepsCommit, Shown};
 ghost use Rattle.cpi_sql_rows.specs.Common.{Survives, false, office_schema, state};
 ghost use Rattle.cpi_sql_rows.specs.Numbered.{IsVersion, ShowsOther, version_text};
 ghost use Rattle.cpi_sql_open.specs.declared.version.Version.TheVariants.{Second, Other};

@@ -1,7 +1,8 @@
 //! The chained levels of earlier months, read a table at a time.
+ghost use Rattle.std.specs.Prelude.{◌≡◌};
 ghost use Rattle.cpi_release.specs.FrozenMonths.{release_cmp};
 ghost use Rattle.cpi_release.specs.Releases.{level_at};
-ghost use Rattle.cpi_sql_rows.specs.Common.{◌≡◌, row_at, state, IfOk, IsSome, Looks, OnOk};
+ghost use Rattle.cpi_sql_rows.specs.Common.{row_at, state, IfOk, IsSome, Looks, OnOk};
 ghost use Rattle.cpi_sql_rows.specs.Lists.{level_in, releases_in};
 ghost use Rattle.cpi_sql_rows.specs.Tables.{level_2};
 ghost use Rattle.cpi_sql_reads.specs.Headers.{LatestStands};

@@ -1,8 +1,9 @@
 //! What a month reads of the latest release of an earlier month.
+ghost use Rattle.std.specs.Prelude.{◌≡◌};
 ghost use Rattle.std.specs.Option.{option_map_or};
 ghost use Rattle.cpi_codes.specs.CodeOrder.{code_cmp};
 ghost use Rattle.cpi_release.specs.Releases.{release_of};
-ghost use Rattle.cpi_sql_rows.specs.Common.{◌≡◌, [], state, IfOk, IsInOrder, Looks};
+ghost use Rattle.cpi_sql_rows.specs.Common.{[], state, IfOk, IsInOrder, Looks};
 ghost use Rattle.cpi_sql_rows.specs.HeldTables.{beside, release_in};
 ghost use Rattle.cpi_sql_rows.specs.Lists.{releases_in};
 ghost use Rattle.cpi_sql_reads.specs.Headers.{LatestStands};

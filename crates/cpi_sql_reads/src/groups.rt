@@ -1,10 +1,11 @@
 //! The samples of a month, made at once from the tables, and handed out one by one.
+ghost use Rattle.std.specs.Prelude.{◌≡◌, ◌≤◌, ◌-◌};
 ghost use Rattle.cpi_codes.specs.Month.{year_of};
 ghost use Rattle.cpi_release.specs.GroupCalls.{group_of};
 ghost use Rattle.cpi_release.specs.KeptSamples.{AreGroupsOf, IsFit};
 ghost use Rattle.cpi_release.specs.Releases.{link_month};
 ghost use Rattle.cpi_store.specs.Sources.{office_sources};
-ghost use Rattle.cpi_sql_rows.specs.Common.{◌≡◌, ◌≤◌, ◌-◌, at, state, survey_of, IfOk, Looks, OnOk, Some};
+ghost use Rattle.cpi_sql_rows.specs.Common.{at, state, survey_of, IfOk, Looks, OnOk, Some};
 ghost use Rattle.cpi_sql_rows.specs.Lists.{office_in};
 ghost use Rattle.cpi_sql_reads.specs.Samples.{AreSamplesOf, SamplesStand, SamplesTaken};
 ghost use Rattle.cpi_sql_reads.specs.Tells.{KnowsBy};

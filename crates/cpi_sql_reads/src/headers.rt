@@ -1,6 +1,7 @@
 //! What the headers tell of the releases without the rows of their lists.
+ghost use Rattle.std.specs.Prelude.{◌≡◌, ◌==◌, ◌&&◌};
 ghost use Rattle.std.specs.Option.{option_copied};
-ghost use Rattle.cpi_sql_rows.specs.Common.{◌≡◌, ◌==◌, ◌&&◌, nat_le, IfOk};
+ghost use Rattle.cpi_sql_rows.specs.Common.{nat_le, IfOk};
 ghost use Rattle.cpi_sql_reads.specs.Headers.{has_release as release_in, header_month, is_there as there_in};
 ghost use Rattle.cpi_sql_reads.specs.Headers.{latest_header, months_of, months_until, revision_published as latest_in};
 

@@ -1,8 +1,9 @@
 //! The table of a release, kept to look up its levels.
+ghost use Rattle.std.specs.Prelude.{◌≡◌, ◌<◌};
 ghost use Rattle.std.specs.Option.{option_copied};
 ghost use Rattle.cpi_codes.specs.CodeOrder.{code_cmp};
 ghost use Rattle.cpi_release.specs.FrozenMonths.{release_cmp};
-ghost use Rattle.cpi_sql_rows.specs.Common.{◌≡◌, ◌<◌, length, option_map, row_at, slice_index_or};
+ghost use Rattle.cpi_sql_rows.specs.Common.{length, option_map, row_at, slice_index_or};
 ghost use Rattle.cpi_sql_rows.specs.Common.{IfSome, IsInOrder, IsSome, OnOk};
 ghost use Rattle.cpi_sql_reads.specs.LevelTables.{AreTablesOf, IsTableOf, ReleaseLevels, table_key};
 

@@ -1,7 +1,8 @@
 //! The releases, read from the tables.
+ghost use Rattle.std.specs.Prelude.{◌≡◌};
 ghost use Rattle.cpi_release.specs.FrozenMonths.{release_cmp};
 ghost use Rattle.cpi_release.specs.declared.release.Release.{Release as Released};
-ghost use Rattle.cpi_sql_rows.specs.Common.{◌≡◌, List, held_by, held_cmp, held_key, state, AllStandOf, HasCleanDisk};
+ghost use Rattle.cpi_sql_rows.specs.Common.{List, held_by, held_cmp, held_key, state, AllStandOf, HasCleanDisk};
 ghost use Rattle.cpi_sql_rows.specs.Common.{HasTables, IfOk, IsInOrder, IsTrue, Looks, OnOk, Survives, refl};
 ghost use Rattle.cpi_sql_rows.specs.HeldTables.{HeldTable, OfReleases, beside, release_in};
 ghost use Rattle.cpi_sql_rows.specs.HeldTables.{carried_table, frozen_table, level_table};

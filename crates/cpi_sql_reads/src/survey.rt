@@ -1,6 +1,7 @@
 //! What the tables hold of an office but for its releases, read whole.
+ghost use Rattle.std.specs.Prelude.{◌≡◌};
 ghost use Rattle.cpi_store.specs.Office.{public_part};
-ghost use Rattle.cpi_sql_rows.specs.Common.{◌≡◌, state, IsSurveyOf, Looks};
+ghost use Rattle.cpi_sql_rows.specs.Common.{state, IsSurveyOf, Looks};
 ghost use Rattle.cpi_sql_rows.specs.Lists.{office_in};
 ghost use Rattle.cpi_sql_reads.specs.Tells.{Tells};
 

@@ -1,7 +1,8 @@
 //! The plans of the years, read from the tables.
+ghost use Rattle.std.specs.Prelude.{◌≡◌, ◌≤◌, ◌++◌};
 ghost use Rattle.std.specs.Option.{option_to_list};
 ghost use Rattle.cpi_plan.specs.Stored.{plan_from};
-ghost use Rattle.cpi_sql_rows.specs.Common.{◌≡◌, ◌≤◌, ◌++◌, ℕ, held_by, held_cmp, held_key, nat_cmp, state};
+ghost use Rattle.cpi_sql_rows.specs.Common.{ℕ, held_by, held_cmp, held_key, nat_cmp, state};
 ghost use Rattle.cpi_sql_rows.specs.Common.{refl, IfOk, IsInOrder, Looks, OnOk};
 ghost use Rattle.cpi_sql_rows.specs.HeldTables.{HeldTable, Holds, beside, year_in};
 ghost use Rattle.cpi_sql_rows.specs.HeldTables.{node_table, place_table, reference_table};

@@ -1,5 +1,5 @@
 -- The names that most contracts over a database cite, passed on from one place. Declares nothing.
-pub use Rattle.std.specs.Prelude.{◌≡◌, ◌↔◌, ◌≤◌, ◌<◌, ◌-◌, ◌==◌, ◌&&◌, ◌++◌, ◌∷◌, [], ℕ, pos, Bool, true, false, ⊤}
+pub use Rattle.std.specs.Prelude.{[], ℕ, pos, Bool, true, false, ⊤}
 pub use Rattle.std.specs.Prelude.{List, Option, Some, None, Ok, Err, IfErr, IfOk, IfSome, IsPermutation, IsSome, IsTrue}
 pub use Rattle.std.specs.Prelude.{OnErr, OnOk, length, map, nat_le, option_map, refl, slice_index_or}
 pub use Rattle.std.specs.Ordering.{int_cmp, nat_cmp}

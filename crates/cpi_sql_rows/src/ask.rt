@@ -1,5 +1,6 @@
 //! One statement: what it does, and that nothing has changed where it failed.
-ghost use Rattle.cpi_sql_rows.specs.Common.{◌≡◌, CommitsBy, Executes, HasCleanDisk, IfOk, IsCleanBook, IsKept, IsTrue};
+ghost use Rattle.std.specs.Prelude.{◌≡◌};
+ghost use Rattle.cpi_sql_rows.specs.Common.{CommitsBy, Executes, HasCleanDisk, IfOk, IsCleanBook, IsKept, IsTrue};
 ghost use Rattle.cpi_sql_rows.specs.Common.{Ok, OnErr, OnOk, Survives, bound, false, state};
 
 use sqlite::{Alter, Connection, Error};

@@ -1,8 +1,9 @@
 //! What a value is written as in a column: what is read of it again is the value.
+ghost use Rattle.std.specs.Prelude.{◌≡◌};
 ghost use Rattle.cpi_codes.specs.Key.{key_of};
 ghost use Rattle.cpi_codes.specs.CodeOf.{code_of};
 ghost use Rattle.cpi_codes.specs.ItemCode.{item_code_of};
-ghost use Rattle.cpi_sql_rows.specs.Common.{◌≡◌, IfOk, Int, Some, pos, string_bytes};
+ghost use Rattle.cpi_sql_rows.specs.Common.{IfOk, Int, Some, pos, string_bytes};
 ghost use Rattle.cpi_sql_rows.specs.Lists.{mark_from, mark_word, month_at, name_of, ranged};
 
 use crate::stored::Unread;

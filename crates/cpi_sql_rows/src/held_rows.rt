@@ -1,5 +1,6 @@
 //! What all collectors have, each row beside the number of its collector, read whole from its table.
-ghost use Rattle.cpi_sql_rows.specs.Common.{◌≡◌, AllStand, HasCleanDisk, HasTables, IfOk, IsCleanBook, IsInOrder};
+ghost use Rattle.std.specs.Prelude.{◌≡◌};
+ghost use Rattle.cpi_sql_rows.specs.Common.{AllStand, HasCleanDisk, HasTables, IfOk, IsCleanBook, IsInOrder};
 ghost use Rattle.cpi_sql_rows.specs.Common.{IsPermutation, IsSecond, IsTrue, Looks, LooksOver, OnOk, held_cmp};
 ghost use Rattle.cpi_sql_rows.specs.Common.{held_key, state};
 ghost use Rattle.cpi_survey.specs.Quote.{quote_cmp, quote_key};

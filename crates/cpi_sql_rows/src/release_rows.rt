@@ -1,7 +1,8 @@
 //! The rows of the tables of releases, as an answer shows them.
+ghost use Rattle.std.specs.Prelude.{◌≡◌, ◌==◌};
 ghost use Rattle.std.specs.List.{slice_split};
 ghost use Rattle.cpi_codes.specs.CodeOf.{code_of as spelled};
-ghost use Rattle.cpi_sql_rows.specs.Common.{◌≡◌, ◌==◌, IfOk, IfSome, Some, column, map};
+ghost use Rattle.cpi_sql_rows.specs.Common.{IfOk, IfSome, Some, column, map};
 ghost use Rattle.cpi_sql_rows.specs.Lists.{codes_of as spelled_all, each_of, flag_in, header_from, header_key};
 ghost use Rattle.cpi_sql_rows.specs.Lists.{month_from, revision_from};
 ghost use Rattle.cpi_sql_rows.specs.ReleaseRows.{shown_carried, shown_frozen, shown_level};

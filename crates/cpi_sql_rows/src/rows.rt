@@ -1,6 +1,7 @@
 //! The rows of the tables, as an answer shows them.
+ghost use Rattle.std.specs.Prelude.{◌≡◌};
 ghost use Rattle.cpi_codes.specs.CodeOf.{code_of as spelled};
-ghost use Rattle.cpi_sql_rows.specs.Common.{◌≡◌, IfSome, Some, column};
+ghost use Rattle.cpi_sql_rows.specs.Common.{IfSome, Some, column};
 ghost use Rattle.cpi_sql_rows.specs.Lists.{bearer_from, calendar_from, code_from, item_from, item_of, mark_from};
 ghost use Rattle.cpi_sql_rows.specs.Lists.{mark_in, month_from, name_from, number_in, outlet_from, price_or_none};
 ghost use Rattle.cpi_sql_rows.specs.Lists.{ranged, shown_node, shown_place, shown_reference, text_in};

@@ -1,5 +1,6 @@
 //! What the rows of an answer stand for.
-ghost use Rattle.cpi_sql_rows.specs.Common.{◌≡◌, Asked, HasCleanDisk, IfOk, IfSome, IsInOrder, IsTrue, OnOk, Option};
+ghost use Rattle.std.specs.Prelude.{◌≡◌};
+ghost use Rattle.cpi_sql_rows.specs.Common.{Asked, HasCleanDisk, IfOk, IfSome, IsInOrder, IsTrue, OnOk, Option};
 ghost use Rattle.cpi_sql_rows.specs.Common.{Row as SqlRow, ShowsAll, Some, bound, state};
 
 use cpi_rows::{Keyed, RowsByKey, are_in_order};

@@ -1,5 +1,6 @@
 //! A table that is read whole, by one statement.
-ghost use Rattle.cpi_sql_rows.specs.Common.{◌≡◌, HasCleanDisk, HasTables, IfOk, IsCleanBook, IsInOrder, IsOfOffice};
+ghost use Rattle.std.specs.Prelude.{◌≡◌};
+ghost use Rattle.cpi_sql_rows.specs.Common.{HasCleanDisk, HasTables, IfOk, IsCleanBook, IsInOrder, IsOfOffice};
 ghost use Rattle.cpi_sql_rows.specs.Common.{IsTrue, IsWhole, Looks, LooksOver, OnOk, Row as SqlRow, Schema, column};
 ghost use Rattle.cpi_sql_rows.specs.Common.{listed, map, state};
 ghost use Rattle.cpi_sql_rows.specs.WholeTables.{WholeTable};

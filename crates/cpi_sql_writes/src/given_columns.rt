@@ -1,5 +1,6 @@
 //! What a slot was given, as the columns of its row.
-ghost use Rattle.cpi_sql_rows.specs.Common.{◌≡◌, IfOk, Some};
+ghost use Rattle.std.specs.Prelude.{◌≡◌};
+ghost use Rattle.cpi_sql_rows.specs.Common.{IfOk, Some};
 ghost use Rattle.cpi_sql_rows.specs.Lists.{price_or_none};
 ghost use Rattle.cpi_sql_writes.specs.GivenColumns.{copied_column, given_of};
 

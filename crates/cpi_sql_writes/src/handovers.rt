@@ -1,7 +1,8 @@
 //! A series is handed over: the former slot's row ends, and the new slot's row is put, both or neither.
+ghost use Rattle.std.specs.Prelude.{◌≡◌};
 ghost use Rattle.cpi_store.specs.declared.given.Given.{Given};
 ghost use Rattle.cpi_store.specs.Office.{HandsOver};
-ghost use Rattle.cpi_sql_rows.specs.Common.{ℕ, ◌≡◌, HasCleanDisk, IsTrue, OnOk, Some, state};
+ghost use Rattle.cpi_sql_rows.specs.Common.{ℕ, HasCleanDisk, IsTrue, OnOk, Some, state};
 ghost use Rattle.cpi_sql_rows.specs.Lists.{assignments_in};
 ghost use Rattle.cpi_sql_rows.specs.Tables.{assignment_2};
 ghost use Rattle.cpi_sql_writes.specs.GivenColumns.{CanHandOver, columns_of, given_of, IsFree, PutsGiven};

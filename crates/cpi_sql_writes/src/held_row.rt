@@ -1,7 +1,8 @@
 //! The lists that a table keeps for its holders, the releases or the years: one of them put, within a transaction, in
 //! place of what stands for its holder.
+ghost use Rattle.std.specs.Prelude.{◌<◌, ◌≡◌, ◌≤◌};
 ghost use Rattle.sqlite.specs.Table.{Table};
-ghost use Rattle.cpi_sql_rows.specs.Common.{ℕ, ◌<◌, ◌≡◌, ◌≤◌, Bool, bound, IfOk, length, Option, Row, state};
+ghost use Rattle.cpi_sql_rows.specs.Common.{ℕ, Bool, bound, IfOk, length, Option, Row, state};
 ghost use Rattle.cpi_sql_writes.specs.Columns.{AddsColumns, AreColumns, AreColumnsOf, rows_at_once};
 ghost use Rattle.cpi_sql_writes.specs.Within.{AddsTo, Changes, Drops, Replaces, Within};
 

@@ -1,5 +1,6 @@
 //! A statement of a transaction.
-ghost use Rattle.cpi_sql_rows.specs.Common.{◌≡◌, bound, state};
+ghost use Rattle.std.specs.Prelude.{◌≡◌};
+ghost use Rattle.cpi_sql_rows.specs.Common.{bound, state};
 ghost use Rattle.cpi_sql_writes.specs.Within.{Ran, Within};
 
 use cpi_sql_rows::Unread;

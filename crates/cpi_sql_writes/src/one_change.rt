@@ -1,6 +1,7 @@
 //! A change of the office that is made in one transaction: all of its rows are written, or none.
+ghost use Rattle.std.specs.Prelude.{◌≡◌};
 ghost use Rattle.cpi_store.specs.Office.{Change, changed, Office};
-ghost use Rattle.cpi_sql_rows.specs.Common.{◌≡◌, false, HasCleanDisk, HasTables, IsCleanBook, IsDone, IsTrue, OnErr};
+ghost use Rattle.cpi_sql_rows.specs.Common.{false, HasCleanDisk, HasTables, IsCleanBook, IsDone, IsTrue, OnErr};
 ghost use Rattle.cpi_sql_rows.specs.Common.{OnOk, state, Survives};
 ghost use Rattle.cpi_sql_rows.specs.Lists.{office_in};
 ghost use Rattle.cpi_sql_writes.specs.Within.{ChangesOffice, Within};

@@ -1,5 +1,6 @@
 //! The rows of a year's plan: its nodes, its places and its reference month.
-ghost use Rattle.cpi_sql_rows.specs.Common.{[], ◌∷◌, ◌≡◌, state};
+ghost use Rattle.std.specs.Prelude.{◌∷◌, ◌≡◌};
+ghost use Rattle.cpi_sql_rows.specs.Common.{[], state};
 ghost use Rattle.cpi_sql_rows.specs.Lists.{node_in, place_in, reference_row, references_for};
 ghost use Rattle.cpi_sql_rows.specs.Tables.{node, plan_item, plan_ref};
 ghost use Rattle.cpi_sql_writes.specs.PlanSteps.{is_of_year, IsYearNumber};

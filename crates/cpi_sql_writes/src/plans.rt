@@ -1,6 +1,7 @@
 //! A year's plan: its rows take the place of those that stand, all of them or none.
+ghost use Rattle.std.specs.Prelude.{◌≡◌};
 ghost use Rattle.cpi_store.specs.Office.{PutsPlan};
-ghost use Rattle.cpi_sql_rows.specs.Common.{⊤, ◌≡◌, HasCleanDisk, IsTrue, OnOk, state};
+ghost use Rattle.cpi_sql_rows.specs.Common.{⊤, HasCleanDisk, IsTrue, OnOk, state};
 ghost use Rattle.cpi_sql_writes.specs.Written.{Written};
 
 use crate::held_row::replace;

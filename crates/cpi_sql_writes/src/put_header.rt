@@ -1,5 +1,6 @@
 //! The header of a release is added: its month, its revision, its moments and the codes that may be carried.
-ghost use Rattle.cpi_sql_rows.specs.Common.{◌∷◌, ◌≡◌, IfOk, state, string_bytes};
+ghost use Rattle.std.specs.Prelude.{◌∷◌, ◌≡◌};
+ghost use Rattle.cpi_sql_rows.specs.Common.{IfOk, state, string_bytes};
 ghost use Rattle.cpi_sql_rows.specs.ReleaseRows.{carry_text};
 ghost use Rattle.cpi_sql_writes.specs.ReleaseSteps.{header_of, PutsHeader};
 ghost use Rattle.cpi_sql_writes.specs.Within.{Within};

@@ -1,6 +1,7 @@
 //! The rows of a release: its frozen quotes, its carried prices and its table.
+ghost use Rattle.std.specs.Prelude.{◌≡◌};
 ghost use Rattle.cpi_index.specs.Carried.{IsTicks};
-ghost use Rattle.cpi_sql_rows.specs.Common.{◌≡◌, Int, pos, Some};
+ghost use Rattle.cpi_sql_rows.specs.Common.{Int, pos, Some};
 ghost use Rattle.cpi_sql_rows.specs.Lists.{carried_in, flag_in, frozen_in, level_in, ranged};
 ghost use Rattle.cpi_sql_rows.specs.ReleaseRows.{annual};
 ghost use Rattle.cpi_sql_rows.specs.Tables.{carried_2, frozen_2, level_2};

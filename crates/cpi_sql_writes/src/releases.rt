@@ -1,6 +1,7 @@
 //! A release is put: its rows are written in one transaction, all of them or none.
+ghost use Rattle.std.specs.Prelude.{◌≡◌};
 ghost use Rattle.cpi_store.specs.Office.{Freezes};
-ghost use Rattle.cpi_sql_rows.specs.Common.{◌≡◌, HasCleanDisk, Int, IsTrue, OnOk, pos, Some, state};
+ghost use Rattle.cpi_sql_rows.specs.Common.{HasCleanDisk, Int, IsTrue, OnOk, pos, Some, state};
 ghost use Rattle.cpi_sql_rows.specs.Lists.{month_at, revision_from};
 ghost use Rattle.cpi_sql_writes.specs.ReleaseSteps.{FitsTables, IsNew};
 ghost use Rattle.cpi_sql_writes.specs.Written.{Written};

@@ -1,6 +1,7 @@
 //! The values that columns are written as.
+ghost use Rattle.std.specs.Prelude.{◌≡◌};
 ghost use Rattle.sqlite.specs.Values.{bound_value};
-ghost use Rattle.cpi_sql_rows.specs.Common.{◌≡◌, bound, IfOk, Int, map, pos, Text};
+ghost use Rattle.cpi_sql_rows.specs.Common.{bound, IfOk, Int, map, pos, Text};
 
 use cpi_sql_rows::Unread;
 use sqlite::types::{Bytes, ToSql, Value, ValueRef};

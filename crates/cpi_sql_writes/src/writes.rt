@@ -1,6 +1,7 @@
 //! The statements that put one row.
+ghost use Rattle.std.specs.Prelude.{◌≡◌};
 ghost use Rattle.cpi_store.specs.Office.{Assigns, PutsCalendar, PutsItem, PutsOutlet, Quotes, Registers};
-ghost use Rattle.cpi_sql_rows.specs.Common.{⊤, ◌≡◌, at, bound, false, HasCleanDisk, IfOk, Int, IsTrue, None, OnOk};
+ghost use Rattle.cpi_sql_rows.specs.Common.{⊤, at, bound, false, HasCleanDisk, IfOk, Int, IsTrue, None, OnOk};
 ghost use Rattle.cpi_sql_rows.specs.Common.{pos, Some, state, string_bytes, Text};
 ghost use Rattle.cpi_sql_rows.specs.Lists.{bearer_from, calendar_from, month_at};
 ghost use Rattle.cpi_sql_writes.specs.GivenColumns.{IsFree};
