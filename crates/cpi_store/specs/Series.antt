@@ -2,6 +2,7 @@
 use Rattle.std.specs.Prelude.{ℕ, Bool, ◌==◌, ◌&&◌, List, [], ◌∷◌, max, Option, Some, None, if◌then◌else◌}
 use Rattle.std.specs.declared.cmp.Ordering.{Ordering}
 use Rattle.std.specs.Ordering.{nat_cmp, ordering_then, is_gt}
+use Rattle.std.specs.List.{list_any}
 use Rattle.std.specs.BTreeMap.{get}
 use Rattle.cpi_rows.specs.Keyed.{row_at}
 use Rattle.cpi_rows.specs.Held.{held_cmp}
@@ -59,6 +60,14 @@ series_in taken collector slot =
 -- an assignment beside the series of its slot
 abbrev pub given_in : List TakenOver → ℕ × Assignment → ℕ × Given
 given_in taken row = (row.0, record { assignment = row.1; series = series_in taken row.0 row.1.slot })
+
+-- whether a slot took the series over
+abbrev pub is_handed_over : List TakenOver → SeriesId → Bool
+is_handed_over taken s = list_any (λ t. same_series t.series s) taken
+
+-- the last month of a series that a slot took over
+abbrev pub last_handed_over : List TakenOver → SeriesId → List (ℕ × Given) → ℕ
+last_handed_over taken s given = if is_handed_over taken s then last_of_series s given else 0
 
 abbrev pub or_first : Option ℕ → ℕ
 or_first None = 0

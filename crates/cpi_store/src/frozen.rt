@@ -1,5 +1,6 @@
 //! The quotes that a freeze of a month takes.
 ghost use Rattle.std.specs.Prelude.{◌≡◌, ◌++◌, true, IfOk, OnOk, max, option_map};
+ghost use Rattle.std.specs.BTreeSet.{contains};
 ghost use Rattle.std.specs.Option.{option_copied};
 ghost use Rattle.cpi_codes.specs.declared.series.SeriesId.{SeriesId};
 ghost use Rattle.cpi_rows.specs.Held.{held_cmp};
@@ -7,7 +8,7 @@ ghost use Rattle.cpi_rows.specs.Keyed.{IsInOrder};
 ghost use Rattle.std.specs.Ordering.{nat_cmp};
 ghost use Rattle.cpi_index.specs.Series.{is_by_series, frozen_serial};
 ghost use Rattle.cpi_store.specs.Office.{stored_rows};
-ghost use Rattle.cpi_store.specs.Series.{by_series, last_known, last_of_series};
+ghost use Rattle.cpi_store.specs.Series.{by_series, is_handed_over, last_handed_over, last_known};
 ghost use Rattle.cpi_store.specs.Holders.{all_given, all_quotes, own_given, own_rows, quote_of_series};
 ghost use Rattle.cpi_store.specs.Holders.{rows_of_holders};
 
@@ -15,10 +16,11 @@ use crate::holder::Holder;
 use crate::series_ends::SeriesEnds;
 use crate::sorting::sort_by_series;
 use crate::taken_over::{TakenOver, series_in};
-use cpi_codes::{Month, SeriesId};
+use cpi_codes::{CollectorId, Month, SeriesId, Slot};
 use cpi_index::FrozenQuote;
 use cpi_survey::{Assignment, Quote};
 use std::alloc::{AllocError, Global};
+use std::collections::BTreeSet;
 
 /// The stored quotes of the month, by series, where no series has two in the month.
 pub fn month_rows(
@@ -39,7 +41,8 @@ pub fn month_rows(
     Ok(found)
 }
 
-/// The last month of each series: holder by holder, and slot by slot.
+/// The last month of each series that a slot took over: holder by holder, and slot by slot. Any other series has but
+/// the one assignment of the slot that names it, so that nothing has to be gathered where no slot took one over.
 fn series_ends(
     alloc: Global,
     taken: &[TakenOver],
@@ -47,24 +50,52 @@ fn series_ends(
 ) -> Result<SeriesEnds, AllocError>
     requires { IsInOrder (held_cmp nat_cmp) (λ t. (t.collector, t.slot)) taken.now }
     ensures { IfOk result (λ ends. (s : SeriesId) →
-        last_known ends s ≡ last_of_series s (all_given taken.now holders.now)) }
+        last_known ends s ≡ last_handed_over taken.now s (all_given taken.now holders.now)) }
 {
     let mut ends = SeriesEnds::new(alloc);
+    if taken.is_empty() {
+        return Ok(ends);
+    }
+    let handed_over = series_handed_over(alloc, taken)?;
     for holder in holders {
-        put_ends(&mut ends, taken, holder)?;
+        put_ends(&mut ends, taken, &handed_over, holder)?;
     }
     Ok(ends)
 }
 
-/// Puts the last months of a collector's assignments.
-fn put_ends(ends: &mut SeriesEnds, taken: &[TakenOver], holder: &Holder) -> Result<(), AllocError>
-    requires { IsInOrder (held_cmp nat_cmp) (λ t. (t.collector, t.slot)) taken.now }
+/// The series that slots took over.
+fn series_handed_over(
+    alloc: Global,
+    taken: &[TakenOver],
+) -> Result<BTreeSet<(CollectorId, Slot)>, AllocError>
+    ensures { IfOk result (λ found. (s : SeriesId) →
+        contains (held_cmp nat_cmp) found (s.collector, s.slot) ≡ is_handed_over taken.now s) }
+{
+    let mut found = BTreeSet::new(alloc);
+    for over in taken {
+        found.insert((over.series.collector, over.series.slot))?;
+    }
+    Ok(found)
+}
+
+/// Puts the last months of those of a collector's assignments whose series were handed over.
+fn put_ends(
+    ends: &mut SeriesEnds,
+    taken: &[TakenOver],
+    handed_over: &BTreeSet<(CollectorId, Slot)>,
+    holder: &Holder,
+) -> Result<(), AllocError>
+    requires order { IsInOrder (held_cmp nat_cmp) (λ t. (t.collector, t.slot)) taken.now }
+    requires handed_over { (s : SeriesId) →
+        contains (held_cmp nat_cmp) handed_over.now (s.collector, s.slot) ≡ is_handed_over taken.now s }
     ensures { OnOk result ((s : SeriesId) → last_known ends.new s ≡
-        max (last_known ends.old s) (last_of_series s (own_given taken.now holder.now))) }
+        max (last_known ends.old s) (last_handed_over taken.now s (own_given taken.now holder.now))) }
 {
     for assigned in holder.own.assignments() {
         let series = series_in(taken, holder.number, assigned.assignment.slot);
-        ends.put(series, assigned.assignment.last_month)?;
+        if handed_over.contains(&(series.collector, series.slot)) {
+            ends.put(series, assigned.assignment.last_month)?;
+        }
     }
     Ok(())
 }

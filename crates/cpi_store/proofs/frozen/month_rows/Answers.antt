@@ -11,5 +11,5 @@ returns c = λ whole.
     let hs = c.args.holders.now in
     let stored = stored_rows c.args.month (all_quotes hs) (all_given taken hs) in
     let found : c.in_ok-found.found.items ≡ stored = c.in_ok-found.ensures
-    ∙ sym (month_gathered c.args.month c.in_ok-ends.ends taken hs c.requires.order c.in_ok-ends.ensures) in
+    ∙ sym (month_gathered c.args.month c.in_ok-ends.ends taken hs c.requires.order c.in_ok-ends.ensures whole) in
     c.in_ok-sort_by_series.ensures (rw found whole) ∙ ap by_series found

@@ -3,10 +3,10 @@ use Rattle.std.specs.Prelude.{max}
 use Rattle.std.proofs.lemmas.List.{append-nil, take_more}
 use Rattle.cpi_store.specs.declared.holder.Holder.{Holder}
 use Rattle.cpi_store.specs.declared.taken_over.TakenOver.{TakenOver}
-use Rattle.cpi_store.specs.Series.{last_of_series}
+use Rattle.cpi_store.specs.Series.{last_handed_over}
 use Rattle.cpi_store.specs.Holders.{all_given, own_given}
 use Rattle.cpi_store.proofs.FrozenRows.{all_given-append, all_given-cons}
-use Rattle.cpi_store.proofs.Lasts.{last_of_series-append}
+use Rattle.cpi_store.proofs.HandedSeries.{last_handed_over-append}
 use Rattle.cpi_store.proofs.frozen.series_ends.Goals as goal
 
 -- what one more collector adds
@@ -26,6 +26,6 @@ loop-holder-preserved c = λ s.
     let i = c.loop-holder.holder-index in
     let h = c.holder-item.result in
     c.in_ok-put_ends.ensures s
-    ∙ ap (λ m. max m (last_of_series s (own_given taken h))) (c.loop-holder.invariant s)
-    ∙ sym (last_of_series-append s (all_given taken (take i hs)) (own_given taken h))
-    ∙ ap (last_of_series s) (sym (given_more taken hs i h (omega arith) c.holder-item.is))
+    ∙ ap (λ m. max m (last_handed_over taken s (own_given taken h))) (c.loop-holder.invariant s)
+    ∙ sym (last_handed_over-append taken s (all_given taken (take i hs)) (own_given taken h))
+    ∙ ap (last_handed_over taken s) (sym (given_more taken hs i h (omega arith) c.holder-item.is))
