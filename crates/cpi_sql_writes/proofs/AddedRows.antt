@@ -15,7 +15,7 @@ use Rattle.sqlite_rules.proofs.TableLemmas.{has_put as has_put_row, put_has as p
 use Rattle.cpi_rows.specs.Keyed.{IsInOrder}
 use Rattle.cpi_rows.specs.Held.{held_cmp, held_key}
 use Rattle.cpi_sql_rows.specs.Steps.{IsStep}
-use Rattle.cpi_sql_rows.specs.Shelf.{IsKeyed, Takes}
+use Rattle.cpi_sql_rows.specs.Shelf.{AllStandFor, IsKeyed, Takes}
 use Rattle.cpi_sql_writes.specs.Within.{Adds, AddsTo, Changes, Drops, Inside, IsReady, Replaces, Within}
 use Rattle.cpi_sql_writes.proofs.Replaced.{Replaced, replaced}
 use Rattle.cpi_sql_writes.proofs.Withins.{inside_here, inside_then, on_given, on_then}
@@ -121,6 +121,16 @@ module _ {X : Type 0} (entry : Row → Option (ℕ × X)) where
         on_then r _ _ (q.step clean dropped.inside) (λ lists.
         step_then tree (Drops is_of) (AddsTo entry GoesBy xs) (Replaces entry is_of GoesBy xs)
         (λ d e f one two. (e, one, two)) a b c dropped (lists (step_ready tree (Drops is_of) a b dropped)))))
+
+  -- Each row with the number is the holder's, so it is of the list, and stands for something.
+  pub all_stand : (holder : Row → Option ℕ) (is_of : Row → Bool) (GoesBy : ℕ → Type 0) (number : ℕ) → GoesBy number
+      → ((r : Row) → holder r ≡ Some number → is_of r ≡ true) → (xs : List X) (old new : List Row)
+      → Replaces entry is_of GoesBy xs old new → AllStandFor holder entry number new
+  unfolding AllStandFor
+  all_stand holder is_of GoesBy number named each xs old new p r h e = elim ((p.2 number named).others r h) [
+    | inl was ↦ absurd (true_false (sym (each r e) ∙ ((p.1 r).0 was).1))
+    | inr it ↦ ap is_some it.2
+  ]
 
   -- The rows of the holder are those with its number, so the list takes their place.
   module _ {K : Type 0} {R : K → K → Ordering} (o : IsTotalOrder R) (key : X → K) (is_of : Row → Bool)

@@ -23,7 +23,7 @@ use Rattle.cpi_sql_rows.specs.Lists.{header_in, frozen_in, carried_in, level_in,
 use Rattle.cpi_sql_rows.specs.Lists.{levels_in, office_in, month_at, release_from, releases_in, header_key}
 use Rattle.cpi_sql_rows.specs.Lists.{release_number}
 use Rattle.cpi_sql_rows.specs.ReleaseRows.{frozen_after, carried_after, level_after}
-use Rattle.cpi_sql_writes.specs.ReleaseSteps.{header_of, FitsTables, IsHeaderStep, ReplacesList}
+use Rattle.cpi_sql_writes.specs.ReleaseSteps.{header_of, FitsTables, IsHeaderStep, ListsStand, ReplacesList}
 use Rattle.cpi_sql_rows.specs.Tables.{frozen_2, carried_2, level_2}
 use Rattle.cpi_sql_rows.specs.Shelf.{HasTables, IsDone}
 use Rattle.cpi_sql_rows.specs.Steps.{IsStep, SameBut, outside}
@@ -35,7 +35,7 @@ use Rattle.cpi_sql_rows.proofs.Listed.{PutsRow, listed_put, listed_stands}
 use Rattle.cpi_sql_writes.proofs.Beside.{tables_written}
 use Rattle.cpi_sql_writes.proofs.MappedPut.{map_put}
 use Rattle.cpi_sql_rows.proofs.ReleaseRows.{one_release, within_limits}
-use Rattle.cpi_sql_writes.proofs.ReleaseReplaced.{release_replaced}
+use Rattle.cpi_sql_writes.proofs.ReleaseReplaced.{release_replaced, release_stands}
 use Rattle.cpi_sql_writes.proofs.Replaced.{Replaced}
 use Rattle.cpi_sql_rows.proofs.Unchanged.{same_then}
 
@@ -63,20 +63,37 @@ module _ (r : Release) (fits : FitsTables r) (m v : ℕ) (is : month_at m ≡ So
   range : (1 ≤ r.revision) × (r.revision ≤ 9)
   range = header_range one.rows.row (header_of r) one.rows.is
 
+  -- each list takes the place of what stood for the release
+  frozen_put : ReplacesList frozen_after m r.revision r.frozen (a.now.trees 28) (e.now.trees 28)
+  frozen_put =
+      rw (← at_revision, ← at_frozen, four.others 28 refl, three.others 28 refl, ← one.others 28 refl) two.rows
+
+  carried_put : ReplacesList carried_after m r.revision r.carried (a.now.trees 30) (e.now.trees 30)
+  carried_put =
+      rw (← at_revision, ← at_carried, four.others 30 refl, ← one.others 30 refl, ← two.others 30 refl) three.rows
+
+  levels_put : ReplacesList level_after m r.revision r.levels (a.now.trees 32) (e.now.trees 32)
+  levels_put =
+      rw (← at_revision, ← at_levels, ← one.others 32 refl, ← two.others 32 refl, ← three.others 32 refl) four.rows
+
+  lists_stand : ListsStand r e.now.trees
+  lists_stand = record {
+    frozen = release_stands frozen_after m r.month r.revision is range.0 range.1 r.frozen _ _ frozen_put;
+    carried = release_stands carried_after m r.month r.revision is range.0 range.1 r.carried _ _ carried_put;
+    levels = release_stands level_after m r.month r.revision is range.0 range.1 r.levels _ _ levels_put;
+  }
+
   frozen_rows : Replaced nat_cmp_total frozen_serial frozen_in number r.frozen (a.now.trees 28) (e.now.trees 28)
-  frozen_rows = release_replaced nat_cmp_total frozen_serial frozen_after m r.month r.revision is range.0 range.1
-      r.frozen _ _ has.releases.frozen fits.frozen
-      (rw (← at_revision, ← at_frozen, four.others 28 refl, three.others 28 refl, ← one.others 28 refl) two.rows)
+  frozen_rows = release_replaced frozen_after m r.month r.revision is range.0 range.1 nat_cmp_total frozen_serial
+      r.frozen _ _ has.releases.frozen fits.frozen frozen_put
 
   carried_rows : Replaced nat_cmp_total carried_serial carried_in number r.carried (a.now.trees 30) (e.now.trees 30)
-  carried_rows = release_replaced nat_cmp_total carried_serial carried_after m r.month r.revision is range.0 range.1
-      r.carried _ _ has.releases.carried fits.carried
-      (rw (← at_revision, ← at_carried, four.others 30 refl, ← one.others 30 refl, ← two.others 30 refl) three.rows)
+  carried_rows = release_replaced carried_after m r.month r.revision is range.0 range.1 nat_cmp_total carried_serial
+      r.carried _ _ has.releases.carried fits.carried carried_put
 
   level_rows : Replaced total-law (λ (l : Level). l.code) level_in number r.levels (a.now.trees 32) (e.now.trees 32)
-  level_rows = release_replaced total-law (λ (l : Level). l.code) level_after m r.month r.revision is range.0 range.1
-      r.levels _ _ has.releases.levels fits.levels
-      (rw (← at_revision, ← at_levels, ← one.others 32 refl, ← two.others 32 refl, ← three.others 32 refl) four.rows)
+  level_rows = release_replaced level_after m r.month r.revision is range.0 range.1 total-law (λ (l : Level). l.code)
+      r.levels _ _ has.releases.levels fits.levels levels_put
 
   -- no header that stands is the release's
   headers_apart : (h : Header) → Has (headers_in (a.now.trees 26)) h
@@ -124,7 +141,7 @@ module _ (r : Release) (fits : FitsTables r) (m v : ℕ) (is : month_at m ≡ So
       (same_then (28 ∷ []) (30 ∷ 32 ∷ []) b.now.trees c.now.trees e.now.trees two.others
       (same_then (30 ∷ []) (32 ∷ []) c.now.trees d.now.trees e.now.trees three.others four.others))
 
-  pub release_done : IsDone (Freezes r) (outside a) (outside e)
+  release_done : IsDone (Freezes r) (outside a) (outside e)
   unfolding releases_in
   release_done = tables_written (Freezes r) (outside a) (outside e) has four.schema refl
       (Headers ∷ tables.Frozen ∷ tables.Carried ∷ Levels ∷ []) same (
@@ -137,3 +154,7 @@ module _ (r : Release) (fits : FitsTables r) (m v : ℕ) (is : month_at m ≡ So
           ),
         ),
       ) (ap (λ releases. record (office_in a.now.trees) { releases = releases }) releases_now)
+
+  -- the change of the office, and what it leaves
+  pub release_put : IsDone (Freezes r) (outside a) (outside e) × ListsStand r e.now.trees
+  release_put = (release_done, lists_stand)

@@ -3,7 +3,7 @@ use Rattle.std.specs.Prelude.{◌≡◌, ◌&&◌, ℕ, pos, Bool, List, [], ◌
 use Rattle.std.specs.Ordering.{nat_cmp}
 use Rattle.sqlite.specs.declared.types.Value.TheVariants.{Int}
 use Rattle.sqlite.specs.Order.{Row, column}
-use Rattle.sqlite.specs.Tree.{put_row}
+use Rattle.sqlite.specs.Tree.{put_row, Trees}
 use Rattle.sqlite.specs.State.{State}
 use Rattle.sqlite_rules.specs.Lists.{Has}
 use Rattle.cpi_codes.specs.CodeOrder.{code_cmp}
@@ -13,9 +13,10 @@ use Rattle.cpi_release.specs.declared.release.Release.{Release}
 use Rattle.cpi_release.specs.FrozenMonths.{release_cmp, release_key}
 use Rattle.cpi_store.specs.Office.{Office}
 use Rattle.cpi_sql_rows.specs.declared.release_rows.Header.{Header}
-use Rattle.cpi_sql_rows.specs.Tables.{office_schema, release_2}
-use Rattle.cpi_sql_rows.specs.Lists.{and_then, month_at, release_from_key, revision_from, header_in}
-use Rattle.cpi_sql_rows.specs.Shelf.{equals}
+use Rattle.cpi_sql_rows.specs.Tables.{carried_2, frozen_2, level_2, office_schema, release_2}
+use Rattle.cpi_sql_rows.specs.Lists.{and_then, month_at, release_from_key, revision_from, header_in, release_number}
+use Rattle.cpi_sql_rows.specs.Lists.{carried_in, frozen_in, level_in}
+use Rattle.cpi_sql_rows.specs.Shelf.{AllStandOf, equals}
 use Rattle.cpi_sql_rows.specs.Steps.{SameBut}
 use Rattle.cpi_sql_writes.specs.Within.{Replaces}
 
@@ -75,3 +76,9 @@ pub record FitsTables (r : Release) : Type 0 where
   pub frozen : IsInOrder nat_cmp frozen_serial r.frozen
   pub carried : IsInOrder nat_cmp carried_serial r.carried
   pub levels : IsInOrder code_cmp (λ l. l.code) r.levels
+
+-- the types take each row of the release's lists
+pub record ListsStand (r : Release) (trees : Trees) : Type 0 where
+  pub frozen : AllStandOf frozen_in (release_number r.month r.revision) (trees frozen_2.tree)
+  pub carried : AllStandOf carried_in (release_number r.month r.revision) (trees carried_2.tree)
+  pub levels : AllStandOf level_in (release_number r.month r.revision) (trees level_2.tree)

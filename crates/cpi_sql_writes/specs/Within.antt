@@ -1,6 +1,7 @@
 -- What a statement and a call within a transaction leave, and what they do to the rows of one table.
 use Rattle.std.specs.Prelude.{◌≡◌, ◌⊎◌, ◌↔◌, ℕ, Bool, false, List, Option, Some, IsTrue, Result, Ok, OnOk, OnErr}
 use Rattle.sqlite.specs.Order.{Row}
+use Rattle.sqlite.specs.Tree.{Trees}
 use Rattle.sqlite.specs.State.{State, CommitsBy, Executes, HasCleanDisk, KeepsCommit, Survives}
 use Rattle.sqlite_rules.specs.Lists.{Has}
 use Rattle.cpi_sql_rows.specs.Tables.{office_schema}
@@ -43,6 +44,10 @@ Changes tree Rows old new = IsReady tree old → IsStep tree Rows old new
 -- the steps together are the change of the office, were the transaction at an end
 abbrev pub ChangesOffice : Change → State → State → Type 0
 ChangesOffice change old new = HasTables (outside old) → IsDone change (outside old) (outside new)
+
+-- they leave tables of which this is so
+abbrev pub LeavesTables : (Trees → Type 0) → State → State → Type 0
+LeavesTables Left old new = HasTables (outside old) → Left new.now.trees
 
 -- what is left are the rows that aren't the holder's
 abbrev pub Drops : (Row → Bool) → List Row → List Row → Type 0

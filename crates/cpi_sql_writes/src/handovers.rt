@@ -2,7 +2,7 @@
 ghost use Rattle.std.specs.Prelude.{◌≡◌};
 ghost use Rattle.cpi_store.specs.declared.given.Given.{Given};
 ghost use Rattle.cpi_store.specs.Office.{HandsOver};
-ghost use Rattle.cpi_sql_rows.specs.Common.{ℕ, HasCleanDisk, IsTrue, OnOk, Some, state};
+ghost use Rattle.cpi_sql_rows.specs.Common.{⊤, ℕ, HasCleanDisk, IsTrue, OnOk, Some, state};
 ghost use Rattle.cpi_sql_rows.specs.Lists.{assignments_in};
 ghost use Rattle.cpi_sql_rows.specs.Tables.{assignment_2};
 ghost use Rattle.cpi_sql_writes.specs.GivenColumns.{CanHandOver, columns_of, given_of, IsFree, PutsGiven};
@@ -83,6 +83,8 @@ impl OneChange for SeriesMove {
     ghost change = { HandsOver };
 
     ghost fits = { λ handover office. CanHandOver handover office.assignments };
+
+    ghost leaves = { λ _ _. ⊤ };
 
     // The two rows.
     fn write<S: Alter>(&self, tx: &mut Transaction<'_, S>, alloc: Global) -> Result<(), Unread> {

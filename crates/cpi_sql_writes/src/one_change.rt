@@ -1,10 +1,11 @@
 //! A change of the office that is made in one transaction: all of its rows are written, or none.
 ghost use Rattle.std.specs.Prelude.{◌≡◌};
+ghost use Rattle.sqlite.specs.Tree.{Trees};
 ghost use Rattle.cpi_store.specs.Office.{Change, changed, Office};
 ghost use Rattle.cpi_sql_rows.specs.Common.{false, HasCleanDisk, HasTables, IsCleanBook, IsDone, IsTrue, OnErr};
 ghost use Rattle.cpi_sql_rows.specs.Common.{OnOk, state, Survives};
 ghost use Rattle.cpi_sql_rows.specs.Lists.{office_in};
-ghost use Rattle.cpi_sql_writes.specs.Within.{ChangesOffice, Within};
+ghost use Rattle.cpi_sql_writes.specs.Within.{ChangesOffice, LeavesTables, Within};
 ghost use Rattle.cpi_sql_writes.specs.Written.{Written};
 
 use cpi_sql_rows::Unread;
@@ -19,11 +20,16 @@ pub trait OneChange {
     /// Whether the office can take it.
     ghost fits: { Self → Office → Type 0 };
 
+    /// What is so of the tables afterwards, beside the change of the office.
+    ghost leaves: { Self → Trees → Type 0 };
+
     /// Writes its rows.
     fn write<S: Alter>(&self, tx: &mut Transaction<'_, S>, alloc: Global) -> Result<(), Unread>
         ensures same_reference { tx.new.conn.ghost_name ≡ tx.old.conn.ghost_name }
         ensures written { Within (state S.Store tx.old.conn.now) (state S.Store tx.new.conn.now) result
-            (λ old new. fits self.now (office_in old.now.trees) → ChangesOffice (change self.now) old new) };
+            (λ old new. fits self.now (office_in old.now.trees) → ChangesOffice (change self.now) old new) }
+        ensures left { Within (state S.Store tx.old.conn.now) (state S.Store tx.new.conn.now) result
+            (λ old new. fits self.now (office_in old.now.trees) → LeavesTables (leaves self.now) old new) };
 }
 
 // In a transaction, which is rolled back where it fails.
@@ -39,6 +45,9 @@ fn in_transaction<S: Alter, C: OneChange>(
     ensures done { HasCleanDisk (state S.Store conn.new) → HasTables (state S.Store conn.old) →
         C.fits change.now (office_in (state S.Store conn.old).now.trees) →
         OnOk result (IsDone (C.change change.now) (state S.Store conn.old) (state S.Store conn.new)) }
+    ensures left { HasCleanDisk (state S.Store conn.new) → HasTables (state S.Store conn.old) →
+        C.fits change.now (office_in (state S.Store conn.old).now.trees) →
+        OnOk result (C.leaves change.now (state S.Store conn.new).now.trees) }
     ensures undone { HasCleanDisk (state S.Store conn.new) → IsTrue (state S.Store conn.new).is_open →
         OnErr result ((state S.Store conn.new).now ≡ (state S.Store conn.old).now) }
     ensures crash { Survives (state S.Store conn.old) (state S.Store conn.new) (λ db.
@@ -64,6 +73,9 @@ pub fn make_change<S: Alter, C: OneChange>(
 ) -> Result<(), Unread>
     ensures written { Written (C.change change.now) (C.fits change.now)
         (state S.Store conn.old) (state S.Store conn.new) result }
+    ensures left { IsCleanBook (state S.Store conn.new) → HasTables (state S.Store conn.old) →
+        C.fits change.now (office_in (state S.Store conn.old).now.trees) →
+        OnOk result (C.leaves change.now (state S.Store conn.new).now.trees) }
     ensures open { HasCleanDisk (state S.Store conn.new) → OnOk result (IsTrue (state S.Store conn.new).is_open) }
 {
     if !conn.is_autocommit() {

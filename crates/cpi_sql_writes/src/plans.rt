@@ -17,6 +17,8 @@ impl OneChange for YearPlan {
 
     ghost fits = { λ _ _. ⊤ };
 
+    ghost leaves = { λ _ _. ⊤ };
+
     // Its rows in place of those of its year.
     fn write<S: Alter>(&self, tx: &mut Transaction<'_, S>, alloc: Global) -> Result<(), Unread> {
         let year = u32::from(self.year());

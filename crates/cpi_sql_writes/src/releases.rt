@@ -1,9 +1,10 @@
 //! A release is put: its rows are written in one transaction, all of them or none.
 ghost use Rattle.std.specs.Prelude.{◌≡◌};
 ghost use Rattle.cpi_store.specs.Office.{Freezes};
-ghost use Rattle.cpi_sql_rows.specs.Common.{HasCleanDisk, Int, IsTrue, OnOk, pos, Some, state};
-ghost use Rattle.cpi_sql_rows.specs.Lists.{month_at, revision_from};
-ghost use Rattle.cpi_sql_writes.specs.ReleaseSteps.{FitsTables, IsNew};
+ghost use Rattle.cpi_sql_rows.specs.Common.{HasCleanDisk, HasTables, Int, IsCleanBook, IsTrue, OnOk, pos};
+ghost use Rattle.cpi_sql_rows.specs.Common.{Some, state};
+ghost use Rattle.cpi_sql_rows.specs.Lists.{month_at, office_in, revision_from};
+ghost use Rattle.cpi_sql_writes.specs.ReleaseSteps.{FitsTables, IsNew, ListsStand};
 ghost use Rattle.cpi_sql_writes.specs.Written.{Written};
 
 use crate::held_row::replace;
@@ -43,6 +44,8 @@ impl OneChange for Release {
 
     ghost fits = { IsNew };
 
+    ghost leaves = { ListsStand };
+
     // The header and the lists.
     fn write<S: Alter>(&self, tx: &mut Transaction<'_, S>, alloc: Global) -> Result<(), Unread> {
         if !fits_tables(self) {
@@ -65,6 +68,9 @@ pub fn put_release<S: Alter>(
 ) -> Result<(), Unread>
     ensures written { Written (Freezes release.now) (IsNew release.now)
         (state S.Store conn.old) (state S.Store conn.new) result }
+    ensures stand { IsCleanBook (state S.Store conn.new) → HasTables (state S.Store conn.old) →
+        IsNew release.now (office_in (state S.Store conn.old).now.trees) →
+        OnOk result (ListsStand release.now (state S.Store conn.new).now.trees) }
     ensures open { HasCleanDisk (state S.Store conn.new) → OnOk result (IsTrue (state S.Store conn.new).is_open) }
 {
     make_change(conn, alloc, release)
