@@ -1,12 +1,12 @@
 -- An INSERT of rows whose columns stand one behind the other among its parameters.
+use mathlib.Core.Bool.{true≢false}
 use Rattle.std.proofs.Common.{◌≡◌, inl, inr, ℕ, zero, suc, ◌+◌, ◌*◌, ◌/◌, List, [], ◌∷◌, ◌++◌, length, map, take}
 use Rattle.std.proofs.Common.{drop, get_or, slice_get, Some, Option, Result, refl, sym, ap, ap₂, subst, subst₂, ◌∙◌}
-use Rattle.std.proofs.Common.{arith, ◌<◌, Vec, Global, Ok, Err, IfOk, IsErrAnd, MatchResult}
+use Rattle.std.proofs.Common.{arith, ◌<◌, Ok, Err, OnOk, is_ok, if◌then◌else◌}
 use Rattle.std.proofs.Common.{append_assoc, append-nil, zero-lt-suc, zero-mul, Bool, true, false, IsTrue}
 use Rattle.std.proofs.Math.Nat.{mul-div_cancel}
 use Rattle.std.proofs.Math.Seq.{get_or-append_seam}
 use Rattle.std.proofs.lemmas.List.{length-append, map-append, take_more}
-use Rattle.sqlite.specs.Values.{bound_value}
 use Rattle.sqlite.specs.Cast.{cast_row}
 use Rattle.sqlite.specs.Command.TheVariants.{Insert}
 use Rattle.sqlite.specs.declared.types.Value.{Value}
@@ -20,14 +20,18 @@ use Rattle.sqlite.specs.State.{State}
 use Rattle.sqlite.specs.Table.{Table}
 use Rattle.sqlite.specs.Term.{Term, col, eval_all}
 use Rattle.sqlite.specs.Tree.{put_row}
+use Rattle.sqlite.specs.Values.{bound, bound_value}
 use Rattle.sqlite_rules.specs.Lists.{Has}
+use Rattle.sqlite_value.specs.declared.value.ValueRef.{ValueRef}
+use Rattle.sqlite_value.specs.Value.{owned}
 use Rattle.sqlite_rules.proofs.TableLemmas.{put_all_adds, put_all_has, put_all_keeps}
 use Rattle.cpi_sql_rows.specs.Tables.{office_schema}
 use Rattle.cpi_sql_rows.specs.Texts.{given_columns, given_rows}
 use Rattle.cpi_sql_rows.proofs.TableRows.{Gives, adds_rows}
 use Rattle.cpi_sql_rows.proofs.Texts.{Makes}
 use Rattle.cpi_sql_rows.proofs.Writing.{as_plain}
-use Rattle.cpi_sql_writes.specs.Columns.{AddsColumns, AreColumns, AreColumnsOf, rows_at_once}
+use Rattle.cpi_sql_writes.specs.Columns.{AddsColumns, AreColumns, AreColumnsOf, AreTextsOf, PutsColumns}
+use Rattle.cpi_sql_writes.specs.Columns.{rows_at_once}
 use Rattle.cpi_sql_writes.specs.Within.{AddsTo, Changes, Ran, Within}
 use Rattle.cpi_sql_writes.proofs.TableSteps.{made_step}
 use Rattle.cpi_sql_writes.proofs.Withins.{within_as}
@@ -113,21 +117,24 @@ module _ {X : Type 0} (it : Table) (entry : Row → Option (ℕ × X)) (GoesBy :
     ap (λ v. v ++ more) p.4 ∙ append_assoc p.0 p.1 more,
   )
 
-  -- the columns of one row more
-  pub columns_more : (rows : List X) (i : ℕ) (x : X) (all columns new : Row) → i < length rows → x ≡ get_or rows i x
-      → new ≡ all ++ columns → AreColumnsOf it entry GoesBy (take i rows) all → AreColumns it entry GoesBy x columns
-      → AreColumnsOf it entry GoesBy (take (i + 1) rows) new
-  columns_more rows i x all columns new low at is p one =
-      subst₂ (AreColumnsOf it entry GoesBy) (sym (take_more rows i x low ∙ ap (λ y. take i rows ++ y ∷ []) (sym at)))
-      (sym is) (columns_then (take i rows) (x ∷ []) all columns p
-      (columns, [], one, refl, sym (append-nil columns)))
+  -- columns that were put behind the others, unless memory was refused
+  pub columns_put : {A B D E : Type 0} (x : X) (old added new : List ValueRef) (made : Result A D) (result : Result B E)
+      → new ≡ (if is_ok made then old ++ added else old) → is_ok result ≡ is_ok made
+      → AreColumns it entry GoesBy x (bound added)
+      → OnOk result (PutsColumns it entry GoesBy x (bound old) (bound new))
+  columns_put x old added new (Ok a) (Ok b) items same are =
+      (bound added, are, ap bound items ∙ map-append (λ v. bound_value (owned v)) old added)
+  columns_put x old added new (Err d) (Ok b) items same are = absurd (true≢false same)
+  columns_put x old added new made (Err e) items same are = tt
 
-  -- a statement is given them as they are
-  pub columns_bound : (xs : List X) (values : Row) → AreColumnsOf it entry GoesBy xs values
-      → map bound_value values ≡ values
-  columns_bound [] values p = subst (λ v. map bound_value v ≡ v) (sym p) refl
-  columns_bound (x ∷ xs) values p = subst (λ v. map bound_value v ≡ v) (sym p.4)
-      (map-append bound_value p.0 p.1 ∙ ap₂ (λ (a b : Row). a ++ b) p.2.bound (columns_bound xs p.1 p.3))
+  -- the columns of one row more
+  pub columns_more : (rows : List X) (i : ℕ) (d : X) (all new : Row) → i < length rows
+      → AreColumnsOf it entry GoesBy (take i rows) all → PutsColumns it entry GoesBy (get_or rows i d) all new
+      → AreColumnsOf it entry GoesBy (take (i + 1) rows) new
+  columns_more rows i d all new low p put =
+      subst₂ (AreColumnsOf it entry GoesBy) (sym (take_more rows i d low)) (sym put.2)
+      (columns_then (take i rows) (get_or rows i d ∷ []) all put.0 p
+      (put.0, [], put.1, refl, sym (append-nil put.0)))
 
   -- ---- the rows that they become
 
@@ -241,12 +248,32 @@ added_for it entry GoesBy count values holder xs counted are old new result adde
     within_as old new result (λ a b. (h : _) → AddsColumns it entry (GoesBy h) count values a b)
     (Changes it.tree (AddsTo entry (GoesBy holder) xs)) added (λ inside step. step holder xs counted are)
 
--- a list of columns that was made, whatever else went wrong
-pub columns_kept : {D E : Type 0} (Post : E → D → Type 0) (made : Result (Vec Value Global) E)
-    (result : Result (Vec Value Global) D) (P : Row → Type 0) (columns : Row) → P columns
-    → IfOk made (λ v. v.items ≡ columns) → MatchResult made (λ v. result ≡ Ok v) (λ e. IsErrAnd result (Post e))
-    → IfOk result (λ v. P v.items)
-columns_kept Post (Ok v) result P columns holds is same =
-    subst (λ r. IfOk r (λ (w : Vec Value Global). P w.items)) (sym same) (subst P (sym is) holds)
-columns_kept Post (Err e) (Ok v) P columns holds is none = absurd none
-columns_kept Post (Err e) (Err d) P columns holds is some = tt
+-- ---- the texts of the rows
+
+module _ {X T : Type 0} (Spells : X → T → Type 0) where
+  texts_then : (xs ys : List X) (all more : List T) → AreTextsOf Spells xs all → AreTextsOf Spells ys more
+      → AreTextsOf Spells (xs ++ ys) (all ++ more)
+  texts_then [] ys all more p q = subst (λ ts. AreTextsOf Spells ys (ts ++ more)) (sym p) q
+  texts_then (x ∷ xs) ys all more p q =
+      (p.0, p.1 ++ more, p.2, texts_then xs ys p.1 more p.3 q, ap (λ ts. ts ++ more) p.4)
+
+  -- the texts of one row more
+  pub texts_more : (rows : List X) (i : ℕ) (x : X) (all : List T) (texts : T) (new : List T) → i < length rows
+      → x ≡ get_or rows i x → new ≡ all ++ texts ∷ [] → AreTextsOf Spells (take i rows) all → Spells x texts
+      → AreTextsOf Spells (take (i + 1) rows) new
+  texts_more rows i x all texts new low at is p one =
+      subst₂ (AreTextsOf Spells) (sym (take_more rows i x low ∙ ap (λ y. take i rows ++ y ∷ []) (sym at)))
+      (sym is) (texts_then (take i rows) (x ∷ []) all (texts ∷ []) p (texts, [], one, refl, refl))
+
+  pub texts_counted : (rows : List X) (all : List T) → AreTextsOf Spells rows all → length all ≡ length rows
+  texts_counted [] all p = ap length p
+  texts_counted (x ∷ xs) all p = ap length p.4 ∙ ap suc (texts_counted xs p.1 p.3)
+
+  -- those of the row at a place
+  pub texts_at : (rows : List X) (all : List T) (i : ℕ) (x : X) (t : T) → i < length rows → AreTextsOf Spells rows all
+      → Spells (get_or rows i x) (get_or all i t)
+  texts_at [] all i x t low p = absurd (omega arith)
+  texts_at (y ∷ ys) all zero x t low p = subst (λ ts. Spells y (get_or ts 0 t)) (sym p.4) p.2
+  texts_at (y ∷ ys) all (suc i) x t low p =
+      subst (λ ts. Spells (get_or ys i x) (get_or ts (suc i) t)) (sym p.4)
+      (texts_at ys p.1 i x t (omega arith) p.3)

@@ -38,7 +38,6 @@ module _ (year : ℕ) where
   node_columns c t n code title = record {
     stand = λ id number is. rw (is, code, title) refl;
     taken = simp (cast_null, cast_int);
-    bound = refl;
     width = refl;
   }
 
@@ -47,7 +46,6 @@ module _ (year : ℕ) where
   place_columns i c p item code = record {
     stand = λ id number is. rw (is, item, code) refl;
     taken = simp (cast_null, cast_int);
-    bound = refl;
     width = refl;
   }
 

@@ -52,7 +52,6 @@ module _ (m v : ℕ) where
   frozen_columns c s i l k w x collector slot item last mark = record {
     stand = λ id number is. rw (is, collector, slot, item, last, mark) refl;
     taken = simp (cast_null, cast_int);
-    bound = refl;
     width = refl;
   }
 
@@ -67,7 +66,6 @@ module _ (m v : ℕ) where
   carried_columns c s i l t n d o u x collector slot item last ticks knum kden observed imputed = record {
     stand = λ id number is. rw (is, collector, slot, item, last, ticks, knum, kden, observed, imputed) refl;
     taken = simp (cast_null, cast_int);
-    bound = refl;
     width = refl;
   }
 
@@ -81,7 +79,6 @@ module _ (m v : ℕ) where
   level_columns c t u x code title weight within chained imputed = record {
     stand = λ id number is. rw (is, code, title, weight, within, chained, annual_read x.year_change, imputed) refl;
     taken = simp (cast_null, cast_int, cast_annual);
-    bound = rw (bound_annual x.year_change) refl;
     width = refl;
   }
 

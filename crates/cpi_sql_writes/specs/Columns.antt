@@ -1,5 +1,5 @@
 -- The columns that rows are written as, one row behind the other.
-use Rattle.std.specs.Prelude.{◌≡◌, ℕ, Bool, List, [], ◌∷◌, ◌++◌, Option, Some, length, map}
+use Rattle.std.specs.Prelude.{◌≡◌, ℕ, Bool, List, [], ◌∷◌, ◌++◌, Option, Some, length}
 use Rattle.std.specs.Prelude.{if◌then◌else◌}
 use Rattle.sqlite.specs.Cast.{cast_row}
 use Rattle.sqlite.specs.declared.types.Value.{Value}
@@ -7,19 +7,23 @@ use Rattle.sqlite.specs.declared.types.Value.TheVariants.{Null}
 use Rattle.sqlite.specs.Order.{Row}
 use Rattle.sqlite.specs.State.{State}
 use Rattle.sqlite.specs.Table.{Table}
-use Rattle.sqlite.specs.Values.{bound_value}
 use Rattle.cpi_sql_writes.specs.Within.{AddsTo, Changes}
 
 -- the rows that one statement adds
 abbrev pub rows_at_once : Bool → ℕ
 rows_at_once many = if many then 16 else 1
 
+-- the texts of each, one after the other
+abbrev pub AreTextsOf : {X T : Type 0} → (X → T → Type 0) → List X → List T → Type 0
+AreTextsOf Spells [] all = all ≡ []
+AreTextsOf {T = T} Spells (x ∷ xs) all =
+    (texts : T) × (behind : List T) × Spells x texts × AreTextsOf Spells xs behind × (all ≡ texts ∷ behind)
+
 module _ {X : Type 0} (it : Table) (entry : Row → Option (ℕ × X)) (GoesBy : ℕ → Type 0) where
   -- The columns stand for this, whatever rowid is before them, and the table takes them as they are.
   pub record AreColumns (x : X) (columns : Row) : Type 0 where
     pub stand : (id : Value) (number : ℕ) → GoesBy number → entry (id ∷ columns) ≡ Some (number, x)
     pub taken : cast_row it (Null ∷ columns) ≡ Null ∷ columns
-    pub bound : map bound_value columns ≡ columns
     pub width : length columns ≡ length it.columns
 
   -- the columns of each, one behind the other
@@ -27,6 +31,10 @@ module _ {X : Type 0} (it : Table) (entry : Row → Option (ℕ × X)) (GoesBy :
   AreColumnsOf [] values = values ≡ []
   AreColumnsOf (x ∷ xs) values =
       (columns : Row) × (behind : Row) × AreColumns x columns × AreColumnsOf xs behind × (values ≡ columns ++ behind)
+
+  -- the columns of one more are put behind the others
+  abbrev pub PutsColumns : X → Row → Row → Type 0
+  PutsColumns x old new = (columns : Row) × AreColumns x columns × (new ≡ old ++ columns)
 
   -- what a statement adds that is given the columns of so many rows
   abbrev pub AddsColumns : ℕ → Row → State → State → Type 0

@@ -2,18 +2,20 @@
 //! place of what stands for its holder.
 ghost use Rattle.std.specs.Prelude.{◌<◌, ◌≡◌, ◌≤◌};
 ghost use Rattle.sqlite.specs.Table.{Table};
-ghost use Rattle.cpi_sql_rows.specs.Common.{ℕ, Bool, bound, IfOk, length, Option, Row, state};
-ghost use Rattle.cpi_sql_writes.specs.Columns.{AddsColumns, AreColumns, AreColumnsOf, rows_at_once};
+ghost use Rattle.cpi_sql_rows.specs.Common.{ℕ, Bool, bound, IfOk, length, OnOk, Option, Row, state};
+ghost use Rattle.cpi_sql_writes.specs.Columns.{AddsColumns, AreColumnsOf, AreTextsOf, PutsColumns, rows_at_once};
 ghost use Rattle.cpi_sql_writes.specs.Within.{AddsTo, Changes, Drops, Replaces, Within};
 
-use crate::values::lend_all;
 use cpi_sql_rows::Unread;
-use sqlite::types::{Value, ValueRef};
+use sqlite::types::ValueRef;
 use sqlite::{Alter, Transaction};
 use std::alloc::Global;
 
 // The rows that one statement adds, where so many are left.
 const AT_ONCE: usize = 16;
+
+// The columns of sixteen rows of the widest table: so much room is taken once for the columns of a statement.
+const ROOM: usize = AT_ONCE * 11;
 
 // Runs the INSERT of sixteen rows, or of one.
 macro_rules! insert_rows {
@@ -41,6 +43,9 @@ pub trait HeldRow {
     /// What the rows of one list begin with.
     type Holder: Copy;
 
+    /// The texts among the row's columns that are made of its codes.
+    type Texts: Drop;
+
     /// The table.
     ghost table: { Table };
 
@@ -53,15 +58,29 @@ pub trait HeldRow {
     /// Whether the holder goes by the number.
     ghost goes_by: { Self.Holder → ℕ → Type 0 };
 
+    /// Whether the texts are the row's.
+    ghost spells: { Self → Self.Texts → Type 0 };
+
     /// Drops the rows of the holder.
     fn drop_of<S: Alter>(tx: &mut Transaction<'_, S>, holder: Self::Holder) -> Result<(), Unread>
         ensures same_reference { tx.new.conn.ghost_name ≡ tx.old.conn.ghost_name }
         ensures dropped { Within (state S.Store tx.old.conn.now) (state S.Store tx.new.conn.now) result
             (Changes table.tree (Drops (is_of holder))) };
 
-    /// The columns of the row in the list of the holder.
-    fn columns(&self, alloc: Global, holder: Self::Holder) -> Result<Vec<Value>, Unread>
-        ensures { IfOk result (λ c. AreColumns table entry (goes_by holder) self.now c.items) };
+    /// The texts of the row.
+    fn texts(&self, alloc: Global) -> Result<Self::Texts, Unread>
+        ensures { IfOk result (λ texts. spells self.now texts) };
+
+    /// Puts the columns of the row in the list of the holder behind the others.
+    fn put_columns<'a>(
+        &'a self,
+        holder: Self::Holder,
+        texts: &'a Self::Texts,
+        all: &mut Vec<ValueRef<'a>>,
+    ) -> Result<(), Unread>
+        requires { spells self.now texts.now }
+        ensures { OnOk result
+            (PutsColumns table entry (goes_by holder) self.now (bound all.old.items) (bound all.new.items)) };
 
     /// Adds the rows that have these columns, by one statement: sixteen, or one.
     fn insert<S: Alter>(
@@ -75,18 +94,31 @@ pub trait HeldRow {
             AddsColumns table entry (goes_by holder) (rows_at_once many) (bound columns.now) old new) };
 }
 
+// The texts of each row.
+fn texts_of<T: HeldRow>(alloc: Global, rows: &[T]) -> Result<Vec<T::Texts>, Unread>
+    ensures { IfOk result (λ all. AreTextsOf T.spells rows.now all.items) }
+{
+    let mut all = Vec::with_capacity(alloc, rows.len()).map_err(|_| Unread)?;
+    'all: for row in rows {
+        let texts = row.texts(alloc)?;
+        all.push(texts).map_err(|_| Unread)?;
+    }
+    Ok(all)
+}
+
 // The columns of the rows, one row behind the other.
-fn columns_of<T: HeldRow>(
+fn columns_of<'a, T: HeldRow>(
     alloc: Global,
     holder: T::Holder,
-    rows: &[T],
-) -> Result<Vec<Value>, Unread>
-    ensures { IfOk result (λ all. AreColumnsOf T.table T.entry (T.goes_by holder) rows.now all.items) }
+    rows: &'a [T],
+    texts: &'a [T::Texts],
+) -> Result<Vec<ValueRef<'a>>, Unread>
+    requires { AreTextsOf T.spells rows.now texts.now }
+    ensures { IfOk result (λ all. AreColumnsOf T.table T.entry (T.goes_by holder) rows.now (bound all.items)) }
 {
-    let mut all = Vec::new(alloc);
-    'all: for row in rows {
-        let mut columns = row.columns(alloc, holder)?;
-        all.append(&mut columns).map_err(|_| Unread)?;
+    let mut all = Vec::with_capacity(alloc, ROOM).map_err(|_| Unread)?;
+    'all: for i in 0..rows.len() {
+        rows[i].put_columns(holder, &texts[i], &mut all)?;
     }
     Ok(all)
 }
@@ -104,9 +136,9 @@ fn add_at_once<S: Alter, T: HeldRow>(
     ensures added { Within (state S.Store tx.old.conn.now) (state S.Store tx.new.conn.now) result
         (Changes T.table.tree (AddsTo T.entry (T.goes_by holder) rows.now)) }
 {
-    let columns = columns_of(alloc, holder, rows)?;
-    let lent = lend_all(alloc, &columns)?;
-    T::insert(tx, &lent, many)
+    let texts = texts_of(alloc, rows)?;
+    let columns = columns_of(alloc, holder, rows, &texts)?;
+    T::insert(tx, &columns, many)
 }
 
 // Adds the rows to those of the holder.

@@ -11,7 +11,6 @@ mod plans;
 mod put_header;
 mod release_rows;
 mod releases;
-mod values;
 mod writes;
 
 pub use handovers::put_handover;

@@ -1,6 +1,8 @@
 //! The rows of a year's plan: its nodes, its places and its reference month.
 ghost use Rattle.std.specs.Prelude.{◌∷◌, ◌≡◌};
-ghost use Rattle.cpi_sql_rows.specs.Common.{[], state};
+ghost use Rattle.cpi_codes.specs.CodeOf.{code_of};
+ghost use Rattle.cpi_codes.specs.ItemCode.{item_code_of};
+ghost use Rattle.cpi_sql_rows.specs.Common.{[], Some, state, string_bytes};
 ghost use Rattle.cpi_sql_rows.specs.Lists.{node_in, place_in, reference_row, references_for};
 ghost use Rattle.cpi_sql_rows.specs.Tables.{node, plan_item, plan_ref};
 ghost use Rattle.cpi_sql_writes.specs.PlanSteps.{is_of_year, IsYearNumber};
@@ -8,11 +10,10 @@ ghost use Rattle.cpi_sql_writes.specs.Within.{AddsTo, Changes, Drops, Replaces, 
 
 use crate::held_row::{HeldRow, insert_rows};
 use crate::inside::run_inside;
-use crate::values::{text, whole};
 use cpi_codes::Month;
 use cpi_plan::{Node, Place};
 use cpi_sql_rows::{Unread, code_text, item_text, month_number, name_text};
-use sqlite::types::{Value, ValueRef};
+use sqlite::types::{ToSql, ValueRef};
 use sqlite::{Alter, Transaction, params};
 use std::alloc::Global;
 
@@ -20,6 +21,8 @@ const DROP_NODES: &str = "DELETE FROM node WHERE year = ?1";
 
 impl HeldRow for Node {
     type Holder = u32;
+
+    type Texts = String;
 
     ghost table = { node };
 
@@ -29,16 +32,29 @@ impl HeldRow for Node {
 
     ghost goes_by = { IsYearNumber };
 
+    ghost spells = { λ node code. code_of (string_bytes code) ≡ Some node.code };
+
     fn drop_of<S: Alter>(tx: &mut Transaction<'_, S>, year: u32) -> Result<(), Unread> {
         run_inside(tx, DROP_NODES, params![year])
     }
 
-    fn columns(&self, alloc: Global, year: u32) -> Result<Vec<Value>, Unread> {
-        let code = code_text(alloc, self.code)?;
-        let code = text(alloc, code.as_str())?;
-        let title = text(alloc, name_text(&self.title))?;
-        let columns = [whole(year), code, title, whole(self.weight)];
-        Vec::from_array(alloc, columns).map_err(|_| Unread)
+    fn texts(&self, alloc: Global) -> Result<String, Unread> {
+        code_text(alloc, self.code)
+    }
+
+    fn put_columns<'a>(
+        &'a self,
+        year: u32,
+        code: &'a String,
+        all: &mut Vec<ValueRef<'a>>,
+    ) -> Result<(), Unread> {
+        let columns = [
+            year.to_sql(),
+            code.to_sql(),
+            name_text(&self.title).to_sql(),
+            self.weight.to_sql(),
+        ];
+        all.extend_from_slice(&columns).map_err(|_| Unread)
     }
 
     fn insert<S: Alter>(
@@ -56,10 +72,19 @@ impl HeldRow for Node {
     }
 }
 
+/// The codes of a place as texts.
+#[derive(Drop)]
+pub struct PlaceTexts {
+    pub item: String,
+    pub aggregate: String,
+}
+
 const DROP_PLACES: &str = "DELETE FROM plan_item WHERE year = ?1";
 
 impl HeldRow for Place {
     type Holder = u32;
+
+    type Texts = PlaceTexts;
 
     ghost table = { plan_item };
 
@@ -69,16 +94,28 @@ impl HeldRow for Place {
 
     ghost goes_by = { IsYearNumber };
 
+    ghost spells = { λ place texts.
+        (item_code_of (string_bytes texts.item) ≡ Some place.item)
+        × (code_of (string_bytes texts.aggregate) ≡ Some place.aggregate) };
+
     fn drop_of<S: Alter>(tx: &mut Transaction<'_, S>, year: u32) -> Result<(), Unread> {
         run_inside(tx, DROP_PLACES, params![year])
     }
 
-    fn columns(&self, alloc: Global, year: u32) -> Result<Vec<Value>, Unread> {
+    fn texts(&self, alloc: Global) -> Result<PlaceTexts, Unread> {
         let item = item_text(alloc, self.item)?;
-        let item = text(alloc, item.as_str())?;
-        let code = code_text(alloc, self.aggregate)?;
-        let code = text(alloc, code.as_str())?;
-        Vec::from_array(alloc, [whole(year), item, code]).map_err(|_| Unread)
+        let aggregate = code_text(alloc, self.aggregate)?;
+        Ok(PlaceTexts { item, aggregate })
+    }
+
+    fn put_columns<'a>(
+        &'a self,
+        year: u32,
+        texts: &'a PlaceTexts,
+        all: &mut Vec<ValueRef<'a>>,
+    ) -> Result<(), Unread> {
+        let columns = [year.to_sql(), texts.item.to_sql(), texts.aggregate.to_sql()];
+        all.extend_from_slice(&columns).map_err(|_| Unread)
     }
 
     fn insert<S: Alter>(

@@ -1,7 +1,10 @@
 //! The rows of a release: its frozen quotes, its carried prices and its table.
 ghost use Rattle.std.specs.Prelude.{◌≡◌};
+ghost use Rattle.sqlite_value.specs.Value.{owned};
+ghost use Rattle.cpi_codes.specs.CodeOf.{code_of};
+ghost use Rattle.cpi_codes.specs.ItemCode.{item_code_of};
 ghost use Rattle.cpi_index.specs.Carried.{IsTicks};
-ghost use Rattle.cpi_sql_rows.specs.Common.{Int, pos, Some};
+ghost use Rattle.cpi_sql_rows.specs.Common.{Int, pos, Some, string_bytes};
 ghost use Rattle.cpi_sql_rows.specs.Lists.{carried_in, flag_in, frozen_in, level_in, ranged};
 ghost use Rattle.cpi_sql_rows.specs.ReleaseRows.{annual};
 ghost use Rattle.cpi_sql_rows.specs.Tables.{carried_2, frozen_2, level_2};
@@ -9,14 +12,13 @@ ghost use Rattle.cpi_sql_writes.specs.ReleaseSteps.{is_of_release, IsReleaseNumb
 
 use crate::held_row::{HeldRow, insert_rows};
 use crate::inside::run_inside;
-use crate::values::{text, whole};
 use cpi_index::{CarriedPrice, ChainedLevel, FrozenQuote, Index, NodeWeight};
 use cpi_release::Level;
 use cpi_sql_rows::{
     Unread, code_text, collector_number, item_text, mark_text, mark_value, month_number, name_text,
     slot_number,
 };
-use sqlite::types::{Value, ValueRef};
+use sqlite::types::{ToSql, ValueRef};
 use sqlite::{Alter, Transaction, params};
 use std::alloc::Global;
 
@@ -39,6 +41,8 @@ const DROP_FROZEN: &str = "DELETE FROM frozen_2 WHERE month = ?1 AND revision = 
 impl HeldRow for FrozenQuote {
     type Holder = ReleaseNumbers;
 
+    type Texts = String;
+
     ghost table = { frozen_2 };
 
     ghost entry = { frozen_in };
@@ -47,6 +51,8 @@ impl HeldRow for FrozenQuote {
 
     ghost goes_by = { λ numbers. IsReleaseNumber numbers.month numbers.revision };
 
+    ghost spells = { λ quote item. item_code_of (string_bytes item) ≡ Some quote.item };
+
     fn drop_of<S: Alter>(
         tx: &mut Transaction<'_, S>,
         numbers: ReleaseNumbers,
@@ -54,19 +60,27 @@ impl HeldRow for FrozenQuote {
         run_inside(tx, DROP_FROZEN, params![numbers.month, numbers.revision])
     }
 
-    fn columns(&self, alloc: Global, numbers: ReleaseNumbers) -> Result<Vec<Value>, Unread> {
-        let item = item_text(alloc, self.item)?;
+    fn texts(&self, alloc: Global) -> Result<String, Unread> {
+        item_text(alloc, self.item)
+    }
+
+    fn put_columns<'a>(
+        &'a self,
+        numbers: ReleaseNumbers,
+        item: &'a String,
+        all: &mut Vec<ValueRef<'a>>,
+    ) -> Result<(), Unread> {
         let columns = [
-            whole(numbers.month),
-            whole(numbers.revision),
-            whole(collector_number(self.series.collector)),
-            whole(slot_number(self.series.slot)),
-            text(alloc, item.as_str())?,
-            whole(month_number(self.last_month)),
-            text(alloc, mark_text(self.mark))?,
-            whole(mark_value(self.mark)),
+            numbers.month.to_sql(),
+            numbers.revision.to_sql(),
+            collector_number(self.series.collector).to_sql(),
+            slot_number(self.series.slot).to_sql(),
+            item.to_sql(),
+            month_number(self.last_month).to_sql(),
+            mark_text(self.mark).to_sql(),
+            mark_value(self.mark).to_sql(),
         ];
-        Vec::from_array(alloc, columns).map_err(|_| Unread)
+        all.extend_from_slice(&columns).map_err(|_| Unread)
     }
 
     fn insert<S: Alter>(
@@ -84,12 +98,12 @@ impl HeldRow for FrozenQuote {
     }
 }
 
-fn ticks_value(ticks: u64) -> Value
+fn ticks_value(ticks: u64) -> ValueRef<'static>
     requires { IsTicks ticks }
-    ensures value { result ≡ Int (pos ticks) }
+    ensures value { owned result ≡ Int (pos ticks) }
     ensures range { ranged 1 1000000000000000 (Int (pos ticks)) ≡ Some ticks }
 {
-    Value::Int(ticks as i64)
+    ValueRef::Int(ticks as i64)
 }
 
 fn denominator(price: &CarriedPrice) -> u32
@@ -103,6 +117,8 @@ const DROP_CARRIED: &str = "DELETE FROM carried_2 WHERE month = ?1 AND revision 
 impl HeldRow for CarriedPrice {
     type Holder = ReleaseNumbers;
 
+    type Texts = String;
+
     ghost table = { carried_2 };
 
     ghost entry = { carried_in };
@@ -111,6 +127,8 @@ impl HeldRow for CarriedPrice {
 
     ghost goes_by = { λ numbers. IsReleaseNumber numbers.month numbers.revision };
 
+    ghost spells = { λ price item. item_code_of (string_bytes item) ≡ Some price.item };
+
     fn drop_of<S: Alter>(
         tx: &mut Transaction<'_, S>,
         numbers: ReleaseNumbers,
@@ -118,23 +136,31 @@ impl HeldRow for CarriedPrice {
         run_inside(tx, DROP_CARRIED, params![numbers.month, numbers.revision])
     }
 
-    fn columns(&self, alloc: Global, numbers: ReleaseNumbers) -> Result<Vec<Value>, Unread> {
+    fn texts(&self, alloc: Global) -> Result<String, Unread> {
+        item_text(alloc, self.item())
+    }
+
+    fn put_columns<'a>(
+        &'a self,
+        numbers: ReleaseNumbers,
+        item: &'a String,
+        all: &mut Vec<ValueRef<'a>>,
+    ) -> Result<(), Unread> {
         let series = self.series();
-        let item = item_text(alloc, self.item())?;
         let columns = [
-            whole(numbers.month),
-            whole(numbers.revision),
-            whole(collector_number(series.collector)),
-            whole(slot_number(series.slot)),
-            text(alloc, item.as_str())?,
-            whole(month_number(self.last_month())),
+            numbers.month.to_sql(),
+            numbers.revision.to_sql(),
+            collector_number(series.collector).to_sql(),
+            slot_number(series.slot).to_sql(),
+            item.to_sql(),
+            month_number(self.last_month()).to_sql(),
             ticks_value(self.ticks()),
             ticks_value(self.knum()),
-            whole(denominator(self)),
-            whole(flag_number(self.was_observed())),
-            whole(flag_number(self.was_imputed())),
+            denominator(self).to_sql(),
+            flag_number(self.was_observed()).to_sql(),
+            flag_number(self.was_imputed()).to_sql(),
         ];
-        Vec::from_array(alloc, columns).map_err(|_| Unread)
+        all.extend_from_slice(&columns).map_err(|_| Unread)
     }
 
     fn insert<S: Alter>(
@@ -152,39 +178,39 @@ impl HeldRow for CarriedPrice {
     }
 }
 
-fn index_value(index: Index) -> Value
-    ensures value { result ≡ Int (pos index) }
+fn index_value(index: Index) -> ValueRef<'static>
+    ensures value { owned result ≡ Int (pos index) }
     ensures range { ranged 1 10000000000000 (Int (pos index)) ≡ Some index }
 {
-    Value::Int(index.millionths() as i64)
+    ValueRef::Int(index.millionths() as i64)
 }
 
-fn chained_value(level: ChainedLevel) -> Value
-    ensures value { result ≡ Int (pos level) }
+fn chained_value(level: ChainedLevel) -> ValueRef<'static>
+    ensures value { owned result ≡ Int (pos level) }
     ensures range { ranged 1 1000000000000000 (Int (pos level)) ≡ Some level }
 {
-    Value::Int(level.millionths() as i64)
+    ValueRef::Int(level.millionths() as i64)
 }
 
-fn weight_value(weight: NodeWeight) -> Value
-    ensures value { result ≡ Int (pos weight) }
+fn weight_value(weight: NodeWeight) -> ValueRef<'static>
+    ensures value { owned result ≡ Int (pos weight) }
     ensures range { ranged 1 1000000000000000 (Int (pos weight)) ≡ Some weight }
 {
-    Value::Int(weight.parts() as i64)
+    ValueRef::Int(weight.parts() as i64)
 }
 
-fn month_change(level: &Level) -> Value
-    ensures { result ≡ Int level.now.month_change }
+fn month_change(level: &Level) -> ValueRef<'static>
+    ensures { owned result ≡ Int level.now.month_change }
 {
-    Value::Int(level.month_change)
+    ValueRef::Int(level.month_change)
 }
 
-fn year_change(level: &Level) -> Value
-    ensures { result ≡ annual level.now.year_change }
+fn year_change(level: &Level) -> ValueRef<'static>
+    ensures { owned result ≡ annual level.now.year_change }
 {
     match level.year_change {
-        Some(change) => Value::Int(change),
-        None => Value::Null,
+        Some(change) => ValueRef::Int(change),
+        None => ValueRef::Null,
     }
 }
 
@@ -192,6 +218,8 @@ const DROP_LEVEL: &str = "DELETE FROM level_2 WHERE month = ?1 AND revision = ?2
 
 impl HeldRow for Level {
     type Holder = ReleaseNumbers;
+
+    type Texts = String;
 
     ghost table = { level_2 };
 
@@ -201,6 +229,8 @@ impl HeldRow for Level {
 
     ghost goes_by = { λ numbers. IsReleaseNumber numbers.month numbers.revision };
 
+    ghost spells = { λ level code. code_of (string_bytes code) ≡ Some level.code };
+
     fn drop_of<S: Alter>(
         tx: &mut Transaction<'_, S>,
         numbers: ReleaseNumbers,
@@ -208,21 +238,29 @@ impl HeldRow for Level {
         run_inside(tx, DROP_LEVEL, params![numbers.month, numbers.revision])
     }
 
-    fn columns(&self, alloc: Global, numbers: ReleaseNumbers) -> Result<Vec<Value>, Unread> {
-        let code = code_text(alloc, self.code)?;
+    fn texts(&self, alloc: Global) -> Result<String, Unread> {
+        code_text(alloc, self.code)
+    }
+
+    fn put_columns<'a>(
+        &'a self,
+        numbers: ReleaseNumbers,
+        code: &'a String,
+        all: &mut Vec<ValueRef<'a>>,
+    ) -> Result<(), Unread> {
         let columns = [
-            whole(numbers.month),
-            whole(numbers.revision),
-            text(alloc, code.as_str())?,
-            text(alloc, name_text(&self.title))?,
+            numbers.month.to_sql(),
+            numbers.revision.to_sql(),
+            code.to_sql(),
+            name_text(&self.title).to_sql(),
             weight_value(self.weight),
             index_value(self.within),
             chained_value(self.chained),
             month_change(self),
             year_change(self),
-            whole(flag_number(self.imputed)),
+            flag_number(self.imputed).to_sql(),
         ];
-        Vec::from_array(alloc, columns).map_err(|_| Unread)
+        all.extend_from_slice(&columns).map_err(|_| Unread)
     }
 
     fn insert<S: Alter>(
