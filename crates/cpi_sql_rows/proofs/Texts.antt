@@ -20,8 +20,7 @@ use Rattle.cpi_sql_rows.specs.Texts.{add_reference_command, drop_references_text
 use Rattle.cpi_sql_rows.specs.Texts.{add_header_text, add_header_command, add_frozen_text, add_frozen_command}
 use Rattle.cpi_sql_rows.specs.Texts.{add_carried_text, add_carried_command, add_level_text, add_level_command}
 use Rattle.cpi_sql_rows.specs.Texts.{drop_frozen_text, drop_frozen_command, drop_carried_text, drop_carried_command}
-use Rattle.cpi_sql_rows.specs.Texts.{drop_level_text, drop_level_command, add_nodes_text, add_places_text}
-use Rattle.cpi_sql_rows.specs.Texts.{add_frozen_quotes_text, add_carried_prices_text, add_levels_text}
+use Rattle.cpi_sql_rows.specs.Texts.{drop_level_text, drop_level_command}
 
 -- the text is a query that means this
 abbrev pub Asks : List ℕ → Command → Type 0
@@ -60,19 +59,19 @@ pub put_quote_is : Makes put_quote_text put_quote_command
 unfolding understood everything
 put_quote_is = (refl, (refl, refl))
 
-pub add_node_is : Makes add_node_text (add_node_command 1)
+pub add_node_is : Makes (add_node_text 1) (add_node_command 1)
 unfolding understood everything
 add_node_is = (refl, (refl, refl))
 
-pub add_nodes_is : Makes add_nodes_text (add_node_command 16)
+pub add_nodes_is : Makes (add_node_text 32) (add_node_command 32)
 unfolding understood everything
 add_nodes_is = (refl, (refl, refl))
 
-pub add_place_is : Makes add_place_text (add_place_command 1)
+pub add_place_is : Makes (add_place_text 1) (add_place_command 1)
 unfolding understood everything
 add_place_is = (refl, (refl, refl))
 
-pub add_places_is : Makes add_places_text (add_place_command 16)
+pub add_places_is : Makes (add_place_text 32) (add_place_command 32)
 unfolding understood everything
 add_places_is = (refl, (refl, refl))
 
@@ -94,27 +93,27 @@ pub add_header_is : Makes add_header_text add_header_command
 unfolding understood everything
 add_header_is = (refl, (refl, refl))
 
-pub add_frozen_is : Makes add_frozen_text (add_frozen_command 1)
+pub add_frozen_is : Makes (add_frozen_text 1) (add_frozen_command 1)
 unfolding understood everything
 add_frozen_is = (refl, (refl, refl))
 
-pub add_frozen_quotes_is : Makes add_frozen_quotes_text (add_frozen_command 16)
+pub add_frozen_quotes_is : Makes (add_frozen_text 32) (add_frozen_command 32)
 unfolding understood everything
 add_frozen_quotes_is = (refl, (refl, refl))
 
-pub add_carried_is : Makes add_carried_text (add_carried_command 1)
+pub add_carried_is : Makes (add_carried_text 1) (add_carried_command 1)
 unfolding understood everything
 add_carried_is = (refl, (refl, refl))
 
-pub add_carried_prices_is : Makes add_carried_prices_text (add_carried_command 16)
+pub add_carried_prices_is : Makes (add_carried_text 32) (add_carried_command 32)
 unfolding understood everything
 add_carried_prices_is = (refl, (refl, refl))
 
-pub add_level_is : Makes add_level_text (add_level_command 1)
+pub add_level_is : Makes (add_level_text 1) (add_level_command 1)
 unfolding understood everything
 add_level_is = (refl, (refl, refl))
 
-pub add_levels_is : Makes add_levels_text (add_level_command 16)
+pub add_levels_is : Makes (add_level_text 32) (add_level_command 32)
 unfolding understood everything
 add_levels_is = (refl, (refl, refl))
 

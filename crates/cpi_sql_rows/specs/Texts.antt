@@ -59,6 +59,12 @@ abbrev pub given_rows : ℕ → ℕ → ℕ → List Term
 given_rows width zero from = []
 given_rows width (suc count) from = lit Null ∷ given_columns width from ++ given_rows width count (from + width)
 
+-- the text of such a row, so many times, with a comma between each two
+abbrev pub text_rows : ℕ → List ℕ → List ℕ
+text_rows zero row = []
+text_rows (suc zero) row = row
+text_rows (suc (suc count)) row = row ++ (codes ", " ++ text_rows (suc count) row)
+
 -- ---- the number of the schema
 
 -- puts the number of the schema
@@ -217,29 +223,23 @@ nodes_text = codes "SELECT year, code, title, weight FROM node WHERE year = ?1 O
 abbrev pub places_text : List ℕ
 places_text = codes "SELECT year, item, code FROM plan_item WHERE year = ?1 ORDER BY year, item"
 
--- adds a node
-abbrev pub add_node_text : List ℕ
-add_node_text = codes "INSERT INTO node (year, code, title, weight) VALUES (?, ?, ?, ?)"
+-- adds so many nodes
+abbrev pub add_node_text : ℕ → List ℕ
+add_node_text count =
+    codes "INSERT INTO node (year, code, title, weight) VALUES "
+    ++ text_rows count (codes "(?, ?, ?, ?)")
 
--- adds sixteen nodes
-abbrev pub add_nodes_text : List ℕ
-add_nodes_text =
-    codes "INSERT INTO node (year, code, title, weight) VALUES (?, ?, ?, ?), (?, ?, ?, ?), (?, ?, ?, ?), (?, ?, ?, ?), (?, ?, ?, ?), (?, ?, ?, ?), (?, ?, ?, ?), (?, ?, ?, ?), (?, ?, ?, ?), (?, ?, ?, ?), (?, ?, ?, ?), (?, ?, ?, ?), (?, ?, ?, ?), (?, ?, ?, ?), (?, ?, ?, ?), (?, ?, ?, ?)"
-
--- what they mean: so many rows
+-- what it means
 abbrev pub add_node_command : ℕ → Command
 add_node_command count = Insert 4 (Values (given_rows 4 count 0) 5)
 
--- adds a place
-abbrev pub add_place_text : List ℕ
-add_place_text = codes "INSERT INTO plan_item (year, item, code) VALUES (?, ?, ?)"
+-- adds so many places
+abbrev pub add_place_text : ℕ → List ℕ
+add_place_text count =
+    codes "INSERT INTO plan_item (year, item, code) VALUES "
+    ++ text_rows count (codes "(?, ?, ?)")
 
--- adds sixteen places
-abbrev pub add_places_text : List ℕ
-add_places_text =
-    codes "INSERT INTO plan_item (year, item, code) VALUES (?, ?, ?), (?, ?, ?), (?, ?, ?), (?, ?, ?), (?, ?, ?), (?, ?, ?), (?, ?, ?), (?, ?, ?), (?, ?, ?), (?, ?, ?), (?, ?, ?), (?, ?, ?), (?, ?, ?), (?, ?, ?), (?, ?, ?), (?, ?, ?)"
-
--- what they mean: so many rows
+-- what it means
 abbrev pub add_place_command : ℕ → Command
 add_place_command count = Insert 5 (Values (given_rows 3 count 0) 4)
 
@@ -318,45 +318,33 @@ add_header_terms =
 abbrev pub add_header_command : Command
 add_header_command = Insert 15 (Values add_header_terms 6)
 
--- adds a frozen quote
-abbrev pub add_frozen_text : List ℕ
-add_frozen_text =
-    codes "INSERT INTO frozen_2 (month, revision, collector, slot, item, last_month, mark, value) VALUES (?, ?, ?, ?, ?, ?, ?, ?)"
+-- adds so many frozen quotes
+abbrev pub add_frozen_text : ℕ → List ℕ
+add_frozen_text count =
+    codes "INSERT INTO frozen_2 (month, revision, collector, slot, item, last_month, mark, value) VALUES "
+    ++ text_rows count (codes "(?, ?, ?, ?, ?, ?, ?, ?)")
 
--- adds sixteen frozen quotes
-abbrev pub add_frozen_quotes_text : List ℕ
-add_frozen_quotes_text =
-    codes "INSERT INTO frozen_2 (month, revision, collector, slot, item, last_month, mark, value) VALUES (?, ?, ?, ?, ?, ?, ?, ?), (?, ?, ?, ?, ?, ?, ?, ?), (?, ?, ?, ?, ?, ?, ?, ?), (?, ?, ?, ?, ?, ?, ?, ?), (?, ?, ?, ?, ?, ?, ?, ?), (?, ?, ?, ?, ?, ?, ?, ?), (?, ?, ?, ?, ?, ?, ?, ?), (?, ?, ?, ?, ?, ?, ?, ?), (?, ?, ?, ?, ?, ?, ?, ?), (?, ?, ?, ?, ?, ?, ?, ?), (?, ?, ?, ?, ?, ?, ?, ?), (?, ?, ?, ?, ?, ?, ?, ?), (?, ?, ?, ?, ?, ?, ?, ?), (?, ?, ?, ?, ?, ?, ?, ?), (?, ?, ?, ?, ?, ?, ?, ?), (?, ?, ?, ?, ?, ?, ?, ?)"
-
--- what they mean: so many rows
+-- what it means
 abbrev pub add_frozen_command : ℕ → Command
 add_frozen_command count = Insert 16 (Values (given_rows 8 count 0) 9)
 
--- adds a carried price
-abbrev pub add_carried_text : List ℕ
-add_carried_text =
-    codes "INSERT INTO carried_2 (month, revision, collector, slot, item, last_month, ticks, knum, kden, observed, imputed) VALUES (?, ?, ?, ?, ?, ?, ?, ?, ?, ?, ?)"
+-- adds so many carried prices
+abbrev pub add_carried_text : ℕ → List ℕ
+add_carried_text count =
+    codes "INSERT INTO carried_2 (month, revision, collector, slot, item, last_month, ticks, knum, kden, observed, imputed) VALUES "
+    ++ text_rows count (codes "(?, ?, ?, ?, ?, ?, ?, ?, ?, ?, ?)")
 
--- adds sixteen carried prices
-abbrev pub add_carried_prices_text : List ℕ
-add_carried_prices_text =
-    codes "INSERT INTO carried_2 (month, revision, collector, slot, item, last_month, ticks, knum, kden, observed, imputed) VALUES (?, ?, ?, ?, ?, ?, ?, ?, ?, ?, ?), (?, ?, ?, ?, ?, ?, ?, ?, ?, ?, ?), (?, ?, ?, ?, ?, ?, ?, ?, ?, ?, ?), (?, ?, ?, ?, ?, ?, ?, ?, ?, ?, ?), (?, ?, ?, ?, ?, ?, ?, ?, ?, ?, ?), (?, ?, ?, ?, ?, ?, ?, ?, ?, ?, ?), (?, ?, ?, ?, ?, ?, ?, ?, ?, ?, ?), (?, ?, ?, ?, ?, ?, ?, ?, ?, ?, ?), (?, ?, ?, ?, ?, ?, ?, ?, ?, ?, ?), (?, ?, ?, ?, ?, ?, ?, ?, ?, ?, ?), (?, ?, ?, ?, ?, ?, ?, ?, ?, ?, ?), (?, ?, ?, ?, ?, ?, ?, ?, ?, ?, ?), (?, ?, ?, ?, ?, ?, ?, ?, ?, ?, ?), (?, ?, ?, ?, ?, ?, ?, ?, ?, ?, ?), (?, ?, ?, ?, ?, ?, ?, ?, ?, ?, ?), (?, ?, ?, ?, ?, ?, ?, ?, ?, ?, ?)"
-
--- what they mean: so many rows
+-- what it means
 abbrev pub add_carried_command : ℕ → Command
 add_carried_command count = Insert 17 (Values (given_rows 11 count 0) 12)
 
--- adds a row of a table
-abbrev pub add_level_text : List ℕ
-add_level_text =
-    codes "INSERT INTO level_2 (month, revision, code, title, weight, within, chained, month_change, year_change, imputed) VALUES (?, ?, ?, ?, ?, ?, ?, ?, ?, ?)"
+-- adds so many rows of a table
+abbrev pub add_level_text : ℕ → List ℕ
+add_level_text count =
+    codes "INSERT INTO level_2 (month, revision, code, title, weight, within, chained, month_change, year_change, imputed) VALUES "
+    ++ text_rows count (codes "(?, ?, ?, ?, ?, ?, ?, ?, ?, ?)")
 
--- adds sixteen rows of a table
-abbrev pub add_levels_text : List ℕ
-add_levels_text =
-    codes "INSERT INTO level_2 (month, revision, code, title, weight, within, chained, month_change, year_change, imputed) VALUES (?, ?, ?, ?, ?, ?, ?, ?, ?, ?), (?, ?, ?, ?, ?, ?, ?, ?, ?, ?), (?, ?, ?, ?, ?, ?, ?, ?, ?, ?), (?, ?, ?, ?, ?, ?, ?, ?, ?, ?), (?, ?, ?, ?, ?, ?, ?, ?, ?, ?), (?, ?, ?, ?, ?, ?, ?, ?, ?, ?), (?, ?, ?, ?, ?, ?, ?, ?, ?, ?), (?, ?, ?, ?, ?, ?, ?, ?, ?, ?), (?, ?, ?, ?, ?, ?, ?, ?, ?, ?), (?, ?, ?, ?, ?, ?, ?, ?, ?, ?), (?, ?, ?, ?, ?, ?, ?, ?, ?, ?), (?, ?, ?, ?, ?, ?, ?, ?, ?, ?), (?, ?, ?, ?, ?, ?, ?, ?, ?, ?), (?, ?, ?, ?, ?, ?, ?, ?, ?, ?), (?, ?, ?, ?, ?, ?, ?, ?, ?, ?), (?, ?, ?, ?, ?, ?, ?, ?, ?, ?)"
-
--- what they mean: so many rows
+-- what it means
 abbrev pub add_level_command : ℕ → Command
 add_level_command count = Insert 18 (Values (given_rows 10 count 0) 11)
 

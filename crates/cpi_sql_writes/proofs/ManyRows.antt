@@ -217,26 +217,26 @@ module _ {X : Type 0} (it : Table) (entry : Row → Option (ℕ × X)) (GoesBy :
           others = added.others;
         }) inside run
 
--- the statement of one row, or of sixteen, of a table
+-- the statement of one row, or of thirty-two, of a table
 module _ {X H A E : Type 0} (it : Table) (at : ℕ) (stands : slice_get office_schema.tables at ≡ Some (as_plain it))
-    (one sixteen : List ℕ) (entry : Row → Option (ℕ × X)) (GoesBy : H → ℕ → Type 0)
-    (makes_one : Makes one (Insert at (Values (given_rows (length it.columns) 1 0) (suc (length it.columns)))))
-    (makes_sixteen : Makes sixteen (Insert at (Values (given_rows (length it.columns) 16 0) (suc (length it.columns)))))
+    (one_text many_text : List ℕ) (entry : Row → Option (ℕ × X)) (GoesBy : H → ℕ → Type 0)
+    (makes_one : Makes one_text (Insert at (Values (given_rows (length it.columns) 1 0) (suc (length it.columns)))))
+    (makes_many : Makes many_text (Insert at (Values (given_rows (length it.columns) 32 0) (suc (length it.columns)))))
     (values : Row) (old new : State) (result : Result A E) where
   abbrev Step : Bool → State → State → Type 0
   Step many a b = (h : H) → AddsColumns it entry (GoesBy h) (rows_at_once many) values a b
 
-  pub many_inserted : (many : Bool) → many ≡ true → Within old new result (Ran sixteen values)
+  pub many_inserted : (many : Bool) → many ≡ true → Within old new result (Ran many_text values)
       → Within old new result (Step many)
   many_inserted many is ran = subst (λ b. Within old new result (Step b)) (sym is)
-      (within_as old new result (Ran sixteen values) (Step true) ran
-      (λ inside run h. rows_added it entry (GoesBy h) at stands 16 sixteen values old new makes_sixteen inside run))
+      (within_as old new result (Ran many_text values) (Step true) ran
+      (λ inside run h. rows_added it entry (GoesBy h) at stands 32 many_text values old new makes_many inside run))
 
-  pub one_inserted : (many : Bool) → many ≡ false → Within old new result (Ran one values)
+  pub one_inserted : (many : Bool) → many ≡ false → Within old new result (Ran one_text values)
       → Within old new result (Step many)
   one_inserted many is ran = subst (λ b. Within old new result (Step b)) (sym is)
-      (within_as old new result (Ran one values) (Step false) ran
-      (λ inside run h. rows_added it entry (GoesBy h) at stands 1 one values old new makes_one inside run))
+      (within_as old new result (Ran one_text values) (Step false) ran
+      (λ inside run h. rows_added it entry (GoesBy h) at stands 1 one_text values old new makes_one inside run))
 
 -- the rows of one holder are added
 pub added_for : {X H A E : Type 0} (it : Table) (entry : Row → Option (ℕ × X)) (GoesBy : H → ℕ → Type 0) (count : ℕ)

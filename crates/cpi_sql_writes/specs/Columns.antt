@@ -11,7 +11,7 @@ use Rattle.cpi_sql_writes.specs.Within.{AddsTo, Changes}
 
 -- the rows that one statement adds
 abbrev pub rows_at_once : Bool → ℕ
-rows_at_once many = if many then 16 else 1
+rows_at_once many = if many then 32 else 1
 
 -- the texts of each, one after the other
 abbrev pub AreTextsOf : {X T : Type 0} → (X → T → Type 0) → List X → List T → Type 0

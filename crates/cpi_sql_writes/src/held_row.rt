@@ -12,27 +12,29 @@ use sqlite::{Alter, Transaction};
 use std::alloc::Global;
 
 // The rows that one statement adds, where so many are left.
-const AT_ONCE: usize = 16;
+const AT_ONCE: usize = 32;
 
-// The columns of sixteen rows of the widest table: so much room is taken once for the columns of a statement.
+// The columns of thirty-two rows of the widest table: so much room is taken once for the columns of a statement.
 const ROOM: usize = AT_ONCE * 11;
 
-// Runs the INSERT of sixteen rows, or of one.
+// Runs the INSERT of thirty-two rows, or of one. Its text begins with one row; each `twice` makes them twice as many.
 macro_rules! insert_rows {
     ($tx:expr, $columns:expr, $many:expr, $table:literal, $row:literal) => {
         if $many {
             run_inside(
                 $tx,
-                concat!(
-                    "INSERT INTO ", $table, " VALUES ", $row, ", ", $row, ", ", $row, ", ", $row, ", ", $row, ", ",
-                    $row, ", ", $row, ", ", $row, ", ", $row, ", ", $row, ", ", $row, ", ", $row, ", ", $row, ", ",
-                    $row, ", ", $row, ", ", $row
-                ),
+                insert_rows!(@ twice twice twice twice twice; $table; $row),
                 $columns,
             )
         } else {
-            run_inside($tx, concat!("INSERT INTO ", $table, " VALUES ", $row), $columns)
+            run_inside($tx, insert_rows!(@; $table; $row), $columns)
         }
+    };
+    (@ twice $($twice:ident)*; $table:literal; $($row:literal),+) => {
+        insert_rows!(@ $($twice)*; $table; $($row),+, $($row),+)
+    };
+    (@; $table:literal; $row:literal $(, $more:literal)*) => {
+        concat!("INSERT INTO ", $table, " VALUES ", $row $(, ", ", $more)*)
     };
 }
 
@@ -82,7 +84,7 @@ pub trait HeldRow {
         ensures { OnOk result
             (PutsColumns table entry (goes_by holder) self.now (bound all.old.items) (bound all.new.items)) };
 
-    /// Adds the rows that have these columns, by one statement: sixteen, or one.
+    /// Adds the rows that have these columns, by one statement: thirty-two, or one.
     fn insert<S: Alter>(
         tx: &mut Transaction<'_, S>,
         columns: &[ValueRef<'_>],
@@ -123,7 +125,7 @@ fn columns_of<'a, T: HeldRow>(
     Ok(all)
 }
 
-// Adds the rows to those of the holder by one statement: sixteen, or one.
+// Adds the rows to those of the holder by one statement: thirty-two, or one.
 fn add_at_once<S: Alter, T: HeldRow>(
     tx: &mut Transaction<'_, S>,
     alloc: Global,

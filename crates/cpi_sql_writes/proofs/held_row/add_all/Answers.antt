@@ -16,7 +16,7 @@ pub all-preserved-then-rows-at-ge-AT_ONCE : goal.all-preserved-then-rows-at-ge-A
 all-preserved-then-rows-at-ge-AT_ONCE g c = let row = g.T.HeldRow in record {
   same_reference = c.in_ok-add_at_once.ensures.same_reference ∙ c.all.invariant.same_reference;
   among = omega (arith, c.all.invariant.among, c.if-rows-at-ge-AT_ONCE.true);
-  added = list_further row.entry row.table.tree (row.goes_by c.args.holder) c.args.rows.now c.all.at 16
+  added = list_further row.entry row.table.tree (row.goes_by c.args.holder) c.args.rows.now c.all.at 32
       (state g.S.Store c.args.tx.now.conn.now) (state g.S.Store c.all.tx.conn.now)
       (state g.S.Store c.add_at_once.new.tx.conn.now) c.all.invariant.added c.in_ok-add_at_once.ensures.added;
 }
