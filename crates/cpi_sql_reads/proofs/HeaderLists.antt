@@ -1,7 +1,7 @@
 -- The headers tell what the releases do.
 use Rattle.std.proofs.Common.{◌≡◌, ◌≢◌, inl, inr, ℕ, ◌==◌, Bool, true, false, List, [], ◌∷◌, map, ◌++◌, Some, None}
 use Rattle.std.proofs.Common.{Option, IsTrue, refl, sym, ap, subst, ◌∙◌}
-use Rattle.std.specs.Prelude.{IsSome, filter, nat_le, option_map, if◌then◌else◌}
+use Rattle.std.specs.Prelude.{IfSome, IsSome, filter, nat_le, option_map, if◌then◌else◌}
 use Rattle.std.specs.Option.{option_map_or, option_or}
 use Rattle.std.specs.List.{AllByRecursion}
 use Rattle.std.specs.List.Sorted.{IsStrictlySortedBy}
@@ -31,16 +31,18 @@ use Rattle.cpi_release.specs.declared.release.Release.{Release}
 use Rattle.cpi_release.proofs.LatestRows.{latest_all}
 use Rattle.cpi_store.proofs.Released.{release_total}
 use Rattle.cpi_store.specs.Tables.{table_until}
-use Rattle.cpi_sql_rows.specs.HeldTables.{HeldTable, OfReleases, beside, release_in}
+use Rattle.cpi_sql_rows.specs.HeldTables.{HeldTable, OfReleases, beside, level_table, release_in}
 use Rattle.cpi_sql_rows.specs.Lists.{header_in, header_key, headers_in, frozens_in, carrieds_in, levels_in}
 use Rattle.cpi_sql_rows.specs.Lists.{listed, release_from, release_number, releases_in}
+use Rattle.cpi_sql_rows.specs.Shelf.{AllStandOf}
 use Rattle.cpi_sql_rows.specs.Texts.{is_release}
 use Rattle.cpi_sql_rows.specs.declared.release_rows.Header.{Header}
 use Rattle.cpi_sql_rows.proofs.Listed.{listed_in_order}
+use Rattle.cpi_sql_rows.proofs.Lists.{some_is}
 use Rattle.cpi_sql_rows.proofs.Members.{has_row, row_of}
 use Rattle.cpi_sql_reads.specs.Headers.{has_release, headers_until, is_there, latest_header, months_of, months_until}
 use Rattle.cpi_sql_reads.specs.Headers.{revision_published}
-use Rattle.cpi_sql_reads.specs.LevelTables.{ReleaseLevels, AreTablesOf, IsTableOf, levels_at, table_key}
+use Rattle.cpi_sql_reads.specs.ReleaseLists.{AreListsOf, IsAsked, IsLatest, IsListOf, ReleaseList, list_key}
 
 -- what a release says beside its lists
 abbrev pub header_of : Release → Header
@@ -51,6 +53,10 @@ header_of r = record {
   publishes = r.publishes;
   carry = r.carry;
 }
+
+-- what stands in the table of a release; nothing where there is no such release
+abbrev levels_at : List Release → ReleaseKey → List Level
+levels_at releases key = option_map_or (λ r. r.levels) (row_at release_cmp release_key key releases) []
 
 -- ---- the latest of a month
 
@@ -202,37 +208,15 @@ module _ (trees : Trees) where
   releases_ordered = made_in_order headers (listed_in_order release_total header_key header_in (trees 26))
 
   -- the release of a header is found by its key
+  release_own : (h : Header) → Has headers h
+      → row_at release_cmp release_key (header_key h) (releases_in trees) ≡ Some (one h)
+  unfolding releases_in
+  release_own h has =
+      row_of release_total release_key (releases_in trees) (one h) releases_ordered (mapped_has one headers h has)
+
   levels_own : (h : Header) → Has headers h
       → levels_at (releases_in trees) (header_key h) ≡ held_by (release_number h.month h.revision) all_levels
-  unfolding releases_in
-  levels_own h has = ap (λ o. option_map_or (λ (r : Release). r.levels) o [])
-      (row_of release_total release_key (releases_in trees) (one h) releases_ordered (mapped_has one headers h has))
-
-  -- the table of a release
-  pub levels_there : (month revision : ℕ) → has_release month revision headers ≡ true
-      → levels_at (releases_in trees) (month, revision) ≡ held_by (release_number month revision) all_levels
-  levels_there month revision e =
-      let it = some_has _ headers e in
-      let both = and_parts (it.0.month == month) (it.0.revision == revision) it.2 in
-      subst (λ (k : ReleaseKey). levels_at (releases_in trees) k ≡ held_by (release_number k.0 k.1) all_levels)
-      (λ n. (eqb-true it.0.month month both.0 n, eqb-true it.0.revision revision both.1 n)) (levels_own it.0 it.1)
-
-  -- a release that there isn't
-  pub levels_none : (month revision : ℕ) → has_release month revision headers ≡ false
-      → levels_at (releases_in trees) (month, revision) ≡ []
-  unfolding releases_in
-  levels_none month revision e =
-      ap (λ o. option_map_or (λ (r : Release). r.levels) o [])
-      (by (row_at release_cmp release_key (month, revision) (releases_in trees)) refl)
-    where
-      by : (o : Option Release) → row_at release_cmp release_key (month, revision) (releases_in trees) ≡ o → o ≡ None
-      by None f = refl
-      by (Some r) f =
-          let it = has_mapped one headers r
-          (has_row release_cmp release_key (month, revision) (releases_in trees) r f) in
-          let key = key_is r.month r.revision month revision
-          (row_key release_cmp release_key (month, revision) r (releases_in trees) f) in
-          absurd (true≢false (sym (has_there month revision headers it.0 it.1 (ap release_key (sym it.2) ∙ key)) ∙ e))
+  levels_own h has = ap (λ o. option_map_or (λ (r : Release). r.levels) o []) (release_own h has)
 
   pub table_is : (month revision until : ℕ)
       → option_map (λ (t : PublishedTable). t.levels) (table_until month (Some revision) until (releases_in trees))
@@ -275,65 +259,111 @@ module _ (trees : Trees) where
       ap (λ r. option_map_or list r []) (latest_mapped one (λ (r : Release). r.month) month headers
       ∙ ap (option_map one) e)
 
-  pub list_found : {X K : Type 0} {R : K → K → Ordering} {key : X → K} {stands : Row → Option X}
-      (t : HeldTable X is_release) (list : Release → List X) (law : OfReleases R key stands t list) (month : ℕ)
-      (h : Header) → latest_header month headers ≡ Some h
-      → option_map_or list (release_of (releases_in trees) month) [] ≡ held_by (release_number month h.revision)
-      (listed (held_cmp R) (held_key key) (beside release_in t.after) (trees t.tree))
-  list_found {R = R} {key = key} t list law month h e =
-      list_made list month (Some h) e ∙ law.lists trees h
-      ∙ ap (λ m. held_by (release_number m h.revision)
-      (listed (held_cmp R) (held_key key) (beside release_in t.after) (trees t.tree))) (latest_has month headers h e).1
+  -- ---- lists
 
-  pub none_found : {X : Type 0} (month : ℕ) (list : Release → List X) → latest_header month headers ≡ None
-      → option_map_or list (release_of (releases_in trees) month) [] ≡ []
-  none_found month list e = list_made list month None e
+  module _ {X : Type 0} (t : HeldTable X is_release) (list : Release → List X) where
+    -- what was read of the rows of a release that there is
+    pub list_read : {K : Type 0} {R : K → K → Ordering} {key : X → K} {stands : Row → Option X}
+        → OfReleases R key stands t list → (month revision : ℕ) → has_release month revision headers ≡ true
+        → (rows : List X) → rows ≡ held_by (release_number month revision)
+        (listed (held_cmp R) (held_key key) (beside release_in t.after) (trees t.tree))
+        → AllStandOf (beside release_in t.after) (release_number month revision) (trees t.tree)
+        → IsListOf t list trees (record { month = month; revision = revision; rows = rows })
+    list_read {R = R} {key = key} law month revision e rows is stand =
+        let it = some_has _ headers e in
+        let both = and_parts (it.0.month == month) (it.0.revision == revision) it.2 in
+        let same : ◌≡◌ {A = ReleaseKey} (header_key it.0) (month, revision) =
+        (λ n. (eqb-true it.0.month month both.0 n, eqb-true it.0.revision revision both.1 n)) in record {
+          release = one it.0;
+          there = subst (λ k. row_at release_cmp release_key k (releases_in trees) ≡ Some (one it.0)) same
+              (release_own it.0 it.1);
+          rows = is ∙ sym (law.lists trees it.0
+              ∙ ap (λ (k : ReleaseKey). held_by (release_number k.0 k.1)
+              (listed (held_cmp R) (held_key key) (beside release_in t.after) (trees t.tree))) same);
+          stand = stand;
+        }
 
-  -- its table
-  pub levels_latest : (month : ℕ) (h : Header) → latest_header month headers ≡ Some h
-      → levels_at (releases_in trees) (month, h.revision) ≡ levels_of (releases_in trees) month
-  levels_latest month h e =
-      let it = latest_has month headers h e in
-      (λ n. levels_at (releases_in trees) (sym it.1 n, h.revision)) ∙ levels_own h it.0
-      ∙ sym (list_made (λ (r : Release). r.levels) month (Some h) e)
+    -- the list of the month's latest release
+    latest_list : (month : ℕ) (h : Header) → latest_header month headers ≡ Some h → (l : ReleaseList X)
+        → ◌≡◌ {A = ReleaseKey} (list_key l) (month, h.revision) → IsListOf t list trees l
+        → IsLatest t list trees month (Some l)
+    latest_list month h e l key is =
+        let it = latest_has month headers h e in
+        let named : ◌≡◌ {A = ReleaseKey} (list_key l) (header_key h) = key ∙ (λ n. (sym it.1 n, h.revision)) in
+        let same : is.release ≡ one h = some_is (sym is.there
+        ∙ ap (λ k. row_at release_cmp release_key k (releases_in trees)) named ∙ release_own h it.0) in record {
+          rows = is.rows ∙ ap list same ∙ sym (list_made list month (Some h) e);
+          list = is;
+          stand = λ g latest.
+              let this : h ≡ g = cc in
+              subst (λ (x : Header). AllStandOf (beside release_in t.after) (release_number month x.revision)
+              (trees t.tree)) this (subst (λ (k : ReleaseKey). AllStandOf (beside release_in t.after)
+              (release_number k.0 k.1) (trees t.tree)) key is.stand);
+        }
+
+    -- it is what was asked for by that header
+    pub latest_found : (month : ℕ) (h : Header) → latest_header month headers ≡ Some h
+        → (found : Option (ReleaseList X)) → IsAsked (month, h.revision) headers found
+        → IfSome found (IsListOf t list trees) → IsLatest t list trees month found
+    latest_found month h e (Some l) key is = latest_list month h e l key is
+    latest_found month h e None gone is = absurd (true≢false (sym (latest_there month headers h e) ∙ gone))
+
+    -- a month that has no release
+    pub latest_none : (month : ℕ) → latest_header month headers ≡ None → IsLatest t list trees month None
+    latest_none month e = record {
+      rows = sym (list_made list month None e);
+      list = tt;
+      stand = λ h is. absurd (cc);
+    }
 
 -- ---- tables that are kept
 
--- a table that is found among them is that of its release
-pub kept_is : (trees : Trees) (tables : List ReleaseLevels) (month revision : ℕ) (t : ReleaseLevels)
-    → AreTablesOf trees tables → row_at release_cmp table_key (month, revision) tables ≡ Some t
-    → IsTableOf trees t × ◌≡◌ {A = ReleaseKey} (table_key t) (month, revision)
-kept_is trees tables month revision t all found = (
-  all_has (IsTableOf trees) tables t all (has_row release_cmp table_key (month, revision) tables t found),
-  key_is t.month t.revision month revision (row_key release_cmp table_key (month, revision) t tables found),
+-- a list that is found among them is that of its release
+pub kept_is : {X : Type 0} (t : HeldTable X is_release) (list : Release → List X) (trees : Trees)
+    (lists : List (ReleaseList X)) (month revision : ℕ) (l : ReleaseList X) → AreListsOf t list trees lists
+    → row_at release_cmp list_key (month, revision) lists ≡ Some l
+    → IsListOf t list trees l × ◌≡◌ {A = ReleaseKey} (list_key l) (month, revision)
+kept_is t list trees lists month revision l all found = (
+  all_has (IsListOf t list trees) lists l all (has_row release_cmp list_key (month, revision) lists l found),
+  key_is l.month l.revision month revision (row_key release_cmp list_key (month, revision) l lists found),
 )
 
--- a table that is kept is lent where it is published
-pub table_shown : (trees : Trees) (month revision until : ℕ) (tables : List ReleaseLevels) (is : Bool)
-    → is ≡ is_there month revision until (headers_in (trees 26)) → AreTablesOf trees tables
-    → (IsTrue is → IsSome (row_at release_cmp table_key (month, revision) tables))
-    → (if is then option_map (λ (t : ReleaseLevels). t.levels)
-    (row_at release_cmp table_key (month, revision) tables) else None)
+-- the table that is kept is lent where it is published
+pub table_shown : (trees : Trees) (month revision until : ℕ) (tables : List (ReleaseList Level)) (is : Bool)
+    → is ≡ is_there month revision until (headers_in (trees 26))
+    → AreListsOf level_table (λ (r : Release). r.levels) trees tables
+    → (IsTrue is → IsSome (row_at release_cmp list_key (month, revision) tables))
+    → (if is then option_map (λ (l : ReleaseList Level). l.rows)
+    (row_at release_cmp list_key (month, revision) tables) else None)
     ≡ option_map (λ (t : PublishedTable). t.levels) (table_until month (Some revision) until (releases_in trees))
 table_shown trees month revision until tables is told stand there =
-    by is (row_at release_cmp table_key (month, revision) tables) refl there
+    by is (row_at release_cmp list_key (month, revision) tables) refl there
     ∙ sym (table_is trees month revision until
     ∙ ap (λ b. if b then Some (levels_at (releases_in trees) (month, revision)) else None) (sym told))
   where
-    by : (b : Bool) (o : Option ReleaseLevels) → row_at release_cmp table_key (month, revision) tables ≡ o
-        → (IsTrue b → IsSome o) → (if b then option_map (λ (t : ReleaseLevels). t.levels) o else None)
+    by : (b : Bool) (o : Option (ReleaseList Level)) → row_at release_cmp list_key (month, revision) tables ≡ o
+        → (IsTrue b → IsSome o) → (if b then option_map (λ (l : ReleaseList Level). l.rows) o else None)
         ≡ (if b then Some (levels_at (releases_in trees) (month, revision)) else None)
     by false o e some = refl
     by true None e some = absurd (let no = some refl in cc)
-    by true (Some t) e some =
-        let it = kept_is trees tables month revision t stand e in
-        ap Some (it.0.levels ∙ ap (levels_at (releases_in trees)) it.1)
+    by true (Some l) e some =
+        let it = kept_is level_table (λ (r : Release). r.levels) trees tables month revision l stand e in
+        ap Some (it.0.rows ∙ ap (λ o. option_map_or (λ (r : Release). r.levels) o []) (sym it.0.there)
+        ∙ ap (levels_at (releases_in trees)) it.1)
 
--- the table that is put behind the others is found
-pub behind_found : (t : ReleaseLevels) (tables : List ReleaseLevels)
-    → IsSome (row_at release_cmp table_key (table_key t) (tables ++ t ∷ []))
-behind_found t [] = rw (tied_itself release_total (table_key t)) refl
-behind_found t (u ∷ tables) =
-    elim (is_eq (release_cmp (table_key u) (table_key t)))
-    as (λ b. IsSome (if b then Some u else row_at release_cmp table_key (table_key t) (tables ++ t ∷ [])))
-    [ true ↦ refl | false ↦ behind_found t tables ]
+-- a table that is published is that of a release
+pub there_has : (month revision until : ℕ) (headers : List Header) → is_there month revision until headers ≡ true
+    → has_release month revision headers ≡ true
+there_has month revision until headers is =
+    let it = some_has _ headers is in
+    let both = and_parts (it.0.month == month) _ it.2 in
+    some_from _ headers it.0 it.1 (and_from _ _ both.0 (and_parts (it.0.revision == revision) _ both.1).0)
+
+-- the list that is put behind the others is found
+pub behind_found : {X : Type 0} (l : ReleaseList X) (lists : List (ReleaseList X))
+    → IsSome (row_at release_cmp list_key (list_key l) (lists ++ l ∷ []))
+behind_found l [] = rw (tied_itself release_total (list_key l)) refl
+behind_found l (k ∷ lists) =
+    elim (is_eq (release_cmp (list_key k) (list_key l)))
+    as (λ b. IsSome (if b then Some k else row_at release_cmp list_key (list_key l) (lists ++ l ∷ [])))
+    [ true ↦ refl | false ↦ behind_found l lists ]

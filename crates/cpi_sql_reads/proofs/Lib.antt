@@ -1,5 +1,5 @@
 pub mod Looking
-pub mod ReleaseLists
 pub mod HeaderLists
-pub mod KeptTables
+pub mod OneLess
+pub mod StoredLists
 pub mod LatestHeaders

@@ -1,5 +1,7 @@
+pub mod Earlier
 pub mod Following
 pub mod Headers
-pub mod LevelTables
+pub mod KeptLists
+pub mod ReleaseLists
 pub mod Samples
 pub mod Tells

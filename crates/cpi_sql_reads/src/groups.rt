@@ -1,5 +1,5 @@
 //! The samples of a month, made at once from the tables, and handed out one by one.
-ghost use Rattle.std.specs.Prelude.{◌≡◌, ◌≤◌, ◌-◌};
+ghost use Rattle.std.specs.Prelude.{◌≡◌, ◌≤◌, ◌-◌, ◌==◌, if◌then◌else◌};
 ghost use Rattle.cpi_codes.specs.Month.{year_of};
 ghost use Rattle.cpi_release.specs.GroupCalls.{group_of};
 ghost use Rattle.cpi_release.specs.KeptSamples.{AreGroupsOf, IsFit};
@@ -7,10 +7,14 @@ ghost use Rattle.cpi_release.specs.Releases.{link_month};
 ghost use Rattle.cpi_store.specs.Sources.{office_sources};
 ghost use Rattle.cpi_sql_rows.specs.Common.{at, state, survey_of, IfOk, Looks, OnOk, Some};
 ghost use Rattle.cpi_sql_rows.specs.Lists.{office_in};
+ghost use Rattle.cpi_sql_reads.specs.Earlier.{AreEarlier, IsBefore, carried_rows};
+ghost use Rattle.cpi_sql_reads.specs.KeptLists.{AreKept};
 ghost use Rattle.cpi_sql_reads.specs.Samples.{AreSamplesOf, SamplesStand, SamplesTaken};
 ghost use Rattle.cpi_sql_reads.specs.Tells.{KnowsBy};
 
-use crate::earlier::earlier_rows;
+use crate::earlier::latest_list;
+use crate::kept_list::{KeptList, keep_found, rows_in};
+use crate::kept_lists::{KeptLists, MOST_LISTS};
 use cpi_codes::{Code, Month};
 use cpi_index::{CarriedPrice, FrozenQuote, GroupRow};
 use cpi_plan::YearPlan;
@@ -20,12 +24,88 @@ use cpi_store::Survey;
 use sqlite::{Alter, Connection};
 use std::alloc::Global;
 
+/// The lists of earlier months that a month's samples are made from.
+#[derive(Drop)]
+pub struct EarlierLists {
+    link_carried: Option<KeptList<CarriedPrice>>,
+    link_frozen: Option<KeptList<FrozenQuote>>,
+    // none where that month is the link month
+    last_carried: Option<KeptList<CarriedPrice>>,
+}
+
+// The carried prices of the month before, where that isn't the link month.
+fn carried_before<S: Alter>(
+    conn: &mut Connection<S>,
+    alloc: Global,
+    headers: &[Header],
+    lists: &mut KeptLists,
+    link: Month,
+    last: Month,
+) -> Result<Option<KeptList<CarriedPrice>>, Unread>
+    ensures look { Looks (state S.Store conn.old) (state S.Store conn.new) result }
+    ensures left { (trees : _) → AreKept trees lists.old → AreKept trees lists.new }
+    ensures read { KnowsBy headers.now S.Store conn.old conn.new (λ trees. AreKept trees lists.old →
+        IfOk result (IsBefore trees link last)) }
+{
+    if last != link {
+        return latest_list(conn, alloc, headers, &mut lists.carried, last);
+    }
+    Ok(None)
+}
+
+// The lists of the link month, and the carried prices of the month before, taken out of those that are kept, or read.
+fn earlier_lists<S: Alter>(
+    conn: &mut Connection<S>,
+    alloc: Global,
+    headers: &[Header],
+    lists: &mut KeptLists,
+    link: Month,
+    last: Month,
+) -> Result<EarlierLists, Unread>
+    ensures look { Looks (state S.Store conn.old) (state S.Store conn.new) result }
+    ensures left { (trees : _) → AreKept trees lists.old → AreKept trees lists.new }
+    ensures read { KnowsBy headers.now S.Store conn.old conn.new (λ trees. AreKept trees lists.old →
+        IfOk result (AreEarlier trees link last)) }
+{
+    let last_carried = carried_before(conn, alloc, headers, lists, link, last)?;
+    let link_carried = latest_list(conn, alloc, headers, &mut lists.carried, link)?;
+    let link_frozen = latest_list(conn, alloc, headers, &mut lists.frozen, link)?;
+    Ok(EarlierLists {
+        link_carried,
+        link_frozen,
+        last_carried,
+    })
+}
+
+// Keeps the lists, those of the link month behind those of the month before.
+fn keep_earlier(lists: &mut KeptLists, earlier: EarlierLists) -> Result<(), Unread>
+    ensures { (trees link last : _) → AreKept trees lists.old → AreEarlier trees link last earlier →
+        AreKept trees lists.new }
+{
+    keep_found(&mut lists.carried, earlier.last_carried, MOST_LISTS)?;
+    keep_found(&mut lists.carried, earlier.link_carried, MOST_LISTS)?;
+    keep_found(&mut lists.frozen, earlier.link_frozen, MOST_LISTS)
+}
+
+// The carried prices of the month before.
+fn rows_before(earlier: &EarlierLists, link: Month, last: Month) -> &[CarriedPrice]
+    ensures { result.now ≡ carried_rows (if last == link then earlier.now.link_carried
+        else earlier.now.last_carried) }
+{
+    if last == link {
+        rows_in(&earlier.link_carried)
+    } else {
+        rows_in(&earlier.last_carried)
+    }
+}
+
 // The samples of a month by the plan of its year, from its own quotes, the lists of its link month, and the carried
-// prices of the month before, which is the link month in January.
+// prices of the month before, which is the link month in January. The lists are kept from then on.
 fn samples<S: Alter>(
     conn: &mut Connection<S>,
     alloc: Global,
     headers: &[Header],
+    lists: &mut KeptLists,
     plan: &YearPlan,
     link: Month,
     last: Month,
@@ -33,21 +113,26 @@ fn samples<S: Alter>(
     quotes: &[FrozenQuote],
 ) -> Result<Vec<Vec<GroupRow>>, Unread>
     ensures look { Looks (state S.Store conn.old) (state S.Store conn.new) result }
-    ensures read { KnowsBy headers.now S.Store conn.old conn.new (λ trees.
+    ensures kept { KnowsBy headers.now S.Store conn.old conn.new (λ trees.
+        AreKept trees lists.old → AreKept trees lists.new) }
+    ensures read { KnowsBy headers.now S.Store conn.old conn.new (λ trees. AreKept trees lists.old →
         let sources = office_sources (office_in trees) in
         at (λ p. p.year) (year_of month) sources.plans ≡ Some plan.now → link ≡ link_month month → last ≡ month - 1 →
         (IsFit sources → quotes.now ≡ sources.quotes month) → IfOk result (λ v. AreGroupsOf sources month v.items)) }
-    ensures stand { KnowsBy headers.now S.Store conn.old conn.new (λ trees.
+    ensures stand { KnowsBy headers.now S.Store conn.old conn.new (λ trees. AreKept trees lists.old →
         link ≡ link_month month → last ≡ month - 1 → OnOk result (SamplesStand month trees)) }
 {
-    let carried: Vec<CarriedPrice> = earlier_rows(conn, alloc, headers, link)?;
-    let frozen = earlier_rows(conn, alloc, headers, link)?;
-    if last == link {
-        let made = groups_after(alloc, plan, &carried, &frozen, &carried, month, quotes);
-        return made.map_err(|_| Unread);
-    }
-    let before: Vec<CarriedPrice> = earlier_rows(conn, alloc, headers, last)?;
-    let made = groups_after(alloc, plan, &carried, &frozen, &before, month, quotes);
+    let earlier = earlier_lists(conn, alloc, headers, lists, link, last)?;
+    let made = groups_after(
+        alloc,
+        plan,
+        rows_in(&earlier.link_carried),
+        rows_in(&earlier.link_frozen),
+        rows_before(&earlier, link, last),
+        month,
+        quotes,
+    );
+    keep_earlier(lists, earlier)?;
     made.map_err(|_| Unread)
 }
 
@@ -56,43 +141,54 @@ fn month_samples<S: Alter>(
     conn: &mut Connection<S>,
     alloc: Global,
     headers: &[Header],
+    lists: &mut KeptLists,
     survey: &Survey,
     month: Month,
 ) -> Result<Vec<Vec<GroupRow>>, Unread>
     ensures look { Looks (state S.Store conn.old) (state S.Store conn.new) result }
-    ensures read { KnowsBy headers.now S.Store conn.old conn.new (λ trees. survey.now ≡ survey_of (office_in trees) →
+    ensures kept { KnowsBy headers.now S.Store conn.old conn.new (λ trees.
+        AreKept trees lists.old → AreKept trees lists.new) }
+    ensures read { KnowsBy headers.now S.Store conn.old conn.new (λ trees. AreKept trees lists.old →
+        survey.now ≡ survey_of (office_in trees) →
         IfOk result (λ v. AreGroupsOf (office_sources (office_in trees)) month v.items)) }
-    ensures taken { KnowsBy headers.now S.Store conn.old conn.new (λ trees. survey.now ≡ survey_of (office_in trees) →
-        OnOk result (SamplesTaken month trees)) }
+    ensures taken { KnowsBy headers.now S.Store conn.old conn.new (λ trees. AreKept trees lists.old →
+        survey.now ≡ survey_of (office_in trees) → OnOk result (SamplesTaken month trees)) }
 {
     let (Some(plan), Some(link), Some(last)) = (survey.plan_of(month), month.link(), month.prev())
     else {
         return Ok(Vec::new(alloc));
     };
     let quotes = survey.month_rows(month).map_err(|_| Unread)?;
-    samples(conn, alloc, headers, plan, link, last, month, &quotes)
+    samples(
+        conn, alloc, headers, lists, plan, link, last, month, &quotes,
+    )
 }
 
-/// The rows of one aggregate of a month; the month's samples are kept from then on. `headers` are those of all
+/// The rows of one aggregate of a month; the month's samples are kept from then on, and the lists that they are made
+/// from. `headers` are those of all
 /// releases, `survey` what the office has beside them.
 pub fn sample_of<S: Alter>(
     conn: &mut Connection<S>,
     alloc: Global,
     headers: &[Header],
+    lists: &mut KeptLists,
     survey: &Survey,
     samples: &mut KeptSamples,
     month: Month,
     code: Code,
 ) -> Result<Vec<GroupRow>, Unread>
     ensures look { Looks (state S.Store conn.old) (state S.Store conn.new) result }
-    ensures kept { KnowsBy headers.now S.Store conn.old conn.new (λ trees. survey.now ≡ survey_of (office_in trees) →
-        AreSamplesOf trees samples.old → AreSamplesOf trees samples.new) }
-    ensures read { KnowsBy headers.now S.Store conn.old conn.new (λ trees.
+    ensures lists { KnowsBy headers.now S.Store conn.old conn.new (λ trees.
+        AreKept trees lists.old → AreKept trees lists.new) }
+    ensures kept { KnowsBy headers.now S.Store conn.old conn.new (λ trees. AreKept trees lists.old →
+        survey.now ≡ survey_of (office_in trees) → AreSamplesOf trees samples.old → AreSamplesOf trees samples.new) }
+    ensures read { KnowsBy headers.now S.Store conn.old conn.new (λ trees. AreKept trees lists.old →
         let sources = office_sources (office_in trees) in
         survey.now ≡ survey_of (office_in trees) → AreSamplesOf trees samples.old → IsFit sources → 12 ≤ month →
         IfOk result (λ v. v.items ≡ group_of sources month code)) }
-    ensures taken { KnowsBy headers.now S.Store conn.old conn.new (λ trees. survey.now ≡ survey_of (office_in trees) →
-        AreSamplesOf trees samples.old → OnOk result (SamplesTaken month trees)) }
+    ensures taken { KnowsBy headers.now S.Store conn.old conn.new (λ trees. AreKept trees lists.old →
+        survey.now ≡ survey_of (office_in trees) → AreSamplesOf trees samples.old →
+        OnOk result (SamplesTaken month trees)) }
 {
     let plan = survey.plan_of(month);
     let kept = match samples.rows(alloc, plan, month, code) {
@@ -102,7 +198,7 @@ pub fn sample_of<S: Alter>(
     if let Some(rows) = kept {
         return Ok(rows);
     }
-    let groups = month_samples(conn, alloc, headers, survey, month)?;
+    let groups = month_samples(conn, alloc, headers, lists, survey, month)?;
     match samples.keep(alloc, plan, month, groups, code) {
         Ok(rows) => Ok(rows),
         Err(_) => Err(Unread),

@@ -6,7 +6,8 @@ mod earlier;
 mod follow;
 mod groups;
 mod headers;
-mod level_table;
+mod kept_list;
+mod kept_lists;
 mod releases;
 mod survey;
 mod years;
@@ -18,6 +19,6 @@ pub use follow::{
 };
 pub use groups::sample_of;
 pub use headers::{frozen_months, is_there, published_months, revision_published};
-pub use level_table::{LevelTable, lent_table};
+pub use kept_lists::{KeptLists, follow_release};
 pub use releases::read_headers;
 pub use survey::read_survey;

@@ -25,7 +25,7 @@ are_taken trees None month stand is = absurd (cc)
 are_taken trees (Some k) month stand is = let same : k.month ≡ month = cc in rw same at stand.1
 
 pub returns-in-Some-clause-read : goal.returns-in-Some-clause-read
-returns-in-Some-clause-read g c = λ clean has is stood stand fit late.
+returns-in-Some-clause-read g c = λ clean has is kept stood stand fit late.
     let trees = (state g.S.Store c.args.conn.now).now.trees in
     let s : Sources = office_sources (office_in trees) in
     let plan : option_copied c.plan_of-plan.result ≡ at (λ (p : Plan). p.year) (year_of c.args.month) s.plans =
@@ -34,13 +34,13 @@ returns-in-Some-clause-read g c = λ clean has is stood stand fit late.
     found s plan (are_kept trees c.args.samples.now stand) fit late
 
 pub returns-in-Some-clause-taken : goal.returns-in-Some-clause-taken
-returns-in-Some-clause-taken g c = λ clean has is stood stand.
+returns-in-Some-clause-taken g c = λ clean has is kept stood stand.
     let found = rw c.in-Some.is at c.in-Ok.ensures.kept in
     are_taken (state g.S.Store c.args.conn.now).now.trees c.args.samples.now c.args.month stand (found.0 refl)
 
 pub returns-in-Ok-keep-clause-read : goal.returns-in-Ok-keep-clause-read
-returns-in-Ok-keep-clause-read g c = λ clean has is stood stand fit late.
+returns-in-Ok-keep-clause-read g c = λ clean has is kept stood stand fit late.
     let s : Sources = office_sources (office_in (state g.S.Store c.args.conn.now).now.trees) in
     let plan : option_copied c.plan_of-plan.result ≡ at (λ (p : Plan). p.year) (year_of c.args.month) s.plans =
     c.plan_of-plan.ensures ∙ ap (λ (o : Office). at (λ (p : Plan). p.year) (year_of c.args.month) o.plans) stood in
-    c.in-Ok-keep.ensures.rows s plan (c.in_ok-groups.ensures.read clean has is stood) fit late
+    c.in-Ok-keep.ensures.rows s plan (c.in_ok-groups.ensures.read clean has is kept stood) fit late

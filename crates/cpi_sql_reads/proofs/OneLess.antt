@@ -1,4 +1,4 @@
--- Tables that are kept: one that is taken out leaves the others.
+-- Lists that are kept: one that is taken out leaves the others.
 use Rattle.std.proofs.Common.{ℕ, zero, suc, List, [], ◌∷◌}
 use Rattle.std.specs.List.{AllByRecursion, remove}
 
