@@ -1,20 +1,31 @@
 -- What is kept in memory after a look and after a write.
 use Rattle.std.proofs.Common.{◌≡◌, ℕ, Bool, false, None, Option, Result, Ok, Err, IsTrue, List, [], ◌∷◌, inl, inr, map}
-use Rattle.std.proofs.Common.{ap, subst, sym, ◌∙◌}
+use Rattle.std.proofs.Common.{Some, ap, subst, sym, ◌∙◌}
+use Rattle.std.specs.Prelude.{OnOk}
 use Rattle.sqlite.specs.Order.{Row}
 use Rattle.sqlite.specs.State.{State}
 use Rattle.sqlite.specs.Tree.{Trees}
 use Rattle.sqlite.specs.Effect.{Database}
 use Rattle.cpi_sql_rows.specs.declared.release_rows.Header.{Header}
-use Rattle.cpi_store.specs.Office.{Office, Change, changed}
+use Rattle.cpi_rows.specs.Keyed.{put, row_at}
+use Rattle.cpi_rows.proofs.Puts.{row_at-put_found, row_at-put_same}
+use Rattle.cpi_release.specs.FrozenMonths.{ReleaseKey, release_cmp, release_key}
+use Rattle.cpi_release.specs.declared.release.Release.{Release}
+use Rattle.cpi_store.specs.Office.{Office, Change, Freezes, changed}
+use Rattle.cpi_store.proofs.Released.{release_total}
+use Rattle.cpi_sql_rows.specs.HeldTables.{HeldTable, beside, carried_table, frozen_table, level_table, release_in}
+use Rattle.cpi_sql_rows.specs.Texts.{is_release}
+use Rattle.cpi_sql_writes.specs.ReleaseSteps.{IsNew, ListsStand}
 use Rattle.cpi_sql_rows.specs.Lists.{headers_in, office_in, releases_in, release_number}
 use Rattle.cpi_sql_rows.specs.Shelf.{AllStand, AllStandFor, AreTaken, HasTables, IsCleanBook, IsDone}
 use Rattle.cpi_sql_rows.specs.Shelf.{IsLook, Takes, WritesTaken, survey_of}
 use Rattle.cpi_sql_rows.proofs.Kept.{kept_tables}
 use Rattle.cpi_sql_writes.specs.Written.{Written}
-use Rattle.cpi_sql_reads.specs.Headers.{AreHeadersOf, has_release}
-use Rattle.cpi_sql_reads.specs.LevelTables.{ReleaseLevels, AreTablesOf, IsTableOf, levels_at, table_key}
-use Rattle.cpi_sql_reads.proofs.HeaderLists.{header_of, headers_told}
+use Rattle.cpi_sql_reads.specs.Headers.{AreHeadersOf}
+use Rattle.cpi_sql_reads.specs.KeptLists.{AreKept, IsThere}
+use Rattle.cpi_sql_reads.specs.ReleaseLists.{AreListsOf, IsListOf, ReleaseList}
+use Rattle.cpi_sql_reads.specs.declared.kept_lists.KeptLists.{KeptLists}
+use Rattle.cpi_sql_reads.proofs.HeaderLists.{header_of, headers_told, releases_ordered}
 use Rattle.cpi_sql.specs.Caches.{AreOf, Caches, IsSound, Stands}
 use Rattle.cpi_sql.specs.Calls.{IsCounted}
 use Rattle.cpi_sql.proofs.Counted.{on_err, on_ok}
@@ -32,13 +43,13 @@ look_sound old new c after look sound read = λ clean.
       kept = subst (λ (d : Database). AreOf d.trees after) (sym kept.now) (read clean before);
     }
 
--- the same, of a look that reads tables of earlier releases
-pub tables_sound : (old new : State) (c : Caches) (tables : List ReleaseLevels) → IsLook old new → IsSound old c
-    → (IsCleanBook new → Stands old c → AreTablesOf old.now.trees tables) → IsSound new (record c { tables = tables })
-tables_sound old new c tables look sound read = look_sound old new c _ look sound (λ clean st. record {
+-- the same, of a look that reads lists of releases
+pub lists_sound : (old new : State) (c : Caches) (lists : KeptLists) → IsLook old new → IsSound old c
+    → (IsCleanBook new → Stands old c → AreKept old.now.trees lists) → IsSound new (record c { lists = lists })
+lists_sound old new c lists look sound read = look_sound old new c _ look sound (λ clean st. record {
   survey = st.kept.survey;
   headers = st.kept.headers;
-  tables = read clean st;
+  lists = read clean st;
   samples = st.kept.samples;
 })
 
@@ -76,26 +87,57 @@ survey_taken old new rows was = record {
   quotes = still_taken _ _ _ rows.quotes was.quotes;
 }
 
-module _ (old new : Trees) (rows : WritesTaken old new) (same : releases_in new ≡ releases_in old) where
-  headers_same : headers_in (new 26) ≡ headers_in (old 26)
-  headers_same = headers_told new ∙ ap (map header_of) same ∙ sym (headers_told old)
+-- the headers are as they were
+headers_stand : (old new : Trees) → WritesTaken old new → releases_in new ≡ releases_in old → (headers : List Header)
+    → AreHeadersOf old headers → AreHeadersOf new headers
+headers_stand old new rows same headers was = record {
+  read = was.read ∙ headers_told old ∙ ap (map header_of) (sym same) ∙ sym (headers_told new);
+  taken = still_taken _ _ _ rows.headers was.taken;
+}
 
-  headers_stand : (headers : List Header) → AreHeadersOf old headers → AreHeadersOf new headers
-  headers_stand headers was = record {
-    read = was.read ∙ sym headers_same;
-    taken = still_taken _ _ _ rows.headers was.taken;
+-- a release that is there stays as it is
+abbrev StillThere : Trees → Trees → Type 0
+StillThere old new = (key : ReleaseKey) (r : Release) → row_at release_cmp release_key key (releases_in old) ≡ Some r
+    → row_at release_cmp release_key key (releases_in new) ≡ Some r
+
+module _ (old new : Trees) (rows : WritesTaken old new) (still : StillThere old new) where
+  module _ {X : Type 0} (table : HeldTable X is_release) (listed_by : Release → List X)
+      (takes : Takes (beside release_in table.after) (old table.tree) (new table.tree)) where
+    list_stands : (l : ReleaseList X) → IsListOf table listed_by old l → IsListOf table listed_by new l
+    list_stands l was = record {
+      release = was.release;
+      there = still (l.month, l.revision) was.release was.there;
+      rows = was.rows;
+      stand = still_taken_for _ _ _ takes _ (release_number l.month l.revision) was.stand;
+    }
+
+    each_stands : (lists : List (ReleaseList X)) → AreListsOf table listed_by old lists
+        → AreListsOf table listed_by new lists
+    each_stands [] all = tt
+    each_stands (l ∷ lists) all = (list_stands l all.0, each_stands lists all.1)
+
+  lists_stand : (lists : KeptLists) → AreKept old lists → AreKept new lists
+  lists_stand lists was = record {
+    frozen = each_stands frozen_table (λ (r : Release). r.frozen) rows.frozen lists.frozen.items was.frozen;
+    carried = each_stands carried_table (λ (r : Release). r.carried) rows.carried lists.carried.items was.carried;
+    levels = each_stands level_table (λ (r : Release). r.levels) rows.levels lists.levels.items was.levels;
   }
 
-  table_stands : (t : ReleaseLevels) → IsTableOf old t → IsTableOf new t
-  table_stands t was = record {
-    levels = was.levels ∙ ap (λ rs. levels_at rs (table_key t)) (sym same);
-    taken = λ there. still_taken_for _ _ _ rows.levels _ (release_number t.month t.revision)
-        (was.taken (subst (λ hs. IsTrue (has_release t.month t.revision hs)) headers_same there));
-  }
+-- a release that was put is there, and leaves those as they are that were
+module _ (old new : Trees) (r : Release) (none : IsNew r (office_in old))
+    (put_in : releases_in new ≡ put release_cmp release_key r (releases_in old)) where
+  put_still : StillThere old new
+  put_still key s there = ap (row_at release_cmp release_key key) put_in
+      ∙ row_at-put_found release_total release_key r (releases_in old) (releases_ordered old) none key s there
 
-  tables_stand : (tables : List ReleaseLevels) → AreTablesOf old tables → AreTablesOf new tables
-  tables_stand [] all = tt
-  tables_stand (t ∷ tables) all = (table_stands t all.0, tables_stand tables all.1)
+  put_there : ListsStand r new → IsThere new r
+  put_there stand = record {
+    release = ap (row_at release_cmp release_key (release_key r)) put_in
+        ∙ row_at-put_same release_total release_key r (releases_in old);
+    frozen = stand.frozen;
+    carried = stand.carried;
+    levels = stand.levels;
+  }
 
 module _ {change : Change} {fits : Office → Type 0} {A E F : Type 0} {u : A} {n m : ℕ} {put : Result A E}
     (old new : State) (c : Caches) (written : Written change fits old new put)
@@ -125,30 +167,40 @@ module _ {change : Change} {fits : Office → Type 0} {A E F : Type 0} {u : A} {
                 taken = survey_taken old.now.trees new.now.trees done.rows before.taken;
               };
           headers = λ t. headers_stand old.now.trees new.now.trees done.rows same c.headers (st.kept.headers t);
-          tables = tables_stand old.now.trees new.now.trees done.rows same c.tables st.kept.tables;
+          lists = lists_stand old.now.trees new.now.trees done.rows
+              (λ key r. subst (λ rs. row_at release_cmp release_key key rs ≡ Some r) (sym same)) c.lists st.kept.lists;
           samples = tt;
         };
       }
 
-  -- a release: what was read of releases is read again when it is asked for
-  pub release_sound : (headers : List Header) (tables : List ReleaseLevels)
-      → ((o : Office) → survey_of (changed change o) ≡ survey_of o) → tables ≡ []
-      → IsSound new (record c { has_headers = false; headers = headers; tables = tables; samples = None })
-  release_sound headers tables passes none = λ clean.
-      let was = written.clean clean in
-      let st = sound was in
-      let done : IsDone change old new = on_ok put counted (written.done clean st.tables (owed was)) in
-      record {
-        tables = done.tables;
-        kept = record {
-          survey = λ t.
-              let before = st.kept.survey t in
-              record {
-                read = before.read ∙ sym (passes (office_in old.now.trees)) ∙ sym (ap survey_of done.office);
-                taken = survey_taken old.now.trees new.now.trees done.rows before.taken;
-              };
-          headers = λ t. absurd (let no = t in cc);
-          tables = subst (AreTablesOf new.now.trees) (sym none) tt;
-          samples = tt;
-        };
-      }
+-- a release: the headers are read again when they are asked for, and its lists are kept
+pub release_sound : {A E F : Type 0} {u : A} {n m : ℕ} {put : Result A E} (r : Release) (old new : State) (c : Caches)
+    → Written (Freezes r) (IsNew r) old new put → IsCounted {F = F} put (Ok u) n m
+    → (IsCleanBook old → IsNew r (office_in old.now.trees))
+    → (IsCleanBook new → HasTables old → IsNew r (office_in old.now.trees) → OnOk put (ListsStand r new.now.trees))
+    → IsSound old c → (headers : List Header) (lists : KeptLists)
+    → ((trees : Trees) → AreKept trees c.lists → IsThere trees r → AreKept trees lists)
+    → IsSound new (record c { has_headers = false; headers = headers; lists = lists; samples = None })
+release_sound {put = put} r old new c written counted owed stands sound headers lists follows = λ clean.
+    let was = written.clean clean in
+    let st = sound was in
+    let none = owed was in
+    let done : IsDone (Freezes r) old new = on_ok put counted (written.done clean st.tables none) in
+    let stand : ListsStand r new.now.trees = on_ok put counted (stands clean st.tables none) in
+    let put_in = ap (λ (o : Office). o.releases) done.office in
+    let still = put_still old.now.trees new.now.trees r none put_in in
+    let there = put_there old.now.trees new.now.trees r none put_in stand in record {
+      tables = done.tables;
+      kept = record {
+        survey = λ t.
+            let before = st.kept.survey t in
+            record {
+              read = before.read ∙ sym (ap survey_of done.office);
+              taken = survey_taken old.now.trees new.now.trees done.rows before.taken;
+            };
+        headers = λ t. absurd (let no = t in cc);
+        lists = follows new.now.trees
+            (lists_stand old.now.trees new.now.trees done.rows still c.lists st.kept.lists) there;
+        samples = tt;
+      };
+    }

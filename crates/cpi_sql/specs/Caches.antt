@@ -7,24 +7,25 @@ use Rattle.cpi_store.specs.Office.{Office}
 use Rattle.cpi_sql_rows.specs.declared.release_rows.Header.{Header}
 use Rattle.cpi_sql_rows.specs.Shelf.{HasTables, IsCleanBook, IsSurveyOf}
 use Rattle.cpi_sql_reads.specs.Headers.{AreHeadersOf}
-use Rattle.cpi_sql_reads.specs.LevelTables.{ReleaseLevels, AreTablesOf}
+use Rattle.cpi_sql_reads.specs.KeptLists.{AreKept}
 use Rattle.cpi_sql_reads.specs.Samples.{AreSamplesOf}
+use Rattle.cpi_sql_reads.specs.declared.kept_lists.KeptLists.{KeptLists}
 
--- the survey and the headers of the releases, where they were read; tables of earlier releases; and the samples of the
--- month that is being frozen
+-- the survey and the headers of the releases, where they were read; lists of releases; and the samples of the month that
+-- is being frozen
 pub record Caches : Type 0 where
   pub is_read : Bool
   pub survey : Office
   pub has_headers : Bool
   pub headers : List Header
-  pub tables : List ReleaseLevels
+  pub lists : KeptLists
   pub samples : Option Samples
 
 -- they are what the tables hold
 pub record AreOf (trees : Trees) (c : Caches) : Type 0 where
   pub survey : IsTrue c.is_read → IsSurveyOf trees c.survey
   pub headers : IsTrue c.has_headers → AreHeadersOf trees c.headers
-  pub tables : AreTablesOf trees c.tables
+  pub lists : AreKept trees c.lists
   pub samples : AreSamplesOf trees c.samples
 
 -- the tables are the office's, and what is kept is what they hold

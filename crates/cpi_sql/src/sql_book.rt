@@ -30,9 +30,9 @@ use cpi_release::{
 use cpi_rows::Rows;
 use cpi_sql_open::open_office;
 use cpi_sql_reads::{
-    LevelTable, chained_level, follow_assignment, follow_calendar, follow_collector,
-    follow_handover, follow_item, follow_outlet, follow_plan, follow_quote, frozen_months,
-    is_there, lent_table, published_months, read_headers, read_survey, ready_table,
+    KeptLists, chained_level, follow_assignment, follow_calendar, follow_collector,
+    follow_handover, follow_item, follow_outlet, follow_plan, follow_quote, follow_release,
+    frozen_months, is_there, published_months, read_headers, read_survey, ready_table,
     revision_published, sample_of,
 };
 use cpi_sql_rows::{Header, Unread, settle};
@@ -48,8 +48,9 @@ use std::marker::Model;
 
 /// An office in a database, over the tables of schema 2, which hold each revision of each month. The survey is read
 /// once, by the first request that needs it, and kept in memory from then on; so are what the releases say beside their
-/// lists, the tables of earlier releases that are asked for, and the samples of the month that is being frozen. Each
-/// write changes what is kept, or drops it.
+/// lists, the samples of the month that is being frozen, and of the lists of releases the last few that were asked for
+/// or put: tables, and the frozen quotes and carried prices that the next freeze begins with. Each write changes what
+/// is kept, or drops it.
 #[derive(Drop)]
 pub struct SqlBook<S: Alter> {
     conn: Connection<S>,
@@ -59,8 +60,8 @@ pub struct SqlBook<S: Alter> {
     // of all releases, by month and revision
     headers: Vec<Header>,
     has_headers: bool,
-    // the tables of earlier releases
-    tables: Vec<LevelTable>,
+    // of earlier releases: what a freeze read or put, and the tables that were asked for
+    lists: KeptLists,
     // the samples of the month that is being frozen; none once anything is written
     samples: KeptSamples,
     failed: Failures,
@@ -88,7 +89,7 @@ impl<S: Alter> Model for SqlBook<S> {
       survey = b.survey;
       has_headers = b.has_headers;
       headers = b.headers.items;
-      tables = b.tables.items;
+      lists = b.lists;
       samples = b.samples;
     }) };
 }
@@ -121,7 +122,7 @@ impl<S: Alter + Drop> SqlBook<S> {
                 is_read: false,
                 headers: Vec::new(alloc),
                 has_headers: false,
-                tables: Vec::new(alloc),
+                lists: KeptLists::none(alloc),
                 samples: KeptSamples::none(),
                 failed: Failures::none(),
                 alloc,
@@ -248,6 +249,7 @@ impl<S: Alter> Groups for SqlBook<S> {
             &mut self.conn,
             self.alloc,
             &self.headers,
+            &mut self.lists,
             &self.survey,
             &mut self.samples,
             month,
@@ -267,7 +269,7 @@ impl<S: Alter> Groups for SqlBook<S> {
             &mut self.conn,
             self.alloc,
             &self.headers,
-            &mut self.tables,
+            &mut self.lists,
             month,
             code,
         );
@@ -406,12 +408,12 @@ impl<S: Alter> Book for SqlBook<S> {
             &mut self.conn,
             self.alloc,
             &self.headers,
-            &mut self.tables,
+            &mut self.lists,
             month,
             revision,
         );
         counted(&mut self.failed, read, StoreFault)?;
-        Ok(lent_table(&self.tables, month, revision))
+        Ok(self.lists.table(month, revision))
     }
 
     fn put_item(&mut self, item: Item) -> Result<(), StoreFault> {
@@ -476,8 +478,8 @@ impl<S: Alter> Book for SqlBook<S> {
     fn put_release(&mut self, release: Release) -> Result<(), StoreFault> {
         let put = put_release(&mut self.conn, self.alloc, &release);
         stored(put, &self.conn, &mut self.samples, &mut self.failed)?;
-        self.tables.clear();
         self.has_headers = false;
+        follow_release(&mut self.lists, release);
         Ok(())
     }
 }

@@ -7,8 +7,8 @@ invariant_of-result g c = λ clean. record {
   kept = record {
     survey = λ t. absurd (let no = t in cc);
     headers = λ t. absurd (let no = t in cc);
-    tables = rw c.new-in-Ok-2.ensures.items tt;
-    samples = rw c.none.ensures tt;
+    lists = c.none.ensures _;
+    samples = rw c.none-in-Ok.ensures tt;
   };
 }
 

@@ -9,7 +9,7 @@ invariant_of-self g c =
     (λ clean st. record {
       survey = st.kept.survey;
       headers = λ _. c.in-Ok.ensures.read clean st.tables;
-      tables = st.kept.tables;
+      lists = st.kept.lists;
       samples = st.kept.samples;
     })
 

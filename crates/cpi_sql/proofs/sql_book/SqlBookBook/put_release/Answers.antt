@@ -1,4 +1,3 @@
-use Rattle.std.proofs.Common.{refl}
 use Rattle.cpi_sql_reads.proofs.HeaderLists.{releases_ordered}
 use Rattle.cpi_sql.proofs.Calls.{puts, put_fails}
 use Rattle.cpi_sql.proofs.Followed.{kept_sound, release_sound, tables_of}
@@ -24,9 +23,9 @@ returns-in_err-stored g c =
 pub invariant_of-self-2 : goal.invariant_of-self-2
 invariant_of-self-2 g c =
     let new = rw (← c.self.view_is) at c.requires.new in
-    rw c.in_ok-stored.ensures.cleared (release_sound _ _ _ c.put_release-put.ensures.written
-    c.in_ok-stored.ensures.counted (λ clean. new clean (releases_ordered _)) c.self.invariant _ _ (λ o. refl)
-    c.clear.ensures.items)
+    rw c.in_ok-stored.ensures.cleared (release_sound _ _ _ _ c.put_release-put.ensures.written
+    c.in_ok-stored.ensures.counted (λ clean. new clean (releases_ordered _)) c.put_release-put.ensures.stand
+    c.self.invariant _ _ c.follow_release.ensures)
 
 pub invariant_of-self : goal.invariant_of-self
 invariant_of-self g c =

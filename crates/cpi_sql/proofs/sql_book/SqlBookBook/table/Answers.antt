@@ -1,14 +1,14 @@
-use Rattle.std.proofs.Common.{rules, ◌≡◌, [], Some, true, false, refl, sym, ap, ◌∙◌}
+use Rattle.std.proofs.Common.{rules, ◌≡◌, [], Some, IsTrue, true, false, refl, sym, ap, subst, ◌∙◌}
 use Rattle.std.specs.Prelude.{⊤, option_map}
 use Rattle.sqlite.specs.Held.{state}
 use Rattle.cpi_release.specs.PublishedTables.{PublishedTable}
 use Rattle.cpi_store.specs.Office.{Office}
 use Rattle.cpi_store.specs.Tables.{table_until}
-use Rattle.cpi_sql_reads.specs.Headers.{is_there}
-use Rattle.cpi_sql_reads.proofs.HeaderLists.{table_shown}
+use Rattle.cpi_sql_reads.specs.Headers.{has_release, is_there}
+use Rattle.cpi_sql_reads.proofs.HeaderLists.{table_shown, there_has}
 use Rattle.cpi_sql.proofs.Calls.{looks, then_fault, then_read, then_shown}
 use Rattle.cpi_sql.proofs.Counted.{on_ok}
-use Rattle.cpi_sql.proofs.Followed.{tables_of, tables_sound}
+use Rattle.cpi_sql.proofs.Followed.{lists_sound, tables_of}
 use Rattle.cpi_sql.proofs.sql_book.SqlBookBook.table.Goals as goal
 
 pub returns-then-not-is_there : goal.returns-then-not-is_there
@@ -34,16 +34,16 @@ returns-then-not-is_there g c =
 pub invariant_of-self-2 : goal.invariant_of-self-2
 invariant_of-self-2 g c =
     let ready = rw (← c.self.view_is) at c.in_ok-ready_headers.ensures.ready in
-    tables_sound (state g.S.Store c.self.inside.conn) (state g.S.Store c.ready_table-read.new.conn) _ _
+    lists_sound (state g.S.Store c.self.inside.conn) (state g.S.Store c.ready_table-read.new.conn) _ _
     c.ready_table-read.ensures.look.still c.self.invariant (λ clean st. c.ready_table-read.ensures.kept clean st.tables
-    (c.deref-2.ensures.value ∙ (st.kept.headers ready).read) st.kept.tables)
+    (c.deref-2.ensures.value ∙ (st.kept.headers ready).read) st.kept.lists)
 
 pub invariant_of-self-in-Break-branch-2 : goal.invariant_of-self-in-Break-branch-2
 invariant_of-self-in-Break-branch-2 g c =
     let ready = rw (← c.self.view_is) at c.in_ok-ready_headers.ensures.ready in
-    tables_sound (state g.S.Store c.self.inside.conn) (state g.S.Store c.ready_table-read.new.conn) _ _
+    lists_sound (state g.S.Store c.self.inside.conn) (state g.S.Store c.ready_table-read.new.conn) _ _
     c.ready_table-read.ensures.look.still c.self.invariant (λ clean st. c.ready_table-read.ensures.kept clean st.tables
-    (c.deref-2.ensures.value ∙ (st.kept.headers ready).read) st.kept.tables)
+    (c.deref-2.ensures.value ∙ (st.kept.headers ready).read) st.kept.lists)
 
 pub returns : goal.returns
 returns g c =
@@ -61,12 +61,14 @@ returns g c =
             let before = c.ready_table-read.ensures.look.still.clean clean in
             let st = c.self.invariant before in
             let rows = (st.kept.headers ready).read in
-            let lent = rw c.deref-3.ensures.value at c.lent_table.ensures in
-            lent ∙ table_shown now.now.trees c.args.month c.args.revision c.args.until
-            c.ready_table-read.new.tables.items true (sym yes ∙ c.is_there.ensures
+            c.table.ensures ∙ table_shown now.now.trees c.args.month c.args.revision c.args.until
+            c.ready_table-read.new.lists.levels.items true (sym yes ∙ c.is_there.ensures
             ∙ ap (is_there c.args.month c.args.revision c.args.until) (c.deref.ensures.value ∙ rows))
-            (c.ready_table-read.ensures.kept clean st.tables (c.deref-2.ensures.value ∙ rows) st.kept.tables)
-            (λ _. on_ok _ c.in_ok-counted.ensures c.ready_table-read.ensures.ready)
+            (c.ready_table-read.ensures.kept clean st.tables (c.deref-2.ensures.value ∙ rows) st.kept.lists).levels
+            (λ _. on_ok _ c.in_ok-counted.ensures c.ready_table-read.ensures.ready 
+            (subst (λ hs. IsTrue (has_release c.args.month c.args.revision hs))
+            (c.deref.ensures.value ∙ sym c.deref-2.ensures.value)
+            (there_has c.args.month c.args.revision c.args.until _ (sym c.is_there.ensures ∙ yes))))
             ∙ ap (λ (o : Office). option_map (λ (t : PublishedTable). t.levels)
             (table_until c.args.month (Some c.args.revision) c.args.until o.releases)) (read.keeps.kept before)),
       ),

@@ -8,7 +8,7 @@ use Rattle.cpi_sql_rows.specs.Lists.{level_in}
 use Rattle.cpi_sql_reads.specs.Headers.{LatestStands}
 use Rattle.cpi_sql.proofs.Calls.{looks, then_read}
 use Rattle.cpi_sql.proofs.Counted.{answers, was_ok}
-use Rattle.cpi_sql.proofs.Followed.{tables_of, tables_sound}
+use Rattle.cpi_sql.proofs.Followed.{lists_sound, tables_of}
 use Rattle.cpi_sql.proofs.sql_book.SqlBookGroups.chained.Goals as goal
 
 -- the headers are read
@@ -17,10 +17,10 @@ ready g c = rw (← c.self.view_is) at (rw (was_ok _ c.in_ok-map_err.ensures.var
 
 pub invariant_of-self : goal.invariant_of-self
 invariant_of-self g c =
-    tables_sound (state g.S.Store c.self.inside.conn) (state g.S.Store c.chained_level-found.new.conn) _ _
+    lists_sound (state g.S.Store c.self.inside.conn) (state g.S.Store c.chained_level-found.new.conn) _ _
     c.chained_level-found.ensures.look.still c.self.invariant
     (λ clean st. c.chained_level-found.ensures.kept clean st.tables
-    (c.deref.ensures.value ∙ (st.kept.headers (ready g c)).read) st.kept.tables)
+    (c.deref.ensures.value ∙ (st.kept.headers (ready g c)).read) st.kept.lists)
 
 pub returns-clause-reads : goal.returns-clause-reads
 returns-clause-reads g c =
@@ -33,7 +33,7 @@ returns-clause-reads g c =
     let before = c.chained_level-found.ensures.look.still.clean clean in
     let st = c.self.invariant before in
     (rw is at (c.chained_level-found.ensures.read clean st.tables
-    (c.deref.ensures.value ∙ (st.kept.headers (ready g c)).read) st.kept.tables))
+    (c.deref.ensures.value ∙ (st.kept.headers (ready g c)).read) st.kept.lists))
     ∙ ap (λ (o : Office). level_at o.releases c.args.month c.args.code) (read.keeps.kept before)))
 
 pub returns-clause-rows : goal.returns-clause-rows
@@ -44,4 +44,4 @@ returns-clause-rows g c = λ clean.
     subst (λ (d : Database). OnOk c.counted.result (LatestStands level_in 32 c.args.month d.trees)) (same before)
     (answers _ _ _ c.counted.ensures
     (c.chained_level-found.ensures.taken clean st.tables (c.deref.ensures.value ∙ (st.kept.headers (ready g c)).read)
-    st.kept.tables))
+    st.kept.lists))

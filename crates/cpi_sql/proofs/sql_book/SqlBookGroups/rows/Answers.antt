@@ -30,10 +30,11 @@ invariant_of-self g c =
     (λ clean st. record {
       survey = st.kept.survey;
       headers = st.kept.headers;
-      tables = st.kept.tables;
+      lists = c.sample_of-found.ensures.lists clean st.tables
+          (c.deref.ensures.value ∙ (st.kept.headers (ready g c).0).read) st.kept.lists;
       samples = c.sample_of-found.ensures.kept clean st.tables
-          (c.deref.ensures.value ∙ (st.kept.headers (ready g c).0).read) (st.kept.survey (ready g c).1).read
-          st.kept.samples;
+          (c.deref.ensures.value ∙ (st.kept.headers (ready g c).0).read) st.kept.lists
+          (st.kept.survey (ready g c).1).read st.kept.samples;
     })
 
 pub returns-clause-reads : goal.returns-clause-reads
@@ -52,7 +53,7 @@ returns-clause-reads g c =
     rows.items ≡ group_of (office_sources o) c.args.month c.args.code)
     (read.keeps.kept before) (λ fit _ after. rw is at (
     c.sample_of-found.ensures.read clean st.tables (c.deref.ensures.value ∙ (st.kept.headers (ready g c).0).read)
-    (st.kept.survey (ready g c).1).read st.kept.samples fit
+    st.kept.lists (st.kept.survey (ready g c).1).read st.kept.samples fit
     (late (office_sources (office_in now.now.trees)) c.args.month fit.0 after)))))
 
 pub returns-clause-lists : goal.returns-clause-lists
@@ -65,7 +66,7 @@ returns-clause-lists g c = λ clean.
     subst (λ (d : Database). OnOk c.counted.result (SamplesTaken c.args.month d.trees)) same
     (answers _ _ _ c.counted.ensures
     (c.sample_of-found.ensures.taken clean st.tables (c.deref.ensures.value ∙ (st.kept.headers (ready g c).0).read)
-    (st.kept.survey (ready g c).1).read st.kept.samples))
+    st.kept.lists (st.kept.survey (ready g c).1).read st.kept.samples))
 
 pub returns-in_err-map_err-2-clause-reads : goal.returns-in_err-map_err-2-clause-reads
 returns-in_err-map_err-2-clause-reads g c =
