@@ -65,7 +65,7 @@ returns g c =
             c.ready_table-read.new.lists.levels.items true (sym yes ∙ c.is_there.ensures
             ∙ ap (is_there c.args.month c.args.revision c.args.until) (c.deref.ensures.value ∙ rows))
             (c.ready_table-read.ensures.kept clean st.tables (c.deref-2.ensures.value ∙ rows) st.kept.lists).levels
-            (λ _. on_ok _ c.in_ok-counted.ensures c.ready_table-read.ensures.ready 
+            (λ _. on_ok _ c.in_ok-counted.ensures c.ready_table-read.ensures.ready
             (subst (λ hs. IsTrue (has_release c.args.month c.args.revision hs))
             (c.deref.ensures.value ∙ sym c.deref-2.ensures.value)
             (there_has c.args.month c.args.revision c.args.until _ (sym c.is_there.ensures ∙ yes))))
