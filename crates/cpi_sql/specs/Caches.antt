@@ -11,8 +11,8 @@ use Rattle.cpi_sql_reads.specs.KeptLists.{AreKept}
 use Rattle.cpi_sql_reads.specs.Samples.{AreSamplesOf}
 use Rattle.cpi_sql_reads.specs.declared.kept_lists.KeptLists.{KeptLists}
 
--- the survey and the headers of the releases, where they were read; lists of releases; and the samples of the month that
--- is being frozen
+-- the survey and the headers of the releases, where they were read; lists of releases; and the samples of the month
+-- that is being frozen
 pub record Caches : Type 0 where
   pub is_read : Bool
   pub survey : Office

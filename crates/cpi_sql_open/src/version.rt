@@ -3,6 +3,7 @@ ghost use Rattle.std.specs.Prelude.{◌≡◌};
 ghost use Rattle.cpi_sql_rows.specs.Common.{[], HasCleanDisk, IfOk, IsCleanBook, IsTrue, KeepsCommit, Shown};
 ghost use Rattle.cpi_sql_rows.specs.Common.{Survives, false, office_schema, state};
 ghost use Rattle.cpi_sql_rows.specs.Numbered.{IsVersion, ShowsOther, version_text};
+ghost use Rattle.cpi_sql_rows.specs.Tables.{version};
 ghost use Rattle.cpi_sql_open.specs.declared.version.Version.TheVariants.{Second, Other};
 ghost use Rattle.cpi_sql_open.specs.Said.{Says};
 
@@ -57,7 +58,8 @@ pub fn read_version<S: Alter>(conn: &mut Connection<S>) -> Result<Version, Error
     ensures undone { HasCleanDisk (state S.Store conn.new) → IsTrue (state S.Store conn.new).is_open →
         (state S.Store conn.new).now ≡ (state S.Store conn.old).now }
     ensures second { HasCleanDisk (state S.Store conn.new) → IfOk result (λ v. v ≡ Second →
-        (state S.Store conn.old).now.schema ≡ office_schema → IsVersion 2 ((state S.Store conn.old).now.trees 0)) }
+        (state S.Store conn.old).now.schema ≡ office_schema →
+        IsVersion 2 ((state S.Store conn.old).now.trees version.tree)) }
     ensures other { HasCleanDisk (state S.Store conn.new) →
         IfOk result (λ v. v ≡ Other → ShowsOther S.Store conn.old) }
     ensures survives { Survives (state S.Store conn.old) (state S.Store conn.new) (λ _. ⊥) }

@@ -7,7 +7,10 @@ use Rattle.sqlite.specs.Schema.{Schema}
 use Rattle.sqlite.specs.Tree.{Trees}
 use Rattle.sqlite.proofs.Callers.{IsPlain, command_of}
 use Rattle.cpi_sql_rows.specs.declared.rowids.Rowid.{Rowid}
-use Rattle.cpi_sql_rows.specs.Tables.{first_schema, office_schema}
+use Rattle.cpi_sql_rows.specs.Tables.{assignment, assignment_2, calendar, carried, carried_2, collector}
+use Rattle.cpi_sql_rows.specs.Tables.{first_schema, frozen, frozen_2, item, level, level_2, node}
+use Rattle.cpi_sql_rows.specs.Tables.{office_schema, outlet, plan_item, plan_ref, quote, quote_2, release}
+use Rattle.cpi_sql_rows.specs.Tables.{release_2, version}
 use Rattle.cpi_sql_rows.specs.Texts.{select}
 use Rattle.std.specs.Ordering.{nat_cmp}
 use Rattle.sqlite.specs.State.{State, Survives}
@@ -38,34 +41,34 @@ pub record AsksRowids (schema : Schema) (text : List ℕ) (tree : ℕ) : Type 0 
 
 -- the rowids are numbers, and no two rows have one, in the tables whose keys rest on that
 pub record HavePlanRowids (trees : Trees) : Type 0 where
-  pub nodes : HasRowids (trees 6)
-  pub places : HasRowids (trees 8)
-  pub calendar : HasRowids (trees 10)
+  pub nodes : HasRowids (trees node.tree)
+  pub places : HasRowids (trees plan_item.tree)
+  pub calendar : HasRowids (trees calendar.tree)
 
 -- the tables of the survey that have rowids of their own
 pub record HaveSurveyRowids (trees : Trees) : Type 0 where
-  pub assignments : HasRowids (trees 22)
-  pub quotes : HasRowids (trees 24)
-  pub references : HasRowids (trees 34)
+  pub assignments : HasRowids (trees assignment_2.tree)
+  pub quotes : HasRowids (trees quote_2.tree)
+  pub references : HasRowids (trees plan_ref.tree)
 
 -- the tables of the releases
 pub record HaveReleaseRowids (trees : Trees) : Type 0 where
-  pub headers : HasRowids (trees 26)
-  pub frozen : HasRowids (trees 28)
-  pub carried : HasRowids (trees 30)
-  pub levels : HasRowids (trees 32)
+  pub headers : HasRowids (trees release_2.tree)
+  pub frozen : HasRowids (trees frozen_2.tree)
+  pub carried : HasRowids (trees carried_2.tree)
+  pub levels : HasRowids (trees level_2.tree)
 
 -- the same, in the tables of schema 1 whose rows schema 2 has anew
 pub record HaveFirstSurveyRowids (trees : Trees) : Type 0 where
-  pub assignments : HasRowids (trees 11)
-  pub quotes : HasRowids (trees 13)
+  pub assignments : HasRowids (trees assignment.tree)
+  pub quotes : HasRowids (trees quote.tree)
 
 -- the tables of the releases of schema 1
 pub record HaveFirstReleaseRowids (trees : Trees) : Type 0 where
-  pub headers : HasRowids (trees 15)
-  pub frozen : HasRowids (trees 16)
-  pub carried : HasRowids (trees 18)
-  pub levels : HasRowids (trees 20)
+  pub headers : HasRowids (trees release.tree)
+  pub frozen : HasRowids (trees frozen.tree)
+  pub carried : HasRowids (trees carried.tree)
+  pub levels : HasRowids (trees level.tree)
 
 -- the tables of schema 1
 pub record HaveFirstRowids (trees : Trees) : Type 0 where
@@ -80,27 +83,27 @@ pub record HaveRowids (trees : Trees) : Type 0 where
 
 -- the types take each row of a small table, and no two have one key
 pub record AreWhole (trees : Trees) : Type 0 where
-  pub collectors : IsWhole nat_cmp (λ b. b.number) collector_in (trees 1)
-  pub outlets : IsWhole nat_cmp (λ u. u.number) outlet_in (trees 3)
-  pub items : IsWhole nat_cmp (λ i. i.code) item_in (trees 4)
-  pub calendar : IsWhole nat_cmp (λ r. r.month) calendar_in (trees 10)
+  pub collectors : IsWhole nat_cmp (λ b. b.number) collector_in (trees collector.tree)
+  pub outlets : IsWhole nat_cmp (λ u. u.number) outlet_in (trees outlet.tree)
+  pub items : IsWhole nat_cmp (λ i. i.code) item_in (trees item.tree)
+  pub calendar : IsWhole nat_cmp (λ r. r.month) calendar_in (trees calendar.tree)
 
 -- the tables of schema 1 whose rows schema 2 has anew hold nothing
 pub record AreCleared (trees : Trees) : Type 0 where
-  pub assignments : trees 11 ≡ []
-  pub quotes : trees 13 ≡ []
-  pub headers : trees 15 ≡ []
-  pub frozen : trees 16 ≡ []
-  pub carried : trees 18 ≡ []
-  pub levels : trees 20 ≡ []
+  pub assignments : trees assignment.tree ≡ []
+  pub quotes : trees quote.tree ≡ []
+  pub headers : trees release.tree ≡ []
+  pub frozen : trees frozen.tree ≡ []
+  pub carried : trees carried.tree ≡ []
+  pub levels : trees level.tree ≡ []
 
 -- the rows of schema 1, whose number was 1, stand in the tables of schema 2, which are all there, and no longer in
 -- their own
 pub record IsMigrated (old new : Trees) : Type 0 where
-  pub was : IsVersion 1 (old 0)
+  pub was : IsVersion 1 (old version.tree)
   pub tables : HasAllTables new
   pub office : office_in new ≡ first_office_in old
-  pub version : IsVersion 2 (new 0)
+  pub version : IsVersion 2 (new version.tree)
   pub cleared : AreCleared new
 
 -- what an open leaves: new tables where there was nothing, the tables of schema 2 as they were, or those of schema 1
@@ -110,7 +113,7 @@ IsOpened old new =
     (((old.now.schema ≡ no_schema) × HoldsNothing new.now.trees)
     ⊎ (((old.now.schema ≡ office_schema) × (new.now ≡ old.now))
     ⊎ ((old.now.schema ≡ first_schema) × IsMigrated old.now.trees new.now.trees)))
-    × (new.now.schema ≡ office_schema) × IsVersion 2 (new.now.trees 0)
+    × (new.now.schema ≡ office_schema) × IsVersion 2 (new.now.trees version.tree)
 
 -- whatever stands there endures: a crash leaves it
 abbrev pub IsSettled : State → Type 0
@@ -143,12 +146,12 @@ MayBeMade old db =
 
 -- the tables that schema 2 took over are as they were
 pub record KeepsLists (old new : Trees) : Type 0 where
-  pub collectors : new 1 ≡ old 1
-  pub outlets : new 3 ≡ old 3
-  pub items : new 4 ≡ old 4
-  pub nodes : new 6 ≡ old 6
-  pub places : new 8 ≡ old 8
-  pub calendar : new 10 ≡ old 10
+  pub collectors : new collector.tree ≡ old collector.tree
+  pub outlets : new outlet.tree ≡ old outlet.tree
+  pub items : new item.tree ≡ old item.tree
+  pub nodes : new node.tree ≡ old node.tree
+  pub places : new plan_item.tree ≡ old plan_item.tree
+  pub calendar : new calendar.tree ≡ old calendar.tree
 
 -- a migration is done
 pub record IsMoved (old new : State) : Type 0 where

@@ -13,6 +13,7 @@ use Rattle.cpi_release.specs.declared.release.Release.{Release}
 use Rattle.cpi_store.specs.Office.{Office}
 use Rattle.cpi_sql_rows.specs.Lists.{listed, assignment_in, quotes_in, header_in, header_key, frozen_in, carried_in}
 use Rattle.cpi_sql_rows.specs.Lists.{level_in, release_from, office_in, plans_of, years, nodes_in, places_in}
+use Rattle.cpi_sql_rows.specs.Tables.{assignment, carried, frozen, level, node, plan_item, quote, release}
 
 -- ---- rows: each is its rowid, and then its columns
 
@@ -49,17 +50,19 @@ level_copy r =
 -- the releases of schema 1
 unfoldable pub first_releases_in : Trees → List Release
 first_releases_in trees =
-    map (release_from (listed (held_cmp nat_cmp) (held_key frozen_serial) (λ r. frozen_in (frozen_copy r)) (trees 16))
-    (listed (held_cmp nat_cmp) (held_key carried_serial) (λ r. carried_in (carried_copy r)) (trees 18))
-    (listed (held_cmp code_cmp) (held_key (λ l. l.code)) (λ r. level_in (level_copy r)) (trees 20)))
-    (listed release_cmp header_key (λ r. header_in (header_copy r)) (trees 15))
+    map (release_from
+    (listed (held_cmp nat_cmp) (held_key frozen_serial) (λ r. frozen_in (frozen_copy r)) (trees frozen.tree))
+    (listed (held_cmp nat_cmp) (held_key carried_serial) (λ r. carried_in (carried_copy r)) (trees carried.tree))
+    (listed (held_cmp code_cmp) (held_key (λ l. l.code)) (λ r. level_in (level_copy r)) (trees level.tree)))
+    (listed release_cmp header_key (λ r. header_in (header_copy r)) (trees release.tree))
 
 -- the lists of the tables that stay are read as ever
 abbrev pub first_office_in : Trees → Office
 first_office_in trees = record (office_in trees) {
   assignments =
-      listed (held_cmp nat_cmp) (held_key (λ g. g.assignment.slot)) (λ r. assignment_in (assignment_copy r)) (trees 11);
-  quotes = quotes_in (trees 13);
+      listed (held_cmp nat_cmp) (held_key (λ g. g.assignment.slot)) (λ r. assignment_in (assignment_copy r))
+      (trees assignment.tree);
+  quotes = quotes_in (trees quote.tree);
   releases = first_releases_in trees;
-  plans = plans_of (years 200) (nodes_in (trees 6)) (places_in (trees 8)) [];
+  plans = plans_of (years 200) (nodes_in (trees node.tree)) (places_in (trees plan_item.tree)) [];
 }

@@ -43,6 +43,8 @@ use Rattle.cpi_release.specs.FrozenMonths.{ReleaseKey, release_cmp}
 use Rattle.std.specs.List.{slice_split}
 use Rattle.cpi_sql_rows.specs.declared.reference_months.ReferenceMonth.{ReferenceMonth}
 use Rattle.cpi_sql_rows.specs.declared.release_rows.Header.{Header}
+use Rattle.cpi_sql_rows.specs.Tables.{assignment_2, calendar, carried_2, collector, frozen_2, item, level_2}
+use Rattle.cpi_sql_rows.specs.Tables.{node, outlet, plan_item, plan_ref, quote_2, release_2}
 
 -- ---- values
 
@@ -374,7 +376,8 @@ years count = numbers 2000 count
 
 -- of the years 2000 to 2199
 abbrev pub plans_in : Trees → List Plan
-plans_in trees = plans_of (years 200) (nodes_in (trees 6)) (places_in (trees 8)) (references_in (trees 34))
+plans_in trees = plans_of (years 200) (nodes_in (trees node.tree)) (places_in (trees plan_item.tree))
+    (references_in (trees plan_ref.tree))
 
 -- ---- releases
 
@@ -543,17 +546,18 @@ release_from frozen carried levels h = record {
 -- the releases of all tables
 unfoldable pub releases_in : Trees → List Release
 releases_in trees =
-    map (release_from (frozens_in (trees 28)) (carrieds_in (trees 30)) (levels_in (trees 32))) (headers_in (trees 26))
+    map (release_from (frozens_in (trees frozen_2.tree)) (carrieds_in (trees carried_2.tree))
+    (levels_in (trees level_2.tree))) (headers_in (trees release_2.tree))
 
 -- the office of all tables
 abbrev pub office_in : Trees → Office
 office_in trees = record {
-  items = items_in (trees 4);
+  items = items_in (trees item.tree);
   plans = plans_in trees;
-  calendar = calendar_rows_in (trees 10);
-  collectors = collectors_in (trees 1);
-  outlets = outlets_in (trees 3);
-  assignments = assignments_in (trees 22);
-  quotes = quotes_in (trees 24);
+  calendar = calendar_rows_in (trees calendar.tree);
+  collectors = collectors_in (trees collector.tree);
+  outlets = outlets_in (trees outlet.tree);
+  assignments = assignments_in (trees assignment_2.tree);
+  quotes = quotes_in (trees quote_2.tree);
   releases = releases_in trees;
 }

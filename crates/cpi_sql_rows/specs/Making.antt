@@ -9,8 +9,9 @@ use Rattle.sqlite.specs.Tree.{Trees}
 use Rattle.cpi_sql_rows.specs.Numbered.{IsVersion}
 use Rattle.cpi_store.specs.Office.{empty_office}
 use Rattle.cpi_sql_rows.specs.Lists.{office_in}
-use Rattle.cpi_sql_rows.specs.Tables.{office_schema}
-use Rattle.cpi_sql_rows.specs.Tables.{assignment_2, quote_2, release_2, frozen_2, carried_2, level_2, plan_ref}
+use Rattle.cpi_sql_rows.specs.Tables.{assignment_2, calendar, carried_2, collector, frozen_2, item, level_2}
+use Rattle.cpi_sql_rows.specs.Tables.{node, office_schema, outlet, plan_item, plan_ref, quote_2, release_2}
+use Rattle.cpi_sql_rows.specs.Tables.{version}
 
 -- the schema of an empty database
 abbrev pub no_schema : Schema
@@ -29,20 +30,20 @@ HasAllTables trees = IsDatabase (record { schema = office_schema; trees = trees 
 pub record IsBlank (s : State) : Type 0 where
   pub schema : s.now.schema ≡ office_schema
   pub tables : HasAllTables s.now.trees
-  pub version : IsVersion 2 (s.now.trees 0)
-  pub collectors : s.now.trees 1 ≡ []
-  pub outlets : s.now.trees 3 ≡ []
-  pub items : s.now.trees 4 ≡ []
-  pub nodes : s.now.trees 6 ≡ []
-  pub places : s.now.trees 8 ≡ []
-  pub calendar : s.now.trees 10 ≡ []
-  pub assignments : s.now.trees 22 ≡ []
-  pub quotes : s.now.trees 24 ≡ []
-  pub releases : s.now.trees 26 ≡ []
-  pub frozen : s.now.trees 28 ≡ []
-  pub carried : s.now.trees 30 ≡ []
-  pub levels : s.now.trees 32 ≡ []
-  pub references : s.now.trees 34 ≡ []
+  pub version : IsVersion 2 (s.now.trees version.tree)
+  pub collectors : s.now.trees collector.tree ≡ []
+  pub outlets : s.now.trees outlet.tree ≡ []
+  pub items : s.now.trees item.tree ≡ []
+  pub nodes : s.now.trees node.tree ≡ []
+  pub places : s.now.trees plan_item.tree ≡ []
+  pub calendar : s.now.trees calendar.tree ≡ []
+  pub assignments : s.now.trees assignment_2.tree ≡ []
+  pub quotes : s.now.trees quote_2.tree ≡ []
+  pub releases : s.now.trees release_2.tree ≡ []
+  pub frozen : s.now.trees frozen_2.tree ≡ []
+  pub carried : s.now.trees carried_2.tree ≡ []
+  pub levels : s.now.trees level_2.tree ≡ []
+  pub references : s.now.trees plan_ref.tree ≡ []
 
 -- the rows are those of an office that holds nothing
 unfoldable pub HoldsNothing : Trees → Type 0
@@ -52,7 +53,7 @@ HoldsNothing trees = office_in trees ≡ empty_office
 pub record IsNew (trees : Trees) : Type 0 where
   pub tables : HasAllTables trees
   pub office : HoldsNothing trees
-  pub version : IsVersion 2 (trees 0)
+  pub version : IsVersion 2 (trees version.tree)
 
 -- what schema 2 adds
 abbrev pub second_tables : List Table

@@ -19,7 +19,8 @@ use Rattle.cpi_survey.specs.Quote.{quote_cmp, quote_key}
 use Rattle.cpi_store.specs.Office.{Office, Change, changed, with_releases}
 use Rattle.cpi_codes.specs.CodeOrder.{code_cmp}
 use Rattle.cpi_index.specs.Series.{frozen_serial, carried_serial}
-use Rattle.cpi_sql_rows.specs.Tables.{office_schema}
+use Rattle.cpi_sql_rows.specs.Tables.{assignment_2, calendar, carried_2, collector, frozen_2, item, level_2}
+use Rattle.cpi_sql_rows.specs.Tables.{node, office_schema, outlet, plan_item, plan_ref, quote_2, release_2}
 use Rattle.cpi_sql_rows.specs.Lists.{office_in, collector_in, outlet_in, item_in, calendar_in, assignment_in}
 use Rattle.cpi_sql_rows.specs.Lists.{quote_in, node_in, place_in, reference_row, header_in, header_key, frozen_in}
 use Rattle.cpi_sql_rows.specs.Lists.{carried_in, level_in}
@@ -70,8 +71,8 @@ AllStandOf entry number rows = AllStandFor (λ r. release_from_key (column r 1) 
 
 -- the types take each assignment and each quote
 pub record AreTaken (trees : Trees) : Type 0 where
-  pub assignments : AllStand assignment_in (trees 22)
-  pub quotes : AllStand quote_in (trees 24)
+  pub assignments : AllStand assignment_in (trees assignment_2.tree)
+  pub quotes : AllStand quote_in (trees quote_2.tree)
 
 -- each row stands for something, and no two have one key
 pub record IsWhole {X K : Type 0} (cmp : K → K → Ordering) (key : X → K) (entry : Row → Option X) (rows : List Row)
@@ -81,36 +82,37 @@ pub record IsWhole {X K : Type 0} (cmp : K → K → Ordering) (key : X → K) (
 
 -- the tables of the plans
 pub record HasPlans (trees : Trees) : Type 0 where
-  pub node_ids : HasRowids (trees 6)
-  pub place_ids : HasRowids (trees 8)
-  pub reference_ids : HasRowids (trees 34)
-  pub nodes : IsKeyed (held_cmp code_cmp) (held_key (λ n. n.code)) node_in (trees 6)
-  pub places : IsKeyed (held_cmp nat_cmp) (held_key (λ p. p.item)) place_in (trees 8)
-  pub references : IsKeyed (held_cmp nat_cmp) (held_key (λ m. m.month)) reference_row (trees 34)
+  pub node_ids : HasRowids (trees node.tree)
+  pub place_ids : HasRowids (trees plan_item.tree)
+  pub reference_ids : HasRowids (trees plan_ref.tree)
+  pub nodes : IsKeyed (held_cmp code_cmp) (held_key (λ n. n.code)) node_in (trees node.tree)
+  pub places : IsKeyed (held_cmp nat_cmp) (held_key (λ p. p.item)) place_in (trees plan_item.tree)
+  pub references : IsKeyed (held_cmp nat_cmp) (held_key (λ m. m.month)) reference_row (trees plan_ref.tree)
 
 -- the tables of the releases
 pub record HasReleases (trees : Trees) : Type 0 where
-  pub frozen_ids : HasRowids (trees 28)
-  pub carried_ids : HasRowids (trees 30)
-  pub level_ids : HasRowids (trees 32)
-  pub releases : IsKeyed release_cmp header_key header_in (trees 26)
-  pub frozen : IsKeyed (held_cmp nat_cmp) (held_key frozen_serial) frozen_in (trees 28)
-  pub carried : IsKeyed (held_cmp nat_cmp) (held_key carried_serial) carried_in (trees 30)
-  pub levels : IsKeyed (held_cmp code_cmp) (held_key (λ l. l.code)) level_in (trees 32)
+  pub frozen_ids : HasRowids (trees frozen_2.tree)
+  pub carried_ids : HasRowids (trees carried_2.tree)
+  pub level_ids : HasRowids (trees level_2.tree)
+  pub releases : IsKeyed release_cmp header_key header_in (trees release_2.tree)
+  pub frozen : IsKeyed (held_cmp nat_cmp) (held_key frozen_serial) frozen_in (trees frozen_2.tree)
+  pub carried : IsKeyed (held_cmp nat_cmp) (held_key carried_serial) carried_in (trees carried_2.tree)
+  pub levels : IsKeyed (held_cmp code_cmp) (held_key (λ l. l.code)) level_in (trees level_2.tree)
 
 -- the tables of the office
 pub record HasTables (s : State) : Type 0 where
   pub schema : s.now.schema ≡ office_schema
   pub alone : s.in_transaction ≡ false
-  pub rowids : HasRowids (s.now.trees 24)
-  pub days : HasRowids (s.now.trees 10)
-  pub assignment_ids : HasRowids (s.now.trees 22)
-  pub collectors : IsKeyed nat_cmp (λ b. b.number) collector_in (s.now.trees 1)
-  pub outlets : IsKeyed nat_cmp (λ u. u.number) outlet_in (s.now.trees 3)
-  pub items : IsKeyed nat_cmp (λ i. i.code) item_in (s.now.trees 4)
-  pub calendar : IsKeyed nat_cmp (λ r. r.month) calendar_in (s.now.trees 10)
-  pub assignments : IsKeyed (held_cmp nat_cmp) (held_key (λ g. g.assignment.slot)) assignment_in (s.now.trees 22)
-  pub quotes : IsKeyed (held_cmp quote_cmp) (held_key quote_key) quote_in (s.now.trees 24)
+  pub rowids : HasRowids (s.now.trees quote_2.tree)
+  pub days : HasRowids (s.now.trees calendar.tree)
+  pub assignment_ids : HasRowids (s.now.trees assignment_2.tree)
+  pub collectors : IsKeyed nat_cmp (λ b. b.number) collector_in (s.now.trees collector.tree)
+  pub outlets : IsKeyed nat_cmp (λ u. u.number) outlet_in (s.now.trees outlet.tree)
+  pub items : IsKeyed nat_cmp (λ i. i.code) item_in (s.now.trees item.tree)
+  pub calendar : IsKeyed nat_cmp (λ r. r.month) calendar_in (s.now.trees calendar.tree)
+  pub assignments : IsKeyed (held_cmp nat_cmp) (held_key (λ g. g.assignment.slot)) assignment_in
+      (s.now.trees assignment_2.tree)
+  pub quotes : IsKeyed (held_cmp quote_cmp) (held_key quote_key) quote_in (s.now.trees quote_2.tree)
   pub plans : HasPlans s.now.trees
   pub releases : HasReleases s.now.trees
 
@@ -149,19 +151,19 @@ Takes entry old new = (r : Row) → Has new r → Has old r ⊎ IsSome (entry r)
 
 -- the types take each row that a write puts
 pub record WritesTaken (old new : Trees) : Type 0 where
-  pub collectors : Takes collector_in (old 1) (new 1)
-  pub outlets : Takes outlet_in (old 3) (new 3)
-  pub items : Takes item_in (old 4) (new 4)
-  pub nodes : Takes node_in (old 6) (new 6)
-  pub places : Takes place_in (old 8) (new 8)
-  pub references : Takes reference_row (old 34) (new 34)
-  pub calendar : Takes calendar_in (old 10) (new 10)
-  pub assignments : Takes assignment_in (old 22) (new 22)
-  pub quotes : Takes quote_in (old 24) (new 24)
-  pub headers : Takes header_in (old 26) (new 26)
-  pub frozen : Takes frozen_in (old 28) (new 28)
-  pub carried : Takes carried_in (old 30) (new 30)
-  pub levels : Takes level_in (old 32) (new 32)
+  pub collectors : Takes collector_in (old collector.tree) (new collector.tree)
+  pub outlets : Takes outlet_in (old outlet.tree) (new outlet.tree)
+  pub items : Takes item_in (old item.tree) (new item.tree)
+  pub nodes : Takes node_in (old node.tree) (new node.tree)
+  pub places : Takes place_in (old plan_item.tree) (new plan_item.tree)
+  pub references : Takes reference_row (old plan_ref.tree) (new plan_ref.tree)
+  pub calendar : Takes calendar_in (old calendar.tree) (new calendar.tree)
+  pub assignments : Takes assignment_in (old assignment_2.tree) (new assignment_2.tree)
+  pub quotes : Takes quote_in (old quote_2.tree) (new quote_2.tree)
+  pub headers : Takes header_in (old release_2.tree) (new release_2.tree)
+  pub frozen : Takes frozen_in (old frozen_2.tree) (new frozen_2.tree)
+  pub carried : Takes carried_in (old carried_2.tree) (new carried_2.tree)
+  pub levels : Takes level_in (old level_2.tree) (new level_2.tree)
 
 -- what the change makes of the office
 pub record IsDone (change : Change) (old new : State) : Type 0 where

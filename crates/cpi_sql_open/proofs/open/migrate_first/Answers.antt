@@ -1,6 +1,13 @@
-use Rattle.std.proofs.Common.{rules}
+use Rattle.std.proofs.Common.{◌≡◌, arith, rules, subst}
+use Rattle.sqlite.proofs.StateLemmas.{survives_then}
+use Rattle.sqlite.specs.Effect.{Database}
 use Rattle.sqlite.specs.Held.{state}
+use Rattle.sqlite.specs.State.{State, HasCleanDisk, Survives}
+use Rattle.cpi_sql_rows.specs.Finding.{HaveFirstRowids, IsMigrated}
+use Rattle.cpi_sql_rows.specs.Shelf.{IsCleanBook}
+use Rattle.cpi_sql_rows.specs.Tables.{first_schema}
 use Rattle.cpi_sql_rows.proofs.FoundTables.{moved_tables, moved_whole}
+use Rattle.cpi_sql_open.specs.Looks.{Finds, IsTest, first_trees}
 use Rattle.cpi_sql_open.proofs.Looks.{first_found}
 use Rattle.cpi_sql_open.proofs.open.migrate_first.Goals as goal
 
@@ -19,3 +26,40 @@ returns-clause-whole g c = λ clean.
     c.in_ok-test_first.ensures.found (c.migrate.ensures.clean clean) in
     moved_whole tested.now.trees (state g.S.Store c.migrate.new.conn).now.trees
     (c.in_ok-migrate.ensures.moved clean.disk found.schema found.rowids).lists found.whole
+
+pub returns-clause-migrated : goal.returns-clause-migrated
+returns-clause-migrated g c = λ clean.
+    let test = c.test_first.ensures.test in
+    let tested = c.migrate.ensures.clean clean in
+    let found = first_found (state g.S.Store c.args.conn.now) (state g.S.Store c.test_first.new.conn) test
+    c.in_ok-test_first.ensures.found tested in
+    let moved = c.in_ok-migrate.ensures.moved clean.disk found.schema found.rowids in (
+      c.in_ok-test_first.ensures.found.is,
+      subst (λ (d : Database). IsMigrated d.trees (state g.S.Store c.migrate.new.conn).now.trees)
+          (test.kept tested).now moved.migrated,
+    )
+
+-- a crash leaves the tables that were tested, or the migrated ones
+leaves : (a b c : State) → IsTest a b → Finds first_schema first_trees a b
+    → Survives b c (λ db. b.now.schema ≡ first_schema → HaveFirstRowids b.now.trees → IsMigrated b.now.trees db)
+    → Survives a c (λ db. IsCleanBook a × ((a.now.schema ≡ first_schema) × IsMigrated a.now.trees db))
+leaves a b c test finds moves = survives_then a b c _ _ _ (λ _ db none. absurd none) (λ clean db may.
+    let disk : HasCleanDisk b = omega (arith, moves.clean, clean) in
+    let tested : IsCleanBook b = record { disk = disk; is_open = finds.is_open disk } in
+    let found = first_found a b test finds tested in (
+      test.clean tested,
+      (
+        finds.is,
+        subst (λ (d : Database). IsMigrated d.trees db) (test.kept tested).now (may found.schema found.rowids),
+      ),
+    )) test.crash moves
+
+pub returns-in_err-migrate-clause-crash : goal.returns-in_err-migrate-clause-crash
+returns-in_err-migrate-clause-crash g c =
+    leaves (state g.S.Store c.args.conn.now) (state g.S.Store c.test_first.new.conn)
+    (state g.S.Store c.migrate.new.conn) c.test_first.ensures.test c.in_ok-test_first.ensures.found c.migrate.ensures.crash
+
+pub returns-clause-crash : goal.returns-clause-crash
+returns-clause-crash g c =
+    leaves (state g.S.Store c.args.conn.now) (state g.S.Store c.test_first.new.conn)
+    (state g.S.Store c.migrate.new.conn) c.test_first.ensures.test c.in_ok-test_first.ensures.found c.migrate.ensures.crash
