@@ -1,9 +1,12 @@
 #!/usr/bin/env python3
 """Gives `cpi` words that it refuses, words that ask for help, and words of each job.
 
-- Words that are refused: numbers past their ranges, options that are left out or have no value, and words that are
-  none. Status 2, and the reason on standard error. Help that is asked for: status 0, and all of it on standard output.
+- Words that are refused: numbers past their ranges, options that are left out, have no value or exclude each other, and
+  words that are none. Status 2, and the reason on standard error. Help and the version that are asked for: status 0,
+  and all of it on standard output.
 - A zone, a key or a month that is none: its line, and status 1. The numbers beside it are at the ends of their ranges.
+- A file with the desk's key: what of it is the key, and what is none.
+- A table of a file that isn't there: `no table`, and the file isn't made.
 - Words of jobs that are done: what they print, their line and their status. The zone is UTC0 where none is given, and
   options come in any order.
 
@@ -13,6 +16,7 @@ In all but the last nothing is read from standard input, and no file is made.
 from __future__ import annotations
 
 import os
+import re
 import sys
 import tempfile
 from collections.abc import Callable, Iterator, Sequence
@@ -35,8 +39,8 @@ FIRST_TABLE = Ran(0, b"CPI 2025-12\n", b"")
 JOBS = ["replay", "serve", "table"]
 
 
-def serve(port: str = "8080", limit: str = "1") -> list[str]:
-    return ["serve", "--db", "F", "--port", port, "--desk-key", "KA", "--limit", limit]
+def serve(port: str = "8080", limit: str = "1", key: str = "--desk-key") -> list[str]:
+    return ["serve", "--db", "F", "--port", port, key, "KA", "--limit", limit]
 
 
 def table(db: str = "F", month: str = "2025-12", form: str = "text", at: str = "9999999999") -> list[str]:
@@ -57,20 +61,41 @@ REFUSED: list[Words] = [
     *(table(at=at) for at in ("10000000000", "-1", "x", "")),
     *([*table(), "--revision", number] for number in ("0", "10", "256", "-1", "x", "")),
     *without_each(serve()),
+    *without_each(serve(key="--desk-key-file")),
     *without_each(table()),
+    [*serve(), "--desk-key-file", "K"],
     [*table(), "--revision"],
     [b"\xff"],
     ["replay", "--zone", b"UTC0\xff"],
 ]
 
+VERSION = [["--version"], ["-V"]]
 HELP = [["--help"], *([job, "--help"] for job in JOBS), *(["help", job] for job in JOBS)]
 
 NO_ZONES = ("", "UTC0 ", "Europe/Berlin")
 BAD = [
     *(([*words, "--zone", zone], "zone") for words in (["replay"], serve()) for zone in NO_ZONES),
     (["replay", "--db", "F", "--zone", "Europe/Berlin"], "zone"),
+    ([*serve(key="--desk-key-file"), "--zone", "Europe/Berlin"], "zone"),
+    (serve(key="--desk-key-file"), "key"),
     *((serve(port, limit), "key") for port in ("1", "65535") for limit in ("1", "1000000")),
     *((table(month=month, at=at), "month") for month in ("2026-13", "") for at in ("0", "9999999999")),
+]
+
+KEY = b"0123456789abcdef" * 2
+
+# What a file with the desk's key holds. White space at the ends is none of the key, and 1,024 bytes are read.
+KEYS = [KEY, KEY + b"\n", b" \t\r\n" + KEY + b"\n\n", KEY + b"\n" * 992, KEY + b"\n" * 2000, b"\n" * 992 + KEY]
+NO_KEYS = [
+    b"",
+    b"\n",
+    KEY[1:],
+    KEY + b"0",
+    KEY.upper(),
+    KEY + b"\0",
+    KEY + b"\xff",
+    KEY + b"\n" + KEY,
+    b"\n" * 993 + KEY,
 ]
 
 # Words with what comes of them, one after the other in one folder.
@@ -102,6 +127,10 @@ def is_refused(ran: Ran) -> bool:
     return (ran.status, ran.out) == (2, b"") and ran.err.endswith(b"\n")
 
 
+def is_version(ran: Ran) -> bool:
+    return (ran.status, ran.err) == (0, b"") and re.fullmatch(rb"cpi \d+\.\d+(-dev)?\n", ran.out) is not None
+
+
 def is_helped(ran: Ran) -> bool:
     return (ran.status, ran.err) == (0, b"") and b"\nExit status:\n" in ran.out
 
@@ -119,6 +148,16 @@ def with_a_job(program: Program, room: str, words: Words, wanted: Ran) -> Fault:
     return None if ran == wanted else f"{ran}, wanted {wanted}"
 
 
+def with_key_file(program: Program, text: bytes, wanted: Ran) -> Fault:
+    """What goes wrong with a file of the desk's key. If it holds one, the next fault is that F is a folder."""
+    with tempfile.TemporaryDirectory() as room:
+        os.mkdir(f"{room}/F")
+        with open(f"{room}/KA", "wb") as file:
+            file.write(text)
+        ran, _ = run(program, serve(key="--desk-key-file"), room)
+    return None if ran == wanted else f"{ran}, wanted {wanted}"
+
+
 def behind_a_full_disk(program: Program, stream: str, words: Words, wanted: Ran) -> Fault:
     """Words are refused also where that can't be told; help that can't be written is a fault."""
     with open("/dev/full", "wb") as full, tempfile.TemporaryDirectory() as room:
@@ -132,6 +171,13 @@ def checks_of(program: Program) -> Iterator[Check]:
         yield Check(f"{words}", partial(without_a_job, program, words, is_refused))
     for words in HELP:
         yield Check(f"{words}", partial(without_a_job, program, words, is_helped))
+    for words in VERSION:
+        yield Check(f"{words}", partial(without_a_job, program, words, is_version))
+    for text, wanted in [*((it, "database failed") for it in KEYS), *((it, "bad key") for it in NO_KEYS)]:
+        name = f"a key file with {text[:40]!r}, {len(text)} bytes"
+        yield Check(name, partial(with_key_file, program, text, failed(wanted)))
+    missing = partial(without_a_job, program, table("none.db"), failed("no table").__eq__)
+    yield Check("a table of a file that isn't there", missing)
     for words, name in BAD:
         yield Check(f"{words}", partial(without_a_job, program, words, failed(f"bad {name}").__eq__))
     told = partial(behind_a_full_disk, program, "stderr", ["replay", "F"], Ran(2, b"", b""))

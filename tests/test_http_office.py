@@ -24,8 +24,9 @@ from collections.abc import Callable, Sequence
 from lib.harness import Checklist, Checks, Fault, program_of, words_of
 from lib.offices import LAST, RICE_AND_FLOUR, quoted
 from lib.open_office import ITEMS, KA, KC, LONG, OPEN, QUOTE, QUOTED, QUOTES, RECEIPT, RICE, UNQUOTED, office
-from lib.program import WELL, Program, failed, with_disk
-from lib.served import DESK, FULL, Served, free_port, message, padded, refused, response, words_of as serving
+from lib.program import Program, Ran, failed, with_disk
+from lib.served import DESK, FULL, REOPENING, Served, ended_after, free_port, message, padded, refused, response
+from lib.served import words_of as serving
 
 check = Checklist()
 
@@ -197,12 +198,14 @@ TALK = [
 
 def conversation(served: Served, pairs: Sequence[tuple[bytes, bytes | None]], ends: bool = False) -> Fault:
     """What is answered otherwise, or the end of the program where that is another one; None stands for any 200."""
+    responses = []
     for at, (text, wanted) in enumerate(pairs):
         got = served.ask(text, ends)
+        responses.append(got)
         if got != wanted and not (wanted is None and got.startswith(b"HTTP/1.1 200 OK\r\n")):
             return f"message {at}, {text[:80]!r}: {got[:300]!r}, wanted {wanted!r}"
     ended = served.end()
-    return None if ended == WELL else f"ended with {ended}"
+    return None if ended == ended_after(responses) else f"ended with {ended}"
 
 
 @check
@@ -322,6 +325,10 @@ LARGE_PLAN = "".join(TITLES + [f"W,{code},{weight}\n" for code, weight in zip(CO
 PLANNED = message("PUT /plan/2026", key=DESK, body=LARGE_PLAN)
 
 
+# The end where a file can't be opened again.
+LOST = Ran(1, b"", REOPENING + failed("database failed").err)
+
+
 def may_not_grow(path: str) -> Callable[[], None]:
     """A disk that is full once the file and its log are as long as they are."""
     return with_disk(os.path.getsize(path) + os.path.getsize(path + "-wal"))
@@ -343,7 +350,7 @@ def lost(program: Program, room: str) -> Fault:
         os.remove(path)
         os.mkdir(path)
         got = [served.ask(PLANNED), served.end()]
-    return None if got == [FULL, failed("database failed")] else f"{got}"
+    return None if got == [FULL, LOST] else f"{got}"
 
 
 @check
@@ -359,7 +366,7 @@ def lost_unheard(program: Program, room: str) -> Fault:
         os.remove(path)
         os.mkdir(path)
         got = [served.ask_and_go(rows), served.end()]
-    return None if is_refused and got == [b"HTTP/1.1", failed("database failed")] else f"{is_refused}, {got}"
+    return None if is_refused and got == [b"HTTP/1.1", LOST] else f"{is_refused}, {got}"
 
 
 # ---- what isn't served

@@ -21,8 +21,8 @@ from typing import Union
 
 from lib.harness import Checklist, Checks, Fault, program_of, words_of
 from lib.open_office import ITEMS, KA, LONG, OPEN, QUOTE, QUOTED, QUOTES, RECEIPT, RICE, UNQUOTED, office
-from lib.program import WELL, Program, Ran
-from lib.served import Served, heard, heard_until_reset, message, refused, reset
+from lib.program import Program, Ran
+from lib.served import ENDED, Served, heard, heard_until_reset, message, refused, reset
 
 LARGE = refused("413 Payload Too Large", 10)
 QUOTE_AND_ITEMS = message("POST /import", key=KA, body=b"quote,1,2026-01,price,210\nitems\n")
@@ -87,7 +87,7 @@ def taking_nothing(program: Program, room: str) -> Fault:
         got: Heard = [it.ask(QUOTE)]
         clock.stop()
         got += [it.ask(QUOTES), it.end()]
-    return otherwise(got, [RECEIPT, QUOTED, WELL]) or late(clock, 4, 16)
+    return otherwise(got, [RECEIPT, QUOTED, ENDED]) or late(clock, 4, 16)
 
 
 def in_pieces(program: Program, room: str, size: int) -> Heard:
@@ -103,13 +103,13 @@ def in_pieces(program: Program, room: str, size: int) -> Heard:
 @check
 def slow(program: Program, room: str) -> Fault:
     """A message of 118 bytes whose last ones come after fourteen seconds does nothing, and is answered nothing."""
-    return otherwise(in_pieces(program, room, 8), [b"", UNQUOTED, WELL])
+    return otherwise(in_pieces(program, room, 8), [b"", UNQUOTED, ENDED])
 
 
 @check
 def steady(program: Program, room: str) -> Fault:
     """The same message is answered where its last bytes come after seven seconds."""
-    return otherwise(in_pieces(program, room, 16), [RECEIPT, QUOTED, WELL])
+    return otherwise(in_pieces(program, room, 16), [RECEIPT, QUOTED, ENDED])
 
 
 @check
@@ -121,7 +121,7 @@ def dripping(program: Program, room: str) -> Fault:
         got: Heard = [it.ask(ITEMS)]
         clock.stop()
         got += [it.end()]
-    return otherwise(got, [RICE, WELL]) or late(clock, 8, 13)
+    return otherwise(got, [RICE, ENDED]) or late(clock, 8, 13)
 
 
 @check
@@ -132,7 +132,7 @@ def silent(program: Program, room: str) -> Fault:
         got: Heard = [it.ask(ITEMS)]
         clock.stop()
         got += [heard(one), it.end()]
-    return otherwise(got, [RICE, b"", WELL]) or late(clock, 4, 9)
+    return otherwise(got, [RICE, b"", ENDED]) or late(clock, 4, 9)
 
 
 @check
@@ -145,7 +145,7 @@ def dripping_afterwards(program: Program, room: str) -> Fault:
             got: Heard = [one.recv(1 << 16), it.ask(ITEMS)]
             clock.stop()
             got += [it.end()]
-    return otherwise(got, [RICE, RICE, WELL]) or late(clock, 0, 4)
+    return otherwise(got, [RICE, RICE, ENDED]) or late(clock, 0, 4)
 
 
 @check
@@ -157,7 +157,7 @@ def a_word_afterwards(program: Program, room: str) -> Fault:
         one.sendall(b" and more")
         one.shutdown(socket.SHUT_WR)
         got = [begun + heard(one), it.end()]
-    return otherwise(got, [RECEIPT, WELL])
+    return otherwise(got, [RECEIPT, ENDED])
 
 
 @check
@@ -169,7 +169,7 @@ def staying(program: Program, room: str) -> Fault:
         got: Heard = [it.ask(QUOTES)]
         clock.stop()
         got += [heard(one), it.end()]
-    return otherwise(got, [QUOTED, RECEIPT, WELL]) or late(clock, 0, 4)
+    return otherwise(got, [QUOTED, RECEIPT, ENDED]) or late(clock, 0, 4)
 
 
 @check
@@ -177,7 +177,7 @@ def going_away(program: Program, room: str) -> Fault:
     """Of a peer that goes away within a long response the message stands."""
     with served(program, room, 3, LONG) as it:
         got = [it.ask_and_go(QUOTE_AND_ITEMS), it.ask(QUOTES), it.ask(QUOTE), it.end()]
-    return otherwise(got, [b"HTTP/1.1", QUOTED, RECEIPT, WELL])
+    return otherwise(got, [b"HTTP/1.1", QUOTED, RECEIPT, ENDED])
 
 
 @check
@@ -192,7 +192,7 @@ def opened_once(program: Program, room: str) -> Fault:
             got += [it.ask_and_go(QUOTE_AND_ITEMS), it.ask(QUOTES), it.ask(QUOTE)]
         clock.stop()
         ended = it.end()
-    return otherwise([*got, ended], [*[b"HTTP/1.1", QUOTED, RECEIPT] * 4, WELL]) or late(clock, 0, 4)
+    return otherwise([*got, ended], [*[b"HTTP/1.1", QUOTED, RECEIPT] * 4, ENDED]) or late(clock, 0, 4)
 
 
 @check
@@ -201,7 +201,7 @@ def far_too_much(program: Program, room: str) -> Fault:
     big = message("POST /import", key=KA, body=b"x" * 4_000_000)
     with served(program, room, 3) as it:
         got = [it.ask(big), it.ask(ITEMS + b"x" * 1_000_000), it.ask(ITEMS), it.end()]
-    return otherwise(got, [LARGE, RICE, RICE, WELL])
+    return otherwise(got, [LARGE, RICE, RICE, ENDED])
 
 
 @check
@@ -215,7 +215,7 @@ def closing(program: Program, room: str) -> Fault:
                 if at % 2:
                     reset(one)
         got = [it.ask(ITEMS), it.end()]
-    return otherwise(got, [RICE, WELL])
+    return otherwise(got, [RICE, ENDED])
 
 
 @check
@@ -226,7 +226,7 @@ def elsewhere(program: Program, room: str) -> Fault:
             one.settimeout(10)
             found = one.connect_ex(("127.0.0.2", it.port))
         got = [it.ask(ITEMS), it.end()]
-    return otherwise([found, *got], [errno.ECONNREFUSED, RICE, WELL])
+    return otherwise([found, *got], [errno.ECONNREFUSED, RICE, ENDED])
 
 
 @check
@@ -238,7 +238,7 @@ def limited(program: Program, room: str) -> Fault:
             it.peer().close()
             return "a third connection"
         except ConnectionRefusedError:
-            return otherwise(got, [RICE, RICE, WELL])
+            return otherwise(got, [RICE, RICE, ENDED])
 
 
 def main() -> int:

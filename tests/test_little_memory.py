@@ -33,7 +33,7 @@ from lib.offices import aggregates, key_of, plan_of
 from lib.program import Program, Ran, failed, with_memory
 from lib.records import first_difference, rows_of
 from lib.refusing import is_of_lines
-from lib.served import DESK, FULL, Served, message
+from lib.served import DESK, ENDED, FULL, Served, message, without_reports
 from lib.stored import stored_in_copy
 from second_office.records import text_of
 from second_office.requests import Record
@@ -271,7 +271,7 @@ class Messages(Job):
         self.messages = [*asked()]
         with tempfile.TemporaryDirectory() as inner:
             ran, self.wanted = self.served(inner, AMPLE)
-        if ran.status or ran.err or any(not text.startswith(WELL) for text in self.wanted):
+        if ran != ENDED or any(not text.startswith(WELL) for text in self.wanted):
             raise ChildProcessError(f"{ran}, {[text[:60] for text in self.wanted]}")
 
     def served(self, room: str, size: int) -> tuple[Ran, list[bytes]]:
@@ -285,11 +285,12 @@ class Messages(Job):
     def is_enough(self, size: int) -> bool:
         with tempfile.TemporaryDirectory() as room:
             ran, heard = self.served(room, size)
-            return (ran, heard) == ((0, b"", b""), self.wanted)
+            return (ran, heard) == (ENDED, self.wanted)
 
     def found(self, size: int) -> Found:
         with tempfile.TemporaryDirectory() as room:
-            ran, heard = self.served(room, size)
+            all_of_it, heard = self.served(room, size)
+            ran = without_reports(all_of_it)
             fault = ended_ill(ran, NO_MEMORY, NO_DATABASE) or (f"{ran}" if ran.out else self.answered_ill(heard))
             kind = f"{kind_of(ran)}{' while it served' if heard and ran.status else ''}"
             kind += ", peers without a response" * (b"" in heard) + ", peers refused by 90" * (FULL in heard)

@@ -6,6 +6,7 @@ import contextlib
 import socket
 import struct
 import subprocess
+from collections.abc import Sequence
 from typing import Any, TypeVar
 
 from .program import PATIENCE, Program, Ran
@@ -45,6 +46,34 @@ def refused(status: str, number: int) -> bytes:
 
 
 FULL = refused("503 Service Unavailable", 90)
+
+REFUSED = b"cpi: a request was refused by 90"
+REOPENING = REFUSED + b", opening the file again\n"
+REOPENED = REOPENING + b"cpi: the file is open again\n"
+"""The lines on standard error after a connection with a 90 in its response, if there are more connections to serve."""
+
+LIMIT = b"cpi: served as many connections as --limit says\n"
+"""The line on standard error at the end of the limit."""
+
+ENDED = Ran(0, b"", LIMIT)
+"""The end of a program that served as many connections as it was asked for, none of them with a 90."""
+
+
+REPORTS = {REOPENING, REOPENING.replace(REFUSED, b"cpi: out of memory"), b"cpi: the file is open again\n", LIMIT}
+"""The lines on standard error that aren't the fault of an end."""
+
+
+def without_reports(ran: Ran) -> Ran:
+    """The end of a program, with the line of its fault only."""
+    lines = ran.err.splitlines(keepends=True)
+    return ran._replace(err=b"".join(line for line in lines if line not in REPORTS))
+
+
+def ended_after(responses: Sequence[bytes]) -> Ran:
+    """The end of a program that gave these responses, one for each connection of its limit."""
+    has_90 = [b'"refused":90}' in each for each in responses]
+    last = [REFUSED + b"\n"] if has_90[-1] else []
+    return Ran(0, b"", b"".join([REOPENED] * sum(has_90[:-1]) + last + [LIMIT]))
 
 
 def free_port() -> int:

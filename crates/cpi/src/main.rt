@@ -4,11 +4,12 @@
 
 use clap::Error;
 use clap::error::ErrorKind;
-use cpi_app::{Job, RunFault, asked_table, job_of_words, run_replay};
-use cpi_files::{replay_in_file, run_serve, table_in_file};
+use cpi_app::{DeskKey, Job, RunFault, asked_table, job_of_words, read_key, run_replay};
+use cpi_files::{is_missing, replay_in_file, run_serve, table_in_file};
 use cpi_release::Revision;
 use cpi_wire::WireFault;
 use sqlite::Unknown;
+use std::fs::File;
 use std::process::ExitCode;
 use std::{env, io};
 
@@ -57,20 +58,39 @@ fn run_replay_in(rt: &HostRuntime, zone: &str, path: &str) -> Result<u8, RunFaul
     Ok(0)
 }
 
+// The text of the desk's key. That of a file which can't be read is empty, and so no key.
+fn key_text(rt: &HostRuntime, key: DeskKey) -> Result<String, RunFault> {
+    let alloc = rt.alloc();
+    let path = match key {
+        DeskKey::Word(word) => {
+            return String::from_str(alloc, word).map_err(|_| RunFault::Wire(WireFault::NoMemory));
+        }
+        DeskKey::File(path) => path,
+    };
+    let Ok(file) = File::open(rt, path) else {
+        return Ok(String::new(alloc));
+    };
+    match read_key(alloc, file) {
+        Err(RunFault::BadKey) => Ok(String::new(alloc)),
+        read => read,
+    }
+}
+
 // Serves the office of the file by HTTP.
 fn run_serve_of(
     rt: &HostRuntime,
     path: &str,
     port: u16,
-    key: &str,
+    key: DeskKey,
     limit: u32,
     zone: &str,
 ) -> Result<u8, RunFault> {
-    run_serve(rt, path, Unknown, port, key, limit, zone)?;
+    let key = key_text(rt, key)?;
+    run_serve(rt, path, Unknown, port, &key, limit, zone)?;
     Ok(0)
 }
 
-// Prints the table from the office of the file.
+// Prints the table from the office of the file. An office that isn't there has none, and isn't made.
 fn run_table_of(
     rt: &HostRuntime,
     path: &str,
@@ -80,6 +100,9 @@ fn run_table_of(
     at: u64,
 ) -> Result<u8, RunFault> {
     let asked = asked_table(month, revision, form, at)?;
+    if is_missing(rt, path) {
+        return Err(RunFault::NoTable);
+    }
     let out = &mut io::writer(rt);
     table_in_file(rt, path, Unknown, asked, out, &mut rt.stderr())
 }
@@ -98,7 +121,7 @@ fn run_job(rt: &HostRuntime, job: &Job) -> Result<u8, RunFault> {
             key,
             limit,
             zone,
-        } => run_serve_of(rt, db, *port, key, *limit, zone),
+        } => run_serve_of(rt, db, *port, *key, *limit, zone),
         Job::Table {
             db,
             month,

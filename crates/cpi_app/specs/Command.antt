@@ -1,9 +1,12 @@
 -- The command line of the program: its subcommands, and the job that words give.
-use Rattle.std.specs.Prelude.{◌≡◌, ◌≤◌, ◌⊎◌, ℕ, List, [], Option, Some, None, Ok, unwrap_or, option_map, codes, true}
+use Rattle.std.specs.Prelude.{◌≡◌, ◌≤◌, ◌⊎◌, ℕ, List, [], Option, Some, None, Ok}
+use Rattle.std.specs.Prelude.{unwrap_or, option_map, codes, true, false}
 use Rattle.std.specs.Str.Parse.{ParsesUnsigned}
 use Rattle.clap.specs.Words.{App, Row, Rule, Text, first_of, one_of, new_app, new_rule, with_rule}
 use Rattle.clap.specs.Words.{with_subcommand, subcommand_of}
 use Rattle.clap.specs.declared.builder.value_parser.ValueParser.TheVariants as parser
+use Rattle.cpi_app.specs.declared.job.DeskKey.{DeskKey}
+use Rattle.cpi_app.specs.declared.job.DeskKey.TheVariants.{Word, File}
 use Rattle.cpi_app.specs.declared.job.Job.{Job}
 use Rattle.cpi_app.specs.declared.job.Job.TheVariants.{Replay, Serve, Table}
 
@@ -14,6 +17,10 @@ option name = record (new_rule name) { long = Some name }
 -- an option that has to be given
 abbrev pub required : Text → Rule
 required name = record (option name) { required = true }
+
+-- an option that has to be given if another one isn't, and can't be given with it
+abbrev pub either : Text → Rule
+either name = record (option name) { is_free = false }
 
 -- a number in a range
 abbrev pub optional_number : Text → ℕ → ℕ → Rule
@@ -28,19 +35,23 @@ abbrev pub replay : App
 replay = with_rule (with_rule (new_app (codes "replay")) (option (codes "zone"))) (option (codes "db"))
 
 abbrev pub serve : App
-serve = with_rule (with_rule (with_rule (with_rule (with_rule (new_app (codes "serve"))
-    (required (codes "db"))) (number (codes "port") 1 65535)) (required (codes "desk-key")))
-    (number (codes "limit") 1 1000000)) (option (codes "zone"))
+serve = with_rule (with_rule (with_rule (with_rule (with_rule (with_rule (new_app (codes "serve"))
+    (required (codes "db"))) (number (codes "port") 1 65535)) (either (codes "desk-key")))
+    (either (codes "desk-key-file"))) (number (codes "limit") 1 1000000)) (option (codes "zone"))
 
 abbrev pub table : App
 table = with_rule (with_rule (with_rule (with_rule (with_rule (new_app (codes "table"))
     (required (codes "db"))) (required (codes "month"))) (required (codes "form")))
     (number (codes "at") 0 9999999999)) (optional_number (codes "revision") 1 9)
 
--- the program: the words begin with a subcommand
+-- the program: the words begin with a subcommand, or ask for help or the version
 abbrev pub bare : App
 bare = record {
-  top = record (new_app (codes "cpi")).top { no_binary_name = true; subcommand_required = true };
+  top = record (new_app (codes "cpi")).top {
+    no_binary_name = true;
+    has_version = true;
+    subcommand_required = true;
+  };
   subs = [];
 }
 
@@ -65,13 +76,18 @@ HasRevision rows (Some n) = HasNumber 8 rows (codes "revision") n × (1 ≤ n) �
 abbrev pub HasZone : List Row → Text → Type 0
 HasZone rows zone = zone ≡ unwrap_or (first_of (codes "zone") rows) (codes "UTC0")
 
+-- the key is the value of --desk-key, or in the file that --desk-key-file names, and the other one wasn't given
+abbrev pub HasDeskKey : List Row → DeskKey → Type 0
+HasDeskKey rows (Word key) = HasText rows (codes "desk-key") key.now × (first_of (codes "desk-key-file") rows ≡ None)
+HasDeskKey rows (File path) = HasText rows (codes "desk-key-file") path.now × (first_of (codes "desk-key") rows ≡ None)
+
 -- the job is that subcommand, with the values of its options
 abbrev pub IsJob : Text × List Row → Job → Type 0
 IsJob sub (Replay zone db) = (sub.0 ≡ codes "replay") × HasZone sub.1 zone.now
     × (option_map (λ t. t.now) db ≡ first_of (codes "db") sub.1)
 IsJob sub (Serve db port key limit zone) = (sub.0 ≡ codes "serve") × HasText sub.1 (codes "db") db.now
     × HasNumber 16 sub.1 (codes "port") port × (1 ≤ port)
-    × HasText sub.1 (codes "desk-key") key.now
+    × HasDeskKey sub.1 key
     × HasNumber 32 sub.1 (codes "limit") limit × (1 ≤ limit) × (limit ≤ 1000000)
     × HasZone sub.1 zone.now
 IsJob sub (Table db month revision form at) = (sub.0 ≡ codes "table") × HasText sub.1 (codes "db") db.now

@@ -33,6 +33,15 @@ Serves = (job served ≡ Some (codes "serve")) × (value served (codes "db") ≡
     × (value served (codes "port") ≡ Some (codes "8080")) × (value served (codes "desk-key") ≡ Some (codes "K"))
     × (value served (codes "limit") ≡ Some (codes "1")) × (value served (codes "zone") ≡ None)
 
+-- the key in a file
+abbrev pub by_key_file : List Text
+by_key_file = codes "serve" ∷ codes "--db" ∷ codes "F" ∷ codes "--port" ∷ codes "8080" ∷ codes "--limit" ∷ codes "1"
+    ∷ codes "--desk-key-file=K" ∷ []
+
+abbrev pub ServesByKeyFile : Type 0
+ServesByKeyFile = (job by_key_file ≡ Some (codes "serve"))
+    × (value by_key_file (codes "desk-key-file") ≡ Some (codes "K")) × (value by_key_file (codes "desk-key") ≡ None)
+
 abbrev pub printed : List Text
 printed = codes "table" ∷ codes "--db" ∷ codes "F" ∷ codes "--month" ∷ codes "2026-01" ∷ codes "--revision" ∷ codes "2"
     ∷ codes "--form" ∷ codes "csv" ∷ codes "--at" ∷ codes "9999999999" ∷ []
@@ -42,7 +51,7 @@ Prints = (job printed ≡ Some (codes "table")) × (value printed (codes "db") �
     × (value printed (codes "month") ≡ Some (codes "2026-01")) × (value printed (codes "revision") ≡ Some (codes "2"))
     × (value printed (codes "form") ≡ Some (codes "csv")) × (value printed (codes "at") ≡ Some (codes "9999999999"))
 
--- no word, help that is asked for, a word of no subcommand, and one in capital letters
+-- no word, help or the version that is asked for, a word of no subcommand, and one in capital letters
 abbrev pub NamesNone : Type 0
-NamesNone = (job [] ≡ None) × (job (codes "--help" ∷ []) ≡ None) × (job (codes "play" ∷ []) ≡ None)
-    × (job (codes "Replay" ∷ []) ≡ None)
+NamesNone = (job [] ≡ None) × (job (codes "--help" ∷ []) ≡ None) × (job (codes "--version" ∷ []) ≡ None)
+    × (job (codes "play" ∷ []) ≡ None) × (job (codes "Replay" ∷ []) ≡ None)

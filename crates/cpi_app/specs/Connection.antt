@@ -1,6 +1,6 @@
 -- What connections do.
 use Rattle.std.specs.Prelude.{◌≡◌, ◌+◌, ◌⊎◌, ℕ, Bool, true, false, List, [], ◌∷◌, length}
-use Rattle.std.specs.Prelude.{⊤, Option, Some, None, Result, Ok, Err, IfOk, IfErr, IsTrue, IsFalse}
+use Rattle.std.specs.Prelude.{⊤, Option, Some, None, Result, Ok, Err, IfOk, IfErr, IsTrue, IsFalse, codes, is_some}
 use Rattle.std.specs.List.{AllByRecursion}
 use Rattle.cpi_codes.specs.Zone.{ZoneRule}
 use Rattle.cpi_release.specs.State.{State}
@@ -11,6 +11,8 @@ use Rattle.cpi_http.specs.declared.serve.Served.{Served}
 use Rattle.cpi_http.specs.declared.serve.Served.TheVariants as served
 use Rattle.cpi_http.specs.Message.{setting}
 use Rattle.cpi_http.specs.Served.{Framing, Change, IsServed, GaveUp, messages}
+use Rattle.cpi_app.specs.declared.shake.Shake.{Shake}
+use Rattle.cpi_app.specs.declared.shake.Shake.TheVariants.{Unavailable, Unwritten, NoMemory}
 use Rattle.cpi_app.specs.declared.fault.RunFault.{RunFault}
 use Rattle.cpi_app.specs.declared.fault.RunFault.TheVariants.{NoPort, Wire}
 
@@ -26,14 +28,26 @@ GivesUpFront state f stream c fault = (behind : Option (List ℕ)) × GaveUp sta
 abbrev pub unknown_bytes : {B : Type 0} → B → B → Change B
 unknown_bytes before now = record { before = before; now = now; written = None; writing = None }
 
--- A reply was that the office was unavailable, so that its store may have failed; or it may have been: without memory,
--- or where the response isn't known to be written, nobody tells what the replies were.
+-- Why the book has to be opened again, if it has to: a reply was that the office was unavailable, so that its store may
+-- have failed; or a reply may have been that, since nobody knows the replies if a response wasn't written whole, or if
+-- there was no memory for it.
+abbrev pub shake_of : Result Served WireFault → Option Shake
+shake_of (Ok (served.Answered status true)) = Some Unavailable
+shake_of (Ok (served.Answered status false)) = None
+shake_of (Ok served.Cut) = None
+shake_of (Err fault.Read) = None
+shake_of (Err fault.Write) = Some Unwritten
+shake_of (Err fault.NoMemory) = Some NoMemory
+
+-- it has to
 abbrev pub is_shaken : Result Served WireFault → Bool
-is_shaken (Ok (served.Answered status failed)) = failed
-is_shaken (Ok served.Cut) = false
-is_shaken (Err fault.Read) = false
-is_shaken (Err fault.Write) = true
-is_shaken (Err fault.NoMemory) = true
+is_shaken outcome = is_some (shake_of outcome)
+
+-- the words of the reason, in a line on standard error
+abbrev pub words_of : Shake → List ℕ
+words_of Unavailable = codes "a request was refused by 90"
+words_of Unwritten = codes "a response couldn't be written"
+words_of NoMemory = codes "out of memory"
 
 -- one connection was served, or given up
 abbrev pub IsConnection : {B : Type 0} → (B → State Office) → Framing → Result Served WireFault → B → B → Type 0

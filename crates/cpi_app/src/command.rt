@@ -1,6 +1,6 @@
 //! The words of the command line.
 ghost use Rattle.std.specs.Prelude.{◌≡◌, IfOk, IfSome, map, false, codes, Some, List};
-ghost use Rattle.clap.specs.Words.{app_of, found_of, rows_of, subcommand_rows_of, Text, Row};
+ghost use Rattle.clap.specs.Words.{app_of, new_app, found_of, rows_of, subcommand_rows_of, Text, Row};
 ghost use Rattle.clap.specs.declared.builder.command.Command.TheViews.{out-Command};
 ghost use Rattle.cpi_app.specs.Command as line;
 ghost use Rattle.cpi_app.specs.Command.{GivesJob, IsJob};
@@ -8,9 +8,10 @@ ghost use Rattle.cpi_app.specs.Command.{GivesJob, IsJob};
 use crate::help;
 use crate::job::Job;
 use crate::options::{
-    form_of, limit_of, number, option, optional_number, port_of, required, revision_of, second_of,
-    text_of, zone_of,
+    desk_key_of, either, form_of, limit_of, number, option, optional_number, port_of, required,
+    revision_of, second_of, text_of, zone_of,
 };
+use crate::version::VERSION;
 use clap::error::ErrorKind;
 use clap::{ArgMatches, Command, Error};
 use std::alloc::{AllocError, Global};
@@ -19,71 +20,90 @@ const ZONE_HELP: &str = "The clock's POSIX rule, like CET-1CEST,M3.5.0,M10.5.0/3
 
 const FILE_HELP: &str = "The database file of the office; it is made where it isn't there";
 
+const KEY_HELP: &str =
+    "The key of the desk, 32 characters of 0-9 and a-f; every user of the machine can see it";
+
+const KEY_FILE_HELP: &str = "The file that holds the key of the desk, in place of --desk-key";
+
+// A subcommand that has no option yet.
+fn subcommand<'a>(alloc: Global, name: &'a str, about: &'a str, after: &'a str) -> Command<'a>
+    ensures app { app_of result ≡ new_app name.entry.now }
+    ensures local { (out-Command result).has_globals ≡ false }
+{
+    Command::new(alloc, name).about(about).after_help(after)
+}
+
 fn replay_command<'a>(alloc: Global) -> Result<Command<'a>, AllocError>
     ensures app { IfOk result (λ c. app_of c ≡ line.replay) }
     ensures local { IfOk result (λ c. (out-Command c).has_globals ≡ false) }
 {
-    Command::new(alloc, "replay")
-        .about("Reads records from standard input, and writes the line of each reply")
-        .after_help(help::REPLAY)
-        .arg(option(alloc, "zone", ZONE_HELP))?
-        .arg(option(alloc, "db", FILE_HELP))
+    subcommand(
+        alloc,
+        "replay",
+        "Reads records from standard input, and writes the line of each reply",
+        help::REPLAY,
+    )
+    .arg(option(alloc, "zone", ZONE_HELP))?
+    .arg(option(alloc, "db", FILE_HELP))
 }
 
 fn serve_command<'a>(alloc: Global) -> Result<Command<'a>, AllocError>
     ensures app { IfOk result (λ c. app_of c ≡ line.serve) }
     ensures local { IfOk result (λ c. (out-Command c).has_globals ≡ false) }
 {
-    Command::new(alloc, "serve")
-        .about("Serves the office by HTTP at a port of this machine, one connection after another")
-        .after_help(help::SERVE)
-        .arg(required(alloc, "db", FILE_HELP))?
-        .arg(number(
-            alloc,
-            "port",
-            "The port at 127.0.0.1, 1 to 65535",
-            1,
-            65_535,
-        ))?
-        .arg(required(
-            alloc,
-            "desk-key",
-            "The key of the desk, 32 characters of 0-9 and a-f",
-        ))?
-        .arg(number(
-            alloc,
-            "limit",
-            "How many connections are served, 1 to 1000000",
-            1,
-            1_000_000,
-        ))?
-        .arg(option(alloc, "zone", ZONE_HELP))
+    subcommand(
+        alloc,
+        "serve",
+        "Serves the office by HTTP at a port of this machine, one connection after another",
+        help::SERVE,
+    )
+    .arg(required(alloc, "db", FILE_HELP))?
+    .arg(number(
+        alloc,
+        "port",
+        "The port at 127.0.0.1, 1 to 65535",
+        1,
+        65_535,
+    ))?
+    .arg(either(alloc, "desk-key", "desk-key-file", KEY_HELP)?)?
+    .arg(either(alloc, "desk-key-file", "desk-key", KEY_FILE_HELP)?)?
+    .arg(number(
+        alloc,
+        "limit",
+        "How many connections are served, 1 to 1000000",
+        1,
+        1_000_000,
+    ))?
+    .arg(option(alloc, "zone", ZONE_HELP))
 }
 
 fn table_command<'a>(alloc: Global) -> Result<Command<'a>, AllocError>
     ensures app { IfOk result (λ c. app_of c ≡ line.table) }
     ensures local { IfOk result (λ c. (out-Command c).has_globals ≡ false) }
 {
-    Command::new(alloc, "table")
-        .about("Prints the table of a month as it was published by a moment")
-        .after_help(help::TABLE)
-        .arg(required(alloc, "db", FILE_HELP))?
-        .arg(required(alloc, "month", "The month, like 2026-01"))?
-        .arg(required(alloc, "form", "text or csv"))?
-        .arg(number(
-            alloc,
-            "at",
-            "The moment, in seconds since 1970 UTC",
-            0,
-            9_999_999_999,
-        ))?
-        .arg(optional_number(
-            alloc,
-            "revision",
-            "The revision, 1 to 9; else the latest that was published by then",
-            1,
-            9,
-        ))
+    subcommand(
+        alloc,
+        "table",
+        "Prints the table of a month as it was published by a moment",
+        help::TABLE,
+    )
+    .arg(required(alloc, "db", FILE_HELP))?
+    .arg(required(alloc, "month", "The month, like 2026-01"))?
+    .arg(required(alloc, "form", "text or csv"))?
+    .arg(number(
+        alloc,
+        "at",
+        "The moment, in seconds since 1970 UTC",
+        0,
+        9_999_999_999,
+    ))?
+    .arg(optional_number(
+        alloc,
+        "revision",
+        "The revision, 1 to 9; else the latest that was published by then",
+        1,
+        9,
+    ))
 }
 
 // The whole command line.
@@ -92,6 +112,7 @@ fn cpi_command<'a>(alloc: Global) -> Result<Command<'a>, AllocError>
     ensures local { IfOk result (λ c. (out-Command c).has_globals ≡ false) }
 {
     Command::new(alloc, "cpi")
+        .version(VERSION)
         .about("The office of a consumer price survey")
         .after_help(help::CPI)
         .no_binary_name(true)
@@ -117,7 +138,7 @@ fn serve_of<'a>(matches: &ArgMatches<'a>) -> Option<Job<'a>>
     Some(Job::Serve {
         db: text_of(matches, "db")?,
         port: port_of(matches)?,
-        key: text_of(matches, "desk-key")?,
+        key: desk_key_of(matches)?,
         limit: limit_of(matches)?,
         zone: zone_of(matches),
     })

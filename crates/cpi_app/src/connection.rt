@@ -2,7 +2,7 @@
 ghost use Rattle.std.specs.Prelude.{◌≡◌, IfOk, IfErr, None};
 ghost use Rattle.cpi_http.specs.Message.{setting};
 ghost use Rattle.cpi_http.specs.Served.{messages, change};
-ghost use Rattle.cpi_app.specs.Connection.{ServesFront, GivesUpFront, unknown_bytes, is_shaken};
+ghost use Rattle.cpi_app.specs.Connection.{ServesFront, GivesUpFront, unknown_bytes};
 
 use crate::desk::Desk;
 use crate::offered::Offered;
@@ -62,19 +62,6 @@ pub fn serve_front<R: Read, W: Write, B: Book>(
         desk.key,
         office,
     )
-}
-
-/// Whether the book has to be opened again after a connection, since its store may have failed: one of the replies was
-/// that the office was unavailable, or may have been. Without memory, or where a response wasn't written whole, the
-/// replies aren't known.
-pub fn is_shaken(served: Result<Served, WireFault>) -> bool
-    ensures { result ≡ is_shaken served }
-{
-    match served {
-        Ok(Served::Answered(_, failed)) => failed,
-        Ok(Served::Cut) | Err(WireFault::Read) => false,
-        Err(WireFault::Write) | Err(WireFault::NoMemory) => true,
-    }
 }
 
 // Ends the response, and takes what the peer still sends, for a short time: to close while bytes lie unread would reset

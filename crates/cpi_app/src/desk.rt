@@ -1,10 +1,18 @@
 //! The desk of an office that is served.
-ghost use Rattle.std.specs.Prelude.{◌↔◌, IsNone, IfOk, IfErr, IsErrOf};
+ghost use Rattle.std.specs.Prelude.{◌≡◌, ◌⊎◌, ◌↔◌, IsNone, IfSome, IfOk, IfErr, IsErrOf};
 ghost use Rattle.jiff.specs.Words.{read_whole};
-ghost use Rattle.cpi_app.specs.Desk.{IsDeskOf, HasNoKey, NamesNoDesk};
+ghost use Rattle.std.specs.String.{string_bytes};
+ghost use Rattle.cpi_app.specs.Desk.{IsDeskOf, HasNoKey, NamesNoDesk, IsKeyText, CanNotBeRead};
 
 use crate::fault::RunFault;
 use cpi_codes::{Key, Zone, zone_of};
+use cpi_wire::WireFault;
+use std::alloc::Global;
+use std::io;
+use std::io::{ErrorKind, Read};
+
+/// How many bytes of a file are read for the desk's key.
+const MOST_KEY_BYTES: u64 = 1024;
 
 /// The desk: the clock by which civil times are read, and the key whose bearer is the desk.
 #[derive(Clone, Copy)]
@@ -26,5 +34,24 @@ pub fn desk_of(zone: &str, key: &str) -> Result<Desk, RunFault>
     match Key::parse(key.as_bytes()) {
         Some(key) => Ok(Desk { zone, key }),
         None => Err(RunFault::BadKey),
+    }
+}
+
+/// The text of the desk's key in a file: what the reader gives, at most 1,024 bytes of it, without white space at its
+/// ends. The faults are `BadKey`, if the file can't be read or isn't UTF-8, and want of memory.
+pub fn read_key<R: Read + Drop>(alloc: Global, reader: R) -> Result<String, RunFault>
+    ensures text { IfOk result (λ text. IfSome (R.remaining reader) (λ held. IsKeyText held (string_bytes text))) }
+    ensures fault { IfErr result CanNotBeRead }
+{
+    let held = match io::read_to_string(alloc, reader.take(MOST_KEY_BYTES)) {
+        Ok(held) => held,
+        Err(error) if error.kind() == ErrorKind::OutOfMemory => {
+            return Err(RunFault::Wire(WireFault::NoMemory));
+        }
+        Err(_) => return Err(RunFault::BadKey),
+    };
+    match String::from_str(alloc, held.trim_ascii()) {
+        Ok(text) => Ok(text),
+        Err(_) => Err(RunFault::Wire(WireFault::NoMemory)),
     }
 }

@@ -27,9 +27,11 @@ pub const SERVE: &str = "\
 Reads:     HTTP requests at http://127.0.0.1:PORT, whose routes docs/FORMATS.md lists; the file of
            the office
 Writes:    each change to the file, and then the response of its request; one line to standard
-           output as soon as it listens
-Example:   cpi serve --db office.db --port 8080 --limit 100 \\
-           --desk-key 0123456789abcdef0123456789abcdef
+           output as soon as it listens; lines to standard error when a request is refused by 90 and
+           the file is opened again, and as the limit comes near and at its end
+Key:       the text of the file that --desk-key-file names, without white space at its ends; or
+           the word after --desk-key, which every user of the machine can see
+Example:   cpi serve --db office.db --port 8080 --limit 100 --desk-key-file desk-key
 Exit status:
   0        as many connections were served as --limit says
   1        one line on standard error tells the fault, `cpi: ` and one of: bad zone, bad key,
@@ -39,7 +41,7 @@ Exit status:
 
 pub const TABLE: &str = "\
 Reads:     the file of the office: the table of the month in the revision that --revision names,
-           or else in the latest that was published by then
+           or else in the latest that was published by then; a file that isn't there isn't made
 Writes:    the table to standard output, for people (text) or for other programs (csv)
 Example:   cpi table --db office.db --month 2026-01 --form text --at 1769590800
            (with --revision 1: the same table before it was revised)

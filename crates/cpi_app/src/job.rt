@@ -2,6 +2,15 @@
 
 use cpi_release::Revision;
 
+/// Where the key of the desk is: among the words, or in a file.
+#[derive(Clone, Copy, PartialEq, Eq)]
+pub enum DeskKey<'a> {
+    /// The key itself.
+    Word(&'a str),
+    /// The path of the file that holds it.
+    File(&'a str),
+}
+
 /// A subcommand with the values of its options, as the words give them.
 #[derive(Clone, Copy, PartialEq, Eq)]
 pub enum Job<'a> {
@@ -11,12 +20,12 @@ pub enum Job<'a> {
         zone: &'a str,
         db: Option<&'a str>,
     },
-    /// The office of the database by HTTP, at a port of this machine, for `limit` connections one after another; the
-    /// key is the desk's.
+    /// The office of the database by HTTP, at a port of this machine, for `limit` connections one after another, with
+    /// the desk's key.
     Serve {
         db: &'a str,
         port: u16,
-        key: &'a str,
+        key: DeskKey<'a>,
         limit: u32,
         zone: &'a str,
     },

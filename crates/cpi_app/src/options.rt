@@ -1,12 +1,13 @@
 //! The options of the command line, and their values.
-ghost use Rattle.std.specs.Prelude.{◌≡◌, ◌≤◌, ◌⊎◌, IfSome, codes, false, option_map};
+ghost use Rattle.std.specs.Prelude.{◌≡◌, ◌≤◌, ◌⊎◌, IfOk, IfSome, codes, false, option_map};
 ghost use Rattle.clap.specs.Words.{rule_of, found_of, rows_of, first_of};
 ghost use Rattle.cpi_app.specs.Command as line;
 
+use crate::job::DeskKey;
 use clap::builder::ValueParser;
 use clap::{Arg, ArgMatches};
 use cpi_release::Revision;
-use std::alloc::Global;
+use std::alloc::{AllocError, Global};
 
 /// The greatest second that a moment can be.
 const LAST_SECOND: u64 = 9_999_999_999;
@@ -28,6 +29,21 @@ pub fn required<'a>(alloc: Global, name: &'a str, help: &'a str) -> Arg<'a>
     ensures local { result.global ≡ false }
 {
     option(alloc, name, help).required(true)
+}
+
+/// An option that has to be given if the other one isn't, and can't be given with it.
+pub fn either<'a>(
+    alloc: Global,
+    name: &'a str,
+    other: &'a str,
+    help: &'a str,
+) -> Result<Arg<'a>, AllocError>
+    ensures rule { IfOk result (λ arg. rule_of arg ≡ line.either name.entry.now) }
+    ensures local { IfOk result (λ arg. arg.global ≡ false) }
+{
+    option(alloc, name, help)
+        .required_unless_present(other)?
+        .conflicts_with(other)
 }
 
 /// A number in a range.
@@ -75,6 +91,20 @@ pub fn port_of(matches: &ArgMatches) -> Option<u16>
 {
     match matches.get_one::<u16>("port") {
         Some(port) if port >= 1 => Some(port),
+        _ => None,
+    }
+}
+
+/// Where the desk's key is, by the one of its two options that was given.
+pub fn desk_key_of<'a>(matches: &ArgMatches<'a>) -> Option<DeskKey<'a>>
+    ensures { IfSome result (line.HasDeskKey (rows_of (found_of matches.now))) }
+{
+    match (
+        text_of(matches, "desk-key"),
+        text_of(matches, "desk-key-file"),
+    ) {
+        (Some(key), None) => Some(DeskKey::Word(key)),
+        (None, Some(path)) => Some(DeskKey::File(path)),
         _ => None,
     }
 }

@@ -3,9 +3,10 @@ ghost use Rattle.std.specs.Prelude.{◌≡◌, ◌≤◌, length, IfOk, IfErr};
 ghost use Rattle.cpi_app.specs.Connection.{Visits, AreServed, AreCalmBefore, AreLeft, IsUnheard};
 ghost use Rattle.cpi_app.specs.declared.fault.RunFault.TheVariants.{NoClock};
 
-use crate::connection::{is_shaken, serve_connection};
+use crate::connection::serve_connection;
 use crate::desk::Desk;
 use crate::fault::RunFault;
+use crate::shake::{Shake, shake_of};
 use cpi_codes::Moment;
 use cpi_office::Office;
 use cpi_store::Book;
@@ -36,11 +37,28 @@ where
     }
 }
 
+// Reports on standard error how many connections are left, when these are few.
+fn report_left<R: Eprint>(rt: &R, left: u32) {
+    if matches!(left, 100_000 | 10_000 | 1000) {
+        let _ = eprintln!(rt; "cpi: {left} connections of --limit are left");
+    }
+}
+
+// Reports on standard error why the book is opened again, or would be if connections were left.
+fn report_shake<R: Eprint>(rt: &R, shake: Shake, left: u32) {
+    let _ = if left > 0 {
+        eprintln!(rt; "cpi: {shake}, opening the file again")
+    } else {
+        eprintln!(rt; "cpi: {shake}")
+    };
+}
+
 /// Serves up to so many connections one after another, each at the moment of the clock, until one of them shakes the
 /// book. Hands back the book, with how many connections are left. A connection that can't be accepted is one of them.
-pub fn serve_book<C: Clock, B: Book>(
+/// Standard error gets a line with why the book was shaken, and one as 100,000, 10,000 and 1,000 connections are left.
+pub fn serve_book<R: Clock + Eprint, B: Book>(
     alloc: Global,
-    clock: &C,
+    rt: &R,
     listener: &TcpListener,
     limit: u32,
     desk: &Desk,
@@ -53,14 +71,18 @@ pub fn serve_book<C: Clock, B: Book>(
 {
     let mut office = Office::new(alloc, book);
     for served in 0..limit {
+        report_left(rt, limit - served);
         let Ok((stream, _)) = listener.accept() else {
             continue;
         };
-        let Some(now) = moment_of(clock) else {
+        let Some(now) = moment_of(rt) else {
             return (office.into_book(), Err(RunFault::NoClock));
         };
-        if is_shaken(serve_connection(alloc, clock, &stream, now, desk, &mut office)) {
-            return (office.into_book(), Ok(limit - served - 1));
+        let outcome = serve_connection(alloc, rt, &stream, now, desk, &mut office);
+        if let Some(shake) = shake_of(outcome) {
+            let left = limit - served - 1;
+            report_shake(rt, shake, left);
+            return (office.into_book(), Ok(left));
         }
     }
     (office.into_book(), Ok(0))

@@ -8,18 +8,32 @@ use crate::over::job_over;
 use cpi_sql::OpenFault;
 use sqlite::{Connection, FileFrom, Start};
 use sqlite_disk::Disk;
-use std::fs::OpenOptions;
+use std::fs::{File, OpenOptions};
+use std::io;
 use std::io::{Read, Write};
 use std::os::unix::fs::OpenOptionsExt;
 
 /// Who may read and write a file that is made here: its owner.
 const OWNER_ALONE: u32 = 0o600;
 
+// Whether the port takes the words for a path.
+fn is_path(words: &str) -> bool {
+    words != ":memory:" && !words.starts_with("file:")
+}
+
+/// Whether there is no file at the path, so that a job would make one. A file that can't be opened for another reason
+/// is there.
+pub fn is_missing(rt: &HostRuntime, path: &str) -> bool {
+    match File::open(rt, path) {
+        Ok(_) => false,
+        Err(error) => is_path(path) && error.kind() == io::ErrorKind::NotFound,
+    }
+}
+
 // Makes the file where there is none, for its owner alone, since the keys of all collectors will stand there. The port
 // gives the log the access that the file has. (Where this fails, so does the open.)
 fn make_private(rt: &HostRuntime, path: &str) {
-    // what the port takes for no path
-    if path == ":memory:" || path.starts_with("file:") {
+    if !is_path(path) {
         return;
     }
     let _made = OpenOptions::new()

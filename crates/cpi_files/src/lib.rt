@@ -8,7 +8,7 @@ mod replay;
 mod serve;
 mod table;
 
-pub use file::job_in_file;
+pub use file::{is_missing, job_in_file};
 pub use job::BookJob;
 pub use over::job_over;
 pub use replay::replay_in_file;

@@ -61,6 +61,9 @@ impl BookJob for Serve<'_> {
         _out: &mut W,
         _err: &mut E,
     ) -> (B, Result<Rest, RunFault>) {
+        if self.listener.is_some() {
+            let _ = eprintln!(rt; "cpi: the file is open again");
+        }
         let listener = match listener_at(rt, self.port, self.listener.take()) {
             Ok(listener) => listener,
             Err(fault) => return (book, Err(fault)),
@@ -131,13 +134,15 @@ fn serve_at_desk<S: Start>(
         };
         rest = serve_in_file(rt, path, Unknown, job)?;
     }
+    let _ = eprintln!(rt; "cpi: served as many connections as --limit says");
     Ok(())
 }
 
 /// Serves the office in the database file at the path by HTTP, of which `start` says how a crash is read, at a
 /// port of this machine, for so many connections one after another, with the desk of the zone and the key. Where a
 /// connection shook the book, the file is closed and opened again. The faults are those of the zone, of the key, of the
-/// database and of the port, in this order, and then those of the run.
+/// database and of the port, in this order, and then those of the run. Standard error gets a line when the book was
+/// shaken, when the file is open again, and when the limit has come.
 pub fn run_serve<S: Start>(
     rt: &HostRuntime,
     path: &str,

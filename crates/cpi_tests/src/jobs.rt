@@ -1,7 +1,7 @@
 //! The jobs that words ask for, done over files in memory: a replay in two runs, tables, and files of another schema.
 use crate::files::{ENOUGH, End, Held, Left, changed, run, told_in};
 use crate::script::script;
-use cpi_app::{AskedTable, Job, asked_table, fault_line, job_of_words};
+use cpi_app::{AskedTable, DeskKey, Job, asked_table, fault_line, job_of_words};
 use std::alloc::Global;
 use std::test::Fail;
 
@@ -182,7 +182,7 @@ fn the_words_of_serving_give_their_values(rt: HostRuntime) -> Result<(), Fail> {
     let wanted = Job::Serve {
         db: "F",
         port: 8080,
-        key,
+        key: DeskKey::Word(key),
         limit: 1,
         zone: "UTC0",
     };

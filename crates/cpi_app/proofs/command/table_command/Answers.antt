@@ -1,13 +1,11 @@
-use Rattle.std.proofs.Common.{◌≡◌, ◌∙◌, ap₂, codes, false, rules, refl}
+use Rattle.std.proofs.Common.{◌∙◌, ap₂, rules, refl}
 use Rattle.std.proofs.lemmas.Result.{IfOk-weaker}
-use Rattle.clap.specs.Words.{app_of, new_app, with_rule}
-use Rattle.clap.specs.declared.builder.command.Command.TheViews.{out-Command}
+use Rattle.clap.specs.Words.{with_rule}
 use Rattle.cpi_app.proofs.command.table_command.Goals as goal
 
 pub returns-clause-app : goal.returns-clause-app
 returns-clause-app c =
-    let bare : app_of c.after_help.result ≡ new_app (codes "table") = search rules in
-    let one = c.in_ok-arg.ensures.shape (search rules) ∙ ap₂ with_rule bare c.required.ensures.rule in
+    let one = c.in_ok-arg.ensures.shape (search rules) ∙ ap₂ with_rule c.subcommand.ensures.app c.required.ensures.rule in
     let two = c.in_ok-arg-2.ensures.shape (search rules) ∙ ap₂ with_rule one c.required-2.ensures.rule in
     let three = c.in_ok-arg-3.ensures.shape (search rules) ∙ ap₂ with_rule two c.required-3.ensures.rule in
     let four = c.in_ok-arg-4.ensures.shape (search rules) ∙ ap₂ with_rule three c.number.ensures.rule in
@@ -16,7 +14,6 @@ returns-clause-app c =
 
 pub returns-clause-local : goal.returns-clause-local
 returns-clause-local c =
-    let plain : (out-Command c.after_help.result).has_globals ≡ false = search rules in
     let one = c.in_ok-arg.ensures.globals in
     let two = c.in_ok-arg-2.ensures.globals in
     let three = c.in_ok-arg-3.ensures.globals in
@@ -30,7 +27,7 @@ returns-clause-local c =
       three,
       two,
       one,
-      plain,
+      c.subcommand.ensures.local,
       first,
       second,
       third,

@@ -10,10 +10,14 @@ pub returns-clause-serves : goal.returns-clause-serves
 unfolding walked
 returns-clause-serves c = (refl, refl, refl, refl, refl, refl)
 
+pub returns-clause-serves_by_key_file : goal.returns-clause-serves_by_key_file
+unfolding walked
+returns-clause-serves_by_key_file c = (refl, refl, refl)
+
 pub returns-clause-prints : goal.returns-clause-prints
 unfolding walked
 returns-clause-prints c = (refl, refl, refl, refl, refl, refl)
 
 pub returns-clause-names_none : goal.returns-clause-names_none
 unfolding walked
-returns-clause-names_none c = (refl, refl, refl, refl)
+returns-clause-names_none c = (refl, refl, refl, refl, refl)

@@ -25,14 +25,14 @@ returns-in_default-moment_of-clause-served g c =
     (inv.0, omega (arith, inv.1, c.loop-served-test.true), rw c.into_book.ensures inv.2, calm_before inv.0 inv.3, tt)
 
 -- a connection that shook the book
-pub returns-then-is_shaken-clause-served : goal.returns-then-is_shaken-clause-served
-returns-then-is_shaken-clause-served g c =
+pub returns-in-Some-shake_of-clause-served : goal.returns-in-Some-shake_of-clause-served
+returns-in-Some-shake_of-clause-served g c =
     let inv = c.loop-served.invariant in
     let call = c.serve_connection in
     let shook : IsTrue (is_shaken call.result) = search rules in (
       Some (record { moment = c.in-Some.now; outcome = call.result }) ∷ inv.0,
       omega (arith, inv.1, c.loop-served-test.true),
-      rw c.into_book-then-is_shaken.ensures
+      rw c.into_book-in-Some-shake_of.ensures
           (c.loop-served.office.book, inv.2, (call.ensures.ok, call.ensures.err)),
       inv.3,
       (omega (arith, inv.1, c.loop-served-test.true), inr shook),

@@ -1,0 +1,45 @@
+//! Why a book has to be opened again.
+ghost use Rattle.std.specs.Prelude.{◌≡◌};
+ghost use Rattle.cpi_app.specs.Connection.{shake_of};
+
+use cpi_http::Served;
+use cpi_wire::WireFault;
+use std::fmt;
+
+/// Why a book has to be opened again after a connection. It prints as the words of it in a line on standard error.
+#[derive(Clone, Copy, Debug, PartialEq, Eq)]
+pub enum Shake {
+    /// A reply was that the office was unavailable, so its store may have failed.
+    Unavailable,
+    /// A response wasn't written whole, so its replies aren't known.
+    Unwritten,
+    /// There was no memory for a response, so its replies aren't known.
+    NoMemory,
+}
+
+/// Why the book has to be opened again after a connection, if it has to.
+pub fn shake_of(served: Result<Served, WireFault>) -> Option<Shake>
+    ensures { result ≡ shake_of served }
+{
+    match served {
+        Ok(Served::Answered(_, true)) => Some(Shake::Unavailable),
+        Ok(Served::Answered(_, false)) | Ok(Served::Cut) | Err(WireFault::Read) => None,
+        Err(WireFault::Write) => Some(Shake::Unwritten),
+        Err(WireFault::NoMemory) => Some(Shake::NoMemory),
+    }
+}
+
+impl fmt::Display for Shake {
+    ghost use Rattle.std.specs.Prelude.{Some};
+    ghost use Rattle.cpi_app.specs.Connection.{words_of};
+
+    ghost output = { λ shake. Some (words_of shake) };
+
+    fn fmt<W: fmt::Write>(&self, f: &mut fmt::Formatter<W>) -> fmt::Result {
+        match self {
+            Shake::Unavailable => write!(f, "a request was refused by 90"),
+            Shake::Unwritten => write!(f, "a response couldn't be written"),
+            Shake::NoMemory => write!(f, "out of memory"),
+        }
+    }
+}
