@@ -2,7 +2,8 @@
 """Tests what starts, builds and ships the program: ./cpi, ./cpi-build, ./test, tools/ and test_shipped_program.py.
 
 They run in copies of a small repository of five crates, with stand-ins for `rt`, for `objdump`, for the program and for
-the parts of ./test (lib/small_repository.py). In this one no link stands: a gate takes files and folders alone.
+the parts of ./test (lib/small_repository.py). In this repository itself there is no link, since a gate takes files and
+folders only, and the notices of third parties are next to the program too.
 """
 
 import fcntl
@@ -20,7 +21,7 @@ from functools import partial
 from pathlib import Path
 
 from lib.harness import Checks, Fault, Job, words_of
-from lib.small_repository import BUILT, CRATES, KIT, SHIPPED, TOP, TRIED, Ran, Repository, made_of, put
+from lib.small_repository import BUILT, CRATES, KIT, NOTICE, NOTICES, SHIPPED, TOP, TRIED, Ran, Repository, made_of, put
 
 Seen = tuple[str, bool]
 """What is looked at, and whether it is as it should be."""
@@ -300,7 +301,11 @@ def tests_and_shipping(it: Repository) -> Iterator[Seen]:
     yield "it is shipped, and MADE says what it is", is_shipped and it.made.read_text().startswith(made_of(wanted))
     needs = it.made.read_text().splitlines()[-1]
     yield "and what it needs, each in its newest version", needs == "needs: libm.so.6, libc.so.6 GLIBC_2.34"
+    yield "its notices lie next to it", (it.top / "dist/THIRD-PARTY.md").read_text() == NOTICES
     yield "once more, nothing is written", "nothing was written" in it.run("tools/dist").out
+    put(it.top / "THIRD-PARTY.md", f"{NOTICES}More.\n")
+    is_written = "nothing was written" not in it.run("tools/dist").out
+    yield "other notices are", is_written and (it.top / "dist/THIRD-PARTY.md").read_text() == f"{NOTICES}More.\n"
     program.write_bytes(built + b"more")
     yield "another program isn't shipped", "isn't the program" in it.run("tools/dist").err
     it.write("low", "low as it is")
@@ -331,13 +336,39 @@ def comparing(it: Repository, text: bytes) -> Iterator[Seen]:
     yield "one that MADE doesn't name fails", shipped().status == 1
 
 
+def notices_of_libraries(it: Repository) -> Iterator[Seen]:
+    """Of a library that crates.txt names and doesn't make."""
+    page, ended = it.top / "THIRD-PARTY.md", "\n## Licenses\n"
+    put(it.top / "crates.txt", f"{CRATES}cpi_more: low far # a library far off\n")
+    yield "none isn't shipped", it.run("tools/dist").is_refused("no entry for the crate far,", "under which license")
+    put(page, NOTICES.replace(ended, f"\n{NOTICE}{ended}"))
+    yield "with one it goes on", it.run("tools/dist").is_refused("wasn't green")
+    parts = {
+        "A port of far.\n": "paragraph",
+        "- Copyright (c) 2020 Far\n": "line of copyright",
+        "- License: MIT\n": "license",
+    }
+    for part, name in parts.items():
+        put(page, NOTICES.replace(ended, f"\n{NOTICE.replace(part, '')}{ended}"))
+        yield f"one with no {name} isn't shipped", it.run("tools/dist").is_refused(
+            f"THIRD-PARTY.md: far has no {name}\n"
+        )
+    put(page, NOTICES.replace(ended, f"\n{NOTICE.replace('MIT', 'ISC')}{ended}"))
+    yield "nor one without the text of its license", it.run("tools/dist").is_refused("the text of the license ISC")
+    page.unlink()
+    yield "nor without the page", it.run("tools/dist").is_refused("there is no THIRD-PARTY.md")
+
+
 CASES: dict[str, Callable[[Repository], Iterator[Seen]]] = {
     **{case.__name__: case for case in (parts_that_fail, tests_and_shipping, a_fresh_clone, without_xz)},
     **{
         case.__name__: case
         for case in (sources_that_did_not_change, many_at_once, damage, a_checkout_that_can_not_be_written, lanes, sums)
     },
-    **{case.__name__: case for case in (sources_that_changed, programs_of_no_use, proofs_that_fail)},
+    **{
+        case.__name__: case
+        for case in (sources_that_changed, programs_of_no_use, proofs_that_fail, notices_of_libraries)
+    },
     **{f"broken_off_by_{it.name}": partial(broken_off, number=it) for it in signal.Signals if it in (2, 9, 15)},
 }
 
@@ -361,6 +392,18 @@ def links() -> Fault:
     return f"{', '.join(sorted(found))}: put the file or folder itself there" if found else None
 
 
+def notices_here() -> Fault:
+    """What the notices of this repository lack."""
+    ran = subprocess.run([TOP / "tools/notices.py"], capture_output=True, text=True, check=False)
+    if (ran.returncode, ran.stderr) != (0, ""):
+        return ran.stderr.strip() or f"status {ran.returncode}"
+    beside = TOP / "dist/THIRD-PARTY.md"
+    if (TOP / "dist/MADE").exists() and not beside.exists():
+        return "dist/ has a program without THIRD-PARTY.md: copy that there"
+    is_same = not beside.exists() or beside.read_bytes() == (TOP / "THIRD-PARTY.md").read_bytes()
+    return None if is_same else "dist/THIRD-PARTY.md isn't THIRD-PARTY.md: copy that there"
+
+
 def main() -> int:
     words = words_of(__doc__)
     words.add_argument("--only", choices=[*CASES], help="one case alone")
@@ -370,6 +413,7 @@ def main() -> int:
     with Checks() as checks:
         names = [chosen.only] if chosen.only else CASES
         checks.count("no link stands in the repository", links())
+        checks.count("the notices of third parties", notices_here())
         checks.do((Job(name, partial(try_case, checks, name)) for name in names), lanes=4)
     return checks.status
 

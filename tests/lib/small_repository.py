@@ -16,7 +16,16 @@ from pathlib import Path
 from typing import Any, NamedTuple
 
 TOP = Path(__file__).resolve().parents[2]
-SCRIPTS = ["cpi", "cpi-build", "test", "tools/setup", "tools/sources", "tools/dist", "tools/minutes.py"]
+SCRIPTS = [
+    "cpi",
+    "cpi-build",
+    "test",
+    "tools/setup",
+    "tools/sources",
+    "tools/dist",
+    "tools/minutes.py",
+    "tools/notices.py",
+]
 TRIED = ["test_shipped_program.py", "test_cases.py"]
 """The parts of ./test that are run as they are; the others have stand-ins."""
 
@@ -70,6 +79,9 @@ esac
 """.replace(
     "KIT", KIT
 )
+
+NOTICES = "# Notices\n\n## Works\n\n## Licenses\n\n### MIT\n\n```text\nDo as you like.\n```\n"
+NOTICE = "### far\n\nA port of far.\n\n- Crates: `far`, `farther`\n- Copyright (c) 2020 Far\n- License: MIT\n\n"
 
 # What it says of a program that needs two libraries, of one of them symbols of two versions.
 OBJDUMP = """#!/usr/bin/env bash
@@ -126,6 +138,7 @@ class Repository:
             put(self.top / name, (TOP / name).read_text(encoding="utf-8"), 0o755)
         put(self.top / "crates.txt", CRATES)
         put(self.top / "HANDLES", "Handles allowed: none.\n")
+        put(self.top / "THIRD-PARTY.md", NOTICES)
         for name in ("low", "left", "right", "cpi", "cpi_tests"):
             self.write(name, f"{name} as it was")
         put(room / "rt/rt", RT, 0o755)

@@ -17,7 +17,8 @@ from cpi_tools.program import Cpi
 from conftest import ROOT
 from test_ops import UNITS, needed
 
-INPUTS = ["tools", "docs", "ops", "web", "examples", "dist", "README.md", "LICENSE", "CHANGELOG.md"]
+INPUTS = ["tools", "docs", "ops", "web", "examples", "dist", "README.md", "LICENSE", "CHANGELOG.md", "THIRD-PARTY.md",
+          "crates.txt"]  # fmt: skip
 """All that a package is made of."""
 
 
@@ -80,11 +81,17 @@ def in_root(root: Path, commands: str, folder: Path) -> str:
 # ---- what is in it
 
 
+def copied_inputs(to: Path) -> None:
+    """Puts what a package is made of into another folder."""
+    for name in INPUTS:
+        copied = shutil.copytree if (ROOT / name).is_dir() else shutil.copy
+        copied(ROOT / name, to / name)  # type: ignore[operator]
+
+
 def test_the_same_inputs_give_the_same_bytes(package: Path, cpi: Cpi, tmp_path: Path) -> None:
     """A copy of the repository elsewhere, of another time, by a user with another mask, clock and language."""
-    for name in INPUTS:
-        copied = shutil.copytree if (ROOT / name).is_dir() else shutil.copyfile
-        copied(ROOT / name, tmp_path / "there" / name)  # type: ignore[operator]
+    (tmp_path / "there").mkdir()
+    copied_inputs(tmp_path / "there")
     for path in (tmp_path / "there").rglob("*"):
         path.chmod(0o700 if path.is_dir() or path.stat().st_mode & 0o100 else 0o600)
         os.utime(path, (1_000_000_000,) * 2)
@@ -155,6 +162,61 @@ def test_nothing_is_started_by_it(package: Path, members: dict[str, tarfile.TarI
 def test_the_versions_are_one(package: Path) -> None:
     found = re.search(r'^version = "(.*)"$', (ROOT / "tools/pyproject.toml").read_text(), re.M)
     assert found and package.name == f"cpi_{found[1]}_amd64.deb"
+
+
+# ---- the notices of third parties
+
+
+def content(package: Path, name: str) -> str:
+    """The text of a file of the package."""
+    words = ["bash", "-ec", 'dpkg-deb --fsys-tarfile "$1" | tar -x -O "./$2"', "content", str(package), name]
+    return subprocess.run(words, capture_output=True, text=True, check=True).stdout
+
+
+def works() -> dict[str, str]:
+    """What THIRD-PARTY.md says of each work."""
+    part = (ROOT / "THIRD-PARTY.md").read_text().partition("\n## Works\n")[2].partition("\n## Licenses\n")[0]
+    pieces = part.split("\n### ")[1:]
+    return {name: said for name, _, said in (piece.partition("\n") for piece in pieces)}
+
+
+def test_the_notices_are_in_it(package: Path) -> None:
+    assert content(package, "usr/share/doc/cpi/THIRD-PARTY.md") == (ROOT / "THIRD-PARTY.md").read_text()
+    told = content(package, "usr/share/doc/cpi/copyright")
+    paragraphs = [paragraph.splitlines() for paragraph in told.rstrip("\n").split("\n\n")]
+    assert [lines[0].partition(":")[0] for lines in paragraphs[:3]] == ["Format", "Files", "Files"]
+    of_program = "\n".join(paragraphs[2])
+    assert "Files: usr/bin/cpi\n" in of_program and len(works()) > 20
+    for name, said in works().items():
+        assert f"\n {name}: {' '.join(said.replace('`', '').split()[:3])}" in of_program
+        holders = [re.sub(r"^(\(c\)|©|:) ", "", holder) for holder in re.findall("^- Copyright ?(.*)$", said, re.M)]
+        assert holders and [holder for holder in holders if f"\n {holder} ({name})\n" not in of_program] == []
+    licenses = re.findall(r"^License: (.*)$", of_program, re.M)[0].split(" and ")
+    assert {lines[0] for lines in paragraphs[3:]} == {f"License: {name}" for name in licenses}
+    assert "License: Expat" in told and "COPYRIGHT HOLDERS BE LIABLE" in told
+
+
+def test_each_library_in_the_program_has_its_notice(cpi: Cpi) -> None:
+    """A function's name in the program begins with its library's."""
+    names = re.findall(rb"\0([a-z][a-z0-9_]*)(?:::|\+\+)", cpi.path.read_bytes())
+    found = {name.decode() for name in names}
+    if not found:
+        pytest.skip("the program has no names of functions")
+    listed = {name for said in works().values() for line in re.findall("^- Crates: .*$", said, re.M)
+              for name in re.findall(r"`(\w+)`", line)}  # fmt: skip
+    assert {"clap", "cpi_office", "sqlite"} <= found
+    assert {name for name in found if not re.fullmatch("cpi(_.*)?", name)} - listed == set()
+
+
+def test_nothing_is_made_without_a_notice(cpi: Cpi, tmp_path: Path) -> None:
+    copied_inputs(tmp_path)
+    with (tmp_path / "crates.txt").open("a") as file:
+        file.write("cpi_more: cpi_rows far_library\n")
+    words = [str(it) for it in (tmp_path / "tools/package", "--to", tmp_path / "to", "--program", cpi.path)]
+    ran = subprocess.run(words, capture_output=True, text=True, check=False)
+    told = r"tools/package: THIRD-PARTY\.md has no entry for the crate far_library, [^\n]*\n"
+    assert ran.returncode == 1 and re.fullmatch(told, ran.stderr)
+    assert not (tmp_path / "to").exists()
 
 
 # ---- where it is installed
