@@ -33,23 +33,19 @@ Seen = tuple[str, bool]
 def a_fresh_clone(it: Repository) -> Iterator[Seen]:
     it.ship()
     first, second = it.answers(), it.answers()
-    yield "words, standard input and status are handed on", first[:2] == SHIPPED[:2]
-    yield "the first call says in one line that it unpacks", len(first.lines()) == 1 and "unpacked" in first.err
-    yield "the second says nothing", second == SHIPPED
+    yield "words, standard input and status are handed on, and nothing else is said", first == SHIPPED
+    yield "so they are once more", second == SHIPPED
     (it.room / "tools/cpi").symlink_to(it.top / "cpi")
     yield "it runs by a link, from another folder", it.run(f"{it.room}/tools/cpi", cwd="/").status == 7
     yield "rt wasn't called", it.told() == []
-    yield "out/ has the program and when it was looked at", it.kept() == sorted(["current", it.sources()])
-
-
-def without_xz(it: Repository) -> Iterator[Seen]:
-    it.ship()
-    tools = it.room / "tools"
-    (tools / "xz").unlink(missing_ok=True)
-    (tools / "python3").rename(it.room / "python3")
-    yield "with neither xz nor Python it says so", it.answers().is_refused("can't be unpacked", "python3")
-    (it.room / "python3").rename(tools / "python3")
-    yield "Python unpacks it", it.answers()[:2] == SHIPPED[:2]
+    yield "out/ has no copy of it, only when it was looked at", it.kept() == ["current"]
+    it.run("cpi-build", "--lanes", "1")
+    built = it.out / it.sources()
+    yield "what was built of the same sources is run before it", it.run("cpi").out.startswith("low as it was")
+    shutil.rmtree(built)
+    yield "without that, it is run again", it.answers() == SHIPPED
+    it.run("cpi-build", "--lanes", "1")
+    yield "and what is built then, though no source changed", built.exists() and it.run("cpi").out.startswith("low as")
 
 
 def sources_that_did_not_change(it: Repository) -> Iterator[Seen]:
@@ -70,18 +66,24 @@ def many_at_once(it: Repository) -> Iterator[Seen]:
     running = [it.start("cpi", "a b", "", "*") for _ in range(8)]
     outs = [each.communicate(b"input", timeout=60)[0].decode() for each in running]
     yield "each answers", outs == [SHIPPED.out] * 8
-    yield "nothing is left of them but the program", len(it.kept()) == 2
+    yield "nothing is left of them but when they looked", it.kept() == ["current"]
 
 
 def damage(it: Repository) -> Iterator[Seen]:
     it.ship()
-    packed = it.top / "dist/cpi.xz"
-    packed.write_bytes(packed.read_bytes()[:-20])
-    yield "a file that is cut", it.answers().is_refused("can't be unpacked")
+    yield "a whole program", it.answers() == SHIPPED
+    it.shipped.write_bytes(it.shipped.read_bytes()[:-20])
+    yield "one that is cut, after it ran", it.answers().is_refused("isn't the program")
     it.ship(program="0")
     yield "another program", it.answers().is_refused("isn't the program")
-    packed.unlink()
-    yield "no file", it.answers().is_refused("can't be unpacked")
+    it.shipped.unlink()
+    yield "no file", it.answers().is_refused("there is no dist/cpi")
+    it.ship()
+    it.shipped.chmod(0o644)
+    yield "a program that a copy made a plain file", it.answers().is_refused("chmod +x dist/cpi")
+    it.shipped.chmod(0o755)
+    yield "it runs again once it is executable", it.answers() == SHIPPED
+    (it.out / "current").unlink()
     for name in ("sources", "program", "machine", "needs"):
         it.ship()
         put(it.made, re.sub(f"^{name}: .*\n", "", it.made.read_text(), flags=re.M))
@@ -96,11 +98,14 @@ def a_checkout_that_can_not_be_written(it: Repository) -> Iterator[Seen]:
     subprocess.run(["chmod", "-R", "a-w", it.top], check=True)
     # (whoever may write everywhere becomes nobody)
     how = {"user": 65534, "group": 65534, "extra_groups": []} if os.geteuid() == 0 else {}
-    first, second = it.answers(**how), it.answers(**how)
-    yield "it is unpacked to the user's cache", first[:2] == SHIPPED[:2] and "/home/.cache/" in first.err
-    yield "once", second == SHIPPED and not it.out.exists()
     nowhere = {**it.environment, "HOME": f"{it.top}/home"}
-    yield "where there is no room at all, it says so", it.answers(env=nowhere, **how).is_refused("can be written")
+    yield "it runs where nothing can be noted", [it.answers(env=nowhere, **how) for _ in range(2)] == [SHIPPED] * 2
+    noted = it.room / "home/.cache/sabrethog"
+    yield "nothing was", not it.out.exists() and not noted.exists()
+    yield "it runs where the user's cache can be written", it.answers(**how) == SHIPPED
+    (current,) = (path for path in noted.rglob("*") if path.is_file())
+    seen = current.stat().st_mtime_ns
+    yield "there it is noted, once", it.answers(**how) == SHIPPED and current.stat().st_mtime_ns == seen
     subprocess.run(["chmod", "-R", "u+w", it.top], check=True)
     it.write("low", "low as it is")
     put(it.out, "no folder")
@@ -126,8 +131,8 @@ def sources_that_changed(it: Repository) -> Iterator[Seen]:
     yield "a new file is a source", it.run("cpi")[:2] == BUILT[:2] and "built left" in it.told()
     (it.crates / "left/src/new file").unlink()
     it.write("low", "low as it was")
-    yield "with the sources of dist/ its program runs again", it.answers()[:2] == SHIPPED[:2] and it.told() == []
-    yield "programs of other sources are removed", len(it.kept()) == 2
+    yield "with the sources of dist/ its program runs again", it.answers() == SHIPPED and it.told() == []
+    yield "programs of other sources are removed", it.kept() == ["current"]
 
 
 def programs_of_no_use(it: Repository) -> Iterator[Seen]:
@@ -314,7 +319,7 @@ def tests_and_shipping(it: Repository) -> Iterator[Seen]:
     yield "nor is it tried", it.run("test").status == 1 and "there is no program" in it.last.out and it.told() != []
     it.write("low", "low as it was")
     shutil.rmtree(it.out / it.sources())
-    yield "./cpi unpacks it", "unpacked" in it.run("cpi", "true").err and it.told() == []
+    yield "./cpi runs it where it lies", it.run("cpi", "echo", "a b") == Ran(0, "a b\n", "") and it.told() == []
     yield from comparing(it, built)
 
 
@@ -324,9 +329,9 @@ def comparing(it: Repository, text: bytes) -> Iterator[Seen]:
 
     put(it.room / "built", "", 0o755)
     (it.room / "built").write_bytes(text)
-    yield "the same program: its cases run too", shipped() == Ran(0, "3 passed, 0 failed\n", "")
+    yield "the same program: its cases run too", shipped() == Ran(0, "4 passed, 0 failed\n", "")
     it.ship(text + b"more")
-    yield "another program fails", shipped().status == 1 and it.last.out.endswith("2 passed, 1 failed\n")
+    yield "another program fails", shipped().status == 1 and it.last.out.endswith("3 passed, 1 failed\n")
     yield "and fails ./test", it.run("test").status == 1 and "wasn't green" in it.run("tools/dist").err
     it.ship(text + b"more", kit="rattle-kit-1")
     yield "of another kit it isn't compared", shipped().status == 0 and "rattle-kit-1" in it.last.out
@@ -360,7 +365,7 @@ def notices_of_libraries(it: Repository) -> Iterator[Seen]:
 
 
 CASES: dict[str, Callable[[Repository], Iterator[Seen]]] = {
-    **{case.__name__: case for case in (parts_that_fail, tests_and_shipping, a_fresh_clone, without_xz)},
+    **{case.__name__: case for case in (parts_that_fail, tests_and_shipping, a_fresh_clone)},
     **{
         case.__name__: case
         for case in (sources_that_did_not_change, many_at_once, damage, a_checkout_that_can_not_be_written, lanes, sums)

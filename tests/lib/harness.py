@@ -34,7 +34,7 @@ PROCESSORS = os.cpu_count() or 1
 LONGEST, MOST = 1000, 50
 """Of a fault so many characters are told, and so many faults."""
 
-WHENCE = "./cpi-build builds it, and ./cpi --help unpacks the one of dist/ to out/"
+WHENCE = "./cpi-build builds it, and dist/cpi is the one that is shipped"
 
 Fault = Optional[str]
 """What is wrong, or nothing."""

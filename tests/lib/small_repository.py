@@ -7,7 +7,6 @@ The stand-in of `rt` builds a crate only where all below it is built, keeps the 
 from __future__ import annotations
 
 import hashlib
-import lzma
 import os
 import shutil
 import subprocess
@@ -34,7 +33,7 @@ KIT = "rattle-kit-0 logic 0123"
 # What the scripts call beside Python; so they find no real `rt`.
 TOOLS = """
 awk basename bash cat chmod cmp cp cut date dirname echo env find flock grep head mkdir mktemp mv nproc readlink
-realpath rm sed sh sha256sum sleep sort sync tail tee timeout touch tr true uname wc xargs xz
+realpath rm sed sh sha256sum sleep sort sync tail tee timeout touch tr true uname wc xargs
 """
 
 # Words in the text of a crate tell the stand-in what to do: slow (never end, unless it was begun before), wrong (prove
@@ -133,6 +132,7 @@ class Repository:
     def __init__(self, room: Path) -> None:
         self.room, self.top, self.last = room, room / "a folder/repository", Ran(0, "", "")
         self.out, self.made, self.crates = self.top / "out", self.top / "dist/MADE", self.top / "crates"
+        self.shipped = self.top / "dist/cpi"
         library = [str(it.relative_to(TOP)) for it in (TOP / "tests/lib").glob("*.py")]
         for name in [*SCRIPTS, *(f"tests/{it}" for it in TRIED), *library]:
             put(self.top / name, (TOP / name).read_text(encoding="utf-8"), 0o755)
@@ -179,7 +179,8 @@ class Repository:
         made = {"sources": self.sources(), "program": hashlib.sha256(program).hexdigest(), "kit": KIT}
         made.update(machine=os.uname().machine, needs="libc.so.6 GLIBC_2.34")
         put(self.made, made_of({**made, **values}))
-        (self.top / "dist/cpi.xz").write_bytes(lzma.compress(program))
+        self.shipped.write_bytes(program)
+        self.shipped.chmod(0o755)
 
     def told(self) -> list[str]:
         """What the stand-in of rt did since this was asked last."""
