@@ -3,7 +3,8 @@
 
 They run in copies of a small repository of five crates, with stand-ins for `rt`, for `objdump`, for the program and for
 the parts of ./test (lib/small_repository.py). In this repository itself there is no link, since a gate takes files and
-folders only, and the notices of third parties are next to the program too.
+folders only; the notices of third parties are next to the program too; and CHANGELOG.md says what changed since the
+last release.
 """
 
 import fcntl
@@ -409,6 +410,12 @@ def notices_here() -> Fault:
     return None if is_same else "dist/THIRD-PARTY.md isn't THIRD-PARTY.md: copy that there"
 
 
+def changes_here() -> Fault:
+    """What CHANGELOG.md lacks of this repository. (This needs no git: a sum tells whether a source changed.)"""
+    ran = subprocess.run([TOP / "tools/versions.py"], capture_output=True, text=True, check=False)
+    return None if (ran.returncode, ran.stderr) == (0, "") else ran.stderr.strip() or f"status {ran.returncode}"
+
+
 def main() -> int:
     words = words_of(__doc__)
     words.add_argument("--only", choices=[*CASES], help="one case alone")
@@ -419,6 +426,7 @@ def main() -> int:
         names = [chosen.only] if chosen.only else CASES
         checks.count("no link stands in the repository", links())
         checks.count("the notices of third parties", notices_here())
+        checks.count("what changed since the last release", changes_here())
         checks.do((Job(name, partial(try_case, checks, name)) for name in names), lanes=4)
     return checks.status
 

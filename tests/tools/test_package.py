@@ -3,16 +3,19 @@ pages of the manual say the words of the programs."""
 
 from __future__ import annotations
 
+import hashlib
 import os
 import re
 import shutil
 import subprocess
 import tarfile
+import time
 from collections.abc import Iterator
 from pathlib import Path
 
 import pytest
 
+import cpi_tools
 from cpi_tools.program import Cpi
 from conftest import ROOT
 from test_ops import UNITS, needed
@@ -22,10 +25,23 @@ INPUTS = ["tools", "docs", "ops", "web", "examples", "dist", "README.md", "LICEN
 """All that a package is made of."""
 
 
+def epoch_of(top: Path) -> int:
+    """The beginning of the day of a package, in seconds since 1970: that of its release, or of the last commit."""
+    day = re.search(r"^## (?:[\d.]+, (\S+)|Unreleased .*)$", (top / "CHANGELOG.md").read_text(), re.M)
+    words = ["git", "log", "-1", "--date=format-local:%Y-%m-%d", "--format=%cd"]
+    ran = subprocess.run(words, cwd=top, env={**os.environ, "TZ": "UTC"}, capture_output=True, text=True, check=False)
+    named = (day and day[1]) or ran.stdout.strip() or "2026-11-28"
+    told = subprocess.run(["date", "-u", "-d", named, "+%s"], capture_output=True, text=True, check=True)
+    return int(told.stdout)
+
+
 def made_package(top: Path, to: Path, cpi: Cpi, **variables: str) -> Path:
     """The package that `tools/package` of a repository makes of the program under test."""
     needed("dpkg-deb")
     kept = {name: value for name, value in os.environ.items() if name != "SOURCE_DATE_EPOCH"}
+    if not (top / ".git").exists():
+        # (without git nothing else tells the day of what isn't released)
+        variables.setdefault("SOURCE_DATE_EPOCH", str(epoch_of(ROOT)))
     words = [str(top / "tools/package"), "--to", str(to), "--program", str(cpi.path)]
     ran = subprocess.run(words, capture_output=True, text=True, check=False, env={**kept, **variables})
     assert (ran.returncode, ran.stderr) == (0, "")
@@ -105,10 +121,7 @@ def test_the_same_inputs_give_the_same_bytes(package: Path, cpi: Cpi, tmp_path: 
 
 
 def test_each_file_has_the_time_of_its_version_and_belongs_to_root(members: dict[str, tarfile.TarInfo]) -> None:
-    day = re.search(r"^## [\d.]+, (\S+)$", (ROOT / "CHANGELOG.md").read_text(), re.M)
-    assert day
-    epoch = subprocess.run(["date", "-u", "-d", day[1], "+%s"], capture_output=True, text=True, check=True).stdout
-    assert {member.mtime for member in members.values()} == {int(epoch)}
+    assert {member.mtime for member in members.values()} == {epoch_of(ROOT)}
     assert {(member.uid, member.gid) for member in members.values()} == {(0, 0)}
     modes = {name: member.mode for name, member in members.items()}
     assert {modes[name] for name in ("usr/bin/cpi", "usr/bin/cpi-tools", "usr/lib/cpi/cpi-serve")} == {0o755}
@@ -159,9 +172,42 @@ def test_nothing_is_started_by_it(package: Path, members: dict[str, tarfile.TarI
     assert needs == ["libc6 (>= 2.34), python3 (>= 3.9)", "python3-jinja2, python3-openpyxl"]
 
 
-def test_the_versions_are_one(package: Path) -> None:
-    found = re.search(r'^version = "(.*)"$', (ROOT / "tools/pyproject.toml").read_text(), re.M)
-    assert found and package.name == f"cpi_{found[1]}_amd64.deb"
+def test_the_versions_are_one(package: Path, cpi: Cpi) -> None:
+    """CHANGELOG.md, the program, the companions and the package have the same number: `1.0`, or `1.1-dev` before it."""
+    heading = r"^## (?:(\d[\d.]*), |Unreleased \((\d[\d.]*)\)$)"
+    number, following = re.findall(heading, (ROOT / "CHANGELOG.md").read_text(), re.M)[0]
+    named = number or f"{following}-dev"
+    day = time.strftime("%Y%m%d", time.gmtime(epoch_of(ROOT)))
+    assert package.name == f"cpi_{number or f'{following}~{day}'}_amd64.deb"
+    assert cpi_tools.VERSION == named
+    assert 'version = { attr = "cpi_tools.VERSION" }' in (ROOT / "tools/pyproject.toml").read_text()
+    ran = subprocess.run([cpi.path, "--version"], capture_output=True, text=True, check=False)
+    assert (ran.returncode, ran.stdout, ran.stderr) == (0, f"cpi {named}\n", "")
+
+
+def test_only_the_latest_package_stays_in_out(cpi: Cpi, tmp_path: Path) -> None:
+    """So that its name there can be written with a star."""
+    copied_inputs(tmp_path)
+    earlier, other = (tmp_path / "out" / name for name in ("cpi_1.0_amd64.deb", "other.deb"))
+    earlier.parent.mkdir()
+    for path in (earlier, other):
+        path.write_text("made before")
+    words = [str(tmp_path / "tools/package"), "--program", str(cpi.path)]
+    kept = {**os.environ, "SOURCE_DATE_EPOCH": str(epoch_of(ROOT))}
+    subprocess.run(words, env=kept, capture_output=True, check=True)
+    assert other.exists() and not earlier.exists()
+    assert len(list(earlier.parent.glob("cpi_*.deb"))) == 1
+
+
+def test_without_git_the_day_has_to_be_told(cpi: Cpi, tmp_path: Path) -> None:
+    copied_inputs(tmp_path)
+    if not re.search(r"^## Unreleased", (tmp_path / "CHANGELOG.md").read_text(), re.M):
+        pytest.skip("this is a release, whose day is known")
+    kept = {name: value for name, value in os.environ.items() if name != "SOURCE_DATE_EPOCH"}
+    words = [str(tmp_path / "tools/package"), "--to", str(tmp_path / "to"), "--program", str(cpi.path)]
+    ran = subprocess.run(words, env=kept, capture_output=True, text=True, check=False)
+    assert ran.returncode == 1
+    assert re.fullmatch(r"tools/package: [\d.]+ isn't released, and without git SOURCE_DATE_EPOCH [^\n]*\n", ran.stderr)
 
 
 # ---- the notices of third parties
@@ -245,6 +291,26 @@ def test_the_examples_find_the_program_where_they_are_installed(installed: Path,
     told = in_root(installed, f"{installed}/usr/share/cpi/examples/isolation --out there", tmp_path)
     assert "before January's table is out: the same bytes (28 lines)\n" in told
     assert sorted(os.listdir(tmp_path / "there")) == ["one", "two"]
+
+
+def test_the_companions_tell_whether_the_program_is_the_shipped_one(installed: Path, tmp_path: Path) -> None:
+    program, made = installed / "usr/bin/cpi", (ROOT / "dist/MADE").read_text()
+    assert (installed / "usr/share/cpi/dist/MADE").read_text() == made
+    found = hashlib.sha256(program.read_bytes()).hexdigest()
+    is_shipped = f"program: {found}\n" in made
+    told = in_root(installed, "cpi-tools --version", tmp_path).splitlines()
+    assert told[0] == f"cpi-tools {cpi_tools.VERSION}"
+    assert {"sources", "kit", "program"} == {line.partition(":")[0] for line in told[1:4]}
+    assert [line for line in told[1:4] if line not in made.splitlines()] == []
+    ending = "which is that program" if is_shipped else f"another program: {found}"
+    assert told[4:] == [f"runs: {installed}/usr/share/cpi/cpi, {ending}"]
+    program.write_bytes(program.read_bytes() + b"more")
+    assert (
+        in_root(installed, "cpi-tools --version", tmp_path)
+        .splitlines()[-1]
+        .endswith(f"another program: {hashlib.sha256(program.read_bytes()).hexdigest()}")
+    )
+    program.write_bytes(program.read_bytes()[:-4])
 
 
 def test_the_user_of_the_office_is_made(installed: Path) -> None:

@@ -9,6 +9,7 @@ from typing import Optional
 
 from . import backup, desk, drill, explain, next_year, probe, publish, take_in, take_out
 from .terminal import Fault, ToolWords, ends_by_signals, is_line
+from .version import ShowVersion
 
 TOOLS = (backup, drill, probe, desk, explain, publish, take_in, take_out, next_year)
 
@@ -20,6 +21,7 @@ def parser() -> ToolWords:
         description="Companions of cpi, the program of a consumer price index office.",
         epilog="example: cpi-tools backup office.db backup/office.db",
     )
+    words.add_argument("--version", action=ShowVersion, help="which version this is, and which program it runs")
     tools = words.add_subparsers(required=True, metavar="TOOL", title="tools", parser_class=ToolWords)
     for tool in TOOLS:
         tool.add_words(tools)
@@ -31,7 +33,16 @@ def main(given: Optional[Sequence[str]] = None) -> int:
 
     What a tool is known to meet is one line on standard error and status 1; words that aren't its own are 2.
     """
-    words = sys.argv[1:] if given is None else given
+    try:
+        return _run(sys.argv[1:] if given is None else given)
+    except BrokenPipeError:
+        # (who read the output has gone, so the rest of it goes nowhere)
+        os.dup2(os.open(os.devnull, os.O_WRONLY), sys.stdout.fileno())
+        return 1
+
+
+def _run(words: Sequence[str]) -> int:
+    """Runs a tool by its words; its exit status."""
     chosen, others = parser().parse_known_args(words)
     if odd := [word for word in words if not is_line(word)]:
         chosen.words.error(f"a word isn't a line of UTF-8: {odd[0]!a}")
@@ -45,8 +56,4 @@ def main(given: Optional[Sequence[str]] = None) -> int:
             return status
     except Fault as fault:
         print(f"cpi-tools {chosen.tool}: {fault}", file=sys.stderr)
-        return 1
-    except BrokenPipeError:
-        # (who read the output has gone, so the rest of it goes nowhere)
-        os.dup2(os.open(os.devnull, os.O_WRONLY), sys.stdout.fileno())
         return 1
