@@ -6,10 +6,9 @@ import csv
 import io
 import re
 
-from . import values
+from . import limits, values
 from .office import Office
 
-MOST_HEAD, MOST_FIELDS, MOST_BODY = 8192, 64, 65_536
 TOKEN = rb"[!#$%&'*+\-.^_`|~0-9A-Za-z]+"
 REQUEST_LINE = re.compile(rb"(" + TOKEN + rb") ([\x21-\x7e\x80-\xff]+) HTTP/1\.[01]")
 FIELD = re.compile(rb"(" + TOKEN + rb"):([\t\x20-\x7e\x80-\xff]*)")
@@ -62,8 +61,8 @@ def head_of(stream: bytes) -> tuple[bytes, str, list[Field], bytes]:
     at, fields = 0, list[Field]()
     while True:
         end = stream.find(b"\n", at) + 1
-        if end == 0 or end > MOST_HEAD:
-            if len(stream) >= MOST_HEAD:
+        if end == 0 or end not in limits.HEAD:
+            if len(stream) >= limits.HEAD.most:
                 raise Bad(400)
             raise Cut
         line = stream[at : end - 1].removesuffix(b"\r")
@@ -74,7 +73,7 @@ def head_of(stream: bytes) -> tuple[bytes, str, list[Field], bytes]:
             return *start, fields, stream[at:]
         else:
             fields.append(field(line))
-            if len(fields) > MOST_FIELDS:
+            if len(fields) not in limits.FIELDS:
                 raise Bad(400)
 
 
@@ -91,7 +90,7 @@ def body_of(fields: list[Field], rest: bytes) -> bytes:
     if len(lengths) > 1 or not re.fullmatch(rb"[0-9]+", lengths[0]):
         raise Bad(400)
     length = lengths[0].lstrip(b"0") or b"0"
-    if len(length) > 5 or int(length) > MOST_BODY:
+    if len(length) > 5 or int(length) not in limits.BODY:
         raise Bad(413)
     if len(rest) < int(length):
         raise Cut
@@ -122,7 +121,7 @@ def caller_of(fields: list[Field], desk_key: str) -> str:
     borne = all_of(fields, b"authorization")
     if not borne:
         return "public"
-    found = re.fullmatch(rb"cpi-key +([0-9a-f]{32})", borne[0], re.IGNORECASE)
+    found = re.fullmatch(rb"cpi-key +([0-9a-f]+)", borne[0], re.IGNORECASE)
     key = values.key(found[1].decode()) if found and len(borne) == 1 else None
     if key is None:
         raise Bad(400)

@@ -9,6 +9,7 @@ from __future__ import annotations
 from collections.abc import Callable
 from typing import Any, Optional, TypeVar
 
+from . import limits
 from .values import Mark, Month
 
 Series = tuple[int, int]
@@ -25,10 +26,6 @@ Some = TypeVar("Some")
 Rule = TypeVar("Rule", bound=Callable[..., Any])
 
 HUNDRED = 100_000_000
-MOST_TICKS = 10**15
-MOST_WEIGHT = 10**9  # of an aggregate, once prices have moved it
-MOST_INDEX = 10**13
-MOST_LEVEL = 10**15
 
 
 def there(value: Some | None) -> Some:
@@ -276,19 +273,19 @@ class Index:
 
     def is_carried_outside(self, month: Month, code: str) -> bool:
         ticks = [self.carried(month[0], month, series)[0] for series in self.sample(month[0], code)]
-        return not all(1 <= one <= MOST_TICKS for one in ticks)
+        return not all(one in limits.TICKS for one in ticks)
 
     def fault(self, month: Month) -> tuple[int, str] | None:
         """The first fault of a month after the first, with its code: each is looked for everywhere before the next."""
         aggregates, nodes = self.aggregates(month[0]), self.nodes(month)
         faults: list[tuple[int, list[str], Callable[[str], bool]]] = [
             (5, aggregates, lambda code: self.lacks_reference(month[0], code)),
-            (3, aggregates, lambda code: not 1 <= self.moved(month[0])[code] <= MOST_WEIGHT),
+            (3, aggregates, lambda code: self.moved(month[0])[code] not in limits.WEIGHT_IN_USE),
             (1, aggregates, lambda code: not self.sample(month[0], code)),
             (2, aggregates, lambda code: self.needs_match(month, code)),
             (3, aggregates, lambda code: self.is_carried_outside(month, code)),
-            (3, aggregates, lambda code: not 1 <= self.within(month, code) <= MOST_INDEX),
-            (3, nodes, lambda code: not 1 <= self.chained(month, code) <= MOST_LEVEL),
+            (3, aggregates, lambda code: self.within(month, code) not in limits.INDEX),
+            (3, nodes, lambda code: self.chained(month, code) not in limits.LEVEL),
         ]
         found = ((number, code) for number, codes, is_so in faults for code in codes if is_so(code))
         return next(found, None)

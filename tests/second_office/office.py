@@ -6,9 +6,9 @@ import json
 from collections.abc import Callable
 from typing import Any, NamedTuple, Optional, TypeVar
 
-from . import tables, values
+from . import limits, tables, values
 from .index import FrozenQuote, Index, Plan, Row, Series, before, december_before
-from .requests import MOST_ROWS, Body, Record, Request, caller_of, request_of, rows_of
+from .requests import Body, Record, Request, caller_of, request_of, rows_of
 from .values import Mark, Month
 
 Reply = dict[str, Any]
@@ -25,7 +25,6 @@ K = TypeVar("K")
 V = TypeVar("V")
 
 DONE: Reply = {"done": True}
-MOST_REVISIONS = 9
 
 
 def refused(number: int, **found: object) -> Reply:
@@ -66,13 +65,13 @@ class Office:
     def reply(self, record: Record) -> Reply:
         if len(record) < 3:
             return refused(10)
-        now, caller, word = values.number(record[0], 0, values.MOST_MOMENT), caller_of(record[1]), record[2]
+        now, caller, word = values.number(record[0], limits.MOMENT), caller_of(record[1]), record[2]
         if now is None or caller is None:
             return refused(10)
         if word != "import":
             return self.answer(now, caller, request_of(word, record[3:]))
         rows = rows_of(record[3]) if len(record) == 4 else None
-        if rows is None or len(rows) > MOST_ROWS:
+        if rows is None or len(rows) not in limits.ROWS_OF_IMPORT:
             return refused(10)
         return {"rows": [self.answer(now, caller, request_of(row[0], row[1:])) for row in rows]}
 
@@ -175,7 +174,8 @@ class Office:
         revisions = self.tables.get(month)
         if not revisions:
             return False
-        return month != max(self.tables) or len(revisions) == MOST_REVISIONS or publishes <= revisions[-1][0]
+        is_last = month == max(self.tables) and len(revisions) + 1 in limits.REVISIONS
+        return not is_last or publishes <= revisions[-1][0]
 
     def put_calendar(self, month: Month, opens: int, closes: int, publishes: int) -> Reply:
         if self.calendar.get(month) == (opens, closes, publishes):
@@ -207,16 +207,17 @@ class Office:
         titled, nodes = [code for code, _ in titles], {node for code in codes for node in values.path(code)}
         untitled = sorted(nodes - set(titled))
         items = [item for item, _ in places]
+        is_late = any(month > december_before(year) for month in references)
         faults: list[tuple[int, bool, Reply]] = [
             (1, len(set(titled)) < len(titled) or len(set(codes)) < len(codes), {}),
             (2, not all(values.is_elementary(code) for code in codes + [code for _, code in places]), {}),
-            (3, any(weight == 0 for _, weight in weights), {}),
-            (4, sum_found != 1_000_000, {"found": sum_found}),
+            (3, not all(weight in limits.WEIGHT for _, weight in weights), {}),
+            (4, sum_found not in limits.SUM_OF_WEIGHTS, {"found": sum_found}),
             (5, untitled != [], {"code": untitled[0] if untitled else None}),
             (6, not set(items) <= set(self.items), {}),
             (7, len(set(items)) < len(items), {}),
             (8, not {code for _, code in places} <= set(codes), {}),
-            (10, len(references) > 1 or any(month > december_before(year) for month in references), {}),
+            (10, len(references) not in limits.REFERENCE_MONTHS or is_late, {}),
         ]
         return next(({"fault": number, **found} for number, is_so, found in faults if is_so), None)
 
@@ -312,6 +313,8 @@ class Office:
         if refusal is not None:
             return refusal
         receipt = 1 + max((receipt for _, receipt in self.own_quotes(collector).values()), default=0)
+        if receipt not in limits.RECEIPT:
+            return refused(27)
         self.quotes[collector, slot, month] = (mark, receipt)
         return {"receipt": receipt}
 

@@ -7,10 +7,9 @@ import io
 from collections.abc import Callable
 from typing import Any
 
-from . import values
+from . import limits, values
+from .limits import Range
 from .values import Month
-
-MOST_ROWS = 20_000
 
 Record = list[str]
 """The fields of a record: a moment, who asks, a word and its arguments; or of a row, from the word on."""
@@ -34,7 +33,7 @@ def plan_body(body: str) -> Body | None:
     references: list[Month] = []
     for row in rows:
         kind, first, second = {2: [*row, ""], 3: row}.get(len(row), ("", "", ""))
-        weight = values.number(second, 0, 1_000_000)
+        weight = values.number(second, limits.ROW_OF_WEIGHT)
         if kind == "T" and values.code(first) and values.name(second):
             titles.append((first, second))
         elif kind == "W" and values.code(first) and weight is not None:
@@ -45,17 +44,17 @@ def plan_body(body: str) -> Body | None:
             references.append(month)
         else:
             return None
-    return (titles, weights, places, references) if len(rows) <= MOST_ROWS else None
+    return (titles, weights, places, references) if len(rows) in limits.ROWS_OF_PLAN else None
 
 
-def number_within(least: int, most: int) -> Callable[[str], int | None]:
-    return lambda text: values.number(text, least, most)
+def number(within: Range) -> Callable[[str], int | None]:
+    return lambda text: values.number(text, within)
 
 
-COLLECTOR = number_within(1, 9999)
-SLOT = number_within(1, 400)
-OUTLET = number_within(1, 999_999)
-REVISION = number_within(1, 9)
+COLLECTOR = number(limits.COLLECTOR)
+SLOT = number(limits.SLOT)
+OUTLET = number(limits.OUTLET)
+REVISION = number(limits.REVISION)
 
 # the readers of each word's arguments
 ARGUMENTS: dict[str, list[Callable[[str], Any]]] = {
@@ -63,8 +62,8 @@ ARGUMENTS: dict[str, list[Callable[[str], Any]]] = {
     "tables": [],
     "work": [values.month],
     "quotes": [values.month, values.month],
-    "item": [values.item_code, values.name, values.name, number_within(1, 1000), number_within(1000, 10_000)],
-    "plan": [number_within(2000, 2199), plan_body],
+    "item": [values.item_code, values.name, values.name, number(limits.LOW), number(limits.HIGH)],
+    "plan": [number(limits.YEAR_OF_PLAN), plan_body],
     "calendar": [values.month, values.moment, values.moment, values.moment],
     "collector": [COLLECTOR, values.key],
     "outlet": [OUTLET, values.name],

@@ -7,14 +7,15 @@ import re
 from collections.abc import Iterator
 from typing import Any
 
+from . import limits
+from .limits import Range
+
 Month = tuple[int, int]
 """Year and number."""
 
 Mark = tuple[str, Any]
 """A kind of quote with its price, or `missing` with its reason or None."""
 
-MOST_PRICE = 100_000_000
-MOST_MOMENT = 9_999_999_999
 REASONS = ("stock", "closed", "gone", "refused")
 
 
@@ -22,10 +23,11 @@ def matched(pattern: str, text: str) -> re.Match[str] | None:
     return re.fullmatch(pattern, text, re.ASCII)
 
 
-def number(text: str, least: int, most: int) -> int | None:
-    if not matched("0|[1-9][0-9]*", text):
+def number(text: str, within: Range) -> int | None:
+    # (more than 30 digits are past every limit)
+    if not matched("0|[1-9][0-9]{0,29}", text):
         return None
-    return int(text) if least <= int(text) <= most else None
+    return int(text) if int(text) in within else None
 
 
 def month(text: str) -> Month | None:
@@ -34,21 +36,21 @@ def month(text: str) -> Month | None:
     if not found:
         return None
     year, number_in_year = int(found[1]), int(found[2])
-    return (year, number_in_year) if 2000 <= year <= 2199 and 1 <= number_in_year <= 12 else None
+    return (year, number_in_year) if year in limits.YEAR and number_in_year in limits.MONTH_OF_YEAR else None
 
 
 def moment(text: str) -> int | None:
     """Seconds since 1970 UTC, from a number or from a civil text that is read in UTC."""
-    seconds = number(text, 0, MOST_MOMENT)
+    seconds = number(text, limits.MOMENT)
     if seconds is not None:
         return seconds
     found = matched("([0-9]{4})-([0-9]{2})-([0-9]{2})T([0-9]{2}):([0-9]{2})", text)
     if not found:
         return None
     year, in_year, day, hour, minute = (int(part) for part in found.groups())
-    if not (2000 <= year <= 2199 and 1 <= in_year <= 12 and hour < 24 and minute < 60):
+    if not (year in limits.CIVIL_YEAR and hour in limits.HOUR and minute in limits.MINUTE):
         return None
-    if not 1 <= day <= calendar.monthrange(year, in_year)[1]:
+    if not (1 <= in_year <= 12 and 1 <= day <= calendar.monthrange(year, in_year)[1]):
         return None
     return calendar.timegm((year, in_year, day, hour, minute, 0))
 
@@ -59,15 +61,16 @@ def name(text: str) -> str | None:
         data.decode()
     except UnicodeDecodeError:
         return None
-    return text if 1 <= len(data) <= 400 and all(byte >= 0x20 and byte != 0x7F for byte in data) else None
+    is_in_form = len(data) in limits.BYTES_OF_NAME and all(byte >= 0x80 or byte in limits.BYTE_OF_NAME for byte in data)
+    return text if is_in_form else None
 
 
 def item_code(text: str) -> str | None:
-    return text if matched("[A-Z0-9]{1,12}", text) else None
+    return text if matched("[A-Z0-9]*", text) and len(text) in limits.CHARACTERS_OF_ITEM else None
 
 
 def key(text: str) -> str | None:
-    return text if matched("[0-9a-f]{32}", text) else None
+    return text if matched("[0-9a-f]*", text) and len(text) in limits.CHARACTERS_OF_KEY else None
 
 
 def code(text: str) -> str | None:
@@ -75,9 +78,9 @@ def code(text: str) -> str | None:
     if text == "00":
         return text
     found = matched(r"([0-9]{2})(\.[0-9]){0,3}", text) or matched(r"([0-9]{2})(\.[0-9]){3}-([0-9]{2})", text)
-    if not found or not 1 <= int(found[1]) <= 13 or text.endswith("-00"):
+    if not found or int(found[1]) not in limits.DIVISION:
         return None
-    return text
+    return None if is_elementary(text) and int(text[-2:]) not in limits.AGGREGATE else text
 
 
 def is_elementary(node: str) -> bool:
@@ -101,5 +104,5 @@ def mark(kind: str, value: str) -> Mark | None:
     """A mark with its price, or with the reason why there is none."""
     if kind == "missing":
         return (kind, value) if value in REASONS else None
-    price = number(value, 1, MOST_PRICE)
+    price = number(value, limits.PRICE)
     return (kind, price) if kind in ("price", "comparable", "other") and price is not None else None

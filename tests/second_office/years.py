@@ -25,6 +25,7 @@ Sent = Generator[Record, Reply, T]
 ITEMS = ["RICE", "FLOUR", "SALT", "TEA", "OIL", "GOLD"]
 AGGREGATES = ["01.1.1.1-01", "01.1.1.1-02", "01.1.1.2-01", "01.2.0.1-01", "02.1.1.1-01", "13.9.9.9-99"]
 TITLES = ["Food, drink", 'Café "1"', "back\\slash", "\u2028", "é" * 200, " x ", "Rice", "All items"]
+MOST_PRICE = 100_000_000
 WILD_PRICES = [1, 10, 1000, 10_000, 100_000, 10_000_000, 100_000_000]
 STEEP = [1, 100_001, 100_000, *[10_000] * 10, 10_000_001, 10_000_000]
 BORDERS = {  # what GOLD is quoted at, month by month, alone in its aggregate: past a limit, and then up to it
@@ -271,7 +272,7 @@ class Years:
         if drawn == "missing":
             return [drawn, self.one(REASONS)]
         price = self.drawn.randrange(50, 900) if last is None else last * self.one(STEPS) // 100
-        return [drawn, str(min(max(price, 1), values.MOST_PRICE))] if drawn else None
+        return [drawn, str(min(max(price, 1), MOST_PRICE))] if drawn else None
 
     def read(self, at: int) -> Sent[None]:
         now, key = self.opens(at) + 500, self.one(KEYS[:3])
