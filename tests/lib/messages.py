@@ -162,6 +162,10 @@ class Compared(Served):
         """The response that the second reading gives."""
         return http_messages.answered(self.office, text, int(time.time()), DESK)
 
+    def told(self, text: bytes) -> str:
+        """The program's response."""
+        return self.ask(text, ends=True).decode()
+
     def fault(self, text: bytes) -> Fault:
         """What is answered otherwise to a message whose peer then ends what it sends."""
         wanted = self.wanted(text)

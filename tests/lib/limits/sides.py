@@ -1,0 +1,146 @@
+"""The answers of the program and of the second office, compared with those of the documents."""
+
+from __future__ import annotations
+
+import contextlib
+import os
+import shutil
+import tempfile
+import threading
+from collections.abc import Callable, Iterable, Iterator
+
+from second_office import http_messages
+from second_office import limits as ranges
+from second_office.office import Office
+from second_office.records import text_of
+
+from ..harness import Fault
+from ..open_office import OPEN
+from ..program import Program, Ran
+from ..records import rows_of
+from ..served import DESK
+from ..stored import change
+from .limit import Asked, Limit
+from .places import Records
+from .stored import Stored
+
+IN_MEMORY = "/dev/shm" if os.access("/dev/shm", os.W_OK) else None
+"""A folder in memory, if there is one: nothing here tests the disk."""
+
+
+def last_of(lines: list[str]) -> str:
+    """The last line, if all before it were accepted."""
+    return next((f"before it, {line}" for line in lines[:-1] if "refused" in line), lines[-1] if lines else "")
+
+
+def told_by(ran: Ran) -> str:
+    """The last line of a run, of its fault if it has one."""
+    if ran.status == 2:
+        return "status 2"
+    return last_of((ran.out if ran.status == 0 else ran.err).decode().splitlines())
+
+
+class Sides:
+    """Both sides, with the files that the program made so far."""
+
+    def __init__(self, program: Program, room: str) -> None:
+        self.program, self.room = program, room
+        self.files: dict[str, str] = {}
+        self.lock = threading.Lock()
+
+    def records(self, records: Records) -> str:
+        """The program's line to the last of some records."""
+        return told_by(self.program.replay(text_of(records).encode()))
+
+    def words(self, words: list[str]) -> str:
+        """The line of a run with these words."""
+        return told_by(self.program.run(*words))
+
+    def made(self, records: Records) -> str:
+        """The file of an office after these records, which is made once."""
+        text = text_of(records)
+        with self.lock:
+            if text not in self.files:
+                path = f"{self.room}/{len(self.files)}.db"
+                told = told_by(self.program.replay(text.encode(), path))
+                if "refused" in told or told.startswith("cpi: "):
+                    raise ChildProcessError(told)
+                self.files[text] = path
+            return self.files[text]
+
+    def stored(self, asked: Stored) -> str:
+        """The program's line to a record, over a file that was changed."""
+        with tempfile.TemporaryDirectory(dir=self.room) as room:
+            path = shutil.copy(self.made(asked.before), f"{room}/office.db")
+            change(path, asked.statements)
+            return told_by(self.program.replay(text_of([asked.asked]).encode(), path))
+
+
+def second_records(records: Records) -> str:
+    """The second office's line to the last of some records."""
+    office = Office()
+    return last_of([office.line(record) for record in records])
+
+
+def second_stored(asked: Stored) -> str:
+    """The second office's line to a record, once it is changed."""
+    office = Office()
+    for record in asked.before:
+        office.reply(record)
+    if asked.second:
+        asked.second(office)
+    return office.line(asked.asked)
+
+
+def second_message(text: bytes) -> str:
+    """The second reading's response to a message."""
+    office = Office()
+    for record in rows_of(OPEN):
+        office.reply(record)
+    return http_messages.answered(office, text, 1, DESK).decode()
+
+
+def fault_of(limit: Limit[Asked], value: int, answer: Callable[[Asked], str]) -> Fault:
+    """What is wrong, if the answer isn't the one that the documents give."""
+    got, wanted = answer(limit.asked(value)), limit.told(value)
+    return None if got == wanted else f"{got[:300]!r}, wanted {wanted[:300]!r}"
+
+
+# ---- wrong limits of the second office
+
+Wrong = tuple[str, str, float]
+"""The name of a range, an end of it, and another number for that."""
+
+
+def wrong_ends() -> Iterator[Wrong]:
+    """Each end of each range changed by one, and each most doubled."""
+    for name, one in vars(ranges).items():
+        if isinstance(one, ranges.Range):
+            for end in ("least", "most"):
+                was = getattr(one, end)
+                if abs(was) != ranges.ENDLESS:
+                    yield from ((name, end, number) for number in (was - 1, was + 1))
+            if one.most != ranges.ENDLESS:
+                yield name, "most", 2 * one.most
+
+
+@contextlib.contextmanager
+def with_end(wrong: Wrong) -> Iterator[None]:
+    """Within it the second office has that limit."""
+    name, end, number = wrong
+    one = getattr(ranges, name)
+    was = getattr(one, end)
+    setattr(one, end, number)
+    try:
+        yield
+    finally:
+        setattr(one, end, was)
+
+
+def unfound(wrong: Wrong, asked: Iterable[tuple[Limit[Asked], Callable[[Asked], str]]]) -> Fault:
+    """That a second office with that limit is answered right by all values."""
+    with with_end(wrong):
+        for limit, answer in asked:
+            if limit.rule == wrong[0] and any(fault_of(limit, value, answer) for value in limit.values()):
+                return None
+    return "no value found it"
