@@ -1,7 +1,8 @@
 """The pages of the manual: those of docs/man with what belongs into them, and one of each tool of cpi-tools.
 
 The page of a tool is made of its own words, as its `--help` tells them, so a new tool has its page and its line in
-cpi-tools(1) without anything being written twice.
+cpi-tools(1) without anything being written twice. The refusals in cpi(1) are made of cpi_tools/words.py, which the
+guides and the pages of `web/` have too.
 """
 
 from __future__ import annotations
@@ -10,6 +11,9 @@ import argparse
 import re
 from collections.abc import Iterator
 from pathlib import Path
+from typing import Optional
+
+from cpi_tools.words import COLLECTOR, PLAN_FAULTS, REFUSALS, Refusal, Words
 
 
 def roff(text: str) -> str:
@@ -103,6 +107,50 @@ def page(name: str, said: str, parser: argparse.ArgumentParser, head: str) -> st
     return "".join(parts) + ".SH SEE ALSO\n.BR cpi\\-tools (1),\n.BR cpi (1)\n"
 
 
+# ---- refusals
+
+OF_A = {"handover": "of a hand-over", "freeze": "of a freeze", "calendar": "of a calendar row"}
+"""The records that have words of their own for a refusal."""
+
+
+def sentence(text: str) -> str:
+    """A text as a sentence, with the words of a record in bold."""
+    whole = text[:1].upper() + text[1:] + ("" if text.endswith(".") else ".")
+    return re.sub("`([^`]*)`", r"\\fB\1\\fR", roff(whole))
+
+
+def told(words: Words, which: str) -> str:
+    """Why something is refused and what to do, after the words for which refusal that is."""
+    return f"{sentence(f'{which}: {words.because}' if which else words.because)}\n{sentence(words.do)}\n"
+
+
+def which_of(row: Refusal, has_both: bool) -> str:
+    """Which refusals of its number a row is about; empty if that is each of them."""
+    fault: Optional[str] = None if row.fault is None else f"fault {row.fault}"
+    to = "to a collector" if row.to == COLLECTOR else "to the desk"
+    whose = OF_A.get(row.word or "", to if has_both else None)
+    return ", ".join(part for part in (fault, whose) if part)
+
+
+def refusal(numbers: tuple[int, ...]) -> str:
+    """The entry of one number, or of several that have the same words."""
+    rows = [row for row in REFUSALS if row.numbers == numbers]
+    has_both = len({row.to for row in rows}) > 1
+    parts = [told(row.words, which_of(row, has_both)) for row in rows]
+    if 44 in numbers:
+        parts[1:1] = [told(words, f"fault {fault}") for fault, words in PLAN_FAULTS.items()]
+    label = ", ".join(map(str, numbers))
+    return f".TP\n.B {label}\n" + ".IP\n".join(parts)
+
+
+def refusals() -> str:
+    """The list of all refusals."""
+    return "".join(refusal(numbers) for numbers in sorted({row.numbers for row in REFUSALS})).rstrip("\n")
+
+
+# ---- all pages
+
+
 def pages_below(name: str, words: argparse.ArgumentParser, head: str) -> Iterator[tuple[str, str]]:
     """The pages of the tools below a parser, and of those below them: name of the file, and its text."""
     for tool, said, parser in tools_of(words):
@@ -115,7 +163,7 @@ def manual(folder: Path, words: argparse.ArgumentParser, version: str, day: str)
     """All pages by their file names. `folder` has those that are written by hand, `words` is the parser of cpi-tools,
     `day` is like 2026-11-25."""
     tools = "".join(entry(f"cpi-tools {name}", said) for name, said, _ in tools_of(words)).rstrip("\n")
-    given = {"@DAY@": day, "@VERSION@": version, "@TOOLS@": tools}
+    given = {"@DAY@": day, "@VERSION@": version, "@TOOLS@": tools, "@REFUSALS@": refusals()}
     pages = {}
     for path in sorted(folder.glob("*.1")):
         text = path.read_text(encoding="utf-8")
