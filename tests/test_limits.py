@@ -2,9 +2,10 @@
 """Asks `cpi` and a second office round each limit of a number that docs/ names, and compares both with the documents.
 
 Each limit is asked with values one below, at and one above its ends, and everything else in order: in a record, in a
-message to `cpi serve`, in words of the command line, and in a row of a file. A table (tests/lib/limits) has the answers
-that the documents give, and cites the documents for each limit. Every row of the limits of docs/OFFICE.md has its
-values there, or names the file that tests it, or says why nothing can reach it.
+message to `cpi serve`, in words of the command line, and in a row of a file. Records with a value at an end are also
+carried out over a file, which is then read again. A table (tests/lib/limits) has the answers that the documents give,
+and cites the documents for each limit. Every row of the limits of docs/OFFICE.md has its values there, or names the
+file that tests it, or says why nothing can reach it.
 
 Then each limit of the second office (tests/second_office/limits.py) is changed by one, and doubled. Some value of the
 table has to find each of these wrong limits.
@@ -12,15 +13,15 @@ table has to find each of these wrong limits.
 
 from __future__ import annotations
 
-import os
 import sys
 import tempfile
 from collections.abc import Callable, Iterator, Sequence
 from functools import partial
+from pathlib import Path
 from typing import Any
 
 from lib.harness import TOP, Check, Checks, Fault, program_of, words_of
-from lib.limits import bodies, messages, months, numbers, standing, stored, texts, words
+from lib.limits import bodies, messages, months, numbers, released, standing, stored, texts, words
 from lib.limits.elsewhere import ELSEWHERE
 from lib.limits.limit import Limit, unsaid
 from lib.limits.sides import (
@@ -37,15 +38,15 @@ from lib.messages import Compared
 
 RECORDS = [*numbers.LIMITS, *texts.LIMITS, *bodies.LIMITS, *standing.LIMITS, *months.LIMITS]
 RECEIPTS = [limit for limit in stored.LIMITS if limit.rule]
-EVERY: list[Limit[Any]] = [*RECORDS, *messages.LIMITS, *words.LIMITS, *stored.LIMITS]
+FILES = [*stored.LIMITS, *released.LIMITS]
+EVERY: list[Limit[Any]] = [*RECORDS, *messages.LIMITS, *words.LIMITS, *FILES]
 
 Answer = Callable[[Any], str]
 
 
 def documents() -> str:
     """The text of the documents that have limits."""
-    paths = (os.path.join(TOP, "docs", name) for name in ("OFFICE.md", "FORMATS.md"))
-    return "".join(open(path, encoding="utf-8").read() for path in paths)
+    return "".join(Path(TOP, "docs", name).read_text(encoding="utf-8") for name in ("OFFICE.md", "FORMATS.md"))
 
 
 def rows_of_limits(text: str) -> Iterator[str]:
@@ -62,7 +63,7 @@ def unknown_row(row: str) -> Fault:
 
 def elsewhere_unsaid(said: str, file: str | None, text: str) -> Fault:
     """That the documents don't have a limit which is tested elsewhere, or that there is no such file."""
-    if file is not None and not os.path.exists(os.path.join(TOP, file)):
+    if file is not None and not Path(TOP, file).exists():
         return f"there is no {file}"
     return None if said in text else "the documents don't say it"
 
@@ -82,11 +83,20 @@ def asked(limits: Sequence[Limit[Any]], side: str, answer: Answer) -> Iterator[C
             yield Check(f"{limit.name} with {value}, by {side}", partial(fault_of, limit, value, answer))
 
 
+def of_files(sides: Sides) -> Iterator[Check]:
+    """The ends of limits in records that are carried out, each in a file of its own that is then read again."""
+    for limit in RECORDS:
+        for value in sorted({end for end in (limit.least, limit.most) if end is not None}):
+            if "refused" not in limit.told(value):
+                yield Check(f"{limit.name} with {value}, in a file", partial(fault_of, limit, value, sides.kept))
+
+
 def of_the_program(sides: Sides) -> Iterator[Check]:
     """All but the messages, each by a run of its own."""
     yield from asked(RECORDS, "the program", sides.records)
+    yield from of_files(sides)
     yield from asked(words.LIMITS, "the program", sides.words)
-    yield from asked(stored.LIMITS, "the program", sides.stored)
+    yield from asked(FILES, "the program", sides.stored)
 
 
 def of_the_second_office() -> Iterator[Check]:

@@ -3,6 +3,7 @@
 from __future__ import annotations
 
 import contextlib
+import json
 import os
 import shutil
 import tempfile
@@ -15,6 +16,7 @@ from second_office.office import Office
 from second_office.records import text_of
 
 from ..harness import Fault
+from ..offices import LAST
 from ..open_office import OPEN
 from ..program import Program, Ran
 from ..records import rows_of
@@ -26,6 +28,10 @@ from .stored import Stored
 
 IN_MEMORY = "/dev/shm" if os.access("/dev/shm", os.W_OK) else None
 """A folder in memory, if there is one: nothing here tests the disk."""
+
+
+READ = [f"{LAST},public,{word}\n".encode() for word in ("items", "tables")]
+"""Records that read a file: the survey, and the headers of releases."""
 
 
 def last_of(lines: list[str]) -> str:
@@ -55,6 +61,16 @@ class Sides:
     def words(self, words: list[str]) -> str:
         """The line of a run with these words."""
         return told_by(self.program.run(*words))
+
+    def kept(self, records: Records) -> str:
+        """The program's line to the last of some records over a new file, whose content is then read once more."""
+        with tempfile.TemporaryDirectory(dir=self.room) as room:
+            path = f"{room}/office.db"
+            told = told_by(self.program.replay(text_of(records).encode(), path))
+            tables = json.loads(self.program.replay(READ[-1], path).out).get("tables", [])
+            asked = [f"{LAST},public,table,{month},csv,{revision}\n".encode() for month, revision, _ in tables]
+            again = self.program.replay(b"".join([*READ, *asked]), path)
+        return told if again.status == 0 and b"refused" not in again.out else f"read again, {again}"
 
     def made(self, records: Records) -> str:
         """The file of an office after these records, which is made once."""

@@ -14,17 +14,11 @@ from second_office.office import Office
 from second_office.requests import Record
 
 from .limit import Limit, Told, count_of, month_of, refused
-from .months import Months
-from .numbers import ITEMS, MOMENT, MONTH, OF_PLACES, PRICE, REVISION, TOLERANCE
-from .places import FROZEN, KA, NODES, ONE, OPEN, Records, records_of
+from .numbers import ITEMS, MOMENT, MONTH, OF_PLACES, PRICE, TOLERANCE
+from .places import KA, OPEN, Records, records_of
 from .texts import ITEM_CODE, KEY, NAME
 
 RECEIPTS = "| receipts of one collector | 1 to 1,000,000 |"
-TICKS = "| carried price, ticks of 1/10,000 of a minor unit | 1 to 10^15 |"
-INDEX = "| index within the year, millionths of a point | 1 to 10^13 |"
-LEVEL = "| chained level, millionths of a point | 1 to 10^15 |"
-WEIGHT_OF_NODE = "that of a node above is their sum, at most 10^15"
-WEIGHT = "| weight in use of an elementary aggregate | 1 to 10^9;"
 
 NOT_OPENED, NOT_READ = "cpi: database failed", refused(90)
 
@@ -140,58 +134,8 @@ def surveyed() -> Iterator[Limit[Stored]]:
             yield column(f"INSERT INTO {table} VALUES ({columns})", ends, said, spelled, **read)
 
 
-# ---- releases
-
-
-def two_frozen() -> Records:
-    """An office whose December and January are frozen, and whose February can be."""
-    office = Months(["RICE"])
-    office.plan(2026, {ONE: 1_000_000}, {"RICE": ONE})
-    for _ in range(2):
-        office.freeze({1: "price,100"})
-    office.put("calendar", "2026-02", "0", "5000", "5000")
-    office.records.append(["0", KA, "quote", "1", "2026-02", "price", "100"])
-    return office.records
-
-
-def decimals(millionths: int) -> str:
-    """Points with six decimals."""
-    return f"{millionths // 10**6}.{millionths % 10**6:06}"
-
-
-def table_with(code: str, at: int, spelled: Callable[[int], str], value: int) -> str:
-    """The table of January as CSV, with another value in a field of one code."""
-    rows = {node: [node, "1000000", "100.000000", "100.000000", "0.0", "", "0", node] for node in [*NODES, ONE]}
-    rows[code][at] = spelled(value)
-    return '{"table":"' + "".join(",".join(row) + "\\n" for row in rows.values()) + '"}'
-
-
-OF_LEVELS: list[tuple[str, str, int, int, str, Callable[[int], str]]] = [
-    ("weight", "00", 1, 10**15, WEIGHT_OF_NODE, str),
-    ("within", "00", 2, 10**13, INDEX, decimals),
-    ("within", ONE, 2, 10**13, INDEX, decimals),
-    ("chained", "00", 3, 10**15, LEVEL, decimals),
-    ("chained", ONE, 3, 10**15, LEVEL, decimals),
-]
-
-
-def frozen() -> Iterator[Limit[Stored]]:
-    """Releases, whose rows are read with their table or by the next freeze."""
-    before, asked = two_frozen(), "9000,public,table,2026-01,csv"
-    for name, code, at, most, said, spelled in OF_LEVELS:
-        statement = f"UPDATE level_2 SET {name} = ? WHERE month = 202601 AND code = '{code}'"
-        told = partial(table_with, code, at, spelled)
-        is_said = said != WEIGHT_OF_NODE
-        yield column(
-            statement, (1, most), said, before=before, asked=asked, within=told, outside=NOT_READ, is_said=is_said
-        )
-    yield column("UPDATE carried_2 SET ticks = ? WHERE month = 202601", (1, 10**15), TICKS, before=before,
-                 asked="5000,desk,freeze,2026-02", within='{"done":true}', outside=NOT_READ)  # fmt: skip
-
-
 LIMITS = [
     Limit("a receipt", None, 1_000_000, of_receipt, told_receipt, "", refused(27), RECEIPTS, "RECEIPT"),
     *opened(),
     *surveyed(),
-    *frozen(),
 ]
