@@ -64,7 +64,7 @@ def test_each_option_of_each_help_is_known(cpi: Cpi) -> None:
     wanted = {}
     for path, told in helps(cpi):
         listed = " ".join(re.findall(r"^ {2,6}(-.*?)(?:  |$)", told, re.M))
-        wanted[path] = set(re.findall(r"(?<![\w-])--?[a-z][a-z-]*", listed))
+        wanted[path] = set(re.findall(r"(?<![\w-])(?:--[a-z][a-z-]*|-[A-Za-z]\b)", listed))
     assert found == wanted
     assert "--reason" in found["cpi-tools desk what-if"] and "--db" in found["cpi serve"]
 
