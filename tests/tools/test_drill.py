@@ -3,9 +3,11 @@
 from __future__ import annotations
 
 import contextlib
+import os
 import re
 import shutil
 import sqlite3
+import subprocess
 from pathlib import Path
 
 import pytest
@@ -27,7 +29,9 @@ from cpi_tools.drill import (
 )
 from cpi_tools.program import Cpi
 from cpi_tools.stored import Level, stored_office
-from offices import LOAD_KEY, LOAD_MONTH, TABLES
+from conftest import ROOT
+from offices import LOAD_KEY, LOAD_MONTH, TABLES, registered
+from ran import Ran, run
 
 ROWS, CARRIED = 13 * 13 + 2 * 11, 13 * 6 + 2 * 4
 """Rows of the tables, and carried prices: of 2025 with its revision, and of two months of 2026, which have two nodes
@@ -214,8 +218,90 @@ def test_each_fault_is_a_line_and_of_many_the_first_ones(
     status, begin = main(["drill", str(office), "--program", str(cpi.path)]), f"cpi-tools drill: {office}: "
     ran = capsys.readouterr()
     lines = [f"{begin}{fault}" for fault in found.faults[:MOST_TOLD]]
-    assert (status, ran.err.splitlines()) == (1, [*lines, f"{begin}and {len(found.faults) - MOST_TOLD:,} more"])
-    assert ran.out.startswith(f"{office}: {len(found.faults)} faults; ")
+    lines += [f"{begin}and {len(found.faults) - MOST_TOLD:,} more", f"{begin}warning: {lacks_both(office)}"]
+    assert (status, ran.err.splitlines()) == (1, lines)
+    assert ran.out.startswith(f"{office}: {len(found.faults)} faults and 1 warning; ")
+
+
+# ---- what may lack a part of its office
+
+NO_COLLECTOR = "no collector is registered in it: either its office has no survey yet, or its data stayed in a log"
+
+
+def lacks_both(copy: Path) -> str:
+    """The warning on a copy that has neither a note nor a log."""
+    return (
+        f"neither a note ({copy.name}.sha256) nor a log ({copy.name}-wal) is next to it: if it was copied without its"
+        " log, it lacks the answered commands that were only in the log"
+    )
+
+
+def killed_office(cpi: Cpi, file: Path) -> Path:
+    """The file of an office whose program was killed after it answered a survey, all of which is in the log."""
+    with contextlib.suppress(KeyError), cpi.session(file) as session:
+        for each in registered():
+            assert session.ask(each) == {"done": True}
+        raise KeyError
+    return file
+
+
+def drilled(cpi: Cpi, copy: Path) -> Ran:
+    return run(cpi, "drill", copy)
+
+
+def test_the_file_of_a_killed_office_without_its_log_is_warned_of(cpi: Cpi, tmp_path: Path) -> None:
+    """The file by itself is a sound office in which nothing was ever done; with its log it has the survey."""
+    office, copy = killed_office(cpi, tmp_path / "office.db"), tmp_path / "x.db"
+    shutil.copy(office, copy)
+    found, begin = drilled(cpi, copy), f"cpi-tools drill: {copy}: warning: "
+    assert (found.status, found.err.splitlines()) == (3, [f"{begin}{lacks_both(copy)}", f"{begin}{NO_COLLECTOR}"])
+    assert found.out.startswith(f"{copy}: 2 warnings; 0 tables ") and ", 0 quotes, no collector; no note" in found.out
+    shutil.copy(log_beside(office), log_beside(copy))
+    whole = drilled(cpi, copy)
+    assert (whole.status, whole.err) == (0, "")
+    assert whole.out.startswith(f"{copy}: nothing is wrong; 0 tables ") and "no collector" not in whole.out
+
+
+def test_a_file_with_neither_note_nor_log_is_warned_of_whatever_it_has(cpi: Cpi, office: Path) -> None:
+    found = drilled(cpi, office)
+    assert (found.status, found.err) == (3, f"cpi-tools drill: {office}: warning: {lacks_both(office)}\n")
+    log_beside(office).write_bytes(bytes(41))
+    assert drilled(cpi, office)[::2] == (0, "")
+    log_beside(office).unlink()
+    with_note(office)
+    assert drilled(cpi, office)[::2] == (0, "")
+
+
+def test_an_office_without_a_collector_is_warned_of_unless_a_note_says_that_it_is_whole(
+    cpi: Cpi, tmp_path: Path
+) -> None:
+    """The file of an office that was just made, with the log that the program left, and its backup."""
+    office, backup = tmp_path / "office.db", tmp_path / "backup.db"
+    assert cpi.replay([], db=office) == [] and log_beside(office).exists()
+    assert drilled(cpi, office)[::2] == (3, f"cpi-tools drill: {office}: warning: {NO_COLLECTOR}\n")
+    assert run(cpi, "backup", office, backup).status == 0
+    found = drilled(cpi, backup)
+    assert (found.status, found.err) == (0, "")
+    assert found.out.startswith(f"{backup}: nothing is wrong; ") and ", 0 quotes, no collector; copied " in found.out
+
+
+def test_the_night_keeps_the_backup_of_an_office_before_its_survey(cpi: Cpi, tmp_path: Path) -> None:
+    office, kept = tmp_path / "office.db", tmp_path / "kept"
+    assert cpi.replay([], db=office) == []
+    kept.mkdir()
+    (tmp_path / "bin").mkdir()
+    (tmp_path / "bin/cpi-tools").symlink_to(ROOT / "cpi-tools")
+    ways = {"PATH": f"{tmp_path}/bin:{os.environ['PATH']}", "CPI": str(cpi.path)}
+    told = subprocess.run(
+        [ROOT / "ops/cpi-backup"],
+        env={**os.environ, **ways, "CPI_OFFICE": str(office), "CPI_BACKUPS": str(kept)},
+        capture_output=True,
+        text=True,
+        check=False,
+    )
+    assert (told.returncode, told.stderr) == (0, "")
+    names = sorted(path.name for path in kept.iterdir() if path.is_file())
+    assert len(names) == 2 and names[1] == f"{names[0]}.sha256" and names[0].endswith(".db")
 
 
 def test_what_is_no_office_is_told(cpi: Cpi, tmp_path: Path) -> None:
@@ -309,5 +395,5 @@ def test_what_differs() -> None:
 
 
 def test_the_line_tells_faults() -> None:
-    found = Drilled(1, 2, 3, 4, 0, None, ("one",))
+    found = Drilled(1, 2, 3, 4, 0, 5, None, ("one",))
     assert told_line(Path("x"), found).startswith("x: 1 fault; 1 table with 2 rows and 3 carried prices")

@@ -10,6 +10,7 @@ from __future__ import annotations
 import argparse
 import csv
 import io
+import os
 import sqlite3
 import sys
 from collections.abc import Iterator
@@ -31,15 +32,18 @@ Printed = dict[tuple[int, int], str]
 
 
 class Drilled(NamedTuple):
-    """What a drill looked at, and found: counts, the note if there is one, and a line for each fault."""
+    """What a drill looked at, and found: counts, the note if there is one, and a line for each fault and each warning.
+    `collectors` is None if the file can't be read."""
 
     tables: int
     rows: int
     carried: int
     quotes: int
     other_quotes: int
+    collectors: Optional[int]
     note: Optional[Note]
     faults: tuple[str, ...]
+    warnings: tuple[str, ...] = ()
 
 
 class Counts:
@@ -47,6 +51,7 @@ class Counts:
 
     def __init__(self) -> None:
         self.tables = self.rows = self.carried = self.quotes = self.other_quotes = 0
+        self.collectors: Optional[int] = None
 
 
 def drill(cpi: Cpi, path: Path, progress: Optional[Progress] = None) -> Drilled:
@@ -71,7 +76,23 @@ def drill(cpi: Cpi, path: Path, progress: Optional[Progress] = None) -> Drilled:
                     faults += each
         except sqlite3.Error as fault:
             faults.append(f"the C library can't read it: {fault}")
-    return Drilled(counts.tables, counts.rows, counts.carried, counts.quotes, counts.other_quotes, note, tuple(faults))
+    found = (counts.tables, counts.rows, counts.carried, counts.quotes, counts.other_quotes, counts.collectors)
+    return Drilled(*found, note, tuple(faults), tuple(warnings_of(path, counts)))
+
+
+def warnings_of(path: Path, counts: Counts) -> Iterator[str]:
+    """Why a file without a fault may still lack what its office had. A note says that file and log were copied as one,
+    so a copy that has one is all of its office, be it an office before its survey."""
+    note, log = note_beside(path), log_beside(path)
+    if os.path.lexists(note):
+        return
+    if not log.exists():
+        yield (
+            f"neither a note ({note.name}) nor a log ({log.name}) is next to it: if it was copied without its log, it"
+            " lacks the answered commands that were only in the log"
+        )
+    if counts.collectors == 0:
+        yield "no collector is registered in it: either its office has no survey yet, or its data stayed in a log"
 
 
 def note_of(path: Path, faults: list[str]) -> Optional[Note]:
@@ -150,7 +171,8 @@ def _change(text: str) -> Optional[int]:
 
 
 def _stored_faults(office: StoredOffice, counts: Counts) -> Iterator[str]:
-    """Counts the quotes, and compares them with those that were frozen."""
+    """Counts collectors and quotes, and compares the quotes with those that were frozen."""
+    counts.collectors = len(office.keys())
     counts.quotes = office.count_of_quotes()
     lost, counts.other_quotes = office.quotes_beside_frozen()
     if lost:
@@ -205,20 +227,28 @@ def differences(office: StoredOffice, wanted: Computed, printed: Optional[Printe
 # ---- words
 
 DESCRIPTION = """\
-Looks whether a copy of an office's file is a whole office: its bytes are those of its note
+Checks whether a copy of an office's file is a whole office: its bytes are those of its note
 COPY.sha256, cpi opens it, every table of every revision is what its frozen quotes give, with each
 carried price, and is printed so, and the C library of SQLite finds no fault (integrity_check,
-foreign_key_check). One line tells what was found and how much was looked at; each fault is a line
-on standard error. It looks at a copy of COPY, so COPY is never changed. A log beside COPY,
+foreign_key_check). One line says what was found and how much was checked; each fault is a line
+on standard error. The drill works on a copy of COPY, so COPY is never changed. A log next to COPY,
 COPY-wal, belongs to it. An office that is being served may be drilled too.
+
+After a kill most of an office can be in its log, and the file without the log is then a sound but
+older office, perhaps an empty one. So a warning on standard error names a COPY that has neither a
+note nor a log, and an office without a collector that has no note. With its note, an office
+without a collector is a right backup of an office before its survey.
 """
 
 EPILOG = """\
 example: cpi-tools drill backup/office.db
 
-exit status: 0 where nothing is wrong; 1 where something is, or COPY can't be looked at; 2 where
-the words are refused
+exit status: 0 if nothing is wrong; 1 if something is wrong, or COPY can't be read; 2 if the words
+are refused; 3 if nothing is wrong, but a warning says why COPY may lack a part of its office
 """
+
+WARNED = 3
+"""The exit status if nothing is wrong, and there is a warning."""
 
 
 def add_words(tools: argparse._SubParsersAction[ToolWords]) -> None:
@@ -236,7 +266,8 @@ def add_words(tools: argparse._SubParsersAction[ToolWords]) -> None:
 
 def told_line(path: Path, found: Drilled) -> str:
     """The one line on a drill."""
-    state = counted(len(found.faults), "fault") if found.faults else "nothing is wrong"
+    told = [counted(len(each), one) for each, one in ((found.faults, "fault"), (found.warnings, "warning")) if each]
+    state = " and ".join(told) or "nothing is wrong"
     of_note = f"copied {time_text(found.note.copied)}" if found.note else "no note of its SHA-256"
     looked = (
         f"{counted(found.tables, 'table')} with {counted(found.rows, 'row')} and"
@@ -244,6 +275,8 @@ def told_line(path: Path, found: Drilled) -> str:
     )
     if found.other_quotes:
         looked += f" ({found.other_quotes:,} of them not as frozen last)"
+    if found.collectors == 0:
+        looked += ", no collector"
     return f"{path}: {state}; {looked}; {of_note}"
 
 
@@ -255,5 +288,7 @@ def run(chosen: argparse.Namespace) -> int:
         print(f"cpi-tools drill: {chosen.copy}: {fault}", file=sys.stderr)
     if len(found.faults) > MOST_TOLD:
         print(f"cpi-tools drill: {chosen.copy}: and {len(found.faults) - MOST_TOLD:,} more", file=sys.stderr)
+    for warning in found.warnings:
+        print(f"cpi-tools drill: {chosen.copy}: warning: {warning}", file=sys.stderr)
     print(told_line(chosen.copy, found))
-    return 1 if found.faults else 0
+    return 1 if found.faults else WARNED if found.warnings else 0
