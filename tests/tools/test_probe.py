@@ -16,11 +16,17 @@ from typing import Any, Optional
 
 import pytest
 
-from cpi_tools import probe
+from cpi_tools import probe, probe_looks, probe_told
 from cpi_tools.command_line import parser
 from cpi_tools.backup import Note, note_beside, note_text
-from cpi_tools.probe import Answer, Backup, Files, Levels, Seen, Table, late_months
+from cpi_tools.certificates import Certificate
+from cpi_tools.levels import CRITICAL, OK, UNKNOWN, WARNING, Levels, levels, worst
+from cpi_tools.machine_clock import MachineClock
+from cpi_tools.probe_looks import Answer, Backup, Backups, Files, Table, late_months
+from cpi_tools.probe_told import Seen
 from cpi_tools.program import Cpi
+from cpi_tools.said import Line
+from cpi_tools.writes import Writes
 from cpi_tools.stored import Window
 from cpi_tools.terminal import Fault
 from conftest import ROOT
@@ -30,6 +36,7 @@ from offices import TABLES
 from test_ops import needed
 
 NOW = 1_800_000_000
+NOTHING_NAMED = "not checked: the file, writes, backups, the certificate, the clock"
 LIST = b'{"tables":[["2025-12",1,1000],["2026-01",1,1799990000],["2026-01",2,1799993600]]}\n'
 TABLES_OF_LIST = (Table(202512, 1, 1000), Table(202601, 1, 1_799_990_000), Table(202601, 2, 1_799_993_600))
 
@@ -89,7 +96,7 @@ def test_an_office_that_answers_is_well(capsys: pytest.CaptureFixture[str]) -> N
         status, out = ran(capsys, "--url", url)
     assert status == 0
     assert re.fullmatch(
-        r"CPI OK: last table 2026-01 revision 2 \| answer=\d+ms tables=3 latest_month=202601"
+        rf"CPI OK: last table 2026-01 revision 2; {NOTHING_NAMED} \| answer=\d+ms tables=3 latest_month=202601"
         r" latest_published_seconds=1799993600\n",
         out,
     )
@@ -97,7 +104,7 @@ def test_an_office_that_answers_is_well(capsys: pytest.CaptureFixture[str]) -> N
 
 def test_an_office_behind_a_path_is_asked_there(capsys: pytest.CaptureFixture[str]) -> None:
     with answering(b'{"tables":[]}', path="/api/tables") as url:
-        assert ran(capsys, "--url", f"{url}/api/")[1].startswith("CPI OK: no table yet | answer=")
+        assert ran(capsys, "--url", f"{url}/api/")[1].startswith(f"CPI OK: no table yet; {NOTHING_NAMED} | answer=")
         assert ran(capsys, "--url", url) == (2, f"CPI CRITICAL: {url} answers with status 404\n")
 
 
@@ -105,7 +112,7 @@ def test_a_front_is_trusted_by_its_authority_alone(capsys: pytest.CaptureFixture
     """A certificate that the system doesn't know, as an office has it that made its own."""
     own, other = certificate(tmp_path / "own.pem"), certificate(tmp_path / "other.pem")
     with answering(LIST, certificate=own) as url:
-        assert ran(capsys, "--url", url, "--authority", own)[1].startswith("CPI OK: last table 2026-01 revision 2 | ")
+        assert ran(capsys, "--url", url, "--authority", own)[1].startswith("CPI OK: last table 2026-01 revision 2; ")
         for words in ([], ["--authority", str(other)]):
             status, out = ran(capsys, "--url", url, *words)
             assert status == 2 and out.startswith(f"CPI CRITICAL: {url} doesn't answer: ") and "certificate" in out
@@ -154,13 +161,29 @@ def test_words_that_are_refused_are_unknown_to_nagios(words: list[str], message:
     assert message in ended.stderr
 
 
-def test_what_is_named_and_not_there_is_unknown(capsys: pytest.CaptureFixture[str], tmp_path: Path) -> None:
-    none, url = tmp_path / "none", f"http://127.0.0.1:{free_port()}"
-    assert ran(capsys, "--url", url, "--file", none) == (3, f"CPI UNKNOWN: {none}: No such file or directory\n")
-    assert ran(capsys, "--url", url, "--backups", none) == (3, f"CPI UNKNOWN: {none}: No such file or directory\n")
+@pytest.mark.parametrize(
+    ("words", "told"),
+    [
+        (["--file", "none", "--output", "said"], "none: No such file or directory"),
+        (["--output", "none"], "none: No such file or directory"),
+        (["--backups", "none"], "none: No such file or directory"),
+        (["--backups", "."], "x.db.sha256 isn't a note that cpi-tools wrote"),
+        (["--certificate", "none"], "none: No such file or directory"),
+        (["--certificate", "x.db.sha256"], "x.db.sha256 has no certificate that can be read"),
+    ],
+)
+def test_a_part_that_can_not_be_checked_is_unknown_and_hides_no_other(
+    words: list[str], told: str, capsys: pytest.CaptureFixture[str], tmp_path: Path, monkeypatch: pytest.MonkeyPatch
+) -> None:
+    """The office answers, or it doesn't: both are told."""
+    monkeypatch.chdir(tmp_path)
     (tmp_path / "x.db.sha256").write_text("text")
-    status, out = ran(capsys, "--url", url, "--backups", tmp_path)
-    assert (status, out) == (3, f"CPI UNKNOWN: {tmp_path}/x.db.sha256 isn't a note that cpi-tools wrote\n")
+    (tmp_path / "said").touch()
+    with answering(LIST) as url:
+        status, out = ran(capsys, "--url", url, *words)
+        assert status == 3 and re.match(rf"CPI UNKNOWN: {re.escape(told)} \| answer=\d+ms tables=3 ", out), out
+    status, out = ran(capsys, "--url", url, *words)
+    assert status == 2 and re.match(rf"CPI CRITICAL: {url} doesn't answer: [^;]+; {re.escape(told)}( \||$)", out), out
 
 
 @pytest.mark.skipif(os.geteuid() != 0, reason="another user is tried by root")
@@ -171,7 +194,7 @@ def test_backups_that_may_not_be_looked_at_are_unknown(tmp_path: Path) -> None:
     os.seteuid(65534)
     try:
         with pytest.raises(Fault, match="backups: Permission denied"):
-            probe.last_backup(folder)
+            probe_looks.last_backup(folder)
     finally:
         os.seteuid(0)
 
@@ -179,14 +202,26 @@ def test_backups_that_may_not_be_looked_at_are_unknown(tmp_path: Path) -> None:
 def test_the_last_backup_is_the_one_that_was_copied_last(tmp_path: Path) -> None:
     folder = tmp_path / "backups"
     folder.mkdir()
-    assert probe.last_backup(folder) is None
+    assert probe_looks.last_backup(folder) is None
     backup_of(folder, "b.db", NOW - 100)
     last = backup_of(folder, "a.db", NOW - 50, b"12345")
     for name in ("gone.db", "cut.db"):
         backup_of(folder, name, NOW)
     (folder / "gone.db").unlink()
     (folder / "cut.db").write_bytes(b"123")
-    assert probe.last_backup(folder) == Backup(last, NOW - 50, 5)
+    assert probe_looks.last_backup(folder) == Backup(last, NOW - 50, 5)
+
+
+def test_a_failed_drill_counts_while_it_is_newer_than_the_last_backup(tmp_path: Path) -> None:
+    folder = tmp_path / "backups"
+    last = backup_of(folder, "office-2027-01-14.db", NOW - 86_400)
+    for name, moment in (("office-2027-01-13.db.bad", NOW - 86_401), ("office-2027-01-15.db.bad", NOW - 3600)):
+        (folder / name).touch()
+        os.utime(folder / name, (moment, moment))
+    (folder / "office-2027-01-15.db.bad-note").touch()
+    assert probe_looks.backups_of(folder) == Backups(Backup(last, NOW - 86_400, 4), 1)
+    note_beside(last).unlink()
+    assert probe_looks.backups_of(folder) == Backups(None, 2)
 
 
 def window(month: int, publishes: int) -> Window:
@@ -201,11 +236,15 @@ def test_a_month_is_late_from_its_moment_on_until_it_has_a_table_of_that_moment(
     assert late_months([window(202601, NOW)], TABLES_OF_LIST, NOW - 1) == ()
 
 
+WELL = Backup(Path("backup/office.db"), NOW - 3600 * 25, 9 << 20)
+REFUSED = Line(NOW - 7200, "cpi: a request was refused by 90, opening the file again")
+
+
 def seen(**other: Any) -> Seen:
-    """What a probe sees where all is well."""
+    """What a probe sees if all is well."""
     well = Seen(
-        NOW, Answer(TABLES_OF_LIST, 12), "", Files(9 << 20, 4 << 20, 5 << 30), True,
-        Backup(Path("backup/office.db"), NOW - 3600 * 25, 9 << 20), (),
+        NOW, Answer(TABLES_OF_LIST, 12), "", Files(9 << 20, 4 << 20, 5 << 30), Backups(WELL, 0), (), Writes(None, True),
+        10_001, Certificate("cert.pem", NOW + 22 * 86_400), MachineClock(1000),
     )  # fmt: skip
     return well._replace(**other)
 
@@ -213,63 +252,130 @@ def seen(**other: Any) -> Seen:
 @pytest.mark.parametrize(
     ("other", "state", "told"),
     [
-        ({}, 0, ()),
-        ({"answer": Answer((), 1999)}, 0, ()),
-        ({"answer": Answer((), 2000)}, 1, ("it answered after 2000 ms",)),
-        ({"answer": Answer((), 10_000)}, 2, ("it answered after 10000 ms",)),
-        ({"answer": None, "fault": "x doesn't answer"}, 2, ("x doesn't answer",)),
-        ({"late": (window(202602, NOW),)}, 1, ("no table of 2026-02, to be published 2027-01-15 08:00 UTC",)),
-        ({"late": (window(202602, NOW - 86_400),)}, 2, ("no table of 2026-02, to be published 2027-01-14 08:00 UTC",)),
-        ({"files": Files(1, (64 << 20) - 1, 1 << 31)}, 0, ()),
-        ({"files": Files(1, 64 << 20, 1 << 31)}, 1, ("its log has 67,108,864 bytes",)),
-        ({"files": Files(1, 512 << 20, 1 << 31)}, 2, ("its log has 536,870,912 bytes",)),
-        ({"files": Files(1, 0, (1025 << 20))}, 0, ()),
-        ({"files": Files(1, 0, 1 << 30)}, 1, ("1,073,741,824 bytes are left on its disk",)),
-        ({"files": Files(1, 0, 256 << 20)}, 2, ("268,435,456 bytes are left on its disk",)),
-        ({"backup": None}, 2, ("there is no backup",)),
-        ({"backup": None, "is_backup_wanted": False}, 0, ()),
-        ({"backup": Backup(Path("x"), NOW - 26 * 3600, 1)}, 1, ("the last backup is 26 hours old",)),
-        ({"backup": Backup(Path("x"), NOW - 50 * 3600, 1)}, 2, ("the last backup is 50 hours old",)),
+        ({}, OK, ()),
+        ({"answer": Answer((), 1999)}, OK, ()),
+        ({"answer": Answer((), 2000)}, WARNING, ("it answered after 2000 ms",)),
+        ({"answer": Answer((), 10_000)}, CRITICAL, ("it answered after 10000 ms",)),
+        ({"answer": None, "fault": "x doesn't answer"}, CRITICAL, ("x doesn't answer",)),
+        ({"late": (window(202602, NOW),)}, WARNING, ("no table of 2026-02, to be published 2027-01-15 08:00 UTC",)),
         (
-            {"answer": Answer((), 2000), "backup": None},
-            2,
-            ("there is no backup", "it answered after 2000 ms"),
+            {"late": (window(202602, NOW - 86_400),)},
+            CRITICAL,
+            ("no table of 2026-02, to be published 2027-01-14 08:00 UTC",),
+        ),
+        ({"files": Files(1, (64 << 20) - 1, 1 << 31)}, OK, ()),
+        ({"files": Files(1, 64 << 20, 1 << 31)}, WARNING, ("its log has 67,108,864 bytes",)),
+        ({"files": Files(1, 512 << 20, 1 << 31)}, CRITICAL, ("its log has 536,870,912 bytes",)),
+        ({"files": Files(1, 0, (1025 << 20))}, OK, ()),
+        ({"files": Files(1, 0, 1 << 30)}, WARNING, ("1,073,741,824 bytes are left on its disk",)),
+        ({"files": Files(1, 0, 256 << 20)}, CRITICAL, ("268,435,456 bytes are left on its disk",)),
+        ({"backups": Backups(None, 0)}, CRITICAL, ("there is no backup",)),
+        ({"backups": None}, OK, ()),
+        (
+            {"backups": Backups(WELL._replace(copied=NOW - 26 * 3600), 0)},
+            WARNING,
+            ("the last backup is 26 hours old",),
+        ),
+        (
+            {"backups": Backups(WELL._replace(copied=NOW - 50 * 3600), 0)},
+            CRITICAL,
+            ("the last backup is 50 hours old",),
+        ),
+        ({"backups": Backups(WELL, 1)}, CRITICAL, ("after the last backup 1 drill failed (.db.bad)",)),
+        (
+            {"writes": Writes(REFUSED, False)},
+            CRITICAL,
+            (f'no write is known to have succeeded since "{REFUSED.text}" of 2027-01-15 06:00 UTC',),
+        ),
+        (
+            {"writes": Writes(REFUSED, True)},
+            WARNING,
+            (f'a write succeeded since, but cpi said "{REFUSED.text}" of 2027-01-15 06:00 UTC',),
+        ),
+        ({"writes": Writes(REFUSED._replace(moment=NOW - 24 * 3600), True)}, OK, ()),
+        ({"left": 10_000}, WARNING, ("no more than 10,000 connections are left of its limit",)),
+        ({"left": 1000}, CRITICAL, ("no more than 1,000 connections are left of its limit",)),
+        (
+            {"certificate": Certificate("cert.pem", NOW + 22 * 86_400 - 1)},
+            WARNING,
+            ("the certificate cert.pem ends 2027-02-06 07:59 UTC",),
+        ),
+        (
+            {"certificate": Certificate("cert.pem", NOW + 8 * 86_400 - 1)},
+            CRITICAL,
+            ("the certificate cert.pem ends 2027-01-23 07:59 UTC",),
+        ),
+        (
+            {"certificate": Certificate("cert.pem", NOW)},
+            CRITICAL,
+            ("the certificate cert.pem ended 2027-01-15 08:00 UTC",),
+        ),
+        ({"clock": MachineClock(15_999_999)}, OK, ()),
+        ({"clock": MachineClock(16_000_000)}, WARNING, ("this machine's clock isn't synchronized",)),
+        ({"unseen": ("x: Permission denied",)}, UNKNOWN, ("x: Permission denied",)),
+        (
+            {"unseen": ("x: Permission denied",), "left": 10_000, "backups": Backups(None, 0)},
+            CRITICAL,
+            (
+                "there is no backup",
+                "no more than 10,000 connections are left of its limit",
+                "x: Permission denied",
+            ),
         ),
     ],
 )
 def test_how_it_judges(other: dict[str, Any], state: int, told: tuple[str, ...]) -> None:
-    assert probe.judged(seen(**other), chosen()) == (state, told)
+    assert probe_told.judged(seen(**other), chosen()) == (state, told)
 
 
 def test_levels_are_chosen() -> None:
-    found = probe.judged(seen(answer=Answer((), 12)), chosen("--slow", "12,13", "--age", "25,25"))
+    found = probe_told.judged(seen(answer=Answer((), 12)), chosen("--slow", "12,13", "--age", "25,25"))
     assert found == (2, ("the last backup is 25 hours old", "it answered after 12 ms"))
-    assert probe.levels("26,50") == Levels(26, 50)
+    other = chosen("--days", "23,22", "--left", "10001,0", "--refused", "2")
+    words = (
+        "the certificate cert.pem ends 2027-02-06 08:00 UTC",
+        "no more than 10,001 connections are left of its limit",
+    )
+    assert probe_told.judged(seen(writes=Writes(REFUSED, True)), other) == (2, words)
+    assert levels("26,50") == Levels(26, 50)
+
+
+def test_a_part_that_can_not_be_checked_weighs_less_than_one_that_is_not_well() -> None:
+    states: list[list[int]] = [[], [0, 3], [3, 1], [1, 2, 3]]
+    assert [worst(each) for each in states] == [0, 3, 1, 2]
 
 
 def test_the_line_says_the_worst_first_and_the_figures() -> None:
     one = seen(late=(window(202602, NOW),))
-    assert probe.nagios_line(one, probe.judged(one, chosen())) == (
+    assert probe_told.nagios_line(one, probe_told.judged(one, chosen())) == (
         "CPI WARNING: no table of 2026-02, to be published 2027-01-15 08:00 UTC | answer=12ms tables=3"
         " latest_month=202601 latest_published_seconds=1799993600 late_tables=1 file_bytes=9437184 log_bytes=4194304"
         " free_bytes=5368709120 backup_copied_seconds=1799910000 backup_age_seconds=90000 backup_bytes=9437184"
+        " failed_drills=0 writes_succeed=1 connections_left=10001 certificate_end_timestamp_seconds=1801900800"
+        " certificate_left_seconds=1900800 clock_synchronized=1 clock_error_seconds=0.001000"
     )
-    none = seen(answer=None, fault="x doesn't answer", files=None, backup=None, is_backup_wanted=False, late=None)
-    assert probe.nagios_line(none, probe.judged(none, chosen())) == "CPI CRITICAL: x doesn't answer"
+    none = Seen(NOW, fault="x doesn't answer")
+    assert probe_told.nagios_line(none, probe_told.judged(none, chosen())) == "CPI CRITICAL: x doesn't answer"
 
 
 def test_figures_for_prometheus() -> None:
-    text = probe.prometheus_text(seen(), probe.judged(seen(), chosen()))
+    one = seen(writes=Writes(REFUSED, False))
+    text = probe_told.prometheus_text(one, probe_told.judged(one, chosen()))
     names = []
     for told, kind, value in zip(*[iter(text.splitlines())] * 3):
         name = re.fullmatch(r"# HELP (cpi_[a-z_]+) [^\n]+\.", told)
         assert name and kind == f"# TYPE {name[1]} gauge"
         assert re.fullmatch(rf"{name[1]} \d+(\.\d+)?", value)
         names.append(value)
-    assert names[:4] == ["cpi_up 1", "cpi_state 0", "cpi_answer_seconds 0.012", "cpi_tables 3"]
-    assert text.endswith("\n") and len(names) == 13
+    assert names[:4] == ["cpi_up 1", "cpi_state 2", "cpi_answer_seconds 0.012", "cpi_tables 3"]
+    assert names[13:] == [
+        "cpi_failed_drills 0", "cpi_writes_succeed 0", "cpi_failure_timestamp_seconds 1799992800",
+        "cpi_connections_left 10001", "cpi_certificate_end_timestamp_seconds 1801900800",
+        "cpi_certificate_left_seconds 1900800", "cpi_clock_synchronized 1", "cpi_clock_error_seconds 0.001000",
+    ]  # fmt: skip
+    assert text.endswith("\n")
     down = seen(answer=None, fault="x", late=None)
-    assert "\ncpi_up 0\n" in probe.prometheus_text(down, probe.judged(down, chosen()))
+    assert "\ncpi_up 0\n" in probe_told.prometheus_text(down, probe_told.judged(down, chosen()))
 
 
 def test_figures_for_prometheus_are_written_wherever_there_are_some(
@@ -278,7 +384,11 @@ def test_figures_for_prometheus_are_written_wherever_there_are_some(
     url = f"http://127.0.0.1:{free_port()}"
     status, out = ran(capsys, "--url", url, "--prometheus")
     assert status == 0 and "\ncpi_up 0\n" in f"\n{out}"
-    assert ran(capsys, "--url", url, "--prometheus", "--file", tmp_path / "none") == (3, "")
+    (tmp_path / "said").touch()
+    status = probe.run(chosen("--url", url, "--prometheus", "--file", tmp_path / "none", "--output", tmp_path / "said"))
+    told = capsys.readouterr()
+    assert (status, told.err) == (0, f"cpi-tools probe: {tmp_path}/none: No such file or directory\n")
+    assert "\ncpi_state 2\n" in told.out and "\ncpi_writes_succeed 1\n" in told.out
 
 
 @pytest.mark.parametrize("by", ["backup", "file"])
@@ -291,6 +401,8 @@ def test_a_served_office_with_its_backup(
     if by == "backup":
         backup_of(tmp_path / "backups", "office.db", NOW - 3600, office.read_bytes())
         words = ["--backups", tmp_path / "backups"]
+    (tmp_path / "said").touch()
+    words += ["--output", tmp_path / "said"]
     before = sorted(os.listdir(tmp_path))
     with served(cpi, office, port):
         status, out = ran(capsys, "--url", f"http://127.0.0.1:{port}", "--file", office, *words, "--slow", "9999,99999")
@@ -301,5 +413,5 @@ def test_a_served_office_with_its_backup(
 def test_a_calendar_that_can_not_be_read_is_told(tmp_path: Path) -> None:
     path = backup_of(tmp_path, "office.db", NOW)
     with pytest.raises(Fault, match=f"the calendar of {path} can't be read: "):
-        probe.calendar_of(Backup(path, NOW, 4), None)
-    assert probe.calendar_of(None, None) is None
+        probe_looks.calendar_of(Backup(path, NOW, 4), None)
+    assert probe_looks.calendar_of(None, None) is None

@@ -1,0 +1,201 @@
+"""What a probe saw, how that is judged, and how it is told: a line for Nagios, or figures for Prometheus."""
+
+from __future__ import annotations
+
+import argparse
+from collections.abc import Iterator
+from typing import NamedTuple, Optional
+
+from . import writes
+from .certificates import Certificate
+from .levels import CRITICAL, OK, STATES, UNKNOWN, WARNING, Judgement, state_of, state_of_rest, worst
+from .machine_clock import MachineClock
+from .probe_looks import Answer, Backups, Files, Table
+from .stored import Window
+from .terminal import counted, month_text, time_text
+from .writes import Writes
+
+HOUR, DAY = 3600, 86_400
+
+
+class Seen(NamedTuple):
+    """What a probe saw; None of what it wasn't to look at, or couldn't. `fault` is why there is no answer, `unseen` has
+    a line for each part that couldn't be looked at, and `unnamed` the parts that it wasn't to look at."""
+
+    now: int
+    answer: Optional[Answer] = None
+    fault: str = ""
+    files: Optional[Files] = None
+    backups: Optional[Backups] = None
+    late: Optional[tuple[Window, ...]] = None
+    writes: Optional[Writes] = None
+    left: Optional[int] = None
+    certificate: Optional[Certificate] = None
+    clock: Optional[MachineClock] = None
+    unseen: tuple[str, ...] = ()
+    unnamed: tuple[str, ...] = ()
+
+
+class Judged(NamedTuple):
+    """The worst state, and what is to be said of it."""
+
+    state: int
+    told: tuple[str, ...]
+
+
+# ---- judging
+
+
+def judged(seen: Seen, chosen: argparse.Namespace) -> Judged:
+    """The state of an office: the worst of its parts, by the levels that were chosen; all that aren't well are told."""
+    parts = (_of_answer, _of_files, _of_backups, _of_writes, _of_machine, _of_unseen)
+    found = [each for part in parts for each in part(seen, chosen) if each[0] != OK]
+    ordered = [told for weight in (CRITICAL, WARNING, UNKNOWN) for state, told in found if state == weight]
+    return Judged(worst(state for state, _ in found), tuple(ordered))
+
+
+def _of_answer(seen: Seen, chosen: argparse.Namespace) -> Iterator[Judgement]:
+    if seen.fault:
+        yield CRITICAL, seen.fault
+    if seen.answer:
+        yield state_of(seen.answer.milliseconds, chosen.slow), f"it answered after {seen.answer.milliseconds} ms"
+    for row in seen.late or ():
+        hours = (seen.now - row.publishes) // HOUR
+        told = f"no table of {month_text(row.month)}, to be published {time_text(row.publishes)}"
+        yield state_of(hours, chosen.late), told
+
+
+def _of_files(seen: Seen, chosen: argparse.Namespace) -> Iterator[Judgement]:
+    if seen.files:
+        yield state_of(seen.files.log >> 20, chosen.log), f"its log has {seen.files.log:,} bytes"
+        yield state_of_rest(seen.files.free >> 20, chosen.free), f"{seen.files.free:,} bytes are left on its disk"
+
+
+def _of_backups(seen: Seen, chosen: argparse.Namespace) -> Iterator[Judgement]:
+    if not seen.backups:
+        return
+    last, failed = seen.backups
+    if last:
+        hours = (seen.now - last.copied) // HOUR
+        yield state_of(hours, chosen.age), f"the last backup is {counted(hours, 'hour')} old"
+    else:
+        yield CRITICAL, "there is no backup"
+    if failed:
+        yield CRITICAL, f"after the last backup {counted(failed, 'drill')} failed (.db.bad)"
+
+
+def _of_writes(seen: Seen, chosen: argparse.Namespace) -> Iterator[Judgement]:
+    if seen.writes:
+        yield writes.judged(seen.writes, seen.now, chosen.refused)
+    if seen.left is not None:
+        yield state_of_rest(seen.left, chosen.left), f"no more than {seen.left:,} connections are left of its limit"
+
+
+def _of_machine(seen: Seen, chosen: argparse.Namespace) -> Iterator[Judgement]:
+    if seen.certificate:
+        days = (seen.certificate.ends - seen.now) // DAY
+        is_over = seen.certificate.ends <= seen.now
+        told = f"the certificate {seen.certificate.place} {'ended' if is_over else 'ends'}"
+        state = CRITICAL if is_over else state_of_rest(days, chosen.days)
+        yield state, f"{told} {time_text(seen.certificate.ends)}"
+    if seen.clock and not seen.clock.is_synchronized:
+        yield WARNING, "this machine's clock isn't synchronized"
+
+
+def _of_unseen(seen: Seen, _: argparse.Namespace) -> Iterator[Judgement]:
+    yield from ((UNKNOWN, told) for told in seen.unseen)
+
+
+# ---- telling
+
+
+def nagios_line(seen: Seen, found: Judged) -> str:
+    """The one line for Nagios: the state, what it is for, and the figures after a bar."""
+    told = "; ".join(found.told) or "; ".join(_good_words(seen))
+    figures = " ".join(f"{name}={value}" for name, value, _ in figures_of(seen, "ms"))
+    return f"CPI {STATES[found.state]}: {told}" + (f" | {figures}" if figures else "")
+
+
+def _good_words(seen: Seen) -> Iterator[str]:
+    """What is to be said if all is well; what wasn't looked at may not be."""
+    latest = _latest(seen.answer)
+    yield f"last table {month_text(latest.month)} revision {latest.revision}" if latest else "no table yet"
+    if seen.backups and seen.backups.last:
+        yield f"backup of {time_text(seen.backups.last.copied)}"
+    if seen.unnamed:
+        yield f"not checked: {', '.join(seen.unnamed)}"
+
+
+def _latest(answer: Optional[Answer]) -> Optional[Table]:
+    """The table that was published last; None if there is none."""
+    if not answer or not answer.tables:
+        return None
+    return max(answer.tables, key=lambda each: (each.publishes, each.month, each.revision))
+
+
+Figure = tuple[str, str, str]
+"""A name, a value, and a help."""
+
+
+def figures_of(seen: Seen, unit: str) -> Iterator[Figure]:
+    """The figures; the time of the answer in milliseconds (`ms`), or in seconds."""
+    if seen.answer:
+        value = seen.answer.milliseconds
+        told = f"{value}ms" if unit == "ms" else f"{value // 1000}.{value % 1000:03}"
+        yield "answer_seconds" if unit != "ms" else "answer", told, "How long the list of tables took."
+        yield "tables", str(len(seen.answer.tables)), "Published tables, each revision counted."
+        if latest := _latest(seen.answer):
+            yield "latest_month", str(latest.month), "Month of the table that was published last, year * 100 + month."
+            yield "latest_published_seconds", str(latest.publishes), "When it was published, seconds since 1970."
+    if seen.late is not None:
+        yield "late_tables", str(len(seen.late)), "Months of the calendar whose table should be published, and isn't."
+    yield from _figures_of_files(seen)
+    yield from _figures_of_the_rest(seen)
+
+
+def _figures_of_files(seen: Seen) -> Iterator[Figure]:
+    if seen.files:
+        yield "file_bytes", str(seen.files.file), "Size of the office's file."
+        yield "log_bytes", str(seen.files.log), "Size of its log."
+        yield "free_bytes", str(seen.files.free), "Room that is left on its file system."
+    if seen.backups and (last := seen.backups.last):
+        yield "backup_copied_seconds", str(last.copied), "When the last backup was copied, seconds since 1970."
+        yield "backup_age_seconds", str(max(0, seen.now - last.copied)), "Age of the last backup."
+        yield "backup_bytes", str(last.size), "Size of the last backup."
+    if seen.backups:
+        yield "failed_drills", str(seen.backups.failed_drills), "Drills that failed after the last backup."
+
+
+def _figures_of_the_rest(seen: Seen) -> Iterator[Figure]:
+    if seen.writes:
+        yield "writes_succeed", str(
+            int(seen.writes.has_succeeded)
+        ), "Whether no request failed since the last write succeeded."
+        if seen.writes.failure:
+            moment = str(int(seen.writes.failure.moment))
+            yield "failure_timestamp_seconds", moment, "When the disk or memory last failed, seconds since 1970."
+    if seen.left is not None:
+        yield "connections_left", str(seen.left), "Connections that were left of the limit when cpi said so last."
+    if seen.certificate:
+        left = str(max(0, seen.certificate.ends - seen.now))
+        yield "certificate_end_timestamp_seconds", str(seen.certificate.ends), "When it ends, seconds since 1970."
+        yield "certificate_left_seconds", left, "Time until the front's certificate ends."
+    if seen.clock:
+        error = f"{seen.clock.error // 1_000_000}.{seen.clock.error % 1_000_000:06}"
+        yield "clock_synchronized", str(
+            int(seen.clock.is_synchronized)
+        ), "Whether this machine's clock is synchronized."
+        yield "clock_error_seconds", error, "How far this machine's clock may be off, as the kernel says."
+
+
+def prometheus_text(seen: Seen, found: Judged) -> str:
+    """The figures as Prometheus reads them: all are gauges, and `cpi_up` is 1 if the office answered."""
+    figures = [
+        ("up", str(int(seen.answer is not None)), "Whether the office answered."),
+        ("state", str(found.state), "0 well, 1 warning, 2 critical, 3 unknown, by the levels of the probe."),
+        *figures_of(seen, "seconds"),
+    ]
+    lines = [
+        f"# HELP cpi_{name} {told}\n# TYPE cpi_{name} gauge\ncpi_{name} {value}\n" for name, value, told in figures
+    ]
+    return "".join(lines)

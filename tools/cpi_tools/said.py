@@ -1,0 +1,109 @@
+"""What `cpi serve` said: its lines in the journal of a unit, or in a file that its output was sent to."""
+
+from __future__ import annotations
+
+import json
+import os
+import re
+import shutil
+import subprocess
+from collections.abc import Sequence
+from pathlib import Path
+from typing import NamedTuple, Optional, Protocol
+
+from .terminal import Fault, because_of, naming
+
+MOST_BYTES = 1 << 20
+"""Bytes at the end of a file that are read: more than 10,000 lines of `cpi serve`."""
+
+SECONDS = 60
+"""How long the journal may take."""
+
+
+class Line(NamedTuple):
+    """A line that the program wrote, and when (seconds since 1970 UTC). A file has no time of its lines: `moment` is
+    then the time of the file's last line, so the line is of that moment or of an earlier one."""
+
+    moment: float
+    text: str
+
+
+class Said(Protocol):
+    """Something that has the lines of the program."""
+
+    def last(self, pattern: str) -> Optional[Line]:
+        """The last line that matches a pattern (which has no capital letter); None if there is none. Raises Fault if
+        the lines can't be read."""
+
+
+class Journal:
+    """The lines of a unit of systemd."""
+
+    def __init__(self, unit: str):
+        self.unit = unit
+
+    def last(self, pattern: str) -> Optional[Line]:
+        """The last line of the unit that matches."""
+        if found := self._entry("--grep", pattern):
+            return found
+        if not self._entry() and not self._is_loaded():
+            raise Fault(f"the journal has no line of {self.unit}, and systemd doesn't know this unit")
+        return None
+
+    def _entry(self, *chosen: str) -> Optional[Line]:
+        """The last entry of the unit that some words choose."""
+        words = ["journalctl", "--no-pager", "--output=json", f"--unit={self.unit}", "--lines=1", *chosen]
+        ran = _ran(words)
+        if not ran.stdout.strip():
+            if ran.stderr.strip():
+                raise Fault(f"the journal of {self.unit} can't be read: {ran.stderr.strip().splitlines()[0]}")
+            return None
+        try:
+            entry = json.loads(ran.stdout.splitlines()[-1])
+            return Line(int(entry["__REALTIME_TIMESTAMP"]) / 1_000_000, str(entry.get("MESSAGE")))
+        except (ValueError, LookupError, TypeError) as fault:
+            raise Fault(f"journalctl writes entries of {self.unit} in another form than JSON") from fault
+
+    def _is_loaded(self) -> bool:
+        """Whether systemd knows the unit: its journal may have lost the lines of an office that started long ago."""
+        return _ran(["systemctl", "show", "--property=LoadState", "--value", self.unit]).stdout.strip() == "loaded"
+
+
+def _ran(words: Sequence[str]) -> subprocess.CompletedProcess[str]:
+    """Runs a program of systemd. Raises Fault if there is none, or it doesn't end."""
+    if not shutil.which(words[0]):
+        raise Fault(f"there is no {words[0]} on this machine")
+    try:
+        return subprocess.run(
+            words,
+            env={**os.environ, "LC_ALL": "C.UTF-8"},
+            stdin=subprocess.DEVNULL,
+            capture_output=True,
+            text=True,
+            errors="replace",
+            timeout=SECONDS,
+            check=False,
+        )
+    except subprocess.TimeoutExpired as fault:
+        raise Fault(f"{words[0]} didn't end within {SECONDS} seconds") from fault
+    except OSError as fault:
+        raise Fault(f"{words[0]} couldn't be started: {because_of(fault)}") from fault
+
+
+class OutputFile:
+    """The lines in a file that the program's output was sent to."""
+
+    def __init__(self, path: Path):
+        self.path = path
+
+    def last(self, pattern: str) -> Optional[Line]:
+        """The last line that matches, among the last `MOST_BYTES` of the file."""
+        try:
+            with naming(self.path), self.path.open("rb") as file:
+                file.seek(max(0, os.fstat(file.fileno()).st_size - MOST_BYTES))
+                text = file.read(MOST_BYTES).decode(errors="replace")
+                written = os.fstat(file.fileno()).st_mtime
+        except OSError as fault:
+            raise Fault(because_of(fault)) from fault
+        found = [line for line in text.splitlines() if re.search(pattern, line)]
+        return Line(written, found[-1]) if found else None
