@@ -135,7 +135,8 @@ def test_the_program_that_holds_it_is_named(cpi: Cpi, office: Path, quick: None)
         for file in (office, other):
             assert not opens(cpi, file)
             assert told(cpi, file) == (
-                f"cpi, process {session.process}, holds it. Leave it to that program, ask it over HTTP, or stop it first."
+                f"cpi, process {session.process}, holds it."
+                " Leave it to that program, ask it over HTTP, or stop it first."
             )
         assert "tables" in session.ask("0,public,tables")
     assert not is_held(office) and opens(cpi, office)
@@ -234,7 +235,7 @@ DENIED = {
     ),
     "making a log": ((0o755, 0, 0o666, 0, None), "make the log in {folder}, which belongs to root and has mode 0755"),
 }
-"""By what is denied: mode and owner of folder and file, the owner of a log of mode 0600 if there is one; and the words."""
+"""By what is denied: mode and owner of folder and file, the owner of a log of mode 0600 if there is one; the words."""
 
 
 @as_root

@@ -1,5 +1,5 @@
-"""What `cpi serve` said, and whether its last write succeeded: `cpi-tools probe` beside the program under a file limit, and
-beside journals that stand-ins of systemd's programs have."""
+"""What `cpi serve` said, and whether its last write succeeded: `cpi-tools probe` next to the program under a file
+limit, and with journals that stand-ins of systemd's programs have."""
 
 from __future__ import annotations
 
@@ -120,8 +120,8 @@ def test_an_office_that_refuses_every_write_is_critical_although_it_answers(
 def test_a_later_write_that_succeeds_makes_it_a_warning(
     cpi: Cpi, office: Path, capsys: pytest.CaptureFixture[str]
 ) -> None:
-    """The log has room for some writes, and is emptied as the file is closed: refused writes follow writes that succeed.
-    A kill and a start are no write."""
+    """The log has room for some writes, and is emptied as the file is closed: refused writes follow writes that
+    succeed. A kill and a start are no write."""
     narrow = Narrow(cpi, office, office.stat().st_size + 100_000)
     with narrow.served():
         assert narrow.send()
@@ -279,12 +279,16 @@ def test_a_journal_that_has_nothing_of_an_unknown_unit_is_none(machine: Machine)
         Journal("x.service").last("^cpi: ")
     machine.journal(LISTENING)
     assert Journal("x.service").last("^cpi: nothing") is None
+    script(machine.folder / "journalctl", "echo Journal file x.journal is truncated, ignoring file. >&2; exit 1\n")
+    machine.knows("loaded")
+    assert Journal("x.service").last("^cpi: nothing") is None
 
 
 @pytest.mark.parametrize(
     ("text", "told"),
     [
         ("echo No journal files were opened due to insufficient permissions. >&2; exit 1", "insufficient permissions"),
+        ("echo Hint: You are currently not seeing messages from the system. >&2", "can't be read: Hint: You are "),
         ("echo text", "in another form than JSON"),
         ("echo '{}'", "in another form than JSON"),
         ("sleep 9", "journalctl didn't end within 1 seconds"),
@@ -309,8 +313,8 @@ def test_an_office_without_a_journal_and_without_its_output_is_unknown(
     with narrow.served():
         assert main(["probe", *words]) == 3
         assert capsys.readouterr().out.startswith(
-            "CPI UNKNOWN: whether writes succeed can't be known: the journal has no line of cpi.service, and systemd doesn't"
-            " know this unit (--unit or --output names another place) | "
+            "CPI UNKNOWN: whether writes succeed can't be known: the journal has no line of cpi.service, and systemd"
+            " doesn't know this unit (--unit or --output names another place) | "
         )
         machine.journal(LISTENING)
         assert main(["probe", *words]) == 0

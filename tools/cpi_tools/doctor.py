@@ -166,8 +166,8 @@ def _denied(path: Path, what: str, user: User) -> tuple[str, str]:
 
 def opener_of(path: Path, named: Optional[str]) -> User:
     """The user that is to open a file: the one that was named, or the one that runs this program. For root, who may
-    open everything, it is the owner of the folder, as of the folder of a service. Raises Fault if there is no such user,
-    or this one can't take its rights."""
+    open everything, it is the owner of the folder, as of the folder of a service. Raises Fault if there is no such
+    user, or this one can't take its rights."""
     if named is None:
         folder = path.absolute().parent
         return user_of(folder.stat().st_uid) if os.geteuid() == 0 and folder.is_dir() else this_user()

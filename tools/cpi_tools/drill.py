@@ -230,8 +230,8 @@ DESCRIPTION = """\
 Checks whether a copy of an office's file is a whole office: its bytes are those of its note
 COPY.sha256, cpi opens it, every table of every revision is what its frozen quotes give, with each
 carried price, and is printed so, and the C library of SQLite finds no fault (integrity_check,
-foreign_key_check). One line says what was found and how much was checked; each fault is a line
-on standard error. The drill works on a copy of COPY, so COPY is never changed. A log next to COPY,
+foreign_key_check). One line gives the result and how much was checked; each fault is a line on
+standard error. The drill works on a copy of COPY, so COPY is never changed. A log next to COPY,
 COPY-wal, belongs to it. An office that is being served may be drilled too.
 
 After a kill most of an office can be in its log, and the file without the log is then a sound but

@@ -121,10 +121,11 @@ def unnamed(chosen: argparse.Namespace) -> tuple[str, ...]:
 # ---- words
 
 DESCRIPTION = """\
-Asks an office for its published tables, as everybody may, and checks what is named to it. It bears
-no key. Each probe is one of the connections after which `cpi serve` ends. A part that can't be
-checked is named and hides no other: the status is that of the worst part, and a part that can't be
-checked counts less than a warning. If all is well, the line lists the parts that weren't named.
+Asks an office for its published tables, as everybody may, and checks the parts that the words
+name. It bears no key. Each probe is one of the connections after which `cpi serve` ends. A part
+that can't be checked is named and hides no other: the status is that of the worst part, and a part
+that can't be checked counts less than a warning. If all is well, the line lists the parts that
+weren't named.
 
 Late tables: each month of the calendar whose moment has come has to have a table. The calendar is
 that of the last backup, or else of a copy of FILE.
@@ -183,14 +184,16 @@ def add_words(tools: argparse._SubParsersAction[ToolWords]) -> None:
     )
     add = words.add_argument
     add("--url", type=address, default="http://127.0.0.1:8080", help="where the office is (%(default)s)")
-    add("--authority", type=Path, metavar="FILE", help="certificates to trust beside the system's")
+    add("--authority", type=Path, metavar="FILE", help="certificates to trust besides the system's")
     add("--timeout", type=at_least(1), default=20, metavar="SECONDS", help="how long to wait (%(default)s)")
     add(
         "--file", type=Path, metavar="FILE", help="the office's file: writes, its size, its log's, the room on its disk"
     )
     from_where = words.add_mutually_exclusive_group()
     from_where.add_argument("--unit", metavar="UNIT", help=f"the unit that serves the office (with --file {UNIT})")
-    from_where.add_argument("--output", type=Path, metavar="FILE", help="where all output of cpi serve is appended to")
+    from_where.add_argument(
+        "--output", type=Path, metavar="FILE", help="the file that all output of cpi serve is appended to"
+    )
     add("--backups", type=Path, metavar="FOLDER", help="where backups are: the age of the last, and failed drills")
     add("--certificate", type=place, metavar="FILE|HOST:PORT", help="the front's certificate: its end")
     add("--clock", action="store_true", help="whether this machine's clock is synchronized (a warning if not)")

@@ -16,6 +16,9 @@ from .terminal import Fault, because_of, naming
 MOST_BYTES = 1 << 20
 """Bytes at the end of a file that are read: more than 10,000 lines of `cpi serve`."""
 
+HARMLESS = ("Journal file ", "-- ")
+"""How the lines of journalctl begin that tell of one old file of the journal, or that there is no entry."""
+
 SECONDS = 60
 """How long the journal may take."""
 
@@ -55,8 +58,8 @@ class Journal:
         words = ["journalctl", "--no-pager", "--output=json", f"--unit={self.unit}", "--lines=1", *chosen]
         ran = _ran(words)
         if not ran.stdout.strip():
-            if ran.stderr.strip():
-                raise Fault(f"the journal of {self.unit} can't be read: {ran.stderr.strip().splitlines()[0]}")
+            if told := [line for line in ran.stderr.splitlines() if line.strip() and not line.startswith(HARMLESS)]:
+                raise Fault(f"the journal of {self.unit} can't be read: {told[0]}")
             return None
         try:
             entry = json.loads(ran.stdout.splitlines()[-1])
