@@ -163,6 +163,20 @@ def test_an_open_changes_neither_file_nor_log(cpi: Cpi, office: Path) -> None:
     assert (last_commit(office), office.stat().st_mtime) == (1000, 1000)
 
 
+def test_a_log_in_which_nothing_was_committed_holds_no_commit(cpi: Cpi, office: Path) -> None:
+    """Of the log of a killed program the byte is put back that a commit writes last: then the program has nothing of it
+    either."""
+    with contextlib.suppress(KeyError), cpi.session(office) as session:
+        assert session.ask(f"50,{LOAD_KEY},quote,1,{LOAD_MONTH},price,1000") == {"receipt": 1}
+        raise KeyError
+    assert last_commit(office) > 0
+    with log_beside(office).open("r+b") as log:
+        log.seek(32 + 8)
+        log.write(b"\0")
+    assert last_commit(office) == 0
+    assert cpi.replay([f"50,{LOAD_KEY},quote,2,{LOAD_MONTH},price,1000"], db=office) == [{"receipt": 1}]
+
+
 def test_a_log_that_was_put_into_the_file_long_after_a_failure_held_writes_that_succeeded(tmp_path: Path) -> None:
     """The program ends by itself some while after the failure, and leaves no commit in its log."""
     office, said = tmp_path / "office.db", tmp_path / "said"
@@ -178,7 +192,7 @@ def test_a_log_that_was_put_into_the_file_long_after_a_failure_held_writes_that_
         writes_of(None, OutputFile(said))
 
 
-@pytest.mark.parametrize("line", [REFUSED, REFUSED.replace("a request was refused by 90", "out of memory")])
+@pytest.mark.parametrize("line", [REFUSED, "cpi: out of memory, opening the file again", "cpi: database failed"])
 @pytest.mark.parametrize("more", [[], [SERVED], [SERVED, LISTENING]])
 def test_a_failure_counts_whatever_is_said_after_it(line: str, more: list[str], tmp_path: Path) -> None:
     said = tmp_path / "said"
