@@ -123,6 +123,18 @@ def test_what_is_not_there_or_is_no_file(cpi: Cpi, tmp_path: Path, quick: None) 
     assert opens(cpi, tmp_path / "office.db")
 
 
+def test_a_log_that_lost_its_file_is_named(cpi: Cpi, tmp_path: Path, quick: None) -> None:
+    """The program makes an empty office of that name, and nothing is left of the log."""
+    office = tmp_path / "office.db"
+    with contextlib.suppress(KeyError), cpi.session(office) as session:
+        assert session.ask("0,desk,outlet,1,Kiosk") == {"done": True}
+        raise KeyError
+    office.unlink()
+    said = told(cpi, office)
+    assert said.startswith("there is no such file, but its log office.db-wal is there: cpi would make an empty office ")
+    assert opens(cpi, office) and log_beside(office).stat().st_size == 41
+
+
 # ---- who holds it
 
 
@@ -260,6 +272,19 @@ def test_what_a_user_may_not_do_is_named(what: str, cpi: Cpi, made: Path, open_f
     assert doctor_of_nobody(cpi, file).startswith(f"{file}: {begin}")
     if folder_owner == NOBODY:
         assert told(cpi, file).startswith(begin)
+
+
+@as_root
+def test_a_file_that_even_root_may_not_write_is_named(cpi: Cpi, office: Path, quick: None) -> None:
+    if subprocess.run([needed("chattr"), "+i", str(office)], capture_output=True, check=False).returncode:
+        pytest.skip("this file system has no such attribute")
+    try:
+        assert not opens(cpi, office)
+        assert f"root may not write {office}, which belongs to root and has mode 0644. Its mode isn't what" in told(
+            cpi, office
+        )
+    finally:
+        subprocess.run(["chattr", "-i", str(office)], check=True)
 
 
 @as_root

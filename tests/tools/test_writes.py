@@ -24,7 +24,7 @@ from cpi_tools.program import Cpi
 from cpi_tools.said import Journal, Line, OutputFile
 from cpi_tools.terminal import Fault
 from cpi_tools.writes import Writes, last_commit, writes_of
-from lib.served import free_port, heard, message, peer_of, words_of
+from lib.served import SECONDS, free_port, heard, message, peer_of, words_of
 from loads import DESK_KEY, price_of, slot_of
 from offices import LOAD_KEY, LOAD_MONTH
 from test_ops import script
@@ -91,6 +91,7 @@ class Narrow:
         now = time.time()
         if not self.is_silent:
             while self.refusals() == before:
+                assert time.time() < now + SECONDS, self.output.read_text()
                 time.sleep(0.01)
             return
         with self.output.open("a") as output:

@@ -112,6 +112,12 @@ def _missing(path: Path) -> Cause:
     if not path.parent.exists():
         folder = next(each for each in reversed(path.absolute().parents) if not each.exists())
         return Cause(f"there is no folder {folder}", "Make the folder, or mend the name")
+    if has_frames(path):
+        return Cause(
+            f"there is no such file, but its log {log_beside(path).name} is there: cpi would make an empty office and"
+            " empty the log",
+            "Put the log aside before cpi starts, and find out where the file went",
+        )
     return Cause(
         "there is no such file, and cpi would make an empty office of that name", "Check the name before you start cpi"
     )
@@ -146,16 +152,19 @@ def of_access(path: Path, user: User) -> Iterator[Cause]:
     yield from (Cause(*_denied(each, what, user)) for each, what in found[:1])
 
 
+NEEDS = {"read": 0o400, "write": 0o200, "make the log in": 0o200, "enter": 0o100}
+"""What the owner's part of a mode has if the owner may do something."""
+
+
 def _denied(path: Path, what: str, user: User) -> tuple[str, str]:
     """What a user may not do, why, and how that is mended."""
     owner, mode = owner_and_mode(path)
     folder, _ = owner_and_mode(path.parent)
     because = f"{user.name} may not {what} {path}, which belongs to {owner.name} and has mode {mode}"
-    if owner.number == user.number or user.number == 0:
-        return (
-            because,
-            f"Let its owner read and write it: chmod u+rwX {path}, or look for what else forbids it (lsattr)",
-        )
+    if user.number == 0 or owner.number == user.number and int(mode, 8) & NEEDS[what]:
+        return because, f"Its mode isn't what forbids it: look at lsattr -d {path}, and for a security module"
+    if owner.number == user.number:
+        return because, f"Let its owner do it: chmod u+rwX {path}"
     if folder.number == user.number:
         return (
             f"{because}, while its folder belongs to {folder.name}",
