@@ -290,14 +290,14 @@ def test_a_file_that_even_root_may_not_write_is_named(cpi: Cpi, office: Path, qu
 @as_root
 def test_what_is_said_to_do_makes_it_open(cpi: Cpi, made: Path, open_folder: Path) -> None:
     """A file that root made in the folder of a service."""
-    folder = open_folder / "office"
+    folder = open_folder / "the office"
     folder.mkdir(mode=0o700)
     os.chown(folder, NOBODY, NOBODY)
     file = Path(shutil.copy(made, folder / "office.db"))
     file.chmod(0o600)
-    do = told(cpi, file).rpartition("Give it to nobody: ")[2].rstrip(".")
-    assert do == f"chown nobody: {file}"
-    subprocess.run(do.split(), check=True)
+    do = told(cpi, file).rpartition("Give it to nobody: ")[2]
+    assert do == f"`chown nobody: '{file}'`."
+    subprocess.run(do.strip("`."), shell=True, check=True)
     assert run(cpi, "doctor", file).status == 0 and doctor_of_nobody(cpi, file) == f"{file}: nothing is wrong\n"
     assert open_by_nobody(cpi, file)
 
@@ -369,7 +369,7 @@ def test_what_is_no_file_of_sqlite_is_named(cpi: Cpi, office: Path, tmp_path: Pa
     """Of a large file the beginning is enough."""
     contents = {
         "a text file": "Preis,Größe\n".encode() * 1000,
-        "a file that gzip packed": gzip.compress(office.read_bytes()),
+        "a gzip file": gzip.compress(office.read_bytes()),
         "a file of another program": os.urandom(9) + bytes(9000),
     }
     for what, content in contents.items():

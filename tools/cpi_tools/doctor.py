@@ -16,6 +16,7 @@ import sqlite3
 import stat
 from collections.abc import Generator, Iterator
 from pathlib import Path
+from shlex import quote
 from typing import NamedTuple, Optional
 
 from .access import User, acting_as, may, owner_and_mode, this_user, user_of
@@ -32,8 +33,8 @@ MAGIC = b"SQLite format 3\0"
 """The first bytes of each file of SQLite."""
 
 OTHERS = (
-    (b"\x1f\x8b", "a file that gzip packed"),
-    (b"\xfd7zXZ", "a file that xz packed"),
+    (b"\x1f\x8b", "a gzip file"),
+    (b"\xfd7zXZ", "an xz file"),
     (b"PK\x03\x04", "a zip file"),
 )
 """What a file may be instead, by its first bytes."""
@@ -102,7 +103,7 @@ def of_place(path: Path) -> Iterator[Cause]:
             if each.exists() and (names := each.stat().st_nlink) > 1:
                 yield Cause(
                     f"{each} has {names} names (hard links), and cpi opens no such file",
-                    f"Remove the others (find -samefile {each}), or copy it to a name of its own",
+                    f"Remove the others (`find -samefile {quote(str(each))}`), or copy it to a name of its own",
                 )
 
 
@@ -160,17 +161,18 @@ def _denied(path: Path, what: str, user: User) -> tuple[str, str]:
     """What a user may not do, why, and how that is mended."""
     owner, mode = owner_and_mode(path)
     folder, _ = owner_and_mode(path.parent)
+    word = quote(str(path))
     because = f"{user.name} may not {what} {path}, which belongs to {owner.name} and has mode {mode}"
     if user.number == 0 or owner.number == user.number and int(mode, 8) & NEEDS[what]:
-        return because, f"Its mode isn't what forbids it: look at lsattr -d {path}, and for a security module"
+        return because, f"Its mode isn't what forbids it: look at `lsattr -d {word}`, and for a security module"
     if owner.number == user.number:
-        return because, f"Let its owner do it: chmod u+rwX {path}"
+        return because, f"Let its owner do it: `chmod u+rwX {word}`"
     if folder.number == user.number:
         return (
             f"{because}, while its folder belongs to {folder.name}",
-            f"Give it to {user.name}: chown {user.name}: {path}",
+            f"Give it to {user.name}: `chown {user.name}: {word}`",
         )
-    return because, f"Act as {owner.name} (runuser -u {owner.name} -- ..), or give it to {user.name} by chown"
+    return because, f"Act as {owner.name} (`runuser -u {owner.name} -- ..`), or give it to {user.name} by `chown`"
 
 
 def opener_of(path: Path, named: Optional[str]) -> User:
