@@ -298,17 +298,17 @@ def seen(**other: Any) -> Seen:
         (
             {"certificate": Certificate("cert.pem", NOW + 22 * 86_400 - 1)},
             WARNING,
-            ("the certificate cert.pem ends 2027-02-06 07:59 UTC",),
+            ("the certificate cert.pem ends 2027-02-06 07:59 UTC, in 21 days",),
         ),
         (
             {"certificate": Certificate("cert.pem", NOW + 8 * 86_400 - 1)},
             CRITICAL,
-            ("the certificate cert.pem ends 2027-01-23 07:59 UTC",),
+            ("the certificate cert.pem ends 2027-01-23 07:59 UTC, in 7 days",),
         ),
         (
-            {"certificate": Certificate("cert.pem", NOW)},
+            {"certificate": Certificate("cert.pem", NOW - 1)},
             CRITICAL,
-            ("the certificate cert.pem ended 2027-01-15 08:00 UTC",),
+            ("the certificate cert.pem ended 2027-01-15 07:59 UTC",),
         ),
         ({"clock": MachineClock(15_999_999)}, OK, ()),
         ({"clock": MachineClock(16_000_000)}, WARNING, ("this machine's clock isn't synchronized",)),
@@ -333,7 +333,7 @@ def test_levels_are_chosen() -> None:
     assert found == (2, ("the last backup is 25 hours old", "it answered after 12 ms"))
     other = chosen("--days", "23,22", "--left", "10001,0", "--refused", "2")
     words = (
-        "the certificate cert.pem ends 2027-02-06 08:00 UTC",
+        "the certificate cert.pem ends 2027-02-06 08:00 UTC, in 22 days",
         "no more than 10,001 connections are left of its limit",
     )
     assert probe_told.judged(seen(writes=Writes(REFUSED, True)), other) == (2, words)

@@ -93,11 +93,12 @@ def _of_writes(seen: Seen, chosen: argparse.Namespace) -> Iterator[Judgement]:
 
 def _of_machine(seen: Seen, chosen: argparse.Namespace) -> Iterator[Judgement]:
     if seen.certificate:
-        days = (seen.certificate.ends - seen.now) // DAY
-        is_over = seen.certificate.ends <= seen.now
-        told = f"the certificate {seen.certificate.place} {'ended' if is_over else 'ends'}"
-        state = CRITICAL if is_over else state_of_rest(days, chosen.days)
-        yield state, f"{told} {time_text(seen.certificate.ends)}"
+        days, told = (seen.certificate.ends - seen.now) // DAY, time_text(seen.certificate.ends)
+        if days < 0:
+            yield CRITICAL, f"the certificate {seen.certificate.place} ended {told}"
+        else:
+            text = f"the certificate {seen.certificate.place} ends {told}, in {counted(days, 'day')}"
+            yield state_of_rest(days, chosen.days), text
     if seen.clock and not seen.clock.is_synchronized:
         yield WARNING, "this machine's clock isn't synchronized"
 
