@@ -30,6 +30,7 @@ from offices import LOAD_KEY, LOAD_MONTH
 from test_ops import script
 
 REFUSED = "cpi: a request was refused by 90, opening the file again"
+OPEN = "cpi: the file is open again"
 SERVED = "cpi: served as many connections as --limit says"
 LISTENING = "cpi: listening on 127.0.0.1:8080"
 
@@ -193,13 +194,40 @@ def test_a_log_that_was_put_into_the_file_long_after_a_failure_held_writes_that_
         writes_of(None, OutputFile(said))
 
 
-@pytest.mark.parametrize("line", [REFUSED, "cpi: out of memory, opening the file again", "cpi: database failed"])
-@pytest.mark.parametrize("more", [[], [SERVED], [SERVED, LISTENING]])
-def test_a_failure_counts_whatever_is_said_after_it(line: str, more: list[str], tmp_path: Path) -> None:
+FAILURES = [
+    REFUSED,
+    "cpi: a request was refused by 90",
+    "cpi: a response couldn't be written, opening the file again",
+    "cpi: a response couldn't be written",
+    "cpi: out of memory, opening the file again",
+    "cpi: out of memory",
+    "cpi: database failed",
+]
+"""The lines of FORMATS on a request that failed or may have failed."""
+
+
+@pytest.mark.parametrize("line", FAILURES)
+@pytest.mark.parametrize(("more", "moment"), [([], 5000), ([OPEN], 4999.999), ([SERVED, LISTENING], 4999.999)])
+def test_a_failure_counts_whatever_is_said_after_it(line: str, more: list[str], moment: float, tmp_path: Path) -> None:
     said = tmp_path / "said"
     said.write_text("\n".join([LISTENING, line, *more, ""]))
     os.utime(said, (5000, 5000))
-    assert writes_of(tmp_path, OutputFile(said)).failure == Line(5000, line)
+    assert writes_of(tmp_path, OutputFile(said)).failure == Line(moment, line)
+
+
+@pytest.mark.parametrize(("more", "has_succeeded"), [([], False), ([OPEN], True)])
+def test_a_commit_of_the_moment_in_which_the_file_was_open_again_came_after_the_failure(
+    more: list[str], has_succeeded: bool, cpi: Cpi, office: Path, tmp_path: Path
+) -> None:
+    """The times of files are coarse. Without that line the commit may be one of before the failure."""
+    with contextlib.suppress(KeyError), cpi.session(office) as session:
+        assert session.ask(f"50,{LOAD_KEY},quote,1,{LOAD_MONTH},price,1000") == {"receipt": 1}
+        raise KeyError
+    said = tmp_path / "said"
+    said.write_text("\n".join([REFUSED, *more, ""]))
+    for path in (office, log_beside(office), said):
+        os.utime(path, (5000, 5000))
+    assert writes_of(office, OutputFile(said)).has_succeeded == has_succeeded
 
 
 def test_an_output_without_a_failure_is_well_and_one_that_is_not_there_is_not(tmp_path: Path) -> None:

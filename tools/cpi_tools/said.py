@@ -16,6 +16,10 @@ from .terminal import Fault, because_of, naming
 MOST_BYTES = 1 << 20
 """Bytes at the end of a file that are read: more than 10,000 lines of `cpi serve`."""
 
+EARLIER = 0.001
+"""Seconds before the last line of a file: the times of files are as coarse as some milliseconds, so what the program
+writes to its log just after a line may have the same time as the line."""
+
 HARMLESS = ("Journal file ", "-- ")
 """How the lines of journalctl begin that tell of one old file of the journal, or that there is no entry."""
 
@@ -25,7 +29,8 @@ SECONDS = 60
 
 class Line(NamedTuple):
     """A line that the program wrote, and when (seconds since 1970 UTC). A file has no time of its lines: `moment` is
-    then the time of the file's last line, so the line is of that moment or of an earlier one."""
+    then the time of the file's last line; for a line before the last one it is a little earlier, and the line may be
+    much older."""
 
     moment: float
     text: str
@@ -108,5 +113,9 @@ class OutputFile:
                 written = os.fstat(file.fileno()).st_mtime
         except OSError as fault:
             raise Fault(because_of(fault)) from fault
-        found = [line for line in text.splitlines() if re.search(pattern, line)]
-        return Line(written, found[-1]) if found else None
+        lines = text.splitlines()
+        found = [at for at, line in enumerate(lines) if re.search(pattern, line)]
+        if not found:
+            return None
+        is_last = found[-1] + 1 == len(lines)
+        return Line(written if is_last else written - EARLIER, lines[found[-1]])

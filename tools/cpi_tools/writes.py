@@ -24,8 +24,12 @@ from .levels import CRITICAL, OK, WARNING, Judgement
 from .said import Line, Said
 from .terminal import Fault, because_of, time_text
 
-FAILED = r"^cpi: (.*opening the file again|database failed)$"
-"""What the program says after a failed request, and when it can't open its file."""
+FAILED = (
+    r"^cpi: (database failed|(a request was refused by 90|a response couldn't be written|out of memory)"
+    r"(, opening the file again)?)$"
+)
+"""What the program says after a request that failed or may have failed, and when it can't open its file. After the last
+connection of its limit it doesn't open the file again."""
 
 CLOSE_SECONDS = 300
 """No close takes longer than this: it writes a log of some 1,000 pages into the file."""
