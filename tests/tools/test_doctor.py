@@ -208,11 +208,13 @@ def test_another_lock_of_the_file_is_not_taken_for_it(cpi: Cpi, office: Path) ->
 
 
 def by_nobody(cpi: Cpi, *words: object) -> subprocess.CompletedProcess[str]:
-    """The program or a tool, run by another user."""
-    needed("setpriv")
-    as_user = ["setpriv", f"--reuid={NOBODY}", f"--regid={NOBODY}", "--clear-groups", *map(str, words)]
+    """The program or a tool, run by another user; the test is left out if that user can't reach them."""
+    as_user = [needed("setpriv"), f"--reuid={NOBODY}", f"--regid={NOBODY}", "--clear-groups"]
+    reached = [*as_user, "test", "-x", str(cpi.path), "-a", "-x", str(ROOT / "tools/cpi_tools")]
+    if subprocess.run(reached, check=False).returncode:
+        pytest.skip(f"nobody can't enter the folders of {cpi.path} and {ROOT}")
     kept = {**os.environ, "PYTHONPATH": str(ROOT / "tools"), "PYTHONDONTWRITEBYTECODE": "1"}
-    return subprocess.run(as_user, env=kept, capture_output=True, text=True, check=False)
+    return subprocess.run([*as_user, *map(str, words)], env=kept, capture_output=True, text=True, check=False)
 
 
 def open_by_nobody(cpi: Cpi, file: Path) -> bool:
