@@ -352,7 +352,7 @@ def options(text: str) -> set[str]:
 
 def helps(cpi: Cpi) -> str:
     """All that the program says of its words."""
-    words = ([str(cpi.path), *command, "--help"] for command in (("replay",), ("serve",), ("table",)))
+    words = ([str(cpi.path), *command, "--help"] for command in ((), ("replay",), ("serve",), ("table",)))
     return "".join(subprocess.run(it, capture_output=True, text=True, check=True).stdout for it in words)
 
 
