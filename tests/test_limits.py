@@ -24,16 +24,8 @@ from lib.harness import TOP, Check, Checks, Fault, program_of, words_of
 from lib.limits import bodies, messages, months, numbers, released, standing, stored, texts, words
 from lib.limits.elsewhere import ELSEWHERE
 from lib.limits.limit import Limit, unsaid
-from lib.limits.sides import (
-    IN_MEMORY,
-    Sides,
-    fault_of,
-    second_message,
-    second_records,
-    second_stored,
-    unfound,
-    wrong_ends,
-)
+from lib.limits.sides import IN_MEMORY, Sides, fault_of, second_message, second_records, second_stored
+from lib.limits.wrong import unfound, wrong_ends
 from lib.messages import Compared
 
 RECORDS = [*numbers.LIMITS, *texts.LIMITS, *bodies.LIMITS, *standing.LIMITS, *months.LIMITS]

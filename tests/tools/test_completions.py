@@ -226,6 +226,12 @@ def test_fish_completes_a_word(files: Path, tmp_path: Path, line: str, wanted: l
 # ---- for a clone
 
 
+def test_zsh_completes_by_what_a_clone_prints(files: Path, tmp_path: Path) -> None:
+    sourced = "; ".join(f"source {file_of(files, 'zsh', name)}" for name in ("cpi", "cpi-tools"))
+    setup = f"autoload -Uz compinit; compinit -D -u; {sourced}"
+    assert "./cpi replay " in typed([needed("zsh"), "-f", "-i"], setup, "./cpi rep", "./cpi replay ", tmp_path)
+
+
 def test_a_clone_prints_the_same(cpi: Cpi, files: Path) -> None:
     for shell in SHELLS:
         words = [str(ROOT / "tools/complete"), shell, "--program", str(cpi.path)]

@@ -26,6 +26,16 @@ CASES            esac
 """
 
 
+# (a file of the function path is run by its first completion, and any other once, when a shell reads it)
+END = """
+if [[ $funcstack[1] == _NAME ]]; then
+    FUNCTION "$@"
+else
+    compdef FUNCTION NAME
+fi
+"""
+
+
 def function_of(path: str) -> str:
     """The name of the function that completes what comes after some words."""
     return "_" + re.sub("[^a-z]", "_", path)
@@ -68,4 +78,4 @@ def text(command: Command) -> str:
     says = f"# Completes the words of {command.name} in zsh. It is made of these words when the package is made."
     head = f"#compdef {command.name}\n{says}\n"
     functions = "".join(f"\n{function_of(path)}() {{\n{body(path, one)}}}\n" for path, one in paths)
-    return f'{head}{functions}\n{function_of(command.name)} "$@"\n'
+    return head + functions + END.replace("FUNCTION", function_of(command.name)).replace("NAME", command.name)

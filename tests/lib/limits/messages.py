@@ -19,13 +19,12 @@ HEAD = "longer than 8,192 bytes with its empty line, or has more than 64 fields"
 BODY = "it is above 65,536: the body isn't read"
 BAD = refused("400 Bad Request", 10).decode()
 TOO_LONG = refused("413 Payload Too Large", 10).decode()
-NO_TABLE = refused("404 Not Found", 30).decode()
 UNKNOWN = response("401 Unauthorized", '{"refused":11}\n', more="WWW-Authenticate: CPI-Key\r\n").decode()
 ITEMS, NO_ROWS = RICE.decode(), response("200 OK", '{"rows":[]}\n').decode()
 
 
 def unended(size: int) -> bytes:
-    """So many bytes of a head that goes on. As long as the limit lets it end it is cut, and else it is too long."""
+    """So many bytes of a head that goes on: cut while it could still end in time, and else too long."""
     return padded(size + 100)[:size]
 
 

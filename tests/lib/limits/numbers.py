@@ -6,7 +6,7 @@ from collections.abc import Iterator
 from typing import Optional
 
 from .limit import BAD, DONE, Limit, Told, count_of, month_of, refused
-from .places import KA, KB, KC, Records, each, moving, quoted, two_digits
+from .places import KA, KB, KC, Records, each, moving, moving_month, quoted, two_digits
 
 FAR = (2**8 + 1, 2**16 + 1, 2**32 + 1, 2**64 + 1)
 """Numbers that 8, 16, 32 or 64 bits would take for 1."""
@@ -110,14 +110,12 @@ def months() -> Iterator[Limit[Records]]:
     """Months, their numbers in the year, and those that another month or a year decides."""
     yield from each(OF_MONTHS, count_of("2000-01"), count_of("2199-12"), MONTH, month_of, rule="YEAR")
     yield from each(OF_NUMBERS_OF_MONTHS, 1, 12, FORM_OF_MONTH, two_digits, rule="MONTH_OF_YEAR")
-    middle = count_of("2026-06")
-    yield moving("0,desk,assign,7,3,10,RICE,?,2026-06", None, middle, IN_ORDER, spelled=month_of)
-    yield moving("0,desk,assign,7,3,10,RICE,2026-06,?", middle, None, IN_ORDER, spelled=month_of)
+    yield moving_month("0,desk,assign,7,3,10,RICE,?,2026-06", None, "2026-06", IN_ORDER)
+    yield moving_month("0,desk,assign,7,3,10,RICE,2026-06,?", "2026-06", None, IN_ORDER)
     for year in (2001, 2026, 2199):
-        last = count_of(f"{year - 1}-12")
-        yield moving(f"0,desk,plan,{year}|R,?", None, last, REFERENCE, above=LATE_REFERENCE, spelled=month_of)
-    first = "in a plan of 2000"
-    yield moving("0,desk,plan,?|R,2000-01", 2001, None, first, below=LATE_REFERENCE)
+        place = f"0,desk,plan,{year}|R,?"
+        yield moving_month(place, None, f"{year - 1}-12", REFERENCE, outside=LATE_REFERENCE)
+    yield moving("0,desk,plan,?|R,2000-01", 2001, None, "in a plan of 2000", outside=LATE_REFERENCE)
 
 
 # ---- civil times

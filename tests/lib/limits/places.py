@@ -13,7 +13,7 @@ from typing import Any, Optional
 from second_office.records import text_of
 from second_office.requests import Record
 
-from .limit import BAD, DONE, Limit, Told
+from .limit import BAD, DONE, Limit, Told, count_of, month_of
 
 Records = list[Record]
 Spelled = Callable[[int], str]
@@ -83,17 +83,27 @@ def each(
     said: str,
     spelled: Spelled = str,
     before: Records = OPEN,
+    outside: Told = BAD,
     **others: Any,
 ) -> Iterator[Limit[Records]]:
     """A limit in each of its places, with the answer there within it; outside it the record is none."""
     for place, within in places.items():
-        told: dict[str, Any] = {"below": BAD, "above": BAD, **others}
-        yield Limit(place, least, most, partial(asked_at, place, spelled, before), within, said=said, **told)
+        asked = partial(asked_at, place, spelled, before)
+        told: dict[str, Any] = {"below": outside, "above": outside, **others}
+        yield Limit(place, least, most, asked, within, said=said, **told)
 
 
 def moving(
     place: str, least: Optional[int], most: Optional[int], said: str, within: Told = DONE, **others: Any
 ) -> Limit[Records]:
     """A limit that the office's content decides, so that the documents can't have its number."""
-    given: dict[str, Any] = {"is_said": False, **others}
-    return next(each({place: within}, least, most, said, **given))
+    (limit,) = each({place: within}, least, most, said, is_said=False, **others)
+    return limit
+
+
+def moving_month(
+    place: str, first: Optional[str], last: Optional[str], said: str, within: Told = DONE, **others: Any
+) -> Limit[Records]:
+    """The same of a month, which goes from the first to the last."""
+    least, most = (None if month is None else count_of(month) for month in (first, last))
+    return moving(place, least, most, said, within, spelled=month_of, **others)

@@ -2,16 +2,14 @@
 
 from __future__ import annotations
 
-import contextlib
 import json
 import os
 import shutil
 import tempfile
 import threading
-from collections.abc import Callable, Iterable, Iterator
+from collections.abc import Callable
 
 from second_office import http_messages
-from second_office import limits as ranges
 from second_office.office import Office
 from second_office.records import text_of
 
@@ -28,7 +26,6 @@ from .stored import Stored
 
 IN_MEMORY = "/dev/shm" if os.access("/dev/shm", os.W_OK) else None
 """A folder in memory, if there is one: nothing here tests the disk."""
-
 
 READ = [f"{LAST},public,{word}\n".encode() for word in ("items", "tables")]
 """Records that read a file: the survey, and the headers of releases."""
@@ -120,43 +117,3 @@ def fault_of(limit: Limit[Asked], value: int, answer: Callable[[Asked], str]) ->
     """What is wrong, if the answer isn't the one that the documents give."""
     got, wanted = answer(limit.asked(value)), limit.told(value)
     return None if got == wanted else f"{got[:300]!r}, wanted {wanted[:300]!r}"
-
-
-# ---- wrong limits of the second office
-
-Wrong = tuple[str, str, float]
-"""The name of a range, an end of it, and another number for that."""
-
-
-def wrong_ends() -> Iterator[Wrong]:
-    """Each end of each range changed by one, and each most doubled."""
-    for name, one in vars(ranges).items():
-        if isinstance(one, ranges.Range):
-            for end in ("least", "most"):
-                was = getattr(one, end)
-                if abs(was) != ranges.ENDLESS:
-                    yield from ((name, end, number) for number in (was - 1, was + 1))
-            if one.most != ranges.ENDLESS:
-                yield name, "most", 2 * one.most
-
-
-@contextlib.contextmanager
-def with_end(wrong: Wrong) -> Iterator[None]:
-    """Within it the second office has that limit."""
-    name, end, number = wrong
-    one = getattr(ranges, name)
-    was = getattr(one, end)
-    setattr(one, end, number)
-    try:
-        yield
-    finally:
-        setattr(one, end, was)
-
-
-def unfound(wrong: Wrong, asked: Iterable[tuple[Limit[Asked], Callable[[Asked], str]]]) -> Fault:
-    """That a second office with that limit is answered right by all values."""
-    with with_end(wrong):
-        for limit, answer in asked:
-            if limit.rule == wrong[0] and any(fault_of(limit, value, answer) for value in limit.values()):
-                return None
-    return "no value found it"
