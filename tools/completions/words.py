@@ -88,7 +88,9 @@ def options_of_help(text: str) -> Iterator[Option]:
 
 def help_of(program: Path, *words: str) -> str:
     """What the program prints of its words."""
-    ran = subprocess.run([program, *words, "--help"], stdout=subprocess.PIPE, text=True, check=True, timeout=60)
+    ran = subprocess.run(
+        [program.absolute(), *words, "--help"], stdout=subprocess.PIPE, text=True, check=True, timeout=60
+    )
     return ran.stdout
 
 
