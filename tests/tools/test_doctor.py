@@ -124,15 +124,16 @@ def test_what_is_not_there_or_is_no_file(cpi: Cpi, tmp_path: Path, quick: None) 
 
 
 def test_a_log_that_lost_its_file_is_named(cpi: Cpi, tmp_path: Path, quick: None) -> None:
-    """The program makes an empty office of that name, and nothing is left of the log."""
+    """The program makes no other file in its place, and the log stays as it is."""
     office = tmp_path / "office.db"
     with contextlib.suppress(KeyError), cpi.session(office) as session:
         assert session.ask("0,desk,outlet,1,Kiosk") == {"done": True}
         raise KeyError
     office.unlink()
+    before = log_beside(office).read_bytes()
     said = told(cpi, office)
-    assert said.startswith("there is no such file, but its log office.db-wal is there: cpi would make an empty office ")
-    assert opens(cpi, office) and log_beside(office).stat().st_size == 41
+    assert said.startswith("there is no such file, but its log office.db-wal is there, with something in it: cpi makes ")
+    assert not opens(cpi, office) and not office.exists() and log_beside(office).read_bytes() == before
 
 
 # ---- who holds it

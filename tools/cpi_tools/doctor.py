@@ -115,9 +115,9 @@ def _missing(path: Path) -> Cause:
         return Cause(f"there is no folder {folder}", "Make the folder, or mend the name")
     if has_frames(path):
         return Cause(
-            f"there is no such file, but its log {log_beside(path).name} is there: cpi would make an empty office and"
-            " empty the log",
-            "Put the log aside before cpi starts, and find out where the file went",
+            f"there is no such file, but its log {log_beside(path).name} is there, with something in it: cpi makes no"
+            " other file, since the log would be lost",
+            "Find out where the file went, or put the log aside to begin an empty office",
         )
     return Cause(
         "there is no such file, and cpi would make an empty office of that name", "Check the name before you start cpi"

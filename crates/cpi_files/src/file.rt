@@ -13,6 +13,9 @@ use std::io;
 use std::io::{Read, Write};
 use std::os::unix::fs::OpenOptionsExt;
 
+/// How many bytes a log has once all that it held was copied into its file.
+const EMPTY_LOG: u64 = 41;
+
 /// Who may read and write a file that is made here: its owner.
 const OWNER_ALONE: u32 = 0o600;
 
@@ -27,6 +30,24 @@ pub fn is_missing(rt: &HostRuntime, path: &str) -> bool {
     match File::open(rt, path) {
         Ok(_) => false,
         Err(error) => is_path(path) && error.kind() == io::ErrorKind::NotFound,
+    }
+}
+
+// Whether a log that holds something is there, but not its file. Answered commands may be in it, and an open would make
+// another file and empty the log.
+fn has_only_log(rt: &HostRuntime, path: &str) -> bool {
+    if !is_missing(rt, path) {
+        return false;
+    }
+    let Ok(name) = format!(in rt.alloc(); "{path}-wal") else {
+        return true;
+    };
+    let Ok(log) = File::open(rt, &name) else {
+        return false;
+    };
+    match log.metadata() {
+        Ok(held) => held.len() > EMPTY_LOG,
+        Err(_) => true,
     }
 }
 
@@ -46,8 +67,9 @@ fn make_private(rt: &HostRuntime, path: &str) {
 /// Does the job in the office of the file at the path, of which `start` says how a crash is read, and closes the file,
 /// with what its log holds copied into it. A file that is empty or isn't there gets the tables of an office that holds
 /// nothing; else it is to hold those of an office, and stays as it is, or those of schema 1, and is migrated. Where the
-/// file can't be opened so, the job doesn't begin, and the file is as it was. Beside what the job tells stands what
-/// became of the close: each answered command is kept before that already.
+/// file can't be opened so, the job doesn't begin, and the file is as it was; nor does it begin if a log that holds
+/// something is there without its file. Beside what the job tells stands what became of the close: each answered command
+/// is kept before that already.
 pub fn job_in_file<S: Start, J: BookJob, R: Read, W: Write, E: Write>(
     rt: &HostRuntime,
     path: &str,
@@ -63,6 +85,9 @@ pub fn job_in_file<S: Start, J: BookJob, R: Read, W: Write, E: Write>(
     ensures untouched { IfErr result (λ _. (reader.new ≡ reader.old)
         × (out.new ≡ out.old) × (err.new ≡ err.old)) }
 {
+    if has_only_log(rt, path) {
+        return Err(OpenFault::Store);
+    }
     make_private(rt, path);
     let conn = match Connection::open_from(rt, path, false, start) {
         Ok(conn) => conn,

@@ -28,7 +28,7 @@ returns-in_default-moment_of-clause-served g c =
 pub returns-in-Some-shake_of-clause-served : goal.returns-in-Some-shake_of-clause-served
 returns-in-Some-shake_of-clause-served g c =
     let inv = c.loop-served.invariant in
-    let call = c.serve_connection in
+    let call = c.serve_connection-outcome in
     let shook : IsTrue (is_shaken call.result) = search rules in (
       Some (record { moment = c.in-Some.now; outcome = call.result }) ∷ inv.0,
       omega (arith, inv.1, c.loop-served-test.true),
@@ -41,7 +41,7 @@ returns-in-Some-shake_of-clause-served g c =
 pub loop-served-preserved : goal.loop-served-preserved
 loop-served-preserved g c =
     let inv = c.loop-served.invariant in
-    let call = c.serve_connection in
+    let call = c.serve_connection-outcome in
     let visit : Visit = record { moment = c.in-Some.now; outcome = call.result } in
     let calm : IsCalm (Some visit) = search rules in (
       Some visit ∷ inv.0,
