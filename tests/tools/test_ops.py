@@ -1,17 +1,26 @@
-"""`ops/`: the units are units, the key is read, the night's script keeps what it should, and the fronts are files of
-theirs."""
+"""`ops/`: the units are units, wrong settings end a start, a stop leaves one whole file, the night's script keeps what it
+should, and the fronts are files of theirs."""
 
 from __future__ import annotations
 
+import contextlib
+import hashlib
 import os
 import re
 import shutil
+import sqlite3
 import subprocess
+import sys
 import time
+from collections.abc import Callable
+from datetime import datetime, timedelta, timezone
 from pathlib import Path
+from typing import NamedTuple, Optional
+from zoneinfo import ZoneInfo
 
 import pytest
 
+from cpi_tools.program import Cpi
 from conftest import ROOT
 
 OPS = ROOT / "ops"
@@ -45,37 +54,272 @@ def test_the_units_are_verified_by_systemd(tmp_path: Path) -> None:
 def test_what_the_units_start_is_there_and_named_in_the_guide() -> None:
     guide = (ROOT / "docs/RUNNING.md").read_text()
     for name in UNITS:
-        for started in re.findall(r"^ExecStart=/usr/lib/cpi/(\S+)$", (OPS / name).read_text(), re.M):
+        for started in re.findall(r"^Exec\w+=/usr/lib/cpi/(\S+)$", (OPS / name).read_text(), re.M):
             assert os.access(OPS / started, os.X_OK)
     assert [path.name for path in sorted(OPS.iterdir()) if f"{path.name}" not in guide] == []
 
 
 def test_each_variable_of_the_scripts_is_in_the_configuration() -> None:
     told = set(re.findall(r"^(CPI_\w+)=", (OPS / "office.conf").read_text(), re.M))
-    used = {name for path in ("cpi-serve", "cpi-backup") for name in re.findall(r"CPI_\w+", (OPS / path).read_text())}
+    scripts = ("cpi-serve", "cpi-stopped", "cpi-backup")
+    used = {name for path in scripts for name in re.findall(r"CPI_\w+", (OPS / path).read_text())}
     assert told == used
 
 
-def served_words(key: str, folder: Path) -> subprocess.CompletedProcess[str]:
-    """What cpi-serve starts, with a program that says its words."""
+class Started(NamedTuple):
+    """How a script of the units ended: its status, what it printed, what it told in the journal, and its folder."""
+
+    status: int
+    printed: str
+    told: str
+    folder: Path
+
+
+# What the program does as far as cpi-serve asks it: it judges zone, key and port in this order, never opens a file
+# below /dev/null, and says what it was started with. Rules of clocks are judged by the program under test.
+STAND_IN = """\
+case $1 in replay) exec "$REAL" "$@" ;; esac
+echo "$@" >> "$FOLDER/started"
+"$REAL" replay --zone "${11}" < /dev/null || exit
+[ "$5" != 0 ] || { printf "error: invalid value '0' for '--port <port>': 0 is no port\n\nMore by --help.\n" >&2; exit 2; }
+tr -d '[:space:]' < "$7" | grep -qxE '[0-9a-f]{32}' || { echo "cpi: bad key" >&2; exit 1; }
+[ "$3" != /dev/null/none ] || { echo "cpi: database failed" >&2; exit 1; }
+echo "cpi: listening on 127.0.0.1:$5"
+"""
+
+
+def start(cpi: Cpi, folder: Path, key: str = KEY, **settings: str) -> Started:
+    """What cpi-serve does with a key and settings, and a program that ends once it listens."""
+    (folder / "room").mkdir(exist_ok=True)
     (folder / "desk-key").write_text(key)
-    program = script(folder / "cpi", 'echo "$@"\n')
-    kept = {"CREDENTIALS_DIRECTORY": str(folder), "CPI": str(program), "PATH": os.environ["PATH"], "CPI_ZONE": "CET-1"}
-    return subprocess.run([OPS / "cpi-serve"], env=kept, capture_output=True, text=True, check=False)
+    script(folder / "cpi", STAND_IN)
+    script(folder / "systemd-notify", 'echo "$@" >> "$FOLDER/notified"\n')
+    kept = {"PATH": f"{folder}:{os.environ['PATH']}", "CREDENTIALS_DIRECTORY": str(folder), "REAL": str(cpi.path)}
+    kept |= {"RUNTIME_DIRECTORY": str(folder / "room"), "NOTIFY_SOCKET": "/nowhere", "FOLDER": str(folder)}
+    words = {"env": {**kept, **settings}, "capture_output": True, "text": True, "check": False}
+    ran = subprocess.run([OPS / "cpi-serve"], timeout=60, **words)  # type: ignore[call-overload]
+    return Started(ran.returncode, ran.stdout, ran.stderr, folder)
+
+
+def served_words(started: Started) -> str:
+    """The words of the program that serves; the first call was the look at the settings."""
+    looked, served = (started.folder / "started").read_text().splitlines()
+    assert looked.split(" ")[1:3] == ["--db", "/dev/null/none"]
+    assert looked.split(" ")[3:] == served.split(" ")[3:]
+    return served
 
 
 @pytest.mark.parametrize("key", [KEY, f"{KEY}\n", f" {KEY}\r\n"])
-def test_the_key_is_read_from_the_credentials(key: str, tmp_path: Path) -> None:
-    ran = served_words(key, tmp_path)
-    told = f"serve --db /var/lib/cpi/office.db --port 8080 --desk-key {KEY} --limit 1000000 --zone CET-1\n"
-    assert (ran.returncode, ran.stdout, ran.stderr) == (0, told, "")
+def test_the_key_is_handed_over_as_a_file(cpi: Cpi, key: str, tmp_path: Path) -> None:
+    started = start(cpi, tmp_path, key, CPI_ZONE="CET-1")
+    assert (started.status, started.printed, started.told) == (0, "cpi: listening on 127.0.0.1:8080\n", "")
+    words = f"--port 8080 --desk-key-file {tmp_path}/desk-key --limit 1000000 --zone CET-1"
+    assert served_words(started) == f"serve --db /var/lib/cpi/office.db {words}"
 
 
-@pytest.mark.parametrize("key", ["", KEY[:-1], f"{KEY}0", KEY.upper(), f"{KEY[:-1]}*"])
-def test_another_key_is_told_and_not_shown(key: str, tmp_path: Path) -> None:
-    ran = served_words(key, tmp_path)
-    assert (ran.returncode, ran.stdout, ran.stderr.count("\n")) == (1, "", 1)
-    assert ran.stderr.startswith("cpi-serve: the key in desk-key ") and (not key or key not in ran.stderr)
+def test_systemd_is_told_once_it_listens(cpi: Cpi, tmp_path: Path) -> None:
+    start(cpi, tmp_path, CPI_ZONE="UTC0", CPI_PORT="8081")
+    # (the helper that tells it may end a moment after the program)
+    wait_for(lambda: (tmp_path / "notified").exists())
+    assert (tmp_path / "notified").read_text() == "--ready --status=cpi: listening on 127.0.0.1:8081\n"
+
+
+def wait_for(is_there: Callable[[], bool]) -> None:
+    until = time.monotonic() + 10
+    while not is_there() and time.monotonic() < until:
+        time.sleep(0.01)
+
+
+@pytest.mark.parametrize("key", ["", KEY[:-1], f"{KEY}0", KEY.upper(), f"{KEY[:-1]}*", "none"])
+def test_another_key_is_told_and_not_shown(cpi: Cpi, key: str, tmp_path: Path) -> None:
+    """Status 2: the unit doesn't start it again. (`none` is what the unit hands over without a file.)"""
+    started = start(cpi, tmp_path, key, CPI_ZONE="UTC0")
+    assert (started.status, started.printed, started.told.count("\n")) == (2, "", 1)
+    assert "/etc/cpi/desk-key" in started.told and "openssl rand -hex 16" in started.told
+    assert ("there is no file" in started.told) == (key == "none")
+    assert len(key) < 31 or key not in started.told
+
+
+def test_settings_that_are_refused_are_told_with_their_place(cpi: Cpi, tmp_path: Path) -> None:
+    wanted = "cpi-serve: /etc/cpi/office.conf: invalid value '0' for CPI_PORT: 0 is no port\n"
+    assert start(cpi, tmp_path, CPI_PORT="0")[:3] == (2, "", wanted)
+    none = start(cpi, tmp_path)
+    assert (none.status, none.printed, none.told.count("\n")) == (2, "", 1)
+    assert none.told.startswith("cpi-serve: /etc/cpi/office.conf isn't there")
+
+
+# ---- the zone
+
+
+@pytest.mark.parametrize(
+    "place", ["Europe/Prague", "America/New_York", "Asia/Kathmandu", "Etc/GMT+9", "EST5EDT", "UTC"]
+)
+def test_the_rule_of_a_place_is_that_of_the_systems_clock(cpi: Cpi, place: str, tmp_path: Path) -> None:
+    """In each hour of two years the clock of the rule is that of the place, as Python's library has both."""
+    started = start(cpi, tmp_path, CPI_ZONE=place)
+    assert started.status == 0, started.told
+    rule = served_words(started).rpartition(" ")[2]
+    assert rule != place and f"CPI_ZONE is {place}, whose clock follows {rule}\n" in started.printed
+    assert offsets(rule) == [hour.astimezone(ZoneInfo(place)).utcoffset() for hour in HOURS]
+
+
+HOURS = [datetime(2027, 1, 1, tzinfo=timezone.utc) + timedelta(hours=hour) for hour in range(2 * 8760)]
+
+
+def offsets(rule: str) -> list[timedelta]:
+    """How far the clock of a POSIX rule is from UTC in each of these hours, by the C library."""
+    code = "import sys, time; print(*(time.localtime(int(line)).tm_gmtoff for line in sys.stdin))"
+    hours = "".join(f"{hour.timestamp():.0f}\n" for hour in HOURS)
+    words = {"input": hours, "env": {"TZ": rule}, "capture_output": True, "text": True, "check": True}
+    ran = subprocess.run([sys.executable, "-c", code], **words)  # type: ignore[call-overload]
+    return [timedelta(seconds=int(seconds)) for seconds in ran.stdout.split()]
+
+
+REFUSED = ["Europe/Nowhere", "Europe", "Europe/", "/usr/share/zoneinfo/Europe/Prague", "../zoneinfo/Europe/Prague",
+           "Europe/../Europe/Prague", "leapseconds", "zone.tab", "Europe/Prague;", "CET-1CEST", "x"]  # fmt: skip
+
+
+@pytest.mark.parametrize("zone", REFUSED)
+def test_a_zone_that_is_neither_rule_nor_place_is_told(cpi: Cpi, zone: str, tmp_path: Path) -> None:
+    started = start(cpi, tmp_path, CPI_ZONE=zone)
+    assert (started.status, started.printed, started.told.count("\n")) == (2, "", 1)
+    assert started.told.startswith(f"cpi-serve: /etc/cpi/office.conf: CPI_ZONE is '{zone}': wanted is a place")
+    assert "Europe/Prague" in started.told and "CET-1CEST,M3.5.0,M10.5.0/3" in started.told
+
+
+def test_a_place_whose_clock_follows_no_rule_is_told(cpi: Cpi, tmp_path: Path) -> None:
+    """Morocco's clock goes back for the month of Ramadan, which no such rule can say."""
+    started = start(cpi, tmp_path, CPI_ZONE="Africa/Casablanca")
+    assert (started.status, started.printed, started.told.count("\n")) == (2, "", 1)
+    assert "CPI_ZONE is Africa/Casablanca, whose clock follows no rule" in started.told
+
+
+# ---- after a fault, and after a stop
+
+
+def test_after_a_fault_it_waits_and_looks_whose_file_it_is(cpi: Cpi, tmp_path: Path) -> None:
+    """A file of a later program isn't tried again; another fault is, after a second."""
+    office, note = tmp_path / "office.db", tmp_path / "room/failed"
+    cpi.replay([], db=office)
+    for version, status in ((2, 0), (3, 2)):
+        note.parent.mkdir(exist_ok=True)
+        note.write_text("exited 1\n")
+        with contextlib.closing(sqlite3.connect(office)) as file, file:
+            file.execute(f"UPDATE version SET number = {version}")
+        begun = time.monotonic()
+        started = start(cpi, tmp_path, CPI_ZONE="UTC0", CPI_OFFICE=str(office))
+        assert (started.status, note.exists()) == (status, False)
+        assert time.monotonic() - begun > 1
+    assert started.told.startswith(f"cpi-serve: {office} was written by a later version of cpi")
+
+
+class Ended(NamedTuple):
+    """How the office ended, in the words of systemd."""
+
+    code: str
+    status: str
+
+
+STOP = Ended("killed", "TERM")
+
+
+def stopped(cpi: Cpi, office: Path, how: Ended, program: Optional[Path] = None) -> Started:
+    """What cpi-stopped does after an end of a program that served; by default the one that is installed."""
+    room = office.parent / "room"
+    room.mkdir(exist_ok=True)
+    served = hashlib.sha256((program or cpi.path).read_bytes()).hexdigest()
+    (room / "program").write_text(f"{served}  -\n")
+    kept = {"PATH": os.environ["PATH"], "CPI": str(cpi.path), "CPI_OFFICE": str(office), "RUNTIME_DIRECTORY": str(room)}
+    kept |= {"SERVICE_RESULT": "success", "EXIT_CODE": how.code, "EXIT_STATUS": how.status}
+    ran = subprocess.run([OPS / "cpi-stopped"], env=kept, capture_output=True, text=True, check=False)
+    return Started(ran.returncode, ran.stdout, ran.stderr, room)
+
+
+@pytest.fixture
+def killed(cpi: Cpi, tmp_path: Path) -> Path:
+    """The file of an office that a signal ended: all that was answered is in the log beside it."""
+    office = tmp_path / "office.db"
+    words = [str(cpi.path), "replay", "--db", str(office)]
+    with subprocess.Popen(words, stdin=subprocess.PIPE, stdout=subprocess.PIPE) as running:
+        assert running.stdin and running.stdout
+        running.stdin.write(b"0,desk,item,RICE,Rice,1 kg,500,2000\n")
+        running.stdin.flush()
+        assert running.stdout.readline() == b'{"done":true}\n'
+        running.terminate()
+    assert items_of(office) is None
+    return office
+
+
+def items_of(office: Path) -> Optional[list[tuple[object, ...]]]:
+    """The items in a copy of the file without its log, as SQLite reads it; None where it has no such table."""
+    alone = office.with_name("alone.db")
+    alone.write_bytes(office.read_bytes())
+    with contextlib.closing(sqlite3.connect(alone)) as file:
+        try:
+            return file.execute("SELECT code FROM item").fetchall()
+        except sqlite3.OperationalError:
+            return None
+
+
+def bytes_of(office: Path) -> list[bytes]:
+    """File and log."""
+    return [path.read_bytes() for path in (office, office.with_name(f"{office.name}-wal"))]
+
+
+def test_after_a_stop_the_file_is_the_whole_office(cpi: Cpi, killed: Path) -> None:
+    assert stopped(cpi, killed, STOP)[:3] == (0, "", "")
+    assert items_of(killed) == [("RICE",)]
+
+
+def test_a_stop_through_a_link_does_the_same(cpi: Cpi, killed: Path, tmp_path: Path) -> None:
+    (tmp_path / "link.db").symlink_to(killed)
+    assert stopped(cpi, tmp_path / "link.db", STOP)[:3] == (0, "", "")
+    assert items_of(killed) == [("RICE",)]
+
+
+@pytest.mark.parametrize("how", [Ended("exited", "1"), Ended("killed", "KILL"), Ended("dumped", "SEGV")])
+def test_a_fault_is_noted_for_the_next_start_which_takes_the_log_in(cpi: Cpi, killed: Path, how: Ended) -> None:
+    before = bytes_of(killed)
+    ended = stopped(cpi, killed, how)
+    assert (ended[:3], (ended.folder / "failed").read_text()) == ((0, "", ""), f"{how.code} {how.status}\n")
+    assert bytes_of(killed) == before
+
+
+def test_the_end_of_its_connections_costs_nothing(cpi: Cpi, killed: Path) -> None:
+    before = bytes_of(killed)
+    ended = stopped(cpi, killed, Ended("exited", "0"))
+    assert (ended[:3], (ended.folder / "failed").exists(), bytes_of(killed)) == ((0, "", ""), False, before)
+
+
+def test_another_program_than_the_one_that_served_leaves_the_file_alone(cpi: Cpi, killed: Path) -> None:
+    """It could bring the file to later tables before somebody has copied it."""
+    before = bytes_of(killed)
+    ended = stopped(cpi, killed, STOP, Path("/bin/true"))
+    assert (ended.status, ended.printed, ended.told.count("\n")) == (0, "", 1)
+    assert f"copy {killed} and {killed}-wal before the next start" in ended.told
+    assert bytes_of(killed) == before
+
+
+def test_a_file_that_is_held_is_told_and_nothing_is_lost(cpi: Cpi, killed: Path) -> None:
+    words = [str(cpi.path), "replay", "--db", str(killed)]
+    with subprocess.Popen(words, stdin=subprocess.PIPE, stdout=subprocess.PIPE) as other:
+        assert other.stdin and other.stdout
+        other.stdin.write(b"9,public,items\n")
+        other.stdin.flush()
+        assert b"RICE" in other.stdout.readline()
+        ended = stopped(cpi, killed, STOP)
+        other.kill()
+    assert (ended.status, ended.printed, ended.told.count("\n")) == (1, "", 1)
+    assert f"{killed}-wal couldn't be put into {killed} (cpi: database failed)" in ended.told
+    assert cpi.replay(["9,public,items"], db=killed) == [{"items": [["RICE", "Rice", "1 kg", 500, 2000]]}]
+
+
+def test_a_file_that_is_not_there_is_not_made(cpi: Cpi, tmp_path: Path) -> None:
+    assert stopped(cpi, tmp_path / "office.db", STOP)[:3] == (0, "", "")
+    assert not (tmp_path / "office.db").exists()
+
+
+# ---- the night
 
 
 def night(folder: Path, drill_status: int) -> subprocess.CompletedProcess[str]:
