@@ -65,15 +65,18 @@ def members(package: Path, tmp_path_factory: pytest.TempPathFactory) -> dict[str
         return {member.name[2:]: member for member in tar if member.name != "."}
 
 
-def dpkg(root: Path, *words: object) -> None:
-    """dpkg over a system of its own, in which nothing else is installed."""
+def dpkg(root: Path, *words: object) -> str:
+    """What dpkg tells over a system of its own, in which nothing else is installed; nobody is there to be asked."""
     for name in ("info", "updates", "triggers"):
         (root / "var/lib/dpkg" / name).mkdir(parents=True, exist_ok=True)
     (root / "var/lib/dpkg/status").touch()
     quiet = ["--log=/dev/null", "--path-include=/*", "--force-script-chrootless", "--force-depends"]
     quiet += ["--force-not-root", "--force-bad-path"]
-    ran = subprocess.run(["dpkg", f"--root={root}", *quiet, *map(str, words)], capture_output=True, check=False)
-    assert ran.returncode == 0, ran.stderr
+    told = {"stdin": subprocess.DEVNULL, "stdout": subprocess.PIPE, "stderr": subprocess.STDOUT, "text": True}
+    called = ["dpkg", f"--root={root}", *quiet, *map(str, words)]
+    ran = subprocess.run(called, check=False, **told)  # type: ignore[call-overload]
+    assert ran.returncode == 0, ran.stdout
+    return str(ran.stdout)
 
 
 @pytest.fixture(scope="module")
@@ -124,7 +127,7 @@ def test_each_file_has_the_time_of_its_version_and_belongs_to_root(members: dict
     assert {member.mtime for member in members.values()} == {epoch_of(ROOT)}
     assert {(member.uid, member.gid) for member in members.values()} == {(0, 0)}
     modes = {name: member.mode for name, member in members.items()}
-    assert {modes[name] for name in ("usr/bin/cpi", "usr/bin/cpi-tools", "usr/lib/cpi/cpi-serve")} == {0o755}
+    assert {modes[f"usr/{name}"] for name in ("bin/cpi", "bin/cpi-tools", "lib/cpi/cpi-serve")} == {0o755}
     assert {modes[name] for name in ("etc/cpi/office.conf", "usr/share/doc/cpi/README.md")} == {0o644}
 
 
@@ -142,34 +145,43 @@ def test_whole_folders_are_in_it(members: dict[str, tarfile.TarInfo]) -> None:
 
 def test_each_file_of_ops_has_its_place(members: dict[str, tarfile.TarInfo]) -> None:
     places = {path.name: {str(Path(name).parent) for name in members if Path(name).name == path.name}
-              for path in (ROOT / "ops").iterdir() if path.name != "cpi.sysusers"}  # fmt: skip
+              for path in (ROOT / "ops").iterdir() if path.name not in ("cpi.sysusers", "cpi.tmpfiles")}  # fmt: skip
     units, programs, others = {"usr/lib/systemd/system"}, {"usr/lib/cpi"}, {"usr/share/cpi/ops"}
     assert places == {
         "cpi.service": units, "cpi-backup.service": units, "cpi-backup.timer": units, "cpi-serve": programs,
-        "cpi-backup": programs, "nginx.conf": others, "Caddyfile": others, "logrotate-cpi": others,
+        "cpi-backup": programs, "cpi-stopped": programs, "nginx.conf": others, "Caddyfile": others, "logrotate-cpi": others,
         "try": others, "try.py": others, "office.conf": {"etc/cpi"},
     }  # fmt: skip
-    assert "usr/lib/sysusers.d/cpi.conf" in members
+    assert {"usr/lib/sysusers.d/cpi.conf", "usr/lib/tmpfiles.d/cpi.conf"} <= set(members)
 
 
 def test_the_pages_are_there_as_they_stand(members: dict[str, tarfile.TarInfo]) -> None:
     wanted = {str(path.relative_to(ROOT)) for path in (ROOT / "web").rglob("*") if path.is_file()}
     found = {name.removeprefix("usr/share/cpi/") for name in members if name.startswith("usr/share/cpi/web/")}
     assert {name for name in found if not members[f"usr/share/cpi/{name}"].isdir()} == wanted
+    # (what an office sets is a setting of its own, and the pages find it)
+    assert members["usr/share/cpi/web/config.js"].linkname == "/etc/cpi/config.js"
+    assert members["etc/cpi/config.js"].size == (ROOT / "web/config.js").stat().st_size
 
 
 def test_nothing_is_started_by_it(package: Path, members: dict[str, tarfile.TarInfo], tmp_path: Path) -> None:
     assert [name for name in members if ".wants" in name or ".requires" in name] == []
     subprocess.run(["dpkg-deb", "--control", package, tmp_path / "told"], check=True)
-    assert sorted(os.listdir(tmp_path / "told")) == ["conffiles", "control", "md5sums", "postinst", "postrm", "prerm"]
-    assert (tmp_path / "told/conffiles").read_text() == "/etc/cpi/office.conf\n"
-    asked = re.findall(r"^  (.*)", (tmp_path / "told/postinst").read_text(), re.M)
-    assert asked == [
-        'systemd-sysusers ${DPKG_ROOT:+--root="$DPKG_ROOT"} cpi.conf',
+    scripts = ["postinst", "postrm", "preinst", "prerm"]
+    assert sorted(os.listdir(tmp_path / "told")) == ["conffiles", "control", "md5sums", *scripts]
+    assert (tmp_path / "told/conffiles").read_text() == "/etc/cpi/config.js\n/etc/cpi/office.conf\n"
+    texts = [(tmp_path / "told" / name).read_text() for name in scripts]
+    asked = {called for text in texts for called in re.findall(r"(?<!-v )\b(?:deb-)?systemd?(?:ctl|-\w+) .*", text)}
+    root = '${DPKG_ROOT:+--root="$DPKG_ROOT"}'
+    assert asked == {
+        f"systemd-sysusers {root} cpi.conf",
+        f"systemd-tmpfiles {root} --create cpi.conf || true",
         "systemctl --system daemon-reload",
-    ]
-    needs = re.findall(r"^(?:Depends|Recommends): (.*)$", (tmp_path / "told/control").read_text(), re.M)
-    assert needs == ["libc6 (>= 2.34), python3 (>= 3.9)", "python3-jinja2, python3-openpyxl"]
+        "systemctl --quiet is-active cpi.service; then",
+        "deb-systemd-invoke stop cpi-backup.timer cpi.service",
+    }
+    needs = re.findall(r"^(?:Depends|Recommends|Suggests): (.*)$", (tmp_path / "told/control").read_text(), re.M)
+    assert needs == ["libc6 (>= 2.34), python3 (>= 3.9)", "python3-jinja2", "python3-openpyxl"]
 
 
 def test_the_versions_are_one(package: Path, cpi: Cpi) -> None:
@@ -311,6 +323,22 @@ def test_the_companions_tell_whether_the_program_is_the_shipped_one(installed: P
         .endswith(f"another program: {hashlib.sha256(program.read_bytes()).hexdigest()}")
     )
     program.write_bytes(program.read_bytes()[:-4])
+
+
+@pytest.mark.parametrize("name", ["examples/national/run", "examples/national/report", "ops/try"])
+def test_an_example_that_is_installed_writes_to_the_users_cache(installed: Path, name: str, tmp_path: Path) -> None:
+    """The folder of the package belongs to root. In the repository they write where they always did."""
+    folder = "out/try" if name == "ops/try" else "examples/national/out"
+    helps = in_root(installed, f"COLUMNS=300 {installed}/usr/share/cpi/{name} --help", tmp_path)
+    assert f"({tmp_path}/.cache/sabrethog/{folder})\n" in helps
+    assert f"({ROOT}/{folder})\n" in in_root(installed, f"COLUMNS=300 {ROOT}/{name} --help", tmp_path)
+
+
+def test_an_example_that_cant_write_says_so_in_a_line(installed: Path, tmp_path: Path) -> None:
+    words = [f"{installed}/usr/share/cpi/examples/national/run", "--out", "/dev/null/there"]
+    ran = subprocess.run(words, capture_output=True, text=True, check=False)
+    assert (ran.returncode, ran.stdout, ran.stderr.count("\n")) == (1, "", 1)
+    assert ran.stderr.startswith("examples/national/run: /dev/null/there") and "--out" in ran.stderr
 
 
 def test_the_user_of_the_office_is_made(installed: Path) -> None:
