@@ -3,8 +3,9 @@
     ops/try [--address ADDRESS] [--port PORT] [--db FILE] [--zone RULE] [--folder FOLDER] [--program FILE]
 
 The office is the made-up country of examples/national: two years of published tables up to last month, and this month's
-window is open. It is made by the first call in a month, which takes a few minutes, and stays in FOLDER (out/try) with
-what is sent to it. With --db it is a copy of the office in FILE instead. Nothing else on the machine is changed.
+window is open. It is made by the first call in a month, which takes a few minutes, and stays in FOLDER with what is
+sent to it: out/try in the repository, and ~/.cache/sabrethog/out/try where this is installed. With --db it is a copy of
+the office in FILE instead. Nothing else on the machine is changed.
 
 It listens at this machine alone, or at the ADDRESS of it that is named, for a phone in the same network: who can reach
 that address can read and send what its pages can, so let it be a network that you trust. The certificate is drawn for
@@ -57,6 +58,7 @@ from cpi_tools.front import (
 )
 from cpi_tools.program import Cpi, CpiFailed, add_program, told as told_end
 from cpi_tools.terminal import Fault, ToolWords, because_of, ends_by_signals
+from cpi_tools.trials import folder_of_trial
 
 ROOT = Path(__file__).resolve().parents[1]
 
@@ -252,7 +254,7 @@ def parser() -> ToolWords:
     words.add_argument("--port", type=a_port, default=8443, help="the port of the front (8443)")
     words.add_argument("--db", metavar="FILE", help="try a copy of this office instead of the made-up country")
     words.add_argument("--zone", metavar="RULE", default=ZONE, help=f"the clock of the office ({ZONE})")
-    words.add_argument("--folder", default=str(ROOT / "out/try"), help="where all of it lies (out/try)")
+    words.add_argument("--folder", default=str(folder_of_trial("out/try")), help="where all of it is (%(default)s)")
     add_program(words)
     return words
 
