@@ -66,6 +66,10 @@ def test_each_variable_of_the_scripts_is_in_the_configuration() -> None:
     assert told == used
 
 
+WRONG = os.EX_CONFIG
+"""The status of a start whose settings are wrong."""
+
+
 class Started(NamedTuple):
     """How a script of the units ended: its status, what it printed, what it told in the journal, and its folder."""
 
@@ -132,9 +136,9 @@ def wait_for(is_there: Callable[[], bool]) -> None:
 
 @pytest.mark.parametrize("key", ["", KEY[:-1], f"{KEY}0", KEY.upper(), f"{KEY[:-1]}*", "none"])
 def test_another_key_is_told_and_not_shown(cpi: Cpi, key: str, tmp_path: Path) -> None:
-    """Status 2: the unit doesn't start it again. (`none` is what the unit hands over without a file.)"""
+    """With a status that the unit doesn't start again. (`none` is what the unit hands over without a file.)"""
     started = start(cpi, tmp_path, key, CPI_ZONE="UTC0")
-    assert (started.status, started.printed, started.told.count("\n")) == (2, "", 1)
+    assert (started.status, started.printed, started.told.count("\n")) == (WRONG, "", 1)
     assert "/etc/cpi/desk-key" in started.told and "openssl rand -hex 16" in started.told
     assert ("there is no file" in started.told) == (key == "none")
     assert len(key) < 31 or key not in started.told
@@ -142,10 +146,24 @@ def test_another_key_is_told_and_not_shown(cpi: Cpi, key: str, tmp_path: Path) -
 
 def test_settings_that_are_refused_are_told_with_their_place(cpi: Cpi, tmp_path: Path) -> None:
     wanted = "cpi-serve: /etc/cpi/office.conf: invalid value '0' for CPI_PORT: 0 is no port\n"
-    assert start(cpi, tmp_path, CPI_PORT="0")[:3] == (2, "", wanted)
+    assert start(cpi, tmp_path, CPI_PORT="0")[:3] == (WRONG, "", wanted)
     none = start(cpi, tmp_path)
-    assert (none.status, none.printed, none.told.count("\n")) == (2, "", 1)
+    assert (none.status, none.printed, none.told.count("\n")) == (WRONG, "", 1)
     assert none.told.startswith("cpi-serve: /etc/cpi/office.conf isn't there")
+
+
+def test_a_wrong_setting_is_not_started_again_and_another_fault_is() -> None:
+    unit = (OPS / "cpi.service").read_text()
+    assert re.findall(r"^Restart(?:PreventExitStatus)?=(.*)$", unit, re.M) == ["always", "CONFIG CREDENTIALS"]
+
+
+@pytest.mark.parametrize("zone", ["UTC0", "Europe/Prague"])
+def test_want_of_memory_is_no_wrong_setting(cpi: Cpi, zone: str, tmp_path: Path) -> None:
+    """It may pass, so the unit tries again."""
+    broken = script(tmp_path / "broken", 'echo "cpi: out of memory" >&2\nexit 1\n')
+    started = start(cpi, tmp_path, CPI_ZONE=zone, CPI=str(broken))
+    assert (started.status, started.printed) == (1, "")
+    assert started.told == f"cpi-serve: {broken} replay: cpi: out of memory\n"
 
 
 # ---- the zone
@@ -182,7 +200,7 @@ REFUSED = ["Europe/Nowhere", "Europe", "Europe/", "/usr/share/zoneinfo/Europe/Pr
 @pytest.mark.parametrize("zone", REFUSED)
 def test_a_zone_that_is_neither_rule_nor_place_is_told(cpi: Cpi, zone: str, tmp_path: Path) -> None:
     started = start(cpi, tmp_path, CPI_ZONE=zone)
-    assert (started.status, started.printed, started.told.count("\n")) == (2, "", 1)
+    assert (started.status, started.printed, started.told.count("\n")) == (WRONG, "", 1)
     assert started.told.startswith(f"cpi-serve: /etc/cpi/office.conf: CPI_ZONE is '{zone}': wanted is a place")
     assert "Europe/Prague" in started.told and "CET-1CEST,M3.5.0,M10.5.0/3" in started.told
 
@@ -190,7 +208,7 @@ def test_a_zone_that_is_neither_rule_nor_place_is_told(cpi: Cpi, zone: str, tmp_
 def test_a_place_whose_clock_follows_no_rule_is_told(cpi: Cpi, tmp_path: Path) -> None:
     """Morocco's clock goes back for the month of Ramadan, which no such rule can say."""
     started = start(cpi, tmp_path, CPI_ZONE="Africa/Casablanca")
-    assert (started.status, started.printed, started.told.count("\n")) == (2, "", 1)
+    assert (started.status, started.printed, started.told.count("\n")) == (WRONG, "", 1)
     assert "CPI_ZONE is Africa/Casablanca, whose clock follows no rule" in started.told
 
 
@@ -201,7 +219,7 @@ def test_after_a_fault_it_waits_and_looks_whose_file_it_is(cpi: Cpi, tmp_path: P
     """A file of a later program isn't tried again; another fault is, after a second."""
     office, note = tmp_path / "office.db", tmp_path / "room/failed"
     cpi.replay([], db=office)
-    for version, status in ((2, 0), (3, 2)):
+    for version, status in ((2, 0), (3, WRONG)):
         note.parent.mkdir(exist_ok=True)
         note.write_text("exited 1\n")
         with contextlib.closing(sqlite3.connect(office)) as file, file:
