@@ -1,4 +1,5 @@
-"""The package as Debian's own tools see it: lintian finds no error, and apt-get installs it in a system of its own."""
+"""The package as Debian's own tools see it: lintian finds no error, apt-get installs it in a system of its own, and who
+upgrades a running office is told what to do."""
 
 from __future__ import annotations
 
@@ -45,8 +46,9 @@ cd /usr/share/cpi && ./cpi replay < examples/table.csv | sed -n 18,20p
 cpi-tools backup --help | head -n 1 | cut -c 1-23
 man -w cpi cpi-tools
 ! ls /etc/systemd/system/*.wants | grep '^cpi'
+stat -c '%n %U %a' /var/lib/cpi*
 apt-get purge -y -q cpi > /dev/null
-ls -d /usr/bin/cpi* /usr/share/cpi /etc/cpi 2> /dev/null | wc -l
+ls -d /usr/bin/cpi* /usr/share/cpi /etc/cpi /var/lib/cpi* 2> /dev/null | wc -l
 """
 
 WANTED = """\
@@ -57,13 +59,41 @@ cpi:Price index office:/var/lib/cpi
 usage: cpi-tools backup
 /usr/share/man/man1/cpi.1.gz
 /usr/share/man/man1/cpi-tools.1.gz
+/var/lib/cpi cpi 700
+/var/lib/cpi-backup cpi 700
+/var/lib/cpi-site cpi 755
 0
 """
 
+# A later version comes while systemd says that the office runs.
+UPGRADE = """
+cd /root
+dpkg --no-triggers -i cpi_*.deb > /dev/null
+dpkg-deb --raw-extract cpi_*.deb later
+sed -i 's/^Version: .*/Version: 99/' later/DEBIAN/control
+dpkg-deb --build later later.deb > /dev/null
+mkdir -p /run/systemd/system
+printf '#!/bin/sh\necho "$@" >> /root/asked\n' > /usr/local/bin/systemctl
+chmod +x /usr/local/bin/systemctl
+dpkg --no-triggers -i later.deb | grep '^cpi: '
+sort -u asked
+"""
 
-def test_apt_get_installs_it_and_takes_it_away(needed: Callable[[str], str], package: Path, tmp_path: Path) -> None:
-    """This asks for root, and for a system that lets it mount."""
+UPGRADED = """\
+cpi: the office still runs the program of before, and nothing restarts it. Stop it, and copy its file and log
+cpi: before you start it again: /usr/share/doc/cpi/docs/RUNNING.md, Upgrading
+--quiet is-active cpi.service
+--system daemon-reload
+"""
+
+
+@pytest.mark.parametrize("commands, wanted", [(COMMANDS, WANTED), (UPGRADE, UPGRADED)], ids=["installed", "upgraded"])
+def test_in_a_system_of_its_own(
+    needed: Callable[[str], str], package: Path, tmp_path: Path, commands: str, wanted: str
+) -> None:
+    """It comes and goes by apt-get, and an upgrade leaves a running office alone. This asks for root, and for a system
+    that lets it mount."""
     needed("apt-get")
-    words = [needed("unshare"), "--mount", "bash", "-euc", SYSTEM, "system", str(tmp_path), str(package), COMMANDS]
+    words = [needed("unshare"), "--mount", "bash", "-euc", SYSTEM, "system", str(tmp_path), str(package), commands]
     ran = subprocess.run(words, capture_output=True, text=True, check=False)
-    assert (ran.returncode, ran.stdout) == (0, WANTED), ran.stderr
+    assert (ran.returncode, ran.stdout) == (0, wanted), ran.stderr
