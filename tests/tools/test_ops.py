@@ -1,5 +1,5 @@
-"""`ops/`: the units are units, wrong settings end a start, a stop leaves one whole file, the night's script keeps what it
-should, and the fronts are files of theirs."""
+"""`ops/`: the units are units, wrong settings end a start, a stop leaves one whole file, the night's script keeps what
+it should, and the fronts are files of theirs."""
 
 from __future__ import annotations
 
@@ -85,7 +85,7 @@ STAND_IN = """\
 case $1 in replay) exec "$REAL" "$@" ;; esac
 echo "$@" >> "$FOLDER/started"
 "$REAL" replay --zone "${11}" < /dev/null || exit
-[ "$5" != 0 ] || { printf "error: invalid value '0' for '--port <port>': 0 is no port\n\nMore by --help.\n" >&2; exit 2; }
+[ "$5" != 0 ] || { printf "error: invalid value '0' for '--port <port>': 0 is no port\n\nSee --help.\n" >&2; exit 2; }
 tr -d '[:space:]' < "$7" | grep -qxE '[0-9a-f]{32}' || { echo "cpi: bad key" >&2; exit 1; }
 [ "$3" != /dev/null/none ] || { echo "cpi: database failed" >&2; exit 1; }
 echo "cpi: listening on 127.0.0.1:$5"
@@ -166,6 +166,12 @@ def test_want_of_memory_is_no_wrong_setting(cpi: Cpi, zone: str, tmp_path: Path)
     assert started.told == f"cpi-serve: {broken} replay: cpi: out of memory\n"
 
 
+def test_a_program_that_is_not_there_is_told(cpi: Cpi, tmp_path: Path) -> None:
+    started = start(cpi, tmp_path, CPI_ZONE="UTC0", CPI="/nowhere/cpi")
+    assert (started.status, started.printed, started.told.count("\n")) == (WRONG, "", 1)
+    assert started.told.startswith("cpi-serve: there is no program /nowhere/cpi")
+
+
 # ---- the zone
 
 
@@ -241,9 +247,9 @@ class Ended(NamedTuple):
 STOP = Ended("killed", "TERM")
 
 
-def stopped(cpi: Cpi, office: Path, how: Ended, program: Optional[Path] = None) -> Started:
+def stopped(cpi: Cpi, office: Path, how: Ended, program: Optional[Path] = None, room: Optional[Path] = None) -> Started:
     """What cpi-stopped does after an end of a program that served; by default the one that is installed."""
-    room = office.parent / "room"
+    room = room or office.parent / "room"
     room.mkdir(exist_ok=True)
     served = hashlib.sha256((program or cpi.path).read_bytes()).hexdigest()
     (room / "program").write_text(f"{served}  -\n")
@@ -333,8 +339,11 @@ def test_a_file_that_is_held_is_told_and_nothing_is_lost(cpi: Cpi, killed: Path)
 
 
 def test_a_file_that_is_not_there_is_not_made(cpi: Cpi, tmp_path: Path) -> None:
-    assert stopped(cpi, tmp_path / "office.db", STOP)[:3] == (0, "", "")
-    assert not (tmp_path / "office.db").exists()
+    """Nor does its folder have to be there: its disk may have gone."""
+    (tmp_path / "there").symlink_to(tmp_path / "nowhere/there")
+    for office in (tmp_path / "office.db", tmp_path / "there/office.db"):
+        assert stopped(cpi, office, STOP, room=tmp_path / "room")[:3] == (0, "", "")
+        assert not office.exists()
 
 
 # ---- the night

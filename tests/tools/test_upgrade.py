@@ -1,5 +1,5 @@
-"""Upgrade, removal and purge of the package by dpkg itself, in a root of its own: what an office set stays, and so do its
-file, its backups, its key and its website."""
+"""Upgrade, removal and purge of the package by dpkg itself, in a root of its own: what an office set stays, and so do
+its file, its backups, its key and its website."""
 
 from __future__ import annotations
 
