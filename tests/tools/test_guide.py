@@ -68,7 +68,7 @@ def test_the_commands_of_running_are_those_of_the_tools(cpi: Cpi, office: Path, 
 
 
 def test_each_help_has_an_example_and_narrow_lines() -> None:
-    tools = ("backup", "drill", "probe", "desk", "explain", "publish", "take-in", "take-out", "next-year")
+    tools = ("backup", "drill", "probe", "doctor", "desk", "explain", "publish", "take-in", "take-out", "next-year")
     for words in ([], *([tool] for tool in tools)):
         told = subprocess.run([ROOT / "cpi-tools", *words, "--help"], capture_output=True, text=True, check=True).stdout
         assert re.search(r"^example: cpi-tools [\w-]+ .*\boffice\.db\b", told, re.M), told

@@ -216,7 +216,7 @@ FAULTS: Mapping[str, Words] = {
     ),
     "database failed": Words(
         "the file is no office, another program holds it, or the disk failed",
-        "see which; every command that was answered stands",
+        "`cpi-tools doctor FILE` says which; every command that was answered stands",
     ),
     "no port": Words("the port can't be listened at", "see what listens there, or take another port"),
     "read failed": Words(
