@@ -86,7 +86,7 @@ def test_a_message_of_http_1_0_is_answered_as_one(stage: Stage) -> None:
         (f"GET /api/work/{NOW} HTTP/1.0\r\nAuthorization: CPI-Key {ANNA}", "", 200),
         (f"PUT /api/quote/1/{NOW} HTTP/1.0\r\nAuthorization: CPI-Key {ANNA}\r\nContent-Length: 9", "price,321", 200),
         ("GET /api/tables HTTP/1.0", "", 200),
-        ("POST /api/import HTTP/1.0", "items\n", 200),  # (no length: no body)
+        (f"POST /api/import HTTP/1.0\r\nAuthorization: CPI-Key {ANNA}", "items\n", 200),  # (no length: no body)
         ("GET /api/items HTTP/2.0", "", 505),
     ):
         with Peer(stage) as peer:
@@ -265,7 +265,7 @@ def test_peers_that_are_gone_shake_nothing(stage: Stage) -> None:
     """Peers that ask and are gone with a reset, without reading: the office's replies are taken all the same."""
     for number in range(10):
         with Peer(stage, number) as peer:
-            peer.send("POST /api/import HTTP/1.1\r\nHost: localhost\r\nContent-Length: 300\r\n\r\n" + "items\n" * 50)
+            peer.send(f"GET /api/work/{NOW} HTTP/1.1\r\nHost: localhost\r\nAuthorization: CPI-Key {ANNA}\r\n\r\n")
             peer.line.setsockopt(socket.SOL_SOCKET, socket.SO_LINGER, struct.pack("ii", 1, 0))
     assert answered_within(1, lambda: [timed(lambda: asked(stage, f"/api/work/{NOW}", ANNA, 99))]) == [200]
     assert stage.office and stage.office.poll() is None
@@ -305,11 +305,11 @@ def test_who_asks_faster_than_anybody_reads_is_told_to_wait(stage: Stage) -> Non
 
 
 def test_more_than_a_hundred_that_wait_are_told_to_come_again(stage: Stage) -> None:
-    """While the office stands still a hundred wait, and are answered afterwards, each once."""
+    """While the office stands still a hundred wait, and are answered afterwards, each once; each has another key."""
     refused = Semaphore(0)
 
     def told(number: int) -> int:
-        status = asked(stage, f"/api/work/{NOW}", ANNA, number)
+        status = asked(stage, f"/api/work/{NOW}", f"{number:032x}", number)
         if status == 503:
             refused.release()
         return status
@@ -323,4 +323,4 @@ def test_more_than_a_hundred_that_wait_are_told_to_come_again(stage: Stage) -> N
     with stage.standing_still(), ThreadPoolExecutor(1) as beside:
         beside.submit(go_on)
         found = all_at_once(120, told)
-    assert Counter(found) == {200: 100, 503: 20}
+    assert Counter(found) == {401: 100, 503: 20}
