@@ -12,6 +12,7 @@ import subprocess
 import threading
 import time
 from collections.abc import Callable, Iterator
+from concurrent.futures import ThreadPoolExecutor
 from pathlib import Path
 from typing import NamedTuple
 
@@ -31,13 +32,16 @@ class Office:
         self.socket = socket.create_server(("127.0.0.1", 0))
         self.port: int = self.socket.getsockname()[1]
         self.messages: list[bytes] = []
+        self.import_seconds = 0.0
         threading.Thread(target=self._serve, daemon=True).start()
 
     def _serve(self) -> None:
         while True:
             peer, _ = self.socket.accept()
             with peer:
-                self.messages.append(whole(peer))
+                message = whole(peer)
+                self.messages.append(message)
+                time.sleep(self.import_seconds if message.startswith(b"POST /import ") else 0)
                 head = f"HTTP/1.1 200 OK\r\nContent-Type: application/json\r\nContent-Length: {len(REPLY)}\r\n"
                 peer.sendall(f"{head}Connection: close\r\n\r\n".encode() + REPLY)
 
@@ -94,16 +98,16 @@ def front(needed: Callable[[str], str], tmp_path: Path) -> Iterator[Front]:
         with subprocess.Popen(words, stdout=told, stderr=told, env={**os.environ, **home}) as process:
             try:
                 found = Front(port, office, tmp_path / "log")
-                until_it_answers(found)
+                until_it_answers(found, process)
                 yield found
             finally:
                 process.terminate()
 
 
-def until_it_answers(front: Front) -> None:
+def until_it_answers(front: Front, caddy: subprocess.Popen[bytes]) -> None:
     """Waits until the pages are served."""
     deadline = time.monotonic() + 60
-    while time.monotonic() < deadline:
+    while time.monotonic() < deadline and caddy.poll() is None:
         with contextlib.suppress(OSError, http.client.HTTPException):
             if front.asked("GET", "/")[0] == 200:
                 return
@@ -141,6 +145,68 @@ def test_a_message_is_the_offices_as_it_was_sent(front: Front) -> None:
 def test_what_the_office_has_no_page_for_does_not_reach_it(method: str, path: str, status: int, front: Front) -> None:
     assert front.asked(method, path)[0] == status
     assert front.office.messages == []
+
+
+OWN = (
+    ("GET", "/api/work/2026-01", None),
+    ("GET", "/api/quotes/2026-01/2026-01", None),
+    ("PUT", "/api/quote/1/2026-01", b"price,321"),
+    ("PUT", "/api/plan/2026", b"T,00,All\n"),
+    ("POST", "/api/import", b"items\n"),
+)
+"""A message for each route that needs a key."""
+
+
+def test_who_has_no_key_costs_the_office_nothing(front: Front) -> None:
+    """Neither without the field nor with an empty one; what everybody may ask is answered with both."""
+    for headers in ({}, {"Authorization": ""}, {"Authorization": " \t"}):
+        for method, path, body in OWN:
+            assert front.asked(method, path, body=body, headers=headers) == (403, b""), (method, path)
+        assert front.office.messages == []
+        assert front.asked("GET", "/api/tables", headers=headers) == (200, REPLY)
+        assert b"authorization" not in front.office.messages.pop().lower()
+
+
+@pytest.mark.parametrize(
+    ("field", "status"),
+    [
+        (f"CPI-Key {KEY}", 200), (f"cPI-kEY   {KEY}", 200), (f"\tCPI-Key {KEY}\t ", 200),
+        (f"CPI-Key\t{KEY}", 400), (f"CPI-Key{KEY}", 400), (f"CPI-Key {KEY.upper()}", 400), (f"CPI-Key {KEY}0", 400),
+        (f"CPI-Key {KEY[1:]}", 400), (f"Bearer {KEY}", 400), (KEY, 400), (f"CPI-Key {KEY} {KEY}", 400), ("\xe9", 400),
+    ],
+)  # fmt: skip
+def test_a_field_that_the_office_reads_reaches_it_and_no_other_does(field: str, status: int, front: Front) -> None:
+    """FORMATS has the form: `CPI-Key` in any case, one or more spaces, and 32 characters 0-9 and a-f."""
+    for method, path, body in (*OWN, ("GET", "/api/tables", None)):
+        assert front.asked(method, path, body=body, headers={"Authorization": field})[0] == status, (method, path)
+        assert len(front.office.messages) == (status == 200)
+        front.office.messages.clear()
+
+
+def test_an_import_asks_sixteen_times_and_no_more(front: Front) -> None:
+    """Each row that asks, in each way that the office reads; rows that send may be as many as there is room for."""
+    rows = (b"items", b'"items"', b'""items', b'"it"ems', b"tables", b"table,2026-01,csv", b'"t"able,2026-01,csv')
+    for row in (*rows, b"work,2026-01", b'"work",2026-01', b"quotes,2026-01,2026-01", b'"quote"s,2026-01,2026-01'):
+        for end in (b"\n", b"\r", b"\r\n"):
+            for count, status in ((16, 200), (17, 413)):
+                body = b"\xef\xbb\xbf" + (row + end) * count
+                assert front.asked("POST", "/api/import", body=body, headers=keyed())[0] == status, row
+    front.office.messages.clear()
+    for row in (b"quote,1,2026-01,price,1\n", b'item,A1,"Vegetables, table","work items",1,2\n', b'"\n', b"\xff\n"):
+        body = row * (65_536 // len(row))
+        assert front.asked("POST", "/api/import", body=body, headers=keyed())[0] == 200
+        assert front.office.messages.pop().endswith(b"\r\n\r\n" + body)
+
+
+def test_imports_come_one_at_a_time_and_others_between_them(front: Front) -> None:
+    front.office.import_seconds = 0.5
+    with ThreadPoolExecutor(5) as pool:
+        imports = [pool.submit(front.asked, "POST", "/api/import", body="", headers=keyed()) for _ in range(5)]
+        while not front.office.messages:
+            time.sleep(0.01)
+        assert front.asked("GET", "/api/work/2026-01", headers=keyed()) == (200, REPLY)
+        assert {each.result() for each in imports} == {(200, REPLY)}
+    assert [message[:5] for message in front.office.messages].index(b"GET /") <= 2
 
 
 def test_a_body_whose_length_is_not_told_does_not_reach_the_office(front: Front) -> None:

@@ -253,7 +253,7 @@ def test_one_key_takes_a_third_of_the_queue(stage: Stage) -> None:
         return status
 
     with stage.standing_still(), ThreadPoolExecutor(2) as beside:
-        crowd = beside.submit(all_at_once, 50, told)
+        crowd = beside.submit(lambda: all_at_once(50, told))
         assert once(lambda: len(found) == 18)
         other = beside.submit(by_front, stage, "GET", f"/work/{NOW}", None, f"CPI-Key {BENO}")
         time.sleep(0.3)
