@@ -112,7 +112,8 @@ def until_it_answers(front: Front, caddy: subprocess.Popen[bytes]) -> None:
             if front.asked("GET", "/")[0] == 200:
                 return
         time.sleep(0.1)
-    pytest.fail("caddy doesn't answer")
+    told = (front.log.parent / "told").read_text(encoding="utf-8", errors="replace").splitlines()[-3:]
+    pytest.fail(f"caddy doesn't answer: {told}")
 
 
 def keyed(**others: str) -> dict[str, str]:
@@ -199,14 +200,19 @@ def test_an_import_asks_sixteen_times_and_no_more(front: Front) -> None:
 
 
 def test_imports_come_one_at_a_time_and_others_between_them(front: Front) -> None:
+    """Five long ones at once: a list and what a phone sends are each answered after two of them at most."""
     front.office.import_seconds = 0.5
-    with ThreadPoolExecutor(5) as pool:
-        imports = [pool.submit(front.asked, "POST", "/api/import", body="", headers=keyed()) for _ in range(5)]
+    with ThreadPoolExecutor(7) as pool:
+        long = [pool.submit(front.asked, "POST", "/api/import", body="\n" * 5000, headers=keyed()) for _ in range(5)]
         while not front.office.messages:
             time.sleep(0.01)
-        assert front.asked("GET", "/api/work/2026-01", headers=keyed()) == (200, REPLY)
-        assert {each.result() for each in imports} == {(200, REPLY)}
-    assert [message[:5] for message in front.office.messages].index(b"GET /") <= 2
+        others = [
+            pool.submit(front.asked, "GET", "/api/work/2026-01", headers=keyed()),
+            pool.submit(front.asked, "POST", "/api/import", body="\n" * 2000, headers=keyed()),
+        ]
+        assert {each.result() for each in (*long, *others)} == {(200, REPLY)}
+    short = [number for number, message in enumerate(front.office.messages) if len(message) < 4500]
+    assert len(short) == 2 and max(short) <= 3
 
 
 def test_a_body_whose_length_is_not_told_does_not_reach_the_office(front: Front) -> None:
