@@ -170,7 +170,8 @@ def place_of(address: str, port: int, folder: Path) -> Place:
         raise Fault(f"{address} is no address of this machine: {because_of(fault)}") from fault
     if is_listening(at, port):
         raise Fault(f"port {port} of {address} is taken: name another by --port")
-    return Place(host, at, port, f"unix:{folder}/plain.sock", free_port(), ROOT / "web")
+    plain, published = f"unix:{folder}/plain.sock", folder / "published"
+    return Place(host, at, port, plain, free_port(), ROOT / "web", published=published)
 
 
 def of_a_trial(folder: Path, text: str) -> str:

@@ -19,7 +19,7 @@ from typing import NamedTuple
 import pytest
 
 from conftest import ROOT
-from loads import free_port
+from lib.served import free_port
 
 KEY = "0123456789abcdef0123456789abcdef"
 REPLY = b'{"tables":[]}\n'
@@ -29,20 +29,34 @@ class Office:
     """What listens at the office's port: one connection after another, and each message as it came."""
 
     def __init__(self) -> None:
-        self.socket = socket.create_server(("127.0.0.1", 0))
-        self.port: int = self.socket.getsockname()[1]
+        self.port = free_port()
         self.messages: list[bytes] = []
         self.import_seconds = 0.0
-        threading.Thread(target=self._serve, daemon=True).start()
+        self.is_silent = False
+        self.comes()
 
-    def _serve(self) -> None:
-        while True:
-            peer, _ = self.socket.accept()
-            with peer:
-                message = whole(peer)
-                self.messages.append(message)
-                time.sleep(self.import_seconds if message.startswith(b"POST /import ") else 0)
-                head = f"HTTP/1.1 200 OK\r\nContent-Type: application/json\r\nContent-Length: {len(REPLY)}\r\n"
+    def comes(self) -> None:
+        """Listens from now on."""
+        self.socket = socket.create_server(("127.0.0.1", self.port))
+        threading.Thread(target=self._serve, args=(self.socket,), daemon=True).start()
+
+    def goes(self) -> None:
+        """Nobody listens any more."""
+        self.socket.shutdown(socket.SHUT_RDWR)
+        self.socket.close()
+
+    def _serve(self, listener: socket.socket) -> None:
+        with contextlib.suppress(OSError):
+            while True:
+                self._answer(listener.accept()[0])
+
+    def _answer(self, peer: socket.socket) -> None:
+        with peer:
+            message = whole(peer)
+            self.messages.append(message)
+            time.sleep(self.import_seconds if message.startswith(b"POST /import ") else 0)
+            head = f"HTTP/1.1 200 OK\r\nContent-Type: application/json\r\nContent-Length: {len(REPLY)}\r\n"
+            if not self.is_silent:
                 peer.sendall(f"{head}Connection: close\r\n\r\n".encode() + REPLY)
 
 
@@ -79,41 +93,62 @@ class Front(NamedTuple):
             return answer.status, answer.read()
 
 
-@pytest.fixture
-def front(needed: Callable[[str], str], tmp_path: Path) -> Iterator[Front]:
-    """Caddy, with a certificate of its own and nothing of it outside a folder."""
-    caddy, office, port = needed("caddy"), Office(), free_port()
-    shutil.copytree(ROOT / "web", tmp_path / "web")
+TRIES = 3
+"""How often Caddy is started with other ports, where somebody took one of them meanwhile."""
+
+
+def filled(folder: Path, front: Front) -> str:
+    """The file of `ops/` with its words filled in; nothing that Caddy writes lies outside of the folder."""
     text = (ROOT / "ops/Caddyfile").read_text(encoding="utf-8")
-    own = f"{{\n\tskip_install_trust\n\tadmin off\n\thttp_port {free_port()}\n\thttps_port {port}\n\tservers {{"
+    own = f"{{\n\tskip_install_trust\n\tadmin off\n\thttp_port {free_port()}\n\thttps_port {front.port}\n\tservers {{"
     assert text.count("{\n\tservers {") == 1
     text = text.replace("{\n\tservers {", own)
-    filled = {"HOST": "localhost", "PORT": office.port, "LOG": tmp_path / "log", "WEB": tmp_path / "web"}
-    for word, value in filled.items():
-        text = text.replace(f"@{word}@", str(value))
-    (tmp_path / "Caddyfile").write_text(text)
-    home = {name: str(tmp_path) for name in ("HOME", "XDG_DATA_HOME", "XDG_CONFIG_HOME")}
-    words = [caddy, "run", "--adapter", "caddyfile", "--config", str(tmp_path / "Caddyfile")]
-    with (tmp_path / "told").open("wb") as told:
+    words = {"HOST": "localhost", "PORT": str(front.office.port), "LOG": str(front.log), "WEB": f"{folder}/web"}
+    for word, value in {**words, "CONFIG": f"{folder}/set.js", "SITE": f"{folder}/site"}.items():
+        text = text.replace(f"@{word}@", value)
+    return text
+
+
+@contextlib.contextmanager
+def running(caddy: str, folder: Path) -> Iterator[subprocess.Popen[bytes]]:
+    """Caddy with the file of a folder."""
+    home = {name: str(folder) for name in ("HOME", "XDG_DATA_HOME", "XDG_CONFIG_HOME")}
+    words = [caddy, "run", "--adapter", "caddyfile", "--config", str(folder / "Caddyfile")]
+    with (folder / "told").open("wb") as told:
         with subprocess.Popen(words, stdout=told, stderr=told, env={**os.environ, **home}) as process:
             try:
-                found = Front(port, office, tmp_path / "log")
-                until_it_answers(found, process)
-                yield found
+                yield process
             finally:
                 process.terminate()
 
 
-def until_it_answers(front: Front, caddy: subprocess.Popen[bytes]) -> None:
-    """Waits until the pages are served."""
-    deadline = time.monotonic() + 60
+@pytest.fixture
+def front(needed: Callable[[str], str], tmp_path: Path) -> Iterator[Front]:
+    """Caddy before an office, with a certificate of its own."""
+    caddy, office = needed("caddy"), Office()
+    shutil.copytree(ROOT / "web", tmp_path / "web")
+    (tmp_path / "set.js").write_text("export const office = {};\n")
+    (tmp_path / "site").mkdir()
+    for _ in range(TRIES):
+        found = Front(free_port(), office, tmp_path / "log")
+        (tmp_path / "Caddyfile").write_text(filled(tmp_path, found))
+        with running(caddy, tmp_path) as process:
+            if answers(found, process):
+                yield found
+                return
+    told = (tmp_path / "told").read_text(encoding="utf-8", errors="replace").splitlines()[-1:]
+    pytest.fail(f"caddy doesn't answer: {told}")
+
+
+def answers(front: Front, caddy: subprocess.Popen[bytes]) -> bool:
+    """Waits until the pages are served, and says whether they are."""
+    deadline = time.monotonic() + 20
     while time.monotonic() < deadline and caddy.poll() is None:
         with contextlib.suppress(OSError, http.client.HTTPException):
             if front.asked("GET", "/")[0] == 200:
-                return
+                return True
         time.sleep(0.1)
-    told = (front.log.parent / "told").read_text(encoding="utf-8", errors="replace").splitlines()[-3:]
-    pytest.fail(f"caddy doesn't answer: {told}")
+    return False
 
 
 def keyed(**others: str) -> dict[str, str]:
@@ -257,8 +292,7 @@ def test_no_key_stands_in_its_log(front: Front) -> None:
 
 def test_the_policy_of_the_published_website_is_its_own(front: Front, tmp_path: Path) -> None:
     """Its bars say in the pages how long they are; all else may have no style of its own."""
-    (tmp_path / "web/published").mkdir()
-    (tmp_path / "web/published/index.html").write_text("<h1>Prices</h1>")
+    (tmp_path / "site/index.html").write_text("<h1>Prices</h1>")
     policies = {}
     for path in ("/", "/tables/", "/published/", "/published/index.html"):
         with contextlib.closing(front.line()) as line:
@@ -268,3 +302,28 @@ def test_the_policy_of_the_published_website_is_its_own(front: Front, tmp_path: 
     for path, (policy,) in policies.items():
         assert ("style-src 'self' 'unsafe-inline';" in policy) == path.startswith("/published/")
         assert "default-src 'none'; script-src 'self';" in policy
+
+
+def test_the_website_and_what_an_office_sets_lie_outside_of_the_pages(front: Front, tmp_path: Path) -> None:
+    (tmp_path / "site/data").mkdir()
+    (tmp_path / "site/data/cpi.csv").write_text("a,b\n")
+    (tmp_path / "web/published").mkdir()
+    for folder in ("web", "web/published"):
+        (tmp_path / folder / "old.txt").write_text("old")
+    with contextlib.closing(front.line()) as line:
+        for path, status, kind, body in (
+            ("/config.js", 200, "text/javascript; charset=utf-8", b"export const office = {};\n"),
+            ("/published/data/cpi.csv", 200, "text/csv; charset=utf-8", b"a,b\n"),
+            ("/published/old.txt", 404, None, b"404"),
+            ("/old.txt", 200, "text/plain; charset=utf-8", b"old"),
+            ("/published/../set.js", 404, None, b"404"),
+            ("/set.js", 404, None, b"404"),
+            ("/published", 301, None, b""),
+        ):
+            line.request("GET", path)
+            answer = line.getresponse()
+            assert (answer.status, answer.read()) == (status, body), path
+            assert kind is None or answer.getheader("Content-Type") == kind
+            assert answer.getheader("X-Content-Type-Options") == "nosniff"
+            assert answer.getheader("Cache-Control") == ("no-store" if status == 404 else "no-cache"), path
+    assert answer.getheader("Location") == "/published/"

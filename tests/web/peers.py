@@ -4,6 +4,7 @@ from __future__ import annotations
 
 import contextlib
 import http.client
+import random
 import socket
 import time
 import warnings
@@ -23,6 +24,11 @@ SECONDS = 60.0
 def address_of(number: int) -> str:
     """One of the addresses at which this machine reaches itself: limits by address take each for a client."""
     return f"127.0.{1 + number // 250}.{1 + number % 250}"
+
+
+def drawn_key() -> str:
+    """A key that nobody bears, another one each time, so that no limit of a key is met by it."""
+    return f"{random.getrandbits(128):032x}"
 
 
 class Peer:

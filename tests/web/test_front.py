@@ -16,8 +16,9 @@ from threading import Semaphore
 from typing import TypeVar
 
 from conftest import ROOT
+from cpi_tools.front import Front, standing
 from offices import ANNA, BENO, DESK, NOBODY, NOW
-from peers import Peer, address_of, all_at_once, answered_within, asked, once, timed
+from peers import Peer, address_of, all_at_once, answered_within, asked, drawn_key, once, timed
 from stage import Stage
 
 T = TypeVar("T")
@@ -180,6 +181,31 @@ def test_the_office_that_is_away_is_told_as_busy(stage: Stage) -> None:
 # ---- the pages
 
 
+def test_the_website_and_what_an_office_sets_lie_outside_of_the_pages(stage: Stage) -> None:
+    site = stage.folder / "elsewhere"
+    (site / "data").mkdir(parents=True)
+    (site / "data/cpi.csv").write_text("a,b\n")
+    (site / "set.js").write_text("export const office = {};\n")
+    place = stage.front.place._replace(config=site / "set.js", published=site)
+    stage.front.stop()
+    with standing(Front(stage.front.source, stage.folder, place)):
+        for path, status, kind, body in (
+            ("/config.js", 200, "application/javascript; charset=utf-8", b"export const office = {};\n"),
+            ("/published/data/cpi.csv", 200, "text/csv; charset=utf-8", b"a,b\n"),
+            ("/published/nothing", 404, "text/html; charset=utf-8", None),
+            ("/published../set.js", 404, "text/html; charset=utf-8", None),
+            ("/set.js", 404, "text/html; charset=utf-8", None),
+            ("/published", 301, "text/html", None),
+        ):
+            answer = stage.ask("GET", path)
+            assert (answer.status, answer.fields["Content-Type"]) == (status, kind), path
+            assert body is None or answer.body == body
+            assert answer.fields["Cache-Control"] == ("no-cache" if status == 200 else "no-store")
+            assert answer.fields["X-Content-Type-Options"] == "nosniff"
+            assert stage.ask("POST", path, body="x").status != 200
+        assert answer.fields["Location"] == "https://localhost/published/"
+
+
 def test_the_policy_of_the_pages(stage: Stage) -> None:
     for path in ("/", "/collect/", "/tables/", "/desk/", "/collect/sw.js", "/nothing", "/api/items"):
         fields = stage.ask("GET", path).fields
@@ -256,7 +282,7 @@ def test_peers_whose_messages_are_not_whole_take_no_place_in_the_queue(stage: St
     """More of them than may wait for the office: a whole message goes past all of them."""
     with contextlib.ExitStack() as peers:
         for number in range(120):
-            peers.enter_context(Peer(stage, number)).send(Peer.put(ANNA, 60_000) + "x" * 9000)
+            peers.enter_context(Peer(stage, number)).send(Peer.put(f"{number:032x}", 60_000) + "x" * 9000)
         time.sleep(0.3)
         assert asked(stage, f"/api/work/{NOW}", BENO, 130) == 200
 
@@ -276,7 +302,7 @@ def test_one_address_takes_no_more_than_its_share(stage: Stage) -> None:
     with contextlib.ExitStack() as peers:
         found = [peers.enter_context(Peer(stage, 7)) for _ in range(40)]
         for peer in found:
-            peer.send(Peer.put(ANNA, 9))
+            peer.send(Peer.put(drawn_key(), 9))
         told = [""] * len(found)
 
         def refused() -> int:

@@ -14,7 +14,7 @@ from concurrent.futures import ThreadPoolExecutor
 from typing import Any, Optional
 
 from offices import ANNA, BENO, NOBODY, NOW
-from peers import SECONDS, Peer, address_of, all_at_once, once, timed
+from peers import SECONDS, Peer, address_of, all_at_once, drawn_key, once, timed
 from stage import Stage
 
 OWN = (
@@ -65,11 +65,6 @@ def by_office(stage: Stage, method: str, path: str, body: Optional[bytes], field
 def imported(stage: Stage, key: str, body: bytes) -> int:
     """The status of an import at the front."""
     return by_front(stage, "POST", "/import", body, f"CPI-Key {key}")
-
-
-def drawn_key() -> str:
-    """A key that nobody bears, another one each time: limits of a key don't count it with those before."""
-    return f"{random.getrandbits(128):032x}"
 
 
 def head_of(key: str) -> str:

@@ -31,9 +31,9 @@ def pack(cpi: Cpi, made: Path, tmp_path_factory: pytest.TempPathFactory) -> Path
 
 @pytest.fixture
 def front(stage: Stage, pack: Path) -> Iterator[Stage]:
-    """A front whose folder of pages has the pack."""
+    """A front whose website is the pack."""
     stage.front.stop()
-    stage.front.start(lambda text: text.replace(f"root {ROOT}/web;", f"root {pack};"))
+    stage.front.start(lambda text: text.replace(f"alias {ROOT}/web/published/;", f"alias {pack}/published/;"))
     yield stage
     stage.front.stop()
     stage.front.start()

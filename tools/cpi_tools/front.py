@@ -31,8 +31,12 @@ LOCALHOST = "localhost"
 
 
 class Place(NamedTuple):
-    """Where a front listens and what it stands before: its name, address and port; where plain HTTP comes in (a port
-    with its address, or a socket), the port of the office, and the folder of its pages."""
+    """Where a front listens and what it serves: its name, address and port; where plain HTTP comes in (a port with its
+    address, or a socket), the port of the office, and the folder of its pages.
+
+    `config` is the `config.js` of the pages, and `published` the folder of the website; without them both are those of
+    the folder of the pages.
+    """
 
     host: str
     address: str
@@ -40,6 +44,8 @@ class Place(NamedTuple):
     plain: str
     office_port: int
     site: Path
+    config: Optional[Path] = None
+    published: Optional[Path] = None
 
     @property
     def url(self) -> str:
@@ -146,6 +152,8 @@ def configuration(source: Path, folder: Path, place: Place) -> str:
             "CERT": f"{folder}/site.pem",
             "CERTKEY": f"{folder}/site.key",
             "WEB": str(place.site),
+            "CONFIG": str(place.config or place.site / "config.js"),
+            "SITE": str(place.published or place.site / "published"),
             "SOCKET": f"{folder}/whole.sock",
             "CACHE": f"{folder}/cache",
             "LOG": f"{folder}/access.log",
