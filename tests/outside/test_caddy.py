@@ -327,3 +327,22 @@ def test_the_website_and_what_an_office_sets_lie_outside_of_the_pages(front: Fro
             assert answer.getheader("X-Content-Type-Options") == "nosniff"
             assert answer.getheader("Cache-Control") == ("no-store" if status == 404 else "no-cache"), path
     assert answer.getheader("Location") == "/published/"
+
+
+def test_what_is_asked_waits_for_the_office_while_nobody_listens_there(front: Front) -> None:
+    """What has a body is sent once or not at all: Caddy might send the body of another message at its second try."""
+    front.office.goes()
+    with ThreadPoolExecutor(1) as beside:
+        asked = beside.submit(front.asked, "GET", "/api/work/2026-01", headers=keyed())
+        for method, path in (("PUT", "/api/quote/1/2026-01"), ("POST", "/api/import")):
+            assert front.asked(method, path, body=b"x", headers=keyed())[0] == 502
+        front.office.comes()
+        assert asked.result() == (200, REPLY)
+    assert [message[:10] for message in front.office.messages] == [b"GET /work/"]
+
+
+def test_a_message_that_was_sent_is_not_sent_again(front: Front) -> None:
+    front.office.is_silent = True
+    for method, path in (("PUT", "/api/quote/1/2026-01"), ("POST", "/api/import")):
+        assert front.asked(method, path, body=b"x", headers=keyed())[0] == 502
+    assert len(front.office.messages) == 2

@@ -79,18 +79,10 @@ class Stage:
         if not self.front.process:
             self.front.start()
 
-    def start_office(self) -> None:
-        words = [
-            "serve",
-            "--db",
-            str(self.db),
-            "--port",
-            str(self.office_port),
-            "--desk-key",
-            DESK,
-            "--limit",
-            "1000000",
-        ]
+    def start_office(self, limit: int = 1_000_000) -> None:
+        """Starts it, for so many connections."""
+        place = ["--db", str(self.db), "--port", str(self.office_port)]
+        words = ["serve", *place, "--desk-key", DESK, "--limit", str(limit)]
         self.office = subprocess.Popen([str(self.cpi.path), *words], stdout=subprocess.PIPE)
         assert self.office.stdout
         assert self.office.stdout.readline() == f"cpi: listening on 127.0.0.1:{self.office_port}\n".encode()
