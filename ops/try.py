@@ -179,7 +179,7 @@ def of_a_trial(folder: Path, text: str) -> str:
     remember, for a year, to speak TLS alone here."""
     forgetful = re.sub(r"\n *add_header Strict-Transport-Security .*", "", text)
     certificate = f"    location = /ca.crt {{ root {folder}; }}\n\n"
-    return re.sub(r"^ *location / ", rf"{certificate}\g<0>", forgetful, count=1, flags=re.M)
+    return re.sub(r"^ *location = /config\.js ", rf"{certificate}\g<0>", forgetful, count=1, flags=re.M)
 
 
 @contextlib.contextmanager

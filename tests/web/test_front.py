@@ -114,6 +114,21 @@ def test_plain_http_is_sent_to_tls_and_nothing_of_a_query_with_it(stage: Stage) 
     assert head.startswith("HTTP/1.1 301 ") and "Location: https://localhost/collect/\r\n" in head
 
 
+def test_what_certbot_leaves_is_served_without_tls(stage: Stage) -> None:
+    """And nothing else is: the rest is sent to TLS."""
+    left = stage.folder / ".well-known/acme-challenge/a1"
+    left.parent.mkdir(parents=True, exist_ok=True)
+    left.write_text("proof")
+    stage.front.stop()
+    with standing(stage.front, lambda text: text.replace("root /var/www/html;", f"root {stage.folder};")):
+        for path, status in (("/.well-known/acme-challenge/a1", 200), ("/.well-known/x", 301), ("/site.key", 301)):
+            line = http.client.HTTPConnection("127.0.0.1", stage.plain_port, timeout=20)
+            with contextlib.closing(line):
+                line.request("GET", path)
+                answer = line.getresponse()
+                assert (answer.status, answer.read() == b"proof") == (status, status == 200), path
+
+
 def test_no_key_stands_in_a_log_of_the_front(stage: Stage) -> None:
     stage.ask("GET", f"/api/work/{NOW}", ANNA)
     stage.ask("GET", f"/api/work/{NOW}", NOBODY)
