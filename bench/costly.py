@@ -12,6 +12,7 @@ import csv
 import datetime
 import itertools
 import json
+import random
 import subprocess
 import sys
 import threading
@@ -86,6 +87,9 @@ def most_that_is_let_in(way: Way, key: str) -> list[Message]:
     return messages
 
 
+INVENTED = "invented"
+"""In the place of a key: another one for each message, which nobody bears."""
+
 Asks = list[tuple[Optional[str], list[Message]]]
 """Keys, and the messages that are sent under each, by turns."""
 
@@ -101,6 +105,7 @@ def asked_again_and_again(way: Way, asks: Asks) -> Iterator[Counter[int]]:
             turn = next(turns)
             key, messages = asks[turn % len(asks)]
             message = messages[turn // len(asks) % len(messages)]
+            key = f"{random.getrandbits(128):032x}" if key == INVENTED else key
             status, _ = way.ask(next(addresses) % 60_000, key, *message)
             with lock:
                 statuses[status] += 1
@@ -171,6 +176,7 @@ def beside(way: Way, port: Way) -> Iterator[tuple[str, float, Counter[int]]]:
     all_of_them = [message for _, message in imports]
     most = {key: most_that_is_let_in(port, key) for key in (first, *more[:9])}
     cases: list[tuple[str, Asks]] = [("nobody", []), ("no key, all of these imports", [(None, all_of_them)])]
+    cases += [("a key that nobody bears, another each time", [(INVENTED, all_of_them)])]
     cases += [(f"one key, {name}", [(first, [message])]) for name, message in imports]
     cases += [("one key, the most that an import may ask", [(first, most[first])])]
     cases += [("one key, all own quotes", [(first, [quotes])])]

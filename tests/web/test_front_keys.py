@@ -7,6 +7,7 @@ import http.client
 import itertools
 import json
 import random
+import subprocess
 import time
 from collections import Counter
 from collections.abc import Iterator
@@ -187,6 +188,23 @@ def test_a_chunked_import_asks_no_more(stage: Stage) -> None:
             peer.send(f"{head_of(drawn_key())}Connection: close\r\nTransfer-Encoding: chunked\r\n\r\n")
             peer.line.sendall(sent)
             assert peer.rest().startswith(f"HTTP/1.1 {status} ".encode()), (body[:6], len(body), size)
+
+
+def test_an_import_of_http_2_asks_no_more(stage: Stage) -> None:
+    """With its length and without: as browsers send it, and in pieces."""
+    words = ["curl", "-s", "--http2", "--cacert", f"{stage.folder}/ca.crt", "-o", "/dev/null"]
+    for body, status in (
+        (b"items\n" * MOST_ASKED, 200),
+        (b"items\n" * (MOST_ASKED + 1), 413),
+        (b"quote\n" * 10_922, 200),
+        (b"items\n" * 10_922, 413),
+        (b"", 200),
+    ):
+        for field in ("Content-Type: text/csv", "Content-Length:"):  # (curl leaves out an empty one)
+            sent = ["-w", "%{http_version} %{http_code}", "--data-binary", "@-", "-H", field]
+            key = ["-H", f"Authorization: CPI-Key {drawn_key()}", f"{stage.url}/api/import"]
+            ran = subprocess.run([*words, *sent, *key], input=body, stdout=subprocess.PIPE, check=True)
+            assert ran.stdout.decode() == f"2 {status}", (body[:6], len(body), field)
 
 
 # ---- what one key may take
