@@ -176,7 +176,8 @@ def beside(way: Way, port: Way) -> Iterator[tuple[str, float, Counter[int]]]:
     all_of_them = [message for _, message in imports]
     most = {key: most_that_is_let_in(port, key) for key in (first, *more[:9])}
     cases: list[tuple[str, Asks]] = [("nobody", []), ("no key, all of these imports", [(None, all_of_them)])]
-    cases += [("a key that nobody bears, another each time", [(INVENTED, all_of_them)])]
+    sent: Message = ("POST", "/import", full("quote"))
+    cases += [("a key that nobody bears, another each time, 10,922 rows `quote`", [(INVENTED, [sent])])]
     cases += [(f"one key, {name}", [(first, [message])]) for name, message in imports]
     cases += [("one key, the most that an import may ask", [(first, most[first])])]
     cases += [("one key, all own quotes", [(first, [quotes])])]
