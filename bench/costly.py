@@ -182,6 +182,7 @@ def beside(way: Way, port: Way) -> Iterator[tuple[str, float, Counter[int]]]:
     cases += [("one key, the most that an import may ask", [(first, most[first])])]
     cases += [("one key, all own quotes", [(first, [quotes])])]
     cases += [("one key, all of it", [(first, [*most[first], quotes, *all_of_them])])]
+    cases += [("ten keys, the most that an import may ask", [(key, most[key]) for key in most])]
     cases += [("ten keys, all of it", [(key, [*most[key], quotes, *all_of_them]) for key in most])]
     for name, asks in cases:
         waits = waited(way, other, asks)
