@@ -230,6 +230,23 @@ def test_one_key_has_one_import_at_a_time_from_wherever_it_comes(stage: Stage) -
     assert imported(stage, key, b"items\n") == 200
 
 
+def test_the_office_has_two_long_imports_at_a_time(stage: Stage) -> None:
+    """Whoever sends them; what a phone sends at once is no long one: fifty rows."""
+    long, short = b"quote\n" * 700, b"quote,400,2026-11,comparable,100000000,confirm\n" * 50
+    with ThreadPoolExecutor(3) as beside:
+        stage.relay.held.set()
+        try:
+            asked = [beside.submit(imported, stage, drawn_key(), long) for _ in range(2)]
+            assert once(lambda: len(stage.relay.seen) == 2)
+            assert imported(stage, drawn_key(), long) == 429
+            asked.append(beside.submit(imported, stage, drawn_key(), short))
+            assert once(lambda: len(stage.relay.seen) == 3)
+        finally:
+            stage.relay.held.clear()
+        assert [each.result() for each in asked] == [200] * 3
+    assert imported(stage, drawn_key(), long) == 200
+
+
 def test_a_key_is_counted_whatever_its_peers_do(stage: Stage) -> None:
     """A peer that is gone before its reply gives no other one room: the office has that import still."""
     key = drawn_key()
