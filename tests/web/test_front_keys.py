@@ -297,6 +297,14 @@ def test_one_key_takes_a_third_of_the_queue(stage: Stage) -> None:
         assert other.result() == 200
 
 
+def test_who_asks_faster_than_anybody_reads_is_told_to_wait_wherever_it_comes_from(stage: Stage) -> None:
+    """Twenty messages a second, and a hundred more at once, are a key's; another key is served meanwhile."""
+    key = drawn_key()
+    found = all_at_once(250, lambda _: by_front(stage, "GET", f"/work/{NOW}", None, f"CPI-Key {key}"))
+    assert set(found) <= {401, 429, 503} and found.count(429) > 10
+    assert by_front(stage, "GET", f"/work/{NOW}", None, f"CPI-Key {BENO}") == 200
+
+
 def test_no_key_that_is_refused_stands_in_a_log(stage: Stage) -> None:
     key = drawn_key()
     for field in (f"CPI-Key {key}", f"Bearer {key}", key.upper()):
