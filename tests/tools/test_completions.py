@@ -125,7 +125,7 @@ COMPLETED = [
     ("cpi-tools desk what-if --reason ", ["stock", "closed", "gone", "refused"]),
     ("cpi-tools desk close office.db 2026-01 --carry a", ["ask", "all"]),
     ("cpi-tools backup --rep", ["--replace"]),
-    ("cpi-tools no-tool --", ["--help"]),
+    ("cpi-tools no-tool --", ["--help", "--version"]),
 ]
 FILES = ["cpi replay --db ", "cpi replay --db of", "cpi serve --db=", "cpi-tools backup of", "cpi-tools probe --file o"]
 

@@ -21,6 +21,15 @@ def block_behind(guide: str, words: str) -> str:
     return re.sub("^    ", "", found[1], flags=re.M)
 
 
+def fenced_behind(guide: str, words: str) -> str:
+    """The first block of commands with a fence behind some words."""
+    found = re.search(
+        r"^```sh\n(.*?)^```$", (ROOT / guide).read_text(encoding="utf-8").partition(words)[2], re.M | re.S
+    )
+    assert found, f"{guide} has no commands behind {words}"
+    return found[1]
+
+
 def ran(commands: str, folder: Path, cpi: Cpi) -> subprocess.CompletedProcess[str]:
     """Commands in a folder that has the program, the tools and the examples."""
     for name in ("cpi-tools", "examples"):
@@ -34,20 +43,20 @@ def ran(commands: str, folder: Path, cpi: Cpi) -> subprocess.CompletedProcess[st
 
 def test_an_office_is_backed_up_and_drilled_while_it_is_served(cpi: Cpi, tmp_path: Path) -> None:
     """The commands of RUNNING, over the office of an example that is being served."""
-    assert ran("./cpi replay --db office.db < examples/table.csv > replies.txt", tmp_path, cpi).returncode == 0
-    commands = "".join(block_behind("docs/RUNNING.md", heading) for heading in ("## A backup", "## A drill"))
+    made = "mkdir out && ./cpi replay --db out/office.db < examples/table.csv > replies.txt"
+    assert ran(made, tmp_path, cpi).returncode == 0
+    commands = "".join(fenced_behind("docs/RUNNING.md", heading) for heading in ("## A backup", "## A drill"))
     assert commands.count("./cpi-tools ") == 2
-    with served(cpi, tmp_path / "office.db", free_port()):
+    with served(cpi, tmp_path / "out/office.db", free_port()):
         told = ran(commands, tmp_path, cpi)
     assert told.returncode == 0, told.stderr
     assert "backup/office.db: nothing is wrong; 3 tables with 16 rows and 6 carried prices computed" in told.stdout
 
 
-def test_the_commands_of_running_are_those_of_the_tools(cpi: Cpi, office: Path, tmp_path: Path) -> None:
-    """Backup, drill, restore and probe, as the guide has them; what belongs to systemd is left out of it."""
-    for heading in ("## A backup", "## A drill"):
-        told = ran(block_behind("docs/RUNNING.md", heading), tmp_path, cpi)
-        assert (told.returncode, told.stderr) == (0, "")
+def test_a_backup_is_restored(cpi: Cpi, office: Path, tmp_path: Path) -> None:
+    """By the commands of RUNNING, but for those of systemd."""
+    made = ran("./cpi-tools backup office.db backup/office.db", tmp_path, cpi)
+    assert (made.returncode, made.stderr) == (0, "")
     restore = block_behind("docs/RUNNING.md", "## To restore")
     assert restore.count("systemctl") == 2
     backup = tmp_path / "backup/office.db"
@@ -60,11 +69,6 @@ def test_the_commands_of_running_are_those_of_the_tools(cpi: Cpi, office: Path, 
     assert office.read_bytes() == backup.read_bytes()
     assert not (tmp_path / "office.db-wal").exists()
     assert sorted(os.listdir(tmp_path / "before")) == ["office.db", "office.db-wal"]
-    port = free_port()
-    with served(cpi, office, port):
-        probe = block_behind("docs/RUNNING.md", "## A probe").strip()
-        told = ran(f"{probe} --url http://127.0.0.1:{port}", tmp_path, cpi)
-    assert told.stdout.startswith("CPI OK: "), told.stdout
 
 
 def test_each_help_has_an_example_and_narrow_lines() -> None:

@@ -21,7 +21,7 @@ from conftest import ROOT
 from test_ops import UNITS, needed
 
 INPUTS = ["tools", "docs", "ops", "web", "examples", "dist", "README.md", "LICENSE", "CHANGELOG.md", "THIRD-PARTY.md",
-          "crates.txt"]  # fmt: skip
+          "SECURITY.md", "CONTRIBUTING.md", "crates.txt"]  # fmt: skip
 """All that a package is made of."""
 
 

@@ -45,14 +45,12 @@ class Narrow:
     def __init__(self, cpi: Cpi, file: Path, most: int):
         self.cpi, self.file, self.most, self.port = cpi, file, most, free_port()
         self.output, self.number = file.with_name("serve.log"), 0
-        # (a program without --version is one that says nothing as it opens its file again)
-        asked = subprocess.run([str(cpi.path), "--version"], capture_output=True, check=False)
-        self.is_silent = asked.returncode != 0
 
     @contextlib.contextmanager
     def served(self) -> Iterator[None]:
         """Serves it meanwhile, and kills it then."""
-        words = [str(self.cpi.path), *words_of(str(self.file), self.port, 1000, key=DESK_KEY)]
+        # (with 1,000 the program would say at once that these are left)
+        words = [str(self.cpi.path), *words_of(str(self.file), self.port, 999, key=DESK_KEY)]
         with self.output.open("ab") as output:
             before = self.output.stat().st_size
             with subprocess.Popen(words, stdout=output, stderr=output, preexec_fn=self._limit) as process:
@@ -87,17 +85,11 @@ class Narrow:
         return self.output.read_text().count(REFUSED)
 
     def says_refused(self, before: int) -> None:
-        """Waits until it is said that a request was refused. Of a program that says nothing of it the line is put
-        there, with the time of before it opens its file again."""
+        """Waits until it is said that a request was refused."""
         now = time.time()
-        if not self.is_silent:
-            while self.refusals() == before:
-                assert time.time() < now + SECONDS, self.output.read_text()
-                time.sleep(0.01)
-            return
-        with self.output.open("a") as output:
-            output.write(f"{REFUSED}\n")
-        os.utime(self.output, (now, now))
+        while self.refusals() == before:
+            assert time.time() < now + SECONDS, self.output.read_text()
+            time.sleep(0.01)
 
     def told(self, capsys: pytest.CaptureFixture[str], *more: str) -> tuple[int, str]:
         """The status of a probe, and what it says before its figures."""
