@@ -49,8 +49,7 @@ class Narrow:
     @contextlib.contextmanager
     def served(self) -> Iterator[None]:
         """Serves it meanwhile, and kills it then."""
-        # (with 1,000 the program would say at once that these are left)
-        words = [str(self.cpi.path), *words_of(str(self.file), self.port, 999, key=DESK_KEY)]
+        words = [str(self.cpi.path), *words_of(str(self.file), self.port, 1000, key=DESK_KEY)]
         with self.output.open("ab") as output:
             before = self.output.stat().st_size
             with subprocess.Popen(words, stdout=output, stderr=output, preexec_fn=self._limit) as process:

@@ -16,14 +16,15 @@ use clap::error::ErrorKind;
 use clap::{ArgMatches, Command, Error};
 use std::alloc::{AllocError, Global};
 
-const ZONE_HELP: &str = "The clock's POSIX rule, like CET-1CEST,M3.5.0,M10.5.0/3; else UTC0";
+const ZONE_HELP: &str = "The clock's rule, like CET-1CEST,M3.5.0,M10.5.0/3; else UTC0";
 
-const FILE_HELP: &str = "The database file of the office; it is made where it isn't there";
+const FILE_HELP: &str = "The database file of the office, made if it isn't there";
 
-const KEY_HELP: &str =
-    "The key of the desk, 32 characters of 0-9 and a-f; every user of the machine can see it";
+const TABLE_FILE_HELP: &str = "The database file of the office";
 
-const KEY_FILE_HELP: &str = "The file that holds the key of the desk, in place of --desk-key";
+const KEY_HELP: &str = "The key of the desk itself, 32 characters of 0-9 and a-f";
+
+const KEY_FILE_HELP: &str = "The file that holds the key of the desk";
 
 // A subcommand that has no option yet.
 fn subcommand<'a>(alloc: Global, name: &'a str, about: &'a str, after: &'a str) -> Command<'a>
@@ -87,7 +88,7 @@ fn table_command<'a>(alloc: Global) -> Result<Command<'a>, AllocError>
         "Prints the table of a month as it was published by a moment",
         help::TABLE,
     )
-    .arg(required(alloc, "db", FILE_HELP))?
+    .arg(required(alloc, "db", TABLE_FILE_HELP))?
     .arg(required(alloc, "month", "The month, like 2026-01"))?
     .arg(required(alloc, "form", "text or csv"))?
     .arg(number(

@@ -37,7 +37,7 @@ where
     }
 }
 
-// Reports on standard error how many connections are left, when these are few.
+// Reports on standard error that so many connections are left, if the number is one of those that it reports.
 fn report_left<R: Eprint>(rt: &R, left: u32) {
     if matches!(left, 100_000 | 10_000 | 1000) {
         let _ = eprintln!(rt; "cpi: {left} connections of --limit are left");
@@ -71,7 +71,6 @@ pub fn serve_book<R: Clock + Eprint, B: Book>(
 {
     let mut office = Office::new(alloc, book);
     for served in 0..limit {
-        report_left(rt, limit - served);
         let Ok((stream, _)) = listener.accept() else {
             continue;
         };
@@ -79,8 +78,9 @@ pub fn serve_book<R: Clock + Eprint, B: Book>(
             return (office.into_book(), Err(RunFault::NoClock));
         };
         let outcome = serve_connection(alloc, rt, &stream, now, desk, &mut office);
+        let left = limit - served - 1;
+        report_left(rt, left);
         if let Some(shake) = shake_of(outcome) {
-            let left = limit - served - 1;
             report_shake(rt, shake, left);
             return (office.into_book(), Ok(left));
         }
