@@ -10,9 +10,9 @@ Each relative link of each document points to a file that is there, and its #anc
 each name of code that it tells is there, and no paragraph or cell is too long (tests/lib/documents.py).
 
 Each help says what its command reads and writes, an example and the exit statuses. The examples of `replay` and `table`
-run in a folder with the records of examples/table.csv: what they print is what the program answers in memory; that of
-`serve` runs until it listens, or is told that its port is taken. The program has to be named `cpi`, and `curl` has to
-be there. A check is a block, a document, or a help.
+run in a folder with the records of examples/table.csv and a key of the desk: what they print is what the program
+answers in memory; that of `serve` runs until it listens, or is told that its port is taken. The program has to be named
+`cpi`, and `curl` has to be there. A check is a block, a document, or a help.
 """
 
 from __future__ import annotations
@@ -166,6 +166,8 @@ def help_fault(program: Program, command: list[str]) -> Fault:
         return f"it lacks {lacking}, and has wide lines {wide}"
     with tempfile.TemporaryDirectory() as room:
         shutil.copy(RECORDS, f"{room}/records.csv")
+        with open(f"{room}/desk-key", "w", encoding="utf-8") as file:
+            print("0123456789abcdef" * 2, file=file)
         if command == ["table"]:
             program.replay(cases.content(RECORDS), f"{room}/office.db")
         tried = try_example(program, room, example[1], command == ["serve"])
