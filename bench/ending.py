@@ -26,7 +26,9 @@ def served_again(words: list[str]) -> Iterator[None]:
 
     def keep() -> None:
         while not over.is_set():
-            with subprocess.Popen([*words, "--limit", str(CONNECTIONS)], stdout=subprocess.DEVNULL) as office:
+            with subprocess.Popen(
+                [*words, "--limit", str(CONNECTIONS)], stdout=subprocess.DEVNULL, stderr=subprocess.DEVNULL
+            ) as office:
                 while office.poll() is None:
                     if over.wait(0.005):
                         office.kill()
