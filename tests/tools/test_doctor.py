@@ -132,7 +132,9 @@ def test_a_log_that_lost_its_file_is_named(cpi: Cpi, tmp_path: Path, quick: None
     office.unlink()
     before = log_beside(office).read_bytes()
     said = told(cpi, office)
-    assert said.startswith("there is no such file, but its log office.db-wal is there, with something in it: cpi makes ")
+    assert said.startswith(
+        "there is no such file, but its log office.db-wal is there, with something in it: cpi makes "
+    )
     assert not opens(cpi, office) and not office.exists() and log_beside(office).read_bytes() == before
 
 
