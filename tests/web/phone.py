@@ -10,6 +10,14 @@ from browser import Browser
 from offices import ANNA
 
 
+EDITED = "const it = document.getElementById('entry'); return it.open ? it.dataset.entry : null;"
+
+ASKS = """
+return !document.getElementById("entry-refusal").hidden || document.getElementById("price-fault").textContent !== "";
+"""
+"""Whether the form asks something, or says what is wrong."""
+
+
 class Phone:
     """A browser with the page of a collector."""
 
@@ -49,9 +57,43 @@ class Phone:
         self.browser.click(f'[data-slot="{slot}"]')
         self.browser.wait(lambda: self.browser.run("return document.getElementById('entry').open"), "the form")
 
+    def edited(self) -> Optional[str]:
+        """The month and the slot of the form, as `2026-11/3`, or none if it is closed."""
+        found: Optional[str] = self.browser.run(EDITED)
+        return found
+
     def enter(self, slot: int, price: Optional[str] = None, mark: str = "price", reason: Optional[str] = None) -> None:
-        """Fills in the form of a slot and saves it."""
+        """Fills in the form of a slot and saves it; the form of the next row, which comes then, is closed."""
         self.edit(slot)
+        self.fill(price, mark, reason)
+        self.browser.wait(lambda: self.edited() != f"{self.month()}/{slot}" or self.browser.run(ASKS), "saved, or asked")
+        self.leave(slot)
+
+    def month(self) -> str:
+        """The month that is shown, as `2026-11`."""
+        found: str = self.browser.run_until("return (await import('/collect/state.js')).state.month")
+        return found
+
+    def leave(self, slot: int) -> None:
+        """Closes the form if it is another slot's by now."""
+        if self.edited() not in (None, f"{self.month()}/{slot}"):
+            self.close()
+
+    def save(self) -> None:
+        """Saves the form; that of the next row, which comes then, is closed."""
+        before = self.edited()
+        self.browser.click("#entry-save")
+        self.browser.wait(lambda: self.edited() != before, "it is saved")
+        if self.edited():
+            self.close()
+
+    def close(self) -> None:
+        """Closes the form."""
+        self.browser.click("#entry-cancel")
+        self.browser.wait(lambda: self.edited() is None, "the form is closed")
+
+    def fill(self, price: Optional[str] = None, mark: str = "price", reason: Optional[str] = None) -> None:
+        """Fills in the form that is open, and saves it."""
         self.browser.click(f'#entry input[value="{mark}"][name="mark"]')
         if reason:
             self.browser.click(f'#entry input[value="{reason}"][name="reason"]')
@@ -69,9 +111,15 @@ class Phone:
             price,
         )
         self.wait_told(slot, "To be sent")
+        self.browser.run("document.getElementById('entry').close();")
 
     def confirm(self) -> None:
+        """Confirms the price that the form asks about; the form of the next row, which comes then, is closed."""
+        before = self.edited()
         self.browser.click("#entry-confirm")
+        self.browser.wait(lambda: self.edited() != before, "it is saved")
+        if self.edited():
+            self.close()
 
     def press(self, *keys: str) -> None:
         """Presses keys, wherever the focus is."""

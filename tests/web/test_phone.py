@@ -137,7 +137,7 @@ def test_what_is_no_price_is_told_and_not_sent(phone: Phone, stage: Stage) -> No
     phone.sign_in()
     before = len(stage.relay.seen)
     phone.edit(1)
-    for text in ("", "0", "3.211", "1e3", "-3", "3.2.1", "1000000.01"):
+    for text in ("", "0", "3.2115", "1e3", "-3", "3.2.1", "1000000.01"):
         phone.browser.run("document.getElementById('price-fault').textContent = ''")
         phone.browser.type("#price", text)
         phone.browser.click("#entry-save")
@@ -191,7 +191,7 @@ def test_a_slip_is_mended(phone: Phone, stage: Stage) -> None:
     phone.browser.wait_text("#entry-refusal", "far from the last one")
     phone.browser.type("#price", "4.85")
     assert phone.browser.text("#entry-refusal") == ""
-    phone.browser.click("#entry-save")
+    phone.save()
     phone.show("all")
     phone.wait_told(2, f"Receipt {NEXT}")
     assert stored(stage, 2) == [("price", 485, NEXT)]
@@ -241,7 +241,7 @@ def test_a_refusal_is_told_in_words(phone: Phone) -> None:
     phone.browser.click("#month-before")
     phone.show("all")
     phone.wait_told(1, "Receipt 7")
-    phone.enter(1, "3.30")
+    phone.enter(1, "3.10")
     phone.wait_told(1, "Refused")
     phone.edit(1)
     assert "Refused (24). The window has closed. Tell the desk" in phone.browser.text("#entry-refusal")
@@ -263,6 +263,7 @@ def test_the_month_that_is_shown_is_asked_for_however_fast_one_turns(phone: Phon
     phone.show("all")
     phone.wait_told(1, "Receipt 7")
     phone.browser.click("#month-after")
+    phone.send()  # (its list is new, so it is asked for only by hand)
     phone.wait_told(1, f"Receipt {NEXT}")
 
 
@@ -326,7 +327,6 @@ def test_a_receipt_is_kept_though_the_lists_behind_it_dont_come(phone: Phone) ->
     phone.browser.cdp("Network.setBlockedURLs", urls=["*/api/work/*", "*/api/quotes/*"])
     try:
         phone.enter(1, "3.21")
-        phone.browser.wait_text("#line", "No line")
         phone.wait_told(1, f"Receipt {NEXT}")
         phone.open()
         phone.browser.wait_text("#line", "No line")
@@ -513,7 +513,7 @@ def test_a_new_version_of_the_files_takes_the_place_of_the_old_one(phone: Phone,
     browser.run_until("await caches.open('another');")
     before = browser.run_until(VERSION)
     changed(site, "index.html", "<h1>Price collection</h1>", "<h1>New collection</h1>")
-    changed(site, "list.js", '"All sent"', '"All is sent"')
+    changed(site, "head.js", '"All sent"', '"All is sent"')
     changed(site, "sw.js", 'const VERSION = "', 'const VERSION = "new')
     phone.open()
     browser.wait_text("#line", "All sent")
@@ -776,7 +776,8 @@ def test_the_key_stands_in_no_address_cookie_storage_or_log(phone: Phone, stage:
         " await (await caches.open(name)).keys()) found.push(new URL(url).pathname); return found;"
     )
     assert [path for path in kept if path.startswith("/api/")] == []
-    assert len(kept) == 19 and "/config.js" in kept
+    files = re.findall(r'"(?:\./|[^"]+\.\w+)"', (ROOT / "web/collect/sw.js").read_text().partition("];")[0])
+    assert len(kept) == len(files) + 1 and "/config.js" in kept
     assert ANNA not in stage.logs()
 
 
@@ -803,9 +804,8 @@ def test_by_keyboard_alone(phone: Phone, stage: Stage) -> None:
     phone.browser.wait(lambda: focused("id") == "price")
     phone.press("3.21", Keys.ENTER)
     assert stage.wait_for_quotes(ANNA) == [[1, NOW, "price", 321, NEXT]]
-    phone.browser.wait(lambda: focused("dataset.slot") == "2", "the next that is to do")
-    phone.press(Keys.ENTER)
-    phone.browser.wait(is_open)
+    phone.browser.wait(lambda: phone.edited() == f"{NOW}/2", "the next that is to do")
+    assert is_open() and focused("id") == "price"
     phone.press(Keys.ESCAPE)
     phone.browser.wait(lambda: not is_open())
     assert focused("dataset.slot") == "2"

@@ -1,21 +1,19 @@
-// The page of a collector: signing in and out, and what is shown. An entry goes to the phone first, then to the office.
-import { ask, keyOf, NO_KEY, NoAnswer } from "../shared/api.js";
+// The page of a collector. An entry goes to the phone first, then to the office.
 import { find } from "../shared/dom.js";
-import { moved } from "../shared/months.js";
-import { toCollector } from "../shared/refusals.js";
+import { showDeadline } from "./deadline.js";
 import * as entry from "./entry.js";
+import * as exported from "./export.js";
+import { notice, showHead } from "./head.js";
 import * as line from "./line.js";
-import { notice, render, show, showLine } from "./list.js";
-import { counted, signedOut, state, takeItems, takeKept, whyNotKept } from "./state.js";
-import * as store from "./store.js";
+import { choose, jump } from "./list.js";
+import * as search from "./search.js";
+import * as session from "./session.js";
+import * as shownMonth from "./shown-month.js";
+import { state } from "./state.js";
+import { whyNotKept } from "./told.js";
+import * as unsent from "./unsent.js";
 
-const others = new BroadcastChannel("cpi-collect"); // the tabs beside this one
-
-async function start() {
-  const key = await store.storedKey();
-  if (key) await enter(key);
-  else showSignIn();
-}
+const MINUTE = 60_000; // milliseconds
 
 /** The files of the page are kept, so that it opens without a line. */
 async function keepFiles() {
@@ -37,118 +35,17 @@ function takesOver(worker) {
   if (worker) go();
 }
 
-// ---- Signing in and out
-
-function showSignIn() {
-  find("work").hidden = true;
-  find("leave").hidden = true;
-  find("sign-in").hidden = false;
-  find("key-fault").textContent = "";
-  find("line").textContent = "";
-  find("key").focus();
-}
-
-async function signIn(event) {
-  event.preventDefault();
-  const key = keyOf(find("key").value);
-  const fault = key ? await keyFault(key) : NO_KEY;
-  find("key-fault").textContent = fault;
-  if (fault) return;
-  await store.keepKey(key);
-  await navigator.storage?.persist?.().catch(() => false); // asks the browser not to clear what isn't sent
-  find("sign-in-form").reset();
-  find("key").type = "password";
-  others.postMessage("key");
-  await enter(key);
-}
-
-/** Why a key opens nothing here, or no text. */
-async function keyFault(key) {
-  try {
-    const { work, refused } = await ask("GET", `/work/${state.month}`, { key });
-    if (work || refused === 21) return "";
-    return refused === 12 ? "This key isn’t a collector’s." : toCollector({ refused });
-  } catch (fault) {
-    if (!(fault instanceof NoAnswer)) throw fault;
-    if (fault.kind !== "line") return "The office is busy. Try again in a moment.";
-    return "There is no line to the office. Sign in once with a line; afterwards the page works without.";
-  }
-}
-
-async function enter(key) {
-  state.who = await store.nameOf(key);
-  state.key = key;
-  find("sign-in").hidden = true;
-  find("work").hidden = false;
-  find("leave").hidden = false;
-  takeItems(await store.items());
-  await show();
-  await line.again();
-}
-
-function signOut() {
-  const count = state.entries.length;
-  find("leaving-text").textContent = count
-    ? `${counted(count, "entry", "entries")} on this phone ${count === 1 ? "hasn’t" : "haven’t"} been stored by the `
-      + "office. Signing out throws them away."
-    : "Everything has been sent. The key and the lists are removed from this phone.";
-  find("leaving-go").textContent = count ? "Throw away and sign out" : "Sign out";
-  find("leaving").returnValue = "stay";
-  find("leaving").showModal();
-}
-
-async function left() {
-  if (find("leaving").returnValue !== "leave") return;
-  const { who } = state;
-  cleared();
-  await store.forget(who);
-  others.postMessage("key");
-  showSignIn();
-}
-
-/** Leaves nothing of a collector in the page. */
-function cleared() {
-  line.rest();
-  entry.forget();
-  Object.assign(state, signedOut());
-  takeKept(null, []);
-  notice("");
-  render();
-}
-
-/** Another tab signed out, or another collector in: this one goes the same way. */
-async function follow() {
-  if ((await store.storedKey()) === (state.key ?? undefined)) return;
-  cleared();
-  find("leaving").close("stay");
-  await start();
-}
-
-// ---- Events
-
-async function toMonth(by) {
-  state.month = moved(state.month, by);
-  notice("");
-  await show();
-  await line.again();
-}
-
 function listen() {
-  find("sign-in-form").addEventListener("submit", signIn);
-  find("key-shown").addEventListener("change", ({ target }) => {
-    find("key").type = target.checked ? "text" : "password";
-  });
-  find("leave").addEventListener("click", signOut);
-  find("leaving").addEventListener("close", left);
   for (const view of ["todo", "all", "quotes"]) {
     find(`show-${view}`).addEventListener("click", () => {
       state.view = view;
-      render();
+      choose();
     });
   }
-  find("month-before").addEventListener("click", () => toMonth(-1));
-  find("month-after").addEventListener("click", () => toMonth(1));
-  find("send").addEventListener("click", line.again);
+  find("month-before").addEventListener("click", () => shownMonth.turn(-1));
+  find("month-after").addEventListener("click", () => shownMonth.turn(1));
+  find("send").addEventListener("click", line.refreshAll);
+  find("jump").addEventListener("click", jump);
   find("list").addEventListener("click", (event) => {
     const button = event.target.closest("[data-slot]");
     if (button) entry.edit(Number(button.dataset.slot));
@@ -156,22 +53,39 @@ function listen() {
   addEventListener("online", line.again);
   addEventListener("offline", () => {
     state.line = "down";
-    if (state.who) showLine();
+    if (state.who) showHead();
   });
-  document.addEventListener("visibilitychange", () => { if (!document.hidden) line.again(); });
-  others.addEventListener("message", follow);
+  document.addEventListener("visibilitychange", returned);
   addEventListener("unhandledrejection", ({ reason }) => notice(told(reason)));
+  setInterval(passed, MINUTE);
 }
 
-/** A fault that nothing else has told: the browser's, which keeps nothing, or the page's own. */
+/** The collector has come back to the page. */
+async function returned() {
+  if (document.hidden || !state.who) return;
+  await shownMonth.follow();
+  if (!entry.isOpen()) choose();
+  await line.refresh();
+}
+
+/** A minute has passed. */
+async function passed() {
+  if (!state.who) return;
+  showDeadline();
+  await shownMonth.follow();
+}
+
+/** An error that nothing else has told: the browser's, which keeps nothing, or the page's own. */
 function told(fault) {
   return fault instanceof DOMException ? `The page can’t keep what it needs here: ${whyNotKept(fault)}`
-    : `The page met a fault: ${fault?.message ?? fault}. Load it anew.`;
+    : `The page met an error: ${fault?.message ?? fault}. Load it anew.`;
 }
 
-line.on.far = entry.lookAgain;
-line.on.gone = follow;
-entry.listen();
+line.on.gone = session.followOthers;
+line.on.settled = entry.settled;
+unsent.on.open = entry.edit;
+unsent.on.dropped = entry.dropped;
+for (const part of [entry, exported, search, session, unsent]) part.listen();
 listen();
 keepFiles();
-start();
+session.start();

@@ -1,166 +1,160 @@
-// The form of one entry: what was found, its price or why there is none, and the second look.
-import { find, make } from "../shared/dom.js";
-import { bounds, figures, shown, typed } from "../shared/money.js";
-import { toCollector } from "../shared/refusals.js";
-import { again } from "./line.js";
-import { focusAfter, show } from "./list.js";
-import { entryOf, rowOf, state, storedOf, whyNotKept } from "./state.js";
+// The form of one entry: what was found, its price or why there is none, and the second look before it closes.
+import { find } from "../shared/dom.js";
+import { figures, typed } from "../shared/money.js";
+import * as form from "./form.js";
+import { send } from "./line.js";
+import { focusOn, nextToDo, touch } from "./list.js";
+import { farFrom } from "./look.js";
+import { entryAt, isToDo, rowOf, state, storedOf, takeEntries, takeEntry } from "./state.js";
 import * as store from "./store.js";
+import * as tabs from "./tabs.js";
+import { whyNotKept } from "./told.js";
 
-let editing = null; // { slot, row, month }
+let editing = null; // { month, slot, row, entry, stored, seen, isListed, wasToDo }
+let isSaving = false;
 
-const form = () => find("entry-form");
-const isReplacement = (mark) => mark === "comparable" || mark === "other";
+const UNKNOWN = (slot) => [slot, null, "", "", `Slot ${slot}`, "", null, null, null];
 
-/** Opens the form of a slot. */
-export function edit(slot) {
-  const row = rowOf(slot);
-  if (!row) return;
-  editing = { slot, row, month: state.month };
-  const [, , outlet, , text, unit, last] = row;
-  const entry = entryOf(slot), stored = storedOf(slot);
-  const [mark, value] = entry ? [entry.mark, entry.value] : stored ? [stored[2], stored[3]] : ["price", ""];
-  find("entry-outlet").textContent = outlet;
-  find("entry-item").textContent = `${text}, ${unit}`;
-  find("entry-last").textContent = toldLast(row);
-  for (const radio of form().mark) {
-    radio.checked = radio.value === mark;
-    radio.disabled = last === null && isReplacement(radio.value) && radio.value !== mark;
+/** Opens the form of a slot, or fills it in anew; of another month than the one shown, from its entry. */
+export function edit(slot, month = state.month) {
+  const isShown = month === state.month, entry = entryAt(month, slot);
+  const row = (isShown && rowOf(slot)) || entry?.row || UNKNOWN(slot);
+  const stored = isShown ? storedOf(slot) : undefined;
+  const isListed = isShown && Boolean(rowOf(slot));
+  const seen = Math.max(entry?.seen ?? 0, stored?.[4] ?? 0, entry?.state === "moved" ? entry.reply.receipt : 0);
+  editing = { month, slot, row, entry, stored, seen, isListed, wasToDo: isListed && isToDo(slot) };
+  form.fill(editing);
+  if (!isOpen()) {
+    form.tellSaved(null);
+    find("entry").showModal();
   }
-  for (const radio of form().reason) radio.checked = mark === "missing" && radio.value === value;
-  find("price").value = mark === "missing" || value === "" ? "" : figures(value);
-  find("price-fault").textContent = "";
-  find("entry-drop").hidden = !entry;
-  showRefusal(entry?.state === "refused" ? entry.reply : null);
-  showFields();
-  if (!find("entry").open) find("entry").showModal();
-  if (mark !== "missing") {
-    find("price").focus();
-    find("price").select();
-  }
+  if (form.markOf() !== "missing") form.focusPrice();
 }
 
-/** Opens the form of a slot that the office has a question about, unless another one is open. */
-export function lookAgain(slot) {
-  if (!find("entry").open) edit(slot);
-}
-
-/** The bounds of a slot's price as its item has them, or null where there are none. */
-function boundsOf([, , , item, , , last]) {
-  const tolerance = state.tolerance.get(item);
-  return last === null || !tolerance ? null : bounds(last, ...tolerance);
-}
-
-function toldLast(row) {
-  if (row[6] === null) return "There is no last price.";
-  const found = boundsOf(row);
-  const between = found ? ` Taken without a second look: ${shown(found.low)} to ${shown(found.high)}.` : "";
-  return `Last price ${shown(row[6])}.${between}`;
-}
-
-function showFields() {
-  const mark = form().mark.value;
-  find("entry-price").hidden = mark === "missing";
-  find("entry-reason").hidden = mark !== "missing";
-  find("entry-hint").textContent = editing.row[6] === null ? "A replacement needs an earlier price of this slot." : "";
-}
-
-function showRefusal(reply) {
-  const isFar = reply?.refused === 26;
-  find("entry-refusal").hidden = !reply;
-  find("entry-last").hidden = isFar; // the refusal tells the same
-  find("entry-confirm").hidden = !isFar;
-  find("entry-save").hidden = isFar; // until something is changed
-  find("entry-refusal").replaceChildren(...(reply ? refusalTold(reply, isFar) : []));
-}
-
-function refusalTold(reply, isFar) {
-  if (!isFar) return [make("strong", {}, `Refused (${reply.refused}).`), make("span", {}, ` ${toCollector(reply)}`)];
-  return [make("strong", {}, "This price is far from the last one. Look again."),
-    make("span", { class: "bounds" },
-      `Last price ${shown(reply.last)}; without a second look ${shown(reply.low)} to ${shown(reply.high)} is taken.`)];
-}
-
-/** The mark that the form shows, or null with its fault told. */
+/** The mark that the form shows, or null with what is wrong with it, or asked about it, shown. */
 function chosen() {
-  const mark = form().mark.value;
-  const fault = (text) => {
-    find("price-fault").textContent = text;
-    return null;
-  };
+  const mark = form.markOf();
   if (mark === "missing") {
-    const reason = form().reason.value;
-    return reason ? { mark, value: reason } : fault("Choose a reason.");
+    const value = form.reasonOf();
+    return value ? { mark, value } : form.tellFault("Choose a reason.");
   }
-  const value = typed(find("price").value);
-  if (value !== null) return { mark, value };
-  find("price").focus();
-  return fault(`Write the price with figures, such as ${figures(210)}.`);
+  const read = typed(find("price").value);
+  if (read?.price) return { mark, value: read.price };
+  if (read?.readings) return form.askReading(read.readings);
+  form.focusPrice();
+  return form.tellFault(`Write the price with figures, such as ${figures(210)}.`);
 }
 
-/** Without a line the phone itself asks for a second look, by the bounds that it shows. With one the office does. */
-function farFrom({ mark, value }, row) {
-  const found = state.line === "down" && (mark === "price" || mark === "comparable") ? boundsOf(row) : null;
-  return found && (value < found.low || value > found.high) ? { refused: 26, ...found } : null;
-}
-
-/** Keeps what the form says on the phone, and sends it: the office gives what it has stored already its receipt. */
-export async function save(isConfirmed) {
-  const choice = chosen();
+/** Keeps what the form says on the phone, and sends it; the form of the next row comes in its place. */
+async function save(isConfirmed) {
+  const choice = isSaving ? null : chosen();
   if (!choice) return;
-  const { slot, row, month } = editing;
-  find("price-fault").textContent = "";
-  const far = isConfirmed ? null : farFrom(choice, row);
-  if (far) {
-    showRefusal(far);
-    find("entry-confirm").focus();
-    return;
-  }
-  if (!(await isKept({ slot, month, ...choice, confirm: isConfirmed, state: "waiting" }))) return;
-  find("entry").close();
-  await show();
-  focusAfter(slot);
-  await again();
+  const far = isConfirmed ? null : farFrom(choice, editing.row);
+  // (the focus stays with the price, so that a key that is pressed twice confirms nothing)
+  if (far) form.showQuestion({ state: "refused", reply: far });
+  else await keep({ ...choice, confirm: isConfirmed });
 }
 
-/** Whether an entry is on the phone's disk. Where there is no room, say, the form stays and tells so. */
-async function isKept(entry) {
+/** Puts an entry on the phone's disk, and goes on. If there is no room, say, the form stays and tells so. */
+async function keep(choice) {
+  const edited = editing, { month, slot, row, seen } = edited;
+  form.tellFault("");
+  const typedBefore = form.awaitTyping();
+  isSaving = true;
   try {
-    return await store.keepEntry(state, entry);
+    const kept = await store.keepEntry(state, { month, slot, row, seen, ...choice, state: "waiting" });
+    if (kept) goOn(kept, edited, form.typedSince(typedBefore));
   } catch (fault) {
-    find("price-fault").textContent = `This entry isn’t kept: ${whyNotKept(fault)}`;
-    return false;
+    form.tellFault(`This entry isn’t kept: ${whyNotKept(fault)}`);
+  } finally {
+    isSaving = false;
   }
 }
 
-async function drop() {
-  const { slot, month } = editing;
-  await store.dropEntry(state.who, month, slot);
+/** Shows an entry that was kept, goes on to the next row that is to do, and sends. */
+function goOn(kept, edited, text) {
+  if (kept.who !== state.who) return; // (signed out meanwhile, in another tab)
+  takeEntry(kept);
+  tabs.tell("entries");
+  const { slot, row, wasToDo } = edited;
+  const next = wasToDo && isOpen() && editing === edited ? nextToDo(slot) : null;
+  if (next !== null) {
+    form.tellSaved(kept, row[1] !== rowOf(next)[1]);
+    edit(next);
+    form.goOnTyping(text);
+  } else if (editing === edited) {
+    close();
+  }
+  touch([slot]);
+  send(kept);
+}
+
+/** The office has answered entries: the form that is open knows the receipt of its own. */
+export function settled(answered) {
+  for (const [{ month, slot }, { receipt = 0 }] of answered) {
+    if (editing?.month === month && editing.slot === slot) editing.seen = Math.max(editing.seen, receipt);
+  }
+}
+
+function close() {
+  const { slot, isListed } = editing;
   find("entry").close();
-  await show();
-  focusAfter(slot);
+  if (isListed) focusOn(slot);
+}
+
+/** Takes an entry back: the office's own, if it has one, is what counts. */
+async function drop() {
+  const { entry, slot, month } = editing;
+  const isDropped = await store.dropEntry(entry);
+  await dropped(entry);
+  if (isDropped) {
+    close();
+  } else {
+    edit(slot, month);
+    form.tellFault("The office has answered meanwhile, so it can’t be taken back. Look at it again.");
+  }
+}
+
+/** Shows that an entry was dropped. */
+export async function dropped({ who, slot }) {
+  takeEntries(await store.entries(who));
+  tabs.tell("entries");
+  touch([slot]);
+}
+
+/** Sends an entry in the place of the one that another device has stored since. */
+function sendMine() {
+  const { mark, value, confirm } = editing.entry;
+  keep({ mark, value, confirm });
 }
 
 /** Closes the form, and leaves nothing of its slot in the page. */
 export function forget() {
   find("entry").close();
   editing = null;
-  for (const name of ["outlet", "item", "last", "refusal", "hint"]) find(`entry-${name}`).textContent = "";
-  form().reset();
+  form.empty();
 }
+
+export const isOpen = () => find("entry").open;
 
 /** The events of the form. */
 export function listen() {
-  form().addEventListener("submit", (event) => {
+  form.listen(() => editing);
+  form.on.reading = (price) => {
+    find("price").value = figures(price);
+    save(false);
+  };
+  find("entry-form").addEventListener("submit", (event) => {
     event.preventDefault();
     save(false);
   });
-  form().addEventListener("change", (event) => {
-    if (event.target.name === "mark") showFields();
-    showRefusal(null);
-  });
-  find("price").addEventListener("input", () => showRefusal(null));
   find("entry-confirm").addEventListener("click", () => save(true));
+  find("entry-mine").addEventListener("click", sendMine);
+  find("entry-theirs").addEventListener("click", drop);
   find("entry-drop").addEventListener("click", drop);
-  find("entry-cancel").addEventListener("click", () => find("entry").close());
+  find("entry-cancel").addEventListener("click", close);
+  find("entry").addEventListener("cancel", (event) => {
+    event.preventDefault();
+    close();
+  });
 }

@@ -1,22 +1,44 @@
-// The line to the office: sends what waits, asks for the lists anew, and tries again by itself.
-import { ask, NoAnswer } from "../shared/api.js";
+// The connection to the office: sends what is due, asks for the lists when they are wanted, and tries again by itself.
+import { NoAnswer } from "../shared/api.js";
 import { toCollector } from "../shared/refusals.js";
-import { notice, show, showLine } from "./list.js";
-import { sendAll } from "./send.js";
-import { state, takeItems, waitingCount } from "./state.js";
+import { notice, showHead } from "./head.js";
+import { render, show, showCounts, touch } from "./list.js";
+import { fetchLists, isOld } from "./lists.js";
+import { dueIn, made, sendAll } from "./send.js";
+import { state, takeEntries, takeKept } from "./state.js";
 import * as store from "./store.js";
+import * as tabs from "./tabs.js";
 
 const LONGEST_WAIT = 60; // seconds between two tries
+const LONGEST_TIMER = 900; // seconds
 
 let isGoing = false; // a try is under way
 let isAsked = false; // another one was asked for meanwhile
+let isAll = false; // what was refused for a while is to be sent too
+let wanted = ""; // the lists that are wanted: "", "lists", or "whole" with the items
 let tries = 0, timer = 0;
 
-/**
- * What is done where the office finds a price far from the last one, by its slot, and where another tab has signed out;
- * the page sets both.
- */
-export const on = { far: () => {}, gone: () => {} };
+/** What is done when another tab has signed out, and with entries that were answered; the page sets both. */
+export const on = { gone: () => {}, settled: () => {} };
+
+/** Sends an entry that was just made. */
+export function send(entry) {
+  if (state.line === "up") made(entry);
+  return again();
+}
+
+/** Sends what waits and asks for the lists: always at the start, else if those of the month are old. */
+export function refresh(isStart = false) {
+  if ((isStart || isOld()) && !wanted) wanted = "lists";
+  return again();
+}
+
+/** Sends all that may be stored by now, and asks for all lists: the collector wants it. */
+export function refreshAll() {
+  wanted = "whole";
+  isAll = true;
+  return again();
+}
 
 /** Tries now, however long the page meant to wait. */
 export async function again() {
@@ -37,30 +59,34 @@ export async function again() {
 /** No more tries by itself. */
 export function rest() {
   clearTimeout(timer);
-  isAsked = false;
+  isAsked = isAll = false;
+  wanted = "";
 }
 
-/** One tab at a time: what it is told of the lists is never older than what another one has sent. */
-const alone = (work) => navigator.locks.request("cpi-collect-line", work);
+/** One tab at a time: what it hears of the lists is never older than what another one has sent. */
+const byItself = (work) => navigator.locks.request("cpi-collect-line", work);
 
 async function once() {
   const { who } = state;
   clearTimeout(timer);
-  showLine();
-  let wait = null; // seconds to wait at least, where not all went well
+  showHead();
+  let wait = null; // seconds to wait at least, if not all went well
   try {
-    wait = await alone(exchanged);
+    wait = await byItself(exchanged);
   } catch (fault) {
     if (!(fault instanceof NoAnswer)) throw fault;
-    if (state.who === who) state.line = fault.kind === "line" ? "down" : "busy";
+    if (state.who === who) state.line = { line: "down", odd: "odd" }[fault.kind] ?? "busy";
     wait = fault.wait;
   }
   if (state.who !== who || !who) return;
-  await show();
-  if (wait === null && waitingCount() === 0) return;
-  const after = Math.max(wait ?? 0, Math.min(LONGEST_WAIT, 2 ** tries));
-  tries += 1;
-  timer = setTimeout(later, after * 1000 * (0.75 + Math.random() / 2));
+  if (state.list) showCounts();
+  else render(); // (which says why there is none)
+  const due = Math.min(...state.entries.map((entry) => dueIn(entry)), Infinity) / 1000;
+  if (wait === null && !wanted && due === Infinity) return;
+  const isLate = wait !== null || wanted || due === 0;
+  const after = isLate ? Math.max(wait ?? 0, Math.min(LONGEST_WAIT, 2 ** tries)) * (0.75 + Math.random() / 2) : due;
+  tries = isLate ? tries + 1 : 0;
+  timer = setTimeout(later, Math.min(after, LONGEST_TIMER) * 1000);
 }
 
 /** A try whose wait grows from one to the next. */
@@ -71,46 +97,50 @@ async function later() {
   await going;
 }
 
-/** Sends and asks; seconds to wait where the office didn't take all, else null. */
+/** Sends, and asks for the lists; seconds to wait if the office didn't take all, else null. */
 async function exchanged() {
-  const { key, who } = state;
+  const { key, who } = state, isWhole = isAll;
+  isAll = false;
+  if (state.line !== "up") state.line = "unknown"; // (until the office answers, or doesn't)
   if ((await store.storedKey()) !== key) {
     await on.gone();
     return null;
   }
-  const wait = await sent({ key, who });
-  if (state.who === who) await asked({ key, who }, wait === null);
-  return wait;
+  const wait = toldWait({ who }, await sendAll({ key, who }, isWhole, (answered) => settled({ key, who }, answered)));
+  if (state.who !== who) return null;
+  takeEntries(await store.entries(who));
+  return wait === null && wanted ? listed({ key, who }) : wait;
 }
 
-async function sent(collector) {
-  const refusal = await sendAll(collector, async (answered) => {
-    if (state.who !== collector.who) return;
-    state.line = "up";
-    await show();
-    const far = answered.find(([{ month }, { refused }]) => refused === 26 && month === state.month);
-    if (far) on.far(far[0].slot);
-  });
-  if (state.who !== collector.who || !refusal) return null;
+/** Shows a refusal of all; seconds to wait then, or null. */
+function toldWait({ who }, refusal) {
+  if (state.who !== who || !refusal) return null;
   notice(toCollector(refusal));
   return refusal.refused === 11 ? LONGEST_WAIT : 0;
 }
 
-/** Asks for the lists of the month. Where all that waited was taken, what was told before is over. */
-async function asked(collector, isTaken) {
-  const { key, who } = collector, { month } = state;
-  const paths = [`/work/${month}`, `/quotes/${month}/${month}`, "/items"];
-  const [work, quotes, items] = await Promise.all(paths.map((path, n) => ask("GET", path, n < 2 ? { key } : {})));
+/** Takes what was answered, and shows it in its place. */
+async function settled({ who }, answered) {
   if (state.who !== who) return;
   state.line = "up";
-  if (work.work && quotes.quotes) {
-    await store.keepList(collector, month, { work: work.work, quotes: quotes.quotes, at: Date.now() });
-    if (isTaken && state.month === month) notice("");
-  } else if (state.month === month) {
-    notice(toCollector(work.refused ? work : quotes));
-  }
-  if (items.items) {
-    await store.keepItems(items.items);
-    takeItems(items.items);
-  }
+  notice("");
+  const [list, entries] = await Promise.all([store.listOf(who, state.month), store.entries(who)]);
+  if (state.who !== who) return;
+  takeKept(list ?? null, entries);
+  touch(answered.filter(([{ month }]) => month === state.month).map(([{ slot }]) => slot));
+  on.settled(answered);
+  tabs.tell("answered");
+}
+
+/** Asks for the lists; seconds to wait if they are refused, else null. */
+async function listed(collector) {
+  const { month } = state, asked = wanted;
+  const refusal = await fetchLists(collector, asked === "whole");
+  if (state.who !== collector.who) return null;
+  state.line = "up";
+  if (state.month !== month) return null; // (that month's list is wanted still)
+  if (wanted === asked) wanted = "";
+  await show();
+  notice(refusal ? toCollector(refusal) : "");
+  return refusal?.refused === 11 ? LONGEST_WAIT : null;
 }

@@ -1,55 +1,76 @@
-// The work list of a month by outlet, what the office has stored, and the state of the line above them.
+// The work list of a month by outlet, and what the office has stored. Rows don't move while one works: what is shown is
+// chosen with the view, and then a row changes in its place.
 import { becomes, find, make } from "../shared/dom.js";
 import { shown } from "../shared/money.js";
 import { clockOf, dayOf, inWords } from "../shared/months.js";
-import { counted, entryOf, inMarks, rowOf, state, storedOf, takeKept, toldOf, waitingCount } from "./state.js";
+import { showDeadline } from "./deadline.js";
+import { showHead } from "./head.js";
+import * as search from "./search.js";
+import { entryOf, isToDo, rowOf, state, storedOf, takeKept } from "./state.js";
 import * as store from "./store.js";
+import { inMarks, stillStored, toldOf } from "./told.js";
+import * as unsent from "./unsent.js";
+
+let open = new Set(); // the slots that To do shows
 
 /** Reads what the phone has kept, and shows it. */
 export async function show() {
   const { who, month } = state;
   const [list, entries] = await Promise.all([store.listOf(who, month), store.entries(who)]);
-  if (state.who !== who || state.month !== month) return; // (another one shows what is there by now)
+  if (state.who !== who || state.month !== month) return; // (another call shows what is there by now)
   takeKept(list ?? null, entries);
   render();
 }
 
-export function notice(text) {
-  find("notice").textContent = text;
-  find("notice").hidden = !text;
+/** Chooses the rows that the view shows from now on. */
+export function choose() {
+  open = new Set((state.list?.work ?? []).map(([slot]) => slot).filter(isOpen));
+  unsent.choose();
+  render();
 }
 
-export function showLine() {
-  const waiting = waitingCount();
-  const kept = waiting ? `: ${counted(waiting, "entry", "entries")} kept on this phone` : "";
-  const left = waiting ? `${waiting} to be sent` : "";
-  const texts = { down: `No line${kept}`, busy: `The office is busy${kept}`, up: left || "All sent" };
-  find("line").textContent = texts[state.line] ?? left;
-  find("line").dataset.line = waiting && state.line === "up" ? "waiting" : state.line;
-}
+const isOpen = (slot) => toldOf(slot)[0] !== "good";
 
+/** Shows all of it. */
 export function render() {
-  showLine();
   find("month").textContent = inWords(state.month);
   for (const view of ["todo", "all", "quotes"]) {
     find(`show-${view}`).setAttribute("aria-pressed", String(state.view === view));
   }
-  showProgress();
   becomes(find("list"), make("div", { id: "list" }, ...listed()));
+  search.filter();
+  showCounts();
 }
 
-function showProgress() {
+/** Shows what has changed of some slots of the month. */
+export function touch(slots) {
+  if (state.view === "quotes") {
+    render();
+    return;
+  }
+  for (const slot of slots) {
+    const row = rowOf(slot), item = find(`slot-${slot}`);
+    if (!row || !item) continue;
+    becomes(item.firstChild, slotButton(row));
+    const section = item.closest(".outlet");
+    becomes(section.querySelector(".count"), countSpan(rowsOf(row[1])));
+  }
+  showCounts();
+}
+
+/** What is counted, above the list and in the head. */
+export function showCounts() {
   const { work = [], at } = state.list ?? {};
-  const stored = work.filter((row) => toldOf(row[0])[0] === "good").length;
-  find("progress").textContent = state.list ? `${stored} of ${work.length} stored, as of ${timeOf(at)}` : "";
+  const stored = work.filter(([slot]) => storedOf(slot)).length;
+  const when = at && (new Date(at).toDateString() === new Date().toDateString() ? clockOf(at) : dayOf(at));
+  find("progress").textContent = state.list ? `${stored} of ${work.length} stored, list of ${when}` : "";
   find("done").hidden = work.length === 0;
   find("done").max = work.length || 1;
   find("done").value = stored;
-}
-
-/** The time of today, or the day. */
-function timeOf(at) {
-  return new Date(at).toDateString() === new Date().toDateString() ? clockOf(at) : dayOf(at);
+  find("jump").disabled = state.view === "quotes" || !work.some(([slot]) => isToDo(slot));
+  unsent.render();
+  showDeadline();
+  showHead();
 }
 
 const empty = (text) => make("p", { class: "empty" }, text);
@@ -66,6 +87,8 @@ function listed() {
   return [empty(isDone ? "All done: everything of this month is stored." : "Nothing to price in this month.")];
 }
 
+const rowsOf = (outlet) => state.list.work.filter((row) => row[1] === outlet);
+
 /** A section for each outlet with something to show, in the order of the office's list. */
 function outletSections() {
   const outlets = new Map();
@@ -77,24 +100,28 @@ function outletSections() {
 }
 
 function outletSection(number, rows) {
-  const open = rows.filter((row) => ["todo", "bad"].includes(toldOf(row[0])[0])).length;
-  const shownRows = state.view === "todo" ? rows.filter((row) => toldOf(row[0])[0] !== "good") : rows;
-  if (shownRows.length === 0) return null;
-  return make("section", { class: "outlet", id: `at-${number}`, "aria-labelledby": `outlet-${number}` },
-    make("h3", { id: `outlet-${number}` }, make("span", { class: "others" }, rows[0][2]),
-      make("span", { class: "count" }, open ? `${open} to do` : "all entered")),
-    make("ul", {}, ...shownRows.map((row) => make("li", { id: `slot-${row[0]}` }, slotButton(row)))));
+  const rowsShown = state.view === "todo" ? rows.filter(([slot]) => open.has(slot) || isOpen(slot)) : rows;
+  if (rowsShown.length === 0) return null;
+  return make("details", { class: "outlet", id: `at-${number}`, "data-outlet": number, open: !search.isFolded(number) },
+    make("summary", {}, make("h3", {}, make("bdi", {}, rows[0][2])), countSpan(rows)),
+    make("ul", {}, ...rowsShown.map((row) => make("li", { id: `slot-${row[0]}` }, slotButton(row)))));
+}
+
+function countSpan(rows) {
+  const count = rows.filter(([slot]) => ["todo", "bad"].includes(toldOf(slot)[0])).length;
+  return make("span", { class: "count" }, count ? `${count} to do` : "all entered");
 }
 
 function slotButton([slot, , , , text, unit, last]) {
-  const [kind, told] = toldOf(slot);
-  const entry = entryOf(slot), stored = storedOf(slot);
+  const [kind, told] = toldOf(slot), entry = entryOf(slot), stored = storedOf(slot);
   const mark = entry ? inMarks(entry.mark, entry.value) : stored ? inMarks(stored[2], stored[3]) : "";
   return make("button", { class: "slot", type: "button", "data-slot": slot },
-    make("span", { class: "what others" }, make("span", { class: "item" }, text), make("span", { class: "unit" },
-      `${unit} · last ${last === null ? "none" : shown(last)}`)),
+    make("span", { class: "what" },
+      make("bdi", { class: "item" }, text),
+      make("span", { class: "unit" }, make("bdi", {}, unit), ` · last ${last === null ? "none" : shown(last)}`)),
     make("span", { class: "told" },
-      make("span", { class: "mark" }, mark), make("span", { class: `chip ${kind}` }, told)));
+      make("span", { class: "mark" }, mark), make("span", { class: `chip ${kind}` }, told),
+      make("span", { class: "still" }, stillStored(slot))));
 }
 
 function quotesTable() {
@@ -109,15 +136,34 @@ function quotesTable() {
 function quoteRow([slot, , mark, value, receipt]) {
   const row = rowOf(slot);
   return make("tr", { "data-quote": slot },
-    make("td", { class: "others" }, make("span", { class: "item" }, row?.[4] ?? `Slot ${slot}`),
-      make("span", { class: "unit" }, row?.[2] ?? "")),
+    make("td", {}, make("bdi", { class: "item" }, row?.[4] ?? `Slot ${slot}`),
+      make("span", { class: "unit" }, make("bdi", {}, row?.[2] ?? ""))),
     make("td", { class: "number" }, inMarks(mark, value)), make("td", { class: "number" }, receipt));
 }
 
-/** The focus goes on to the next slot that is to do, behind one that was entered. */
-export function focusAfter(slot) {
-  const buttons = [...find("list").querySelectorAll("[data-slot]")];
-  const at = buttons.findIndex((button) => Number(button.dataset.slot) === slot);
-  const next = buttons.slice(at + 1).concat(buttons).find((button) => button.querySelector(".chip.todo"));
-  (next ?? buttons[at] ?? find("show-all")).focus();
+// ---- From row to row
+
+/** The next slot that is to do behind one, in the order of the list; after the last the first. Null if none is. */
+export function nextToDo(slot) {
+  const slots = (state.list?.work ?? []).map((row) => row[0]).filter((it) => search.isFound(rowOf(it)));
+  const at = slots.indexOf(slot);
+  return slots.slice(at + 1).concat(slots.slice(0, at + 1)).find(isToDo) ?? null;
+}
+
+let at = null; // the slot whose row had the focus last
+
+/** The focus goes to the row of a slot, which is brought into sight; to the views if it isn't there. */
+export function focusOn(slot) {
+  const button = find(`slot-${slot}`)?.firstChild;
+  if (button) button.closest("details").open = true;
+  const target = button && !button.parentElement.hidden ? button : find("show-all");
+  target.scrollIntoView({ block: "center" });
+  target.focus({ preventScroll: true });
+  at = slot;
+}
+
+/** The focus goes to the next row that is to do. */
+export function jump() {
+  const next = nextToDo(at);
+  if (next !== null) focusOn(next);
 }

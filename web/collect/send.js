@@ -1,33 +1,102 @@
 // Sends the entries of the phone. One tab at a time does (line.js), so that a later mark is never overtaken.
-import { ask } from "../shared/api.js";
+import { ask, NoAnswer } from "../shared/api.js";
+import { hasMovedOn } from "./quotes.js";
 import * as store from "./store.js";
 
 const ROWS = 50; // rows of one import: the office serves one after another, so nobody holds it for long
+
+/** Seconds after which an entry that was refused for a while is tried again, at first, and at most. */
+const FIRST_WAIT = 60, LONGEST_WAIT = 900;
+
+/**
+ * Refusals that may be over later: the month has no window yet (21), the slot is another collector's (22), the window
+ * isn't open (23), it has closed (24).
+ */
+const FOR_A_WHILE = new Set([21, 22, 23, 24]);
+
+/** Versions of entries that were made while the office answered; nothing is looked up for so many milliseconds. */
+const fresh = new Set(), FRESH = 60_000;
+
+/** An entry was just made, and the office answers. */
+export const made = ({ version }) => fresh.add(version);
+
+const isFresh = ({ version, at }) => fresh.has(version) && Date.now() - at < FRESH;
 
 /** The row of an import that an entry is. */
 export function recordOf({ slot, month, mark, value, confirm }) {
   return `quote,${slot},${month},${mark},${value}${confirm ? ",confirm" : ""}`;
 }
 
+/** In how many milliseconds an entry is to be sent: 0 for now, Infinity if it waits for its collector. */
+export function dueIn({ state, reply, tried, times = 0 }, now = Date.now()) {
+  if (state === "waiting") return 0;
+  if (state !== "refused" || !FOR_A_WHILE.has(reply.refused)) return Infinity;
+  const wait = Math.min(LONGEST_WAIT, FIRST_WAIT * 2 ** times);
+  // (a clock that was set back doesn't hold it up for longer)
+  return Math.min(Math.max(0, (tried ?? 0) + wait * 1000 - now), wait * 1000);
+}
+
 /**
- * Sends what waits, and tells of each import which entries were answered. Null once all of it was answered; a refusal
- * of all where the office took no more, of which the rest waits; or throws NoAnswer. Sending again what was stored
- * gives its receipt again.
+ * Sends what is due, and tells of each import which entries were answered; with `isAll` what was refused for a while is
+ * due. Null once all of it was answered; a refusal of all if the office took no more, and the rest waits; or throws
+ * NoAnswer. Sending again what was stored gives its receipt again.
  */
-export async function sendAll(collector, onSettled) {
+export async function sendAll(collector, isAll, onSettled) {
+  const isDue = (entry) => dueIn(entry, isAll ? Infinity : undefined) === 0;
+  const refusal = await lookUp(collector, isDue);
+  if (refusal) return refusal;
+  const done = new Set(); // versions
   for (;;) {
-    const waiting = (await store.entries(collector.who)).filter((entry) => entry.state === "waiting").slice(0, ROWS);
-    if (waiting.length === 0) return null;
-    const body = waiting.map((entry) => `${recordOf(entry)}\n`).join("");
-    const reply = await ask("POST", "/import", { key: collector.key, body });
-    if (reply.rows?.length !== waiting.length) return { refused: reply.refused ?? 90 };
-    const end = reply.rows.findIndex((told) => !told.receipt && !isOwn(told));
-    const answered = waiting.map((entry, n) => [entry, reply.rows[n]]).slice(0, end < 0 ? ROWS : end);
+    const due = (await store.entries(collector.who)).filter((entry) => isDue(entry) && !done.has(entry.version));
+    const sent = due.slice(0, ROWS);
+    if (sent.length === 0) return null;
+    for (const { version } of sent) done.add(version);
+    const rows = await imported(collector, sent);
+    if (!Array.isArray(rows)) return rows;
+    const end = rows.findIndex((row) => !isOwn(row));
+    const answered = sent.map((entry, n) => [entry, rows[n]]).slice(0, end < 0 ? ROWS : end);
     if (!(await store.settle(collector, answered))) return null; // (signed out meanwhile)
     await onSettled(answered);
-    if (end >= 0) return reply.rows[end];
+    if (end >= 0) return rows[end];
   }
 }
 
-/** Whether a refusal is of this entry alone: not the key's (11), and not the office's memory or disk (90). */
+/** The replies to the rows of an import, or the refusal of all of it. Throws NoAnswer, also if it makes no sense. */
+async function imported({ key }, sent) {
+  try {
+    const reply = await ask("POST", "/import", { key, body: sent.map((entry) => `${recordOf(entry)}\n`).join("") });
+    if (isRefusal(reply)) return reply;
+    if (!isReplyTo(sent, reply)) throw new NoAnswer("odd");
+    for (const { version } of sent) fresh.delete(version);
+    return reply.rows;
+  } catch (fault) {
+    fresh.clear(); // (what waits from now on may be overtaken)
+    throw fault;
+  }
+}
+
+const isRefusal = (reply) => Number.isInteger(reply?.refused);
+const isReceipt = (reply) => Number.isInteger(reply?.receipt) && reply.receipt > 0;
+const isReplyTo = (sent, { rows }) => Array.isArray(rows) && rows.length === sent.length
+  && rows.every((row) => isReceipt(row) || isRefusal(row));
+
+/** Whether an answer is of this entry only: not the key's refusal (11), nor of the office's memory or disk (90). */
 const isOwn = ({ refused }) => refused !== 11 && refused !== 90;
+
+/**
+ * Looks up what the office has of the months of entries that weren't sent at once. Of those that another device has
+ * overtaken meanwhile the collector is asked. A refusal of all, or null; throws NoAnswer.
+ */
+async function lookUp(collector, isDue) {
+  const late = (await store.entries(collector.who)).filter((entry) => isDue(entry) && !isFresh(entry));
+  for (const month of new Set(late.map((entry) => entry.month))) {
+    const reply = await ask("GET", `/quotes/${month}/${month}`, { key: collector.key });
+    if (isRefusal(reply)) return reply;
+    if (!Array.isArray(reply.quotes)) throw new NoAnswer("odd");
+    const quotes = new Map(reply.quotes.map((row) => [row[0], row]));
+    const moved = late.filter((entry) => entry.month === month)
+      .map((entry) => [entry, quotes.get(entry.slot)]).filter(([entry, quote]) => hasMovedOn(entry, quote));
+    if (moved.length) await store.keepMoved(collector, moved);
+  }
+  return null;
+}

@@ -1,20 +1,18 @@
 // What the page knows at the moment, and what is asked of it.
-import { shown } from "../shared/money.js";
 import { thisMonth } from "../shared/months.js";
 
-export const MARKS = { price: "Price", comparable: "Comparable article", other: "Other article" };
-export const REASONS = {
-  stock: "Sold out", closed: "Shop closed", gone: "No longer sold", refused: "Shop doesn’t tell",
-};
-
 export const signedOut = () => ({
-  key: null, who: null, month: thisMonth(), view: "todo",
+  key: null, who: null, name: "", month: thisMonth(), view: "todo",
   list: null, // { work, quotes, at } of the month, as the office sent it last
-  entries: [], // all that isn't sent, of all months
-  line: "unknown", // "up", "down", "busy"
+  entries: [], // all that the office hasn't stored, of all months
+  line: "unknown", // "up", "down", "busy", "odd"
 });
 
-export const state = { ...signedOut(), tolerance: new Map() }; // tolerance: [low, high] by item
+export const state = {
+  ...signedOut(),
+  tolerance: new Map(), // [low, high] in thousandths, by item
+  windows: [], // { month, opens, closes } as the desk has published them, by month
+};
 
 /** Takes the tolerances of a list of items, if there is one. */
 export function takeItems(items) {
@@ -25,34 +23,41 @@ const bySlot = { entries: new Map(), stored: new Map(), rows: new Map() }; // of
 
 /** Takes what the phone has kept: the list of the month, or null, and all entries. */
 export function takeKept(list, entries) {
-  Object.assign(state, { list, entries });
-  bySlot.entries = new Map(entries.filter(({ month }) => month === state.month).map((entry) => [entry.slot, entry]));
+  state.list = list;
   bySlot.stored = new Map((list?.quotes ?? []).map((row) => [row[0], row]));
   bySlot.rows = new Map((list?.work ?? []).map((row) => [row[0], row]));
+  takeEntries(entries);
 }
 
+/** Takes all entries, in the place of those before. */
+export function takeEntries(entries) {
+  state.entries = entries;
+  bySlot.entries = new Map(entries.filter(({ month }) => month === state.month).map((entry) => [entry.slot, entry]));
+}
+
+/** Takes an entry that the phone has kept, in the place of the one before of its slot and month. */
+export function takeEntry(entry) {
+  takeEntries([...state.entries.filter((it) => keyOfEntry(it) !== keyOfEntry(entry)), entry]);
+}
+
+export const keyOfEntry = ({ month, slot }) => `${month}/${slot}`;
 export const entryOf = (slot) => bySlot.entries.get(slot);
 export const storedOf = (slot) => bySlot.stored.get(slot);
 export const rowOf = (slot) => bySlot.rows.get(slot);
-export const waitingCount = () => state.entries.filter((entry) => entry.state === "waiting").length;
 
-export const counted = (n, one, many) => `${n} ${n === 1 ? one : many}`;
+/** The entry of a month and slot, whatever month is shown. */
+export const entryAt = (month, slot) => state.entries.find((it) => it.month === month && it.slot === slot);
 
-export function inMarks(mark, value) {
-  if (mark === "missing") return REASONS[value] ?? value;
-  return mark === "price" ? shown(value) : `${MARKS[mark]}, ${shown(value)}`;
+/**
+ * What becomes of an entry: "waiting" to be sent, to be looked at again ("look": its price is far from the last one, or
+ * another one was stored since), or "refused".
+ */
+export function kindOf(entry) {
+  if (entry.state === "waiting") return "waiting";
+  return entry.state === "moved" || entry.reply.refused === 26 ? "look" : "refused";
 }
 
-/** What is to be told of a slot: [kind, text]. */
-export function toldOf(slot) {
-  const entry = entryOf(slot), stored = storedOf(slot);
-  if (entry?.state === "refused") return ["bad", entry.reply.refused === 26 ? "Look again" : "Refused"];
-  if (entry) return ["waiting", "To be sent"];
-  if (stored) return ["good", `Receipt ${stored[4]}`];
-  return ["todo", "To do"];
-}
+export const countOf = (kind) => state.entries.filter((entry) => kindOf(entry) === kind).length;
 
-/** Why something isn't on the phone, from the browser's fault. */
-export const whyNotKept = ({ name }) => (name === "QuotaExceededError"
-  ? "there is no room left. Make room on the phone, and save again."
-  : `the browser refuses it (${name}). Let it keep data of this site, or leave the private window.`);
+/** Whether nothing was entered for a slot, and the office has nothing of it. */
+export const isToDo = (slot) => !entryOf(slot) && !storedOf(slot);

@@ -5,7 +5,7 @@ export class NoAnswer extends Error {
   constructor(kind, wait = 0) {
     super(kind);
     // "line": nothing came; "busy": the front said to come again, and the office wasn't asked; "lost": the front was
-    // not answered.
+    // not answered; "odd": an answer came that isn't the office's.
     this.kind = kind;
     this.wait = wait; // seconds
   }
@@ -46,7 +46,7 @@ export async function ask(method, path, { key, body, seconds = 60 } = {}) {
   // It was the front, not the office, that answered.
   if (response.status === 401) return { refused: 11 }; // a key that is denied there
   if (response.status === 400 || response.status === 404 || response.status === 413) return { refused: 10 };
-  const kind = response.status === 429 || response.status === 503 ? "busy" : "lost";
+  const kind = response.ok ? "odd" : response.status === 429 || response.status === 503 ? "busy" : "lost";
   throw new NoAnswer(kind, Number(response.headers.get("Retry-After")) || 0);
 }
 

@@ -1,0 +1,66 @@
+// When the window of a month opens and closes, as the desk has published it beside the pages, and which month is worked
+// on by that. Moments are in seconds since 1970 UTC, as in the file; the page shows them by the phone's clock.
+import { inWords, timeOf, thisMonth } from "../shared/months.js";
+import { find } from "../shared/dom.js";
+import { state } from "./state.js";
+
+const FILE = new URL("../calendar.json", import.meta.url);
+const MINUTE = 60, HOUR = 3600, DAY = 86_400;
+
+/** A window that closes within so many seconds is told as a warning if entries aren't sent. */
+const SOON = 2 * DAY;
+
+/** The published windows by month, or null if there is no such file, or none can be had now. */
+export async function readWindows() {
+  try {
+    const response = await fetch(FILE, { cache: "no-cache", credentials: "omit", redirect: "error" });
+    if (!response.ok) return null;
+    const { months } = await response.json();
+    return months.every(isWindow) ? months.sort((a, b) => (a.month < b.month ? -1 : 1)) : null;
+  } catch {
+    return null;
+  }
+}
+
+const isWindow = ({ month, opens, closes }) =>
+  /^[0-9]{4}-[0-9]{2}$/.test(month) && Number.isInteger(opens) && Number.isInteger(closes);
+
+const seconds = () => Date.now() / 1000;
+
+/**
+ * The month that is worked on: the one whose window is open, of several the one that closes first; else the next one to
+ * open; else the month of the phone's clock.
+ */
+export function currentMonth() {
+  const now = seconds(), first = (name) => (a, b) => a[name] - b[name];
+  const open = state.windows.filter(({ opens, closes }) => opens <= now && now < closes).sort(first("closes"));
+  const coming = state.windows.filter(({ opens }) => opens > now).sort(first("opens"));
+  return (open[0] ?? coming[0])?.month ?? thisMonth();
+}
+
+/** Shows when the window of the month closes, and warns of what isn't sent. */
+export function showDeadline() {
+  const window = state.windows.find(({ month }) => month === state.month);
+  const count = state.entries.filter(({ month }) => month === state.month).length;
+  const isLate = window && count > 0 && window.closes - seconds() < SOON;
+  find("deadline").textContent = window ? wordsOf(window) + (isLate ? ` ${warning(count)}` : "") : "";
+  find("deadline").classList.toggle("late", Boolean(isLate));
+}
+
+function wordsOf({ month, opens, closes }) {
+  const now = seconds();
+  if (now < opens) return `The window of ${inWords(month)} opens on ${timeOf(opens * 1000)}, ${within(opens - now)}.`;
+  if (now < closes) return `The window closes on ${timeOf(closes * 1000)}, ${within(closes - now)}.`;
+  return `The window closed on ${timeOf(closes * 1000)}.`;
+}
+
+const warning = (count) => (count === 1 ? "One entry isn’t stored yet." : `${count} entries aren’t stored yet.`);
+
+const relative = new Intl.RelativeTimeFormat(document.documentElement.lang);
+
+/** `in 2 days`: never more than is left. */
+function within(left) {
+  if (left >= 2 * DAY) return relative.format(Math.floor(left / DAY), "day");
+  if (left >= 2 * HOUR) return relative.format(Math.floor(left / HOUR), "hour");
+  return relative.format(Math.floor(left / MINUTE), "minute");
+}

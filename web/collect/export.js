@@ -1,0 +1,35 @@
+// Takes the entries that aren't stored out of the phone, as a copy or a file, for a collector whose key or phone can't
+// send them: the desk can enter them then.
+import { make } from "../shared/dom.js";
+import { state } from "./state.js";
+import { whyNotStored } from "./told.js";
+import { written } from "../shared/csv.js";
+
+const COLUMNS = ["month", "slot", "outlet", "item", "unit", "mark", "value", "confirmed", "written", "state"];
+
+/** All entries that aren't stored, as CSV (RFC 4180): prices in minor units, the moment of writing in UTC. */
+export function asCsv() {
+  const rows = state.entries.map((entry) => {
+    const [, , outlet = "", , text = "", unit = ""] = entry.row ?? [];
+    return [entry.month, entry.slot, outlet, text, unit, entry.mark, entry.value, entry.confirm ? "yes" : "",
+      new Date(entry.at).toISOString(), entry.state === "waiting" ? "to be sent" : whyNotStored(entry)];
+  });
+  return [COLUMNS, ...rows].map((row) => `${row.map((value) => written(String(value))).join(",")}\r\n`).join("");
+}
+
+async function copy({ target }) {
+  const isCopied = await navigator.clipboard.writeText(asCsv()).then(() => true, () => false);
+  target.textContent = isCopied ? "Copied" : "The browser refuses it: save a file";
+}
+
+function save() {
+  const address = URL.createObjectURL(new Blob([asCsv()], { type: "text/csv" }));
+  make("a", { href: address, download: `not-stored-${new Date().toISOString().slice(0, 10)}.csv` }).click();
+  setTimeout(() => URL.revokeObjectURL(address), 60_000);
+}
+
+/** The events of the buttons, wherever the page has them. */
+export function listen() {
+  for (const button of document.querySelectorAll("[data-do=copy]")) button.addEventListener("click", copy);
+  for (const button of document.querySelectorAll("[data-do=save]")) button.addEventListener("click", save);
+}

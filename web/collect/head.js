@@ -1,0 +1,33 @@
+// The head of the page: who is signed in, the connection to the office, and how much isn't stored. It is seen always.
+import { find } from "../shared/dom.js";
+import { countOf, state } from "./state.js";
+import { counted } from "./told.js";
+
+/** Shows all of it. "All sent" appears only when nothing is left on the phone. */
+export function showHead() {
+  const waiting = countOf("waiting"), refused = countOf("refused"), look = countOf("look");
+  find("who").replaceChildren(state.name);
+  find("line").textContent = state.who ? wordsOf(waiting) : "";
+  find("line").dataset.line = state.line === "up" && waiting ? "waiting" : state.line;
+  const parts = [refused && `${refused} refused`, look && `${look} to look at`].filter(Boolean);
+  find("alarm").hidden = parts.length === 0;
+  find("alarm").textContent = parts.join(", ");
+}
+
+function wordsOf(waiting) {
+  const kept = waiting ? `: ${counted(waiting, "entry", "entries")} kept on this phone` : "";
+  if (state.line === "down") return `No line${kept}`;
+  if (state.line === "busy") return `The office is busy${kept}`;
+  if (state.line === "odd") {
+    const unknown = waiting ? `: not known if ${counted(waiting, "entry is", "entries are")} stored` : "";
+    return `The answer made no sense${unknown}. The page asks again.`;
+  }
+  if (waiting) return `${waiting} to be sent`;
+  return state.entries.length === 0 ? "All sent" : "";
+}
+
+/** A text about all of the page, until it is over; or none. */
+export function notice(text) {
+  find("notice").textContent = text;
+  find("notice").hidden = !text;
+}

@@ -1,0 +1,60 @@
+// Finding a row: by item, unit or outlet as one types, and by folding the outlets that one isn't in.
+import { find } from "../shared/dom.js";
+import { rowOf, state } from "./state.js";
+
+const folded = new Set(); // the numbers of the outlets that are folded
+let words = []; // of what is searched for
+
+/** A text as it is searched: without accents, in small letters. */
+const plain = (text) => text.normalize("NFKD").replace(/\p{M}/gu, "").toLowerCase();
+
+export const isFolded = (outlet) => folded.has(outlet) && words.length === 0;
+
+/** Whether a row has each word of what is searched for. */
+export function isFound([, , outlet, , text, unit]) {
+  if (words.length === 0) return true;
+  const all = plain(`${outlet} ${text} ${unit}`);
+  return words.every((word) => all.includes(word));
+}
+
+/** Hides what isn't found, and opens what is. */
+export function filter() {
+  let count = 0;
+  for (const section of find("list").querySelectorAll(".outlet")) {
+    let isEmpty = true;
+    for (const item of section.querySelectorAll("li")) {
+      item.hidden = !isFound(rowOf(Number(item.id.slice(5))));
+      if (!item.hidden) {
+        isEmpty = false;
+        count += 1;
+      }
+    }
+    section.hidden = isEmpty;
+    section.open = !isFolded(Number(section.dataset.outlet));
+  }
+  find("found").textContent = words.length && state.view !== "quotes" ? `${count} found` : "";
+}
+
+/** Searches for a text, from now on. */
+export function searchFor(text) {
+  words = plain(text).split(/\s+/).filter(Boolean);
+  filter();
+}
+
+/** Nothing is searched for, and nothing is folded. */
+export function forget() {
+  find("search").value = "";
+  words = [];
+  folded.clear();
+}
+
+/** The events of the field, and of the outlets' heads. */
+export function listen() {
+  find("search").addEventListener("input", ({ target }) => searchFor(target.value));
+  find("list").addEventListener("toggle", ({ target }) => {
+    if (words.length) return; // (what was opened by a search is folded again after it)
+    const outlet = Number(target.dataset.outlet);
+    if (target.open) folded.delete(outlet);
+    else folded.add(outlet);
+  }, true);
+}

@@ -1,0 +1,170 @@
+// Signing in and out: by a key that is typed, or by the link of a printed code.
+import { ask, NoAnswer } from "../shared/api.js";
+import { find } from "../shared/dom.js";
+import { toCollector } from "../shared/refusals.js";
+import * as entry from "./entry.js";
+import { notice } from "./head.js";
+import { nameIn, readKey, takeLink } from "./key.js";
+import * as line from "./line.js";
+import { choose, render, show } from "./list.js";
+import { takeShared } from "./lists.js";
+import * as search from "./search.js";
+import * as shownMonth from "./shown-month.js";
+import { signedOut, state, takeKept } from "./state.js";
+import * as store from "./store.js";
+import * as tabs from "./tabs.js";
+import { counted } from "./told.js";
+import * as unsent from "./unsent.js";
+
+/** Begins with the key that is kept, or with the one of the link by which the page was opened. */
+export async function start() {
+  const link = takeLink(), key = await store.storedKey();
+  if (key) await enter(key, await store.storedName());
+  else showSignIn();
+  if (link) await follow(link);
+}
+
+/** A link signs in, if nobody is signed in; what another collector hasn't sent stays on the phone. */
+async function follow(link) {
+  const { key, fault } = readKey(link.text);
+  if (state.key && state.key !== key) {
+    notice("Another collector is signed in on this phone. Sign out first, then open the code again.");
+  } else if (state.key) {
+    await store.keepSession(key, link.name || state.name);
+    state.name = link.name || state.name;
+    render();
+  } else {
+    find("key").value = link.text;
+    find("name").value = link.name;
+    find("key-fault").textContent = fault ?? "";
+    if (key) await signIn();
+  }
+}
+
+// ---- Signing in
+
+function showSignIn() {
+  find("work").hidden = find("leave").hidden = true;
+  find("sign-in").hidden = false;
+  find("key-fault").textContent = "";
+  render();
+  find("key").focus();
+}
+
+async function signIn() {
+  const { key, fault } = readKey(find("key").value), name = nameIn(find("name").value);
+  const why = fault ?? await keyFault(key);
+  find("key-fault").textContent = why;
+  if (why) return;
+  await store.keepSession(key, name);
+  await navigator.storage?.persist?.().catch(() => false); // asks the browser not to clear what isn't sent
+  find("sign-in-form").reset();
+  find("key").type = "password";
+  tabs.tell("key");
+  await enter(key, name);
+}
+
+/** Why a key opens nothing here, or no text. */
+async function keyFault(key) {
+  try {
+    const { work, refused } = await ask("GET", `/work/${state.month}`, { key });
+    if (work || refused === 21) return "";
+    return refused === 12 ? "This key isn’t a collector’s." : toCollector({ refused: refused ?? 90 });
+  } catch (fault) {
+    if (!(fault instanceof NoAnswer)) throw fault;
+    if (fault.kind === "odd") return "The answer made no sense. Try again in a moment, or on another network.";
+    if (fault.kind !== "line") return "The office is busy. Try again in a moment.";
+    return "There is no line to the office. Sign in once with a line; afterwards the page works without.";
+  }
+}
+
+async function enter(key, name) {
+  await takeShared();
+  Object.assign(state, { who: await store.nameOf(key), key, name: name ?? "" });
+  shownMonth.begin();
+  find("sign-in").hidden = true;
+  find("work").hidden = find("leave").hidden = false;
+  await show();
+  choose();
+  await showStorage();
+  await line.refresh(true);
+  await shownMonth.follow();
+}
+
+/** Says that the browser may clear what isn't sent, until that was read. */
+async function showStorage() {
+  const isSafe = await navigator.storage?.persisted?.().catch(() => false);
+  find("storage").hidden = isSafe || Boolean(await store.isNoticeRead());
+}
+
+// ---- Signing out
+
+function askToLeave() {
+  const count = state.entries.length;
+  find("leaving-text").textContent = count
+    ? `${counted(count, "entry", "entries")} on this phone ${count === 1 ? "hasn’t" : "haven’t"} been stored by the `
+      + "office. Signing out throws them away."
+    : "Everything has been sent. The key and the lists are removed from this phone.";
+  find("leaving-taken").hidden = count === 0;
+  find("leaving-go").textContent = count ? "Throw away and sign out" : "Sign out";
+  find("leaving").returnValue = "stay";
+  find("leaving").showModal();
+}
+
+async function left() {
+  if (find("leaving").returnValue !== "leave") return;
+  const { who } = state;
+  cleared();
+  await store.forget(who);
+  tabs.tell("key");
+  showSignIn();
+}
+
+/** Leaves nothing of a collector in the page. */
+function cleared() {
+  line.rest();
+  entry.forget();
+  unsent.forget();
+  search.forget();
+  Object.assign(state, signedOut());
+  takeKept(null, []);
+  notice("");
+  render();
+}
+
+/** Another tab signed out, or another collector in: this one goes the same way. */
+export async function followOthers() {
+  if ((await store.storedKey()) === (state.key ?? undefined)) return;
+  cleared();
+  find("leaving").close("stay");
+  await start();
+}
+
+/** The events of signing in and out. */
+export function listen() {
+  find("sign-in-form").addEventListener("submit", (event) => {
+    event.preventDefault();
+    signIn();
+  });
+  find("key-shown").addEventListener("change", ({ target }) => {
+    find("key").type = target.checked ? "text" : "password";
+  });
+  find("leave").addEventListener("click", askToLeave);
+  find("leaving").addEventListener("close", left);
+  find("storage-read").addEventListener("click", async () => {
+    await store.keepNoticeRead();
+    find("storage").hidden = true;
+  });
+  addEventListener("hashchange", async () => {
+    const link = takeLink();
+    if (link) await follow(link);
+  });
+  tabs.listen(async (what) => {
+    if (what === "key") {
+      await followOthers();
+    } else if (state.who) {
+      if (what === "answered") state.line = "up";
+      await show();
+    }
+  });
+}
