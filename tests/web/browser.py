@@ -65,6 +65,7 @@ class Browser:
             self.driver.close()
         self.driver.switch_to.window(first)
         self.offline(False)
+        self.shown_as("light")
         self.driver.get("about:blank")
         self.cdp("Storage.clearDataForOrigin", origin=self.url, storageTypes="all")
         self.cdp("Network.clearBrowserCache")
@@ -79,6 +80,10 @@ class Browser:
         self.cdp(
             "Emulation.setDeviceMetricsOverride", width=width, height=height, deviceScaleFactor=1, mobile=width < 600
         )
+
+    def shown_as(self, scheme: str, media: str = "") -> None:
+        """Shows pages as one sees them whose screen is `light` or `dark`; `media` may be `print`."""
+        self.cdp("Emulation.setEmulatedMedia", media=media, features=[{"name": "prefers-color-scheme", "value": scheme}])
 
     def offline(self, is_offline: bool) -> None:
         self.cdp("Network.enable")

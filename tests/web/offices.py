@@ -16,6 +16,14 @@ SCRIPT = "<script>document.title='owned'</script>"
 IMAGE = "<img src=x onerror=\"document.title='owned'\">"
 """Texts with markup: an item's and a title, and an outlet's."""
 
+ARABIC = "خضروات طازجة"
+OVERRIDE = "1 l\u202e 2.06"
+LEAVING = "1 kg\u2069\u2029\u202e 2.06"
+"""Titles that are written from right to left: by their letters, by an override, and by one that has left the element
+that it is in, so far as a POP DIRECTIONAL ISOLATE and a new paragraph can."""
+
+TURNING = (ARABIC, OVERRIDE, LEAVING)
+
 MONTH_SECONDS = 30 * 86_400
 
 
@@ -28,7 +36,12 @@ def month_now(by: int = 0) -> str:
 
 NOW, BEFORE = month_now(), month_now(-1)
 
-PLAN = RICE_AND_FLOUR.replace("Food and drink", f"Food {SCRIPT}")
+PLAN = (
+    RICE_AND_FLOUR.replace("Food and drink", f"Food {SCRIPT}")
+    .replace("T,01.1,Food", f"T,01.1,{ARABIC}")
+    .replace("Cereals", OVERRIDE)
+    .replace("T,01.1.1.1,Rice", f"T,01.1.1.1,{LEAVING}")
+)
 
 ITEMS = (
     ("RICE", "Rice, white", "1 kg", 700, 1500),

@@ -2,6 +2,8 @@
 
 from __future__ import annotations
 
+from collections.abc import Sequence
+
 from browser import Browser
 
 LEAST_PIXELS = 44
@@ -14,7 +16,7 @@ const isSeen = (element) => element.checkVisibility({ checkOpacity: true, checkV
 const all = (selector) => [...document.querySelectorAll(selector)].filter(isSeen);
 """
 
-CONTRASTS = (
+COLOURS = (
     SEEN
     + """
 const parts = (text) => text.match(/[\\d.]+/g).map(Number);
@@ -28,19 +30,46 @@ const ground = (element) => {
 const linear = (n) => (n <= .04045 ? n / 12.92 : ((n + .055) / 1.055) ** 2.4);
 const light = (colour) => colour.slice(0, 3).map((n) => linear(n / 255))
   .reduce((sum, n, at) => sum + n * [.2126, .7152, .0722][at], 0);
+const contrast = (one, other) => {
+  const [a, b] = [light(one), light(other)].sort((x, y) => y - x);
+  return (a + .05) / (b + .05);
+};
 const found = [];
+"""
+)
+"""What the scripts below count with: `ground(element)` is the colour that something is drawn on, and `contrast` is that of
+two colours by WCAG 2.2."""
+
+CONTRASTS = (
+    COLOURS
+    + """
 for (const element of all("body *")) {
   const own = [...element.childNodes].filter((node) => node.nodeType === 3).map((node) => node.data.trim()).join("");
   const text = own || element.value || element.placeholder;
   if (!text || element.closest("option, noscript, title, .unseen")) continue;
-  const style = getComputedStyle(element);
+  const style = getComputedStyle(element, own || element.value ? null : "::placeholder");
   const ink = parts(element instanceof SVGElement ? style.fill : style.color);
-  const [a, b] = [light(ink), light(ground(element))].sort((x, y) => y - x);
-  if ((a + .05) / (b + .05) < 4.5) found.push(`${text.slice(0, 30)}: contrast ${((a + .05) / (b + .05)).toFixed(2)}`);
+  const has = contrast(ink, ground(element));
+  if (has < 4.5) found.push(`${text.slice(0, 30)}: contrast ${has.toFixed(2)}`);
 }
 return found;
 """
 )
+
+EDGES = (
+    COLOURS
+    + """
+for (const element of all("button, a.button, input:not([type=file]), select, textarea")) {
+  const style = getComputedStyle(element), around = ground(element.parentElement);
+  const isDrawn = style.borderStyle !== "none" && style.borderWidth !== "0px";
+  if (element.disabled || !isDrawn || ["checkbox", "radio"].includes(element.type)) continue;
+  const has = Math.max(contrast(parts(style.borderTopColor), around), contrast(ground(element), around));
+  if (has < 3) found.push(`edge ${has.toFixed(2)}: ${element.outerHTML.slice(0, 100)}`);
+}
+return found;
+"""
+)
+"""Fields and buttons whose edge, or whose own ground, is hardly seen. What the browser draws itself is left to it."""
 
 NAMELESS = (
     SEEN
@@ -67,10 +96,22 @@ WIDE = (
 )
 
 
-FOCUS = (
-    SEEN
+MARKS = (
+    COLOURS
     + """
-const found = [];
+for (const element of document.querySelectorAll(arguments[0])) {
+  const { stroke, fill } = getComputedStyle(element);
+  const has = contrast(parts(stroke === "none" ? fill : stroke), ground(element));
+  if (has < 3) found.push(`mark ${has.toFixed(2)}: ${element.outerHTML.slice(0, 60)}`);
+}
+return found;
+"""
+)
+"""Lines and dots of a picture, by a selector, that are hardly seen."""
+
+FOCUS = (
+    COLOURS
+    + """
 for (const element of all("input, select, textarea, button, a, summary, [tabindex]")) {
   if (element.disabled) continue;
   const marked = element.closest(".choice label") ?? element;
@@ -80,12 +121,72 @@ for (const element of all("input, select, textarea, button, a, summary, [tabinde
   element.focus({ focusVisible: true });
   if (document.activeElement !== element) found.push(`no focus: ${element.outerHTML.slice(0, 100)}`);
   else if (told() === before || !told().startsWith("solid")) found.push(`not seen: ${element.outerHTML.slice(0, 100)}`);
+  const style = getComputedStyle(marked);
+  const has = contrast(parts(style.outlineColor), ground(style.outlineOffset.startsWith("-") ? marked : marked.parentElement));
+  if (has < 3) found.push(`ring ${has.toFixed(2)}: ${element.outerHTML.slice(0, 100)}`);
 }
 document.activeElement.blur();
 return found;
 """
 )
-"""What a keyboard can't reach, or what isn't marked when it does."""
+"""What a keyboard can't reach, what isn't marked when it does, and where the ring has a contrast below 3 to the ground
+that it is drawn on: that of the parent, or of the element itself if the ring is drawn within it."""
+
+
+TURNED = (
+    SEEN
+    + """
+const found = [], range = document.createRange();
+const boxOf = (node, at) => {
+  range.setStart(node, at);
+  range.setEnd(node, at + 1);
+  return [...range.getClientRects()].find(({ width }) => width > 0);
+};
+const isOfOneLine = (one, other) => Math.abs(one.top - other.top) < Math.min(one.height, other.height) / 2;
+const walker = document.createTreeWalker(document.body, NodeFilter.SHOW_TEXT);
+for (let node = walker.nextNode(); node; node = walker.nextNode()) {
+  const holder = node.parentElement, other = node.previousSibling;
+  if (!isSeen(holder) || holder.closest("bdi, option, textarea, script, style, noscript, .unseen, .hidden")) continue;
+  let before = other?.nodeName === "BDI" ? { right: [...other.getClientRects()].at(-1) } : {};
+  for (let at = 0; at < node.data.length; at += 1) {
+    const box = boxOf(node, at);
+    if (!box) continue;
+    const { left, right } = before;
+    if (left && isOfOneLine(left, box) && box.left < left.left) { found.push(`turned: ${node.data}`); break; }
+    if (right && isOfOneLine(right, box) && box.left < right.right - 1) { found.push(`before: ${node.data}`); break; }
+    before = { left: box };
+  }
+}
+return found;
+"""
+)
+"""Our own texts that are drawn from right to left, or to the left of the text of others that they stand behind. All pages
+are in English."""
+
+BARE = """
+const found = [], [texts] = arguments;
+const has = (text) => texts.find((one) => text.includes(one.slice(0, 4)));
+const walker = document.createTreeWalker(document, NodeFilter.SHOW_TEXT);
+for (let node = walker.nextNode(); node; node = walker.nextNode()) {
+  const { parentElement: { localName } } = node;
+  const isMark = ["title", "option", "desc"].includes(localName) && /\u2068[^]*\u2069/.test(node.data);
+  const isCode = ["script", "style", "textarea"].includes(localName);
+  if (has(node.data) && !isMark && !isCode && !node.parentElement.closest("bdi")) found.push(`bare: ${node.data}`);
+}
+for (const element of document.querySelectorAll("*")) {
+  for (const { name, value } of element.attributes) {
+    if (has(value) && !/\u2068[^]*\u2069/.test(value)) found.push(`bare ${name}: ${value}`);
+  }
+}
+return found;
+"""
+"""Where one of some texts of others stands in no element of its own, and between no isolates."""
+
+
+def faults_of_texts(browser: Browser, texts: Sequence[str]) -> list[str]:
+    """What is wrong with a page on which texts of others stand: each of them is isolated, and none turns our own."""
+    found: list[str] = [*browser.run(TURNED), *browser.run(BARE, texts)]
+    return found
 
 
 def faults_for_keys(browser: Browser) -> list[str]:
@@ -116,5 +217,5 @@ return all("button, h1, h2, h3, p, label, legend, dd").filter(isCut)
 
 def faults_of_page(browser: Browser) -> list[str]:
     """What is wrong with what is seen of a page, each in a line, and what the page said against itself."""
-    found: list[str] = [*browser.run(CONTRASTS), *browser.run(NAMELESS), *browser.run(SMALL, LEAST_PIXELS)]
-    return [*found, *browser.run(WIDE), *browser.faults()]
+    found: list[str] = [*browser.run(CONTRASTS), *browser.run(EDGES), *browser.run(NAMELESS)]
+    return [*found, *browser.run(SMALL, LEAST_PIXELS), *browser.run(WIDE), *browser.faults()]

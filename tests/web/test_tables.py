@@ -8,8 +8,9 @@ import time
 import pytest
 
 from browser import Browser
-from offices import DESK, SCRIPT
-from readable import faults_enlarged, faults_for_keys, faults_of_page
+from conftest import ROOT
+from offices import DESK, SCRIPT, TURNING
+from readable import MARKS, faults_enlarged, faults_for_keys, faults_of_page, faults_of_texts
 from stage import Stage
 
 
@@ -37,7 +38,7 @@ def test_the_latest_figures(browser: Browser) -> None:
 
 
 CELLS = "return [...document.querySelectorAll('#table tbody tr')].map((row) => [...row.cells].slice(1).map((cell) =>"
-CELLS += " cell.firstChild?.data ?? ''))"
+CELLS += " cell.firstChild?.textContent ?? ''))"
 
 
 def test_each_figure_is_the_offices(browser: Browser, stage: Stage) -> None:
@@ -48,11 +49,12 @@ def test_each_figure_is_the_offices(browser: Browser, stage: Stage) -> None:
         browser.choose("month", month)
         browser.choose("revision", str(revision))
         browser.wait_text("#said", "Revision 2" if revision == 2 else "Published")
-        lines = stage.ask("GET", f"/api/table/{month}/text/{revision}").body.decode().splitlines()[1:]
+        lines = stage.ask("GET", f"/api/table/{month}/text/{revision}").body.decode().rstrip("\n").split("\n")[1:]
         wanted = []
         for line in lines:
             code, weight, within, chained, on_month, on_year, imputed, title = line.split(None, 7)
-            wanted.append([code, title, weight, within, chained, on_month, on_year, imputed])
+            kept = title.translate({0x2069: None, 0x2029: " "})  # (what would leave its element isn't shown)
+            wanted.append([code, kept, weight, within, chained, on_month, on_year, imputed])
         rows = browser.run(CELLS)
         assert len(rows) == 8
         shown = [[cell.replace("−", "-").replace("–", "-") or "." for cell in row] for row in rows]
@@ -167,7 +169,22 @@ def test_the_page_waits_for_an_office_that_is_away(browser: Browser, stage: Stag
 
 
 @pytest.mark.parametrize("width", [360, 1280])
-def test_it_can_be_read_touched_and_enlarged(browser: Browser, width: int) -> None:
+def test_no_text_of_the_office_turns_what_is_beside_it(browser: Browser, width: int) -> None:
+    opened(browser, width)
+    browser.choose("depth", "5")
+    ticked(browser, "01.1", "01.1.1", "01.1.1.1")
+    browser.click("details summary")
+    press = "new KeyboardEvent('keydown', { key: 'ArrowLeft', bubbles: true })"
+    browser.run(f"const svg = document.querySelector('#picture svg'); svg.focus(); svg.dispatchEvent({press});")
+    for text in TURNING:
+        assert text[:4] in browser.text("#table") and text[:4] in browser.text("#readout")
+    assert faults_of_texts(browser, TURNING) == []
+
+
+@pytest.mark.parametrize("scheme", ["light", "dark"])
+@pytest.mark.parametrize("width", [360, 1280])
+def test_it_can_be_read_touched_and_enlarged(browser: Browser, width: int, scheme: str) -> None:
+    browser.shown_as(scheme)
     opened(browser, width)
     browser.choose("depth", "5")
     browser.click("details summary")
@@ -175,9 +192,33 @@ def test_it_can_be_read_touched_and_enlarged(browser: Browser, width: int) -> No
     wide = "return [...document.querySelectorAll('.wide')].filter((one) => one.scrollWidth > one.clientWidth).length"
     assert browser.run(wide) == 0
     assert faults_enlarged(browser) == []
+    ticked(browser, "01", "01.1", "01.1.1", "01.1.1.1", "01.1.1.1-01")
+    assert len(browser.all("#picture .curve")) == 6
+    assert browser.run(MARKS, "#picture .curve, #picture circle, .legend .curve") == []
+    assert faults_of_page(browser) == []
 
 
-def test_the_first_page_leads_to_each_other(browser: Browser) -> None:
+@pytest.mark.parametrize("scheme", ["light", "dark"])
+def test_it_is_printed_black_on_white(browser: Browser, scheme: str) -> None:
+    browser.shown_as(scheme, "print")
+    opened(browser, 720)
+    colours = "const { color, backgroundColor } = getComputedStyle(document.body); return [color, backgroundColor];"
+    assert browser.run(colours) == ["rgb(0, 0, 0)", "rgb(255, 255, 255)"]
+    assert browser.run("return getComputedStyle(document.querySelector('.top')).backgroundColor") == "rgb(255, 255, 255)"
+    assert faults_of_page(browser) == []
+
+
+@pytest.mark.parametrize("name", ["shared/base.css", "tables/tables.css", "desk/desk.css"])
+def test_a_colour_has_a_name_in_the_root(name: str) -> None:
+    """So that the dark scheme and a printer change all of them."""
+    style = (ROOT / "web" / name).read_text(encoding="utf-8")
+    below = re.sub(r":root \{.*?\}", "", re.sub(r"/\*.*?\*/", "", style, flags=re.S), flags=re.S)
+    assert re.findall(r"#[0-9a-fA-F]{3,8}\b(?=[^{]*\})|rgba?\(|hsla?\(|(?<![-\w])(?:white|black)(?![-\w])", below) == []
+
+
+@pytest.mark.parametrize("scheme", ["light", "dark"])
+def test_the_first_page_leads_to_each_other(browser: Browser, scheme: str) -> None:
+    browser.shown_as(scheme)
     browser.open("/")
     assert [*faults_of_page(browser), *faults_for_keys(browser), *faults_enlarged(browser)] == []
     links = [str(link.get_attribute("href")) for link in browser.all("main a")]

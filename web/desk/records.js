@@ -90,7 +90,8 @@ function table(refused) {
   const heads = ["Line", "Sent", "No", "Because, and what to do"].map((text) => make("th", { scope: "col" }, text));
   const decoder = new TextDecoder();
   const rows = refused.slice(0, SHOWN).map(({ line, row, answer }) => make("tr", {}, make("td", {}, line),
-    make("td", { class: "row" }, decoder.decode(row.subarray(0, SHOWN_BYTES))), make("td", {}, answer.refused),
+    make("td", { class: "row" }, make("bdi", {}, decoder.decode(row.subarray(0, SHOWN_BYTES)))),
+    make("td", {}, answer.refused),
     make("td", { class: "because" }, toDesk(answer, fieldsOf(decoder.decode(row))[0]))));
   return make("table", {}, make("thead", {}, make("tr", {}, ...heads)), make("tbody", {}, ...rows));
 }

@@ -49,7 +49,7 @@ export async function bytesOf(name) {
 }
 
 function refusedFile(name, file, why) {
-  tell(`${name}-told`, "bad", `${file.name} ${why} Nothing was sent.`);
+  tell(`${name}-told`, "bad", make("bdi", {}, file.name), ` ${why} Nothing was sent.`);
   return null;
 }
 

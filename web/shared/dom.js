@@ -1,10 +1,14 @@
 // Elements are made from texts alone. Nothing in these pages reads text as markup.
+//
+// A text that others wrote (a title, an item, an outlet, the office, a file, a cell) is drawn in an element of its own,
+// `make("bdi", {}, text)`, and in an attribute or an option it is `isolated(text)`: so neither its direction nor an
+// override in it turns what is beside it (Unicode Standard Annex 9, isolates).
 
 export const find = (id) => document.getElementById(id);
 
 /** An element with attributes and children; a child that is no element becomes text. */
 export function make(name, attributes = {}, ...children) {
-  return filled(document.createElement(name), attributes, children);
+  return filled(document.createElement(name), attributes, name === "bdi" ? children.map(String).map(closed) : children);
 }
 
 export function makeSvg(name, attributes = {}, ...children) {
@@ -20,6 +24,23 @@ function filled(element, attributes, children) {
   element.append(...children.filter((child) => child !== null && child !== undefined).map((child) =>
     child instanceof Node ? child : document.createTextNode(String(child))));
   return element;
+}
+
+/** A text of others where no element can be: between FIRST STRONG ISOLATE and POP DIRECTIONAL ISOLATE. */
+export const isolated = (text) => `\u2068${closed(text)}\u2069`;
+
+/**
+ * A text that can't leave its element: each isolate of its own is closed, what would close another one is left out, and
+ * what would begin a paragraph is a space.
+ */
+function closed(text) {
+  let open = 0;
+  const kept = text.replace(/[\r\x1c-\x1e\x85\u2029]/g, " ").replace(/[\u2066-\u2069]/g, (mark) => {
+    if (mark === "\u2069" && open === 0) return "";
+    open += mark === "\u2069" ? -1 : 1;
+    return mark;
+  });
+  return kept + "\u2069".repeat(open);
 }
 
 /**

@@ -1,7 +1,7 @@
 // The page of everybody: published tables alone, over the same interface as any program.
 import { office } from "../config.js";
 import { NoAnswer } from "../shared/api.js";
-import { find } from "../shared/dom.js";
+import { find, make } from "../shared/dom.js";
 import { inWords } from "../shared/months.js";
 import * as picture from "./picture.js";
 import { askReleases, change, firstMonth, oneDecimal, tableOf } from "./published.js";
@@ -12,7 +12,7 @@ const MOST_LINES = 6;
 let chosen = ["00"]; // codes in the picture
 
 async function start() {
-  find("office").textContent = office.name;
+  find("office").replaceChildren(make("bdi", {}, office.name));
   const releases = await askReleases();
   if (releases.length === 0) return say("Nothing has been published yet.");
   table.fillMonths();
@@ -29,7 +29,7 @@ async function showLatest([month, revision, moment]) {
   const all = (await tableOf(month, revision)).find((row) => row.code === "00");
   if (!all) return;
   const percent = (text) => change(text) + (text === "" ? "" : " %");
-  find("latest-title").textContent = `${all.title}, ${inWords(month)}`;
+  find("latest-title").replaceChildren(make("bdi", {}, all.title), `, ${inWords(month)}`);
   find("latest-year").textContent = percent(all.year);
   find("latest-month").textContent = percent(all.month);
   find("latest-level").textContent = oneDecimal(all.chained);

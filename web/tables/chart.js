@@ -1,5 +1,5 @@
 // A picture of lines over months. Figures are decimals of the tables; the picture alone uses floating point.
-import { makeSvg } from "../shared/dom.js";
+import { isolated, makeSvg } from "../shared/dom.js";
 import { inWords } from "../shared/months.js";
 
 const LEFT = 52, RIGHT = 16, TOP = 14, BOTTOM = 44; // what is left free around the lines, in pixels
@@ -38,7 +38,8 @@ export function draw(holder, { months, lines, name, unit, hasZero }, told) {
 function summary(lines, months, unit) {
   return lines.map(({ title, values }) => {
     const last = values.findLastIndex((value) => value !== null);
-    return last < 0 ? `${title}: none` : `${title}: ${values[last]}${unit} in ${inWords(months[last])}`;
+    const told = last < 0 ? "none" : `${values[last]}${unit} in ${inWords(months[last])}`;
+    return `${isolated(title)}: ${told}`;
   }).join("; ");
 }
 

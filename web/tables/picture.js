@@ -52,8 +52,9 @@ export function drawLines(codes) {
   const written = (value) => (value === null ? "–" : isIndex ? value.toFixed(1) : percent(value));
   find("picture-title").textContent = isIndex ? `Index, ${inWords(firstMonth())} = 100` : `${name}, percent`;
   draw(find("picture"), { months: shownMonths, lines, name, unit: isIndex ? "" : " %", hasZero: !isIndex }, (n) => {
-    find("readout").textContent = n === null ? ""
-      : `${inWords(shownMonths[n])}: ${lines.map((line) => `${line.title} ${written(line.values[n])}`).join(", ")}`;
+    const before = (at) => (at ? ", " : `${inWords(shownMonths[n])}: `);
+    const told = ({ title, values }, at) => [before(at), make("bdi", {}, title), ` ${written(values[n])}`];
+    find("readout").replaceChildren(...(n === null ? [] : lines.flatMap(told)));
   });
   find("legend").replaceChildren(...lines.map(legendOf));
   find("figures").replaceChildren(...figures(lines, written));
@@ -77,11 +78,11 @@ function legendOf({ code, title }, n) {
   const curve = makeSvg("path", { class: `curve curve-${n}`, d: "M2 6H32" });
   const words = { type: "button", title: "Take it out of the picture", onclick: () => on.removed(code) };
   return make("li", {}, make("button", words, makeSvg("svg", { viewBox: "0 0 34 12", "aria-hidden": "true" }, curve),
-    make("span", {}, title), make("span", { class: "muted", "aria-hidden": "true" }, "×")));
+    make("bdi", {}, title), make("span", { class: "muted", "aria-hidden": "true" }, "×")));
 }
 
 function figures(lines, written) {
-  const heads = lines.map((line) => make("th", { scope: "col", class: "number" }, line.title));
+  const heads = lines.map(({ title }) => make("th", { scope: "col", class: "number" }, make("bdi", {}, title)));
   const rows = shownMonths.map((month, n) => make("tr", {}, make("th", { scope: "row" }, month),
     ...lines.map((line) => make("td", { class: "number" }, written(line.values[n])))));
   const head = make("tr", {}, make("th", { scope: "col" }, "Month"), ...heads);

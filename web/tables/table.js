@@ -64,9 +64,9 @@ function tableRow(row) {
   });
   return make("tr", { class: `depth-${depth}` },
     make("td", { class: "pick" },
-      make("label", {}, make("span", { class: "unseen" }, `${row.title} in the picture`), tick)),
+      make("label", {}, make("span", { class: "unseen" }, make("bdi", {}, row.title), " in the picture"), tick)),
     make("td", { class: "code small-off" }, row.code),
-    make("th", { scope: "row", class: `title indent-${depth}` }, row.title,
+    make("th", { scope: "row", class: `title indent-${depth}` }, make("bdi", {}, row.title),
       make("span", { class: "small-code", "aria-hidden": "true" }, row.code)),
     number(grouped(row.weight), "small-off"), number(oneDecimal(row.within), "small-off"),
     number(oneDecimal(row.chained)),
