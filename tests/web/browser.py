@@ -83,7 +83,8 @@ class Browser:
 
     def shown_as(self, scheme: str, media: str = "") -> None:
         """Shows pages as one sees them whose screen is `light` or `dark`; `media` may be `print`."""
-        self.cdp("Emulation.setEmulatedMedia", media=media, features=[{"name": "prefers-color-scheme", "value": scheme}])
+        features = [{"name": "prefers-color-scheme", "value": scheme}]
+        self.cdp("Emulation.setEmulatedMedia", media=media, features=features)
 
     def offline(self, is_offline: bool) -> None:
         self.cdp("Network.enable")

@@ -37,8 +37,8 @@ const contrast = (one, other) => {
 const found = [];
 """
 )
-"""What the scripts below count with: `ground(element)` is the colour that something is drawn on, and `contrast` is that of
-two colours by WCAG 2.2."""
+"""What the scripts below count with: `ground(element)` is the colour that something is drawn on, and `contrast` is that
+of two colours by WCAG 2.2."""
 
 CONTRASTS = (
     COLOURS
@@ -122,7 +122,8 @@ for (const element of all("input, select, textarea, button, a, summary, [tabinde
   if (document.activeElement !== element) found.push(`no focus: ${element.outerHTML.slice(0, 100)}`);
   else if (told() === before || !told().startsWith("solid")) found.push(`not seen: ${element.outerHTML.slice(0, 100)}`);
   const style = getComputedStyle(marked);
-  const has = contrast(parts(style.outlineColor), ground(style.outlineOffset.startsWith("-") ? marked : marked.parentElement));
+  const on = style.outlineOffset.startsWith("-") ? marked : marked.parentElement;
+  const has = contrast(parts(style.outlineColor), ground(on));
   if (has < 3) found.push(`ring ${has.toFixed(2)}: ${element.outerHTML.slice(0, 100)}`);
 }
 document.activeElement.blur();
@@ -160,8 +161,8 @@ for (let node = walker.nextNode(); node; node = walker.nextNode()) {
 return found;
 """
 )
-"""Our own texts that are drawn from right to left, or to the left of the text of others that they stand behind. All pages
-are in English."""
+"""Our own texts that are drawn from right to left, or to the left of the text of others that they follow. All pages are
+in English."""
 
 BARE = """
 const found = [], [texts] = arguments;

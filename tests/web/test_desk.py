@@ -2,15 +2,19 @@
 
 from __future__ import annotations
 
+import json
+import shutil
 import time
+from collections.abc import Iterator
 from pathlib import Path
 from typing import Optional
 
 import pytest
 
 from browser import Browser
-from offices import ANNA, DESK, SCRIPT
-from readable import faults_enlarged, faults_for_keys, faults_of_page
+from conftest import ROOT
+from offices import ANNA, ARABIC, DESK, LEAVING, OVERRIDE, SCRIPT, TURNING
+from readable import faults_enlarged, faults_for_keys, faults_of_page, faults_of_texts
 from stage import Stage
 
 PLAN = """T,00,All
@@ -200,6 +204,95 @@ def test_a_window_and_a_freeze_with_its_carry_list(desk: Browser, stage: Stage) 
     assert stage.ask("GET", "/api/table/2011-03/text/1").status == 200
 
 
+# ---- the deadline file
+
+SERVED = {
+    "months": [
+        {"month": "2011-02", "opens": 2000, "closes": 3000},
+        {"month": "2011-03", "opens": 3000, "closes": 4000},
+        {"month": "2011-05", "opens": 9000, "closes": 9100},
+    ]
+}
+
+SET = "calendar,2011-04,7000,8000,9000\ncalendar,2011-03,6000,7000,8000\nassign,7,1,99,RICE,2030-01,2030-02\n"
+"""Windows of two months, and a row that is refused."""
+
+
+@pytest.fixture
+def served(stage: Stage, tmp_path: Path) -> Iterator[Path]:
+    """The file calendar.json beside a copy of the pages, which isn't there yet."""
+    copy = tmp_path / "web"
+    shutil.copytree(ROOT / "web", copy)
+    (copy / "calendar.json").unlink(missing_ok=True)
+    stage.front.stop()
+    stage.front.start(lambda text: text.replace(f"root {ROOT}/web;", f"root {copy};"))
+    yield copy / "calendar.json"
+    stage.front.stop()
+
+
+def saved(desk: Browser, folder: Path, name: str) -> dict[str, list[dict[str, object]]]:
+    """The file that a card offers, saved."""
+    desk.cdp("Page.setDownloadBehavior", behavior="allow", downloadPath=str(folder))
+    file = folder / "calendar.json"
+    file.unlink(missing_ok=True)
+    desk.wait_text(f"#{name}-told", "Save the file")
+    desk.click(f"#{name}-told a")
+    desk.wait(file.is_file, "the file")
+    found: dict[str, list[dict[str, object]]] = json.loads(file.read_text(encoding="utf-8"))
+    return found
+
+
+def test_the_deadline_file_has_the_windows_that_were_set(served: Path, desk: Browser, tmp_path: Path) -> None:
+    """What is served stays, but for the months that were set, on this page and before the file was put there too."""
+    served.write_text(json.dumps(SERVED), encoding="utf-8")
+    desk.type("#records-text", SET)
+    sent(desk, "records", "2 accepted, 1 refused of 3")
+    assert "Phones show the new window once calendar.json is beside the pages (see RUNNING)." in desk.text("#records-told")
+    first, _, last = SERVED["months"]
+    april = {"month": "2011-04", "opens": 7000, "closes": 8000}
+    wanted = [first, {"month": "2011-03", "opens": 6000, "closes": 7000}, april, last]
+    assert saved(desk, tmp_path, "records") == {"months": wanted}
+    assert faults_of_page(desk) == []
+    desk.type("#records-text", "calendar,2011-03,6000,7500,8000\n")
+    sent(desk, "records", "1 accepted, 0 refused of 1")
+    wanted[1] = {"month": "2011-03", "opens": 6000, "closes": 7500}
+    assert saved(desk, tmp_path, "records") == {"months": wanted}
+    desk.type("#records-text", "outlet,60,Shop\n")
+    sent(desk, "records", "1 accepted, 0 refused of 1")
+    assert desk.all("#records-told a") == []
+
+
+def test_the_first_deadline_file_has_what_was_set_alone(served: Path, desk: Browser, tmp_path: Path) -> None:
+    desk.type("#records-text", "calendar,2011-03,6000,7000,8000\n")
+    sent(desk, "records", "1 accepted, 0 refused of 1")
+    march = {"month": "2011-03", "opens": 6000, "closes": 7000}
+    assert saved(desk, tmp_path, "records") == {"months": [march]}
+
+
+@pytest.mark.parametrize("text", ["{", "{}", "null", '{"months":[{"month":"2011-03"}]}'])
+def test_a_deadline_file_that_cant_be_read_is_told(served: Path, desk: Browser, text: str) -> None:
+    served.write_text(text, encoding="utf-8")
+    desk.type("#records-text", "calendar,2011-03,6000,7000,8000\n")
+    sent(desk, "records", "The calendar.json that is served now can’t be read. Write calendar.json for the phones with")
+    assert desk.all("#records-told a") == []
+
+
+def test_a_time_by_the_offices_clock_is_left_to_the_tool(served: Path, desk: Browser) -> None:
+    rows = "calendar,2011-04,7000,8000,9000\ncalendar,2011-03,6000,2011-03-24T18:00,2011-03-28T09:30\n"
+    desk.type("#records-text", rows)
+    sent(desk, "records", "2 accepted, 0 refused of 2")
+    told = "The times of March 2011 are by the office’s clock, which this page doesn’t know. Write calendar.json for"
+    desk.wait_text("#records-told", f"{told} the phones with cpi-tools calendar (see RUNNING).")
+    desk.type("#calendar-month", "2011-05")
+    for name, value in (("opens", "01T06:00"), ("closes", "24T18:00"), ("publishes", "28T09:30")):
+        desk.choose(f"calendar-{name}", f"2011-05-{value}")
+    sent(desk, "calendar", "The times of March 2011 and May 2011 are by the office’s clock")
+    assert desk.all(".told a") == []
+
+
+# ---- the line, the key, the looks
+
+
 def test_a_reply_that_is_lost_is_told_and_the_same_may_be_sent_again(desk: Browser, stage: Stage) -> None:
     desk.type("#records-text", "outlet,60,Shop\n")
     stage.relay.lose = 1
@@ -222,10 +315,31 @@ def test_the_key_is_kept_nowhere(desk: Browser) -> None:
     assert desk.text("#who") == "No key yet"
 
 
-def test_it_can_be_read_touched_and_enlarged_at_360_pixels(desk: Browser) -> None:
+@pytest.mark.parametrize("width", [360, 1280])
+def test_no_text_of_others_turns_what_is_beside_it(desk: Browser, tmp_path: Path, width: int) -> None:
+    desk.size(width, 800)
+    desk.type("#records-text", "".join(f"outlet,10,{text}\n" for text in TURNING))
+    sent(desk, "records", "0 accepted, 3 refused")
+    assert [row[1][:14] for row in refused(desk)] == [f"outlet,10,{text}"[:14] for text in (ARABIC, OVERRIDE, LEAVING)]
+    file = tmp_path / f"{OVERRIDE}.csv"
+    file.write_bytes(b"\0")
+    desk.find("#plan-file").send_keys(str(file))
+    desk.type("#plan-year", "2012")
+    sent(desk, "plan", "is no text in UTF-8.")
+    assert OVERRIDE in desk.text("#plan-told")
+    assert faults_of_texts(desk, TURNING) == []
+
+
+@pytest.mark.parametrize("scheme", ["light", "dark"])
+def test_it_can_be_read_touched_and_enlarged_at_360_pixels(desk: Browser, scheme: str) -> None:
+    desk.shown_as(scheme)
     desk.size(360, 800)
-    desk.type("#records-text", "outlet,10,Other shop\nquote,1,2011-01,price,2\n")
-    sent(desk, "records", "0 accepted, 2 refused")
+    desk.type("#records-text", "outlet,10,Other shop\nquote,1,2011-01,price,2\ncalendar,2011-03,6000,7000,8000\n")
+    sent(desk, "records", "1 accepted, 2 refused")
+    desk.wait_text("#records-told", "calendar.json")
     desk.type("#freeze-month", "2011-03")
-    sent(desk, "freeze", "Refused by 21")
+    sent(desk, "freeze", "An aggregate has nothing to compare.")
+    desk.type("#plan-year", "2012")
+    desk.type("#plan-text", PLAN.format(weight=1_000_000))
+    sent(desk, "plan", "The plan stands.")
     assert [*faults_of_page(desk), *faults_for_keys(desk), *faults_enlarged(desk)] == []

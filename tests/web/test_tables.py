@@ -204,7 +204,8 @@ def test_it_is_printed_black_on_white(browser: Browser, scheme: str) -> None:
     opened(browser, 720)
     colours = "const { color, backgroundColor } = getComputedStyle(document.body); return [color, backgroundColor];"
     assert browser.run(colours) == ["rgb(0, 0, 0)", "rgb(255, 255, 255)"]
-    assert browser.run("return getComputedStyle(document.querySelector('.top')).backgroundColor") == "rgb(255, 255, 255)"
+    top = "return getComputedStyle(document.querySelector('.top')).backgroundColor"
+    assert browser.run(top) == "rgb(255, 255, 255)"
     assert faults_of_page(browser) == []
 
 

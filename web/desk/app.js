@@ -4,6 +4,7 @@ import { written } from "../shared/csv.js";
 import { find, make } from "../shared/dom.js";
 import { thisMonth } from "../shared/months.js";
 import { toDesk } from "../shared/refusals.js";
+import * as calendar from "./calendar.js";
 import { sendRecords, stop } from "./records.js";
 import { bearer, busy, bytesOf, hasKey, noAnswer, takesFiles, tell } from "./told.js";
 
@@ -57,7 +58,10 @@ async function sendPlan() {
 async function setWindow() {
   if (!hasKey("calendar-told")) return;
   const fields = ["month", "opens", "closes", "publishes"].map((name) => find(`calendar-${name}`).value);
-  await send("calendar-told", "calendar", () => one(["calendar", ...fields]), "The window stands.");
+  const reply = await send("calendar-told", "calendar", () => one(["calendar", ...fields]), "The window stands.");
+  if (!reply?.done) return;
+  calendar.carriedOut(["calendar", ...fields]);
+  await calendar.offer("calendar-told");
 }
 
 async function freeze() {

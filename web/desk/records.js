@@ -3,6 +3,7 @@ import { ask, MOST_BYTES, NoAnswer } from "../shared/api.js";
 import { bodiesOf, fieldsOf, linesOf, rowsOf } from "../shared/csv.js";
 import { find, make } from "../shared/dom.js";
 import { toDesk } from "../shared/refusals.js";
+import * as calendar from "./calendar.js";
 import { bearer, busy, bytesOf, hasKey, noAnswer, tell } from "./told.js";
 
 const ROWS = 200; // rows of one import: collectors are served between two
@@ -29,6 +30,7 @@ async function sent() {
   }
   find("records-stop").hidden = false;
   await sendBodies(bodies, linesOf(data, rows));
+  await calendar.offer(PLACE);
   find("records-stop").hidden = true;
 }
 
@@ -55,7 +57,10 @@ async function sendBody(rows, body, told) {
     if (reply.rows.length !== rows.length) return "The office counts other rows than this page. Look at the file.";
     for (const [n, answer] of reply.rows.entries()) {
       if (answer.refused) told.refused.push({ line: told.lines[told.answered + n], row: rows[n], answer });
-      else told.done += 1;
+      else {
+        told.done += 1;
+        calendar.carriedOut(fieldsOf(new TextDecoder().decode(rows[n])));
+      }
     }
     told.answered += rows.length;
     return "";

@@ -1,0 +1,61 @@
+// calendar.json, from which phones show when a window closes: what the front serves now, with the windows that the desk
+// has set since this page was loaded. RUNNING says where the file belongs.
+import { find, make } from "../shared/dom.js";
+import { inWords } from "../shared/months.js";
+
+const FILE = new URL("../calendar.json", import.meta.url);
+
+const windows = new Map(); // month: { month, opens, closes } in seconds since 1970 UTC, or null if a time is civil
+let isNew = false; // whether a window was set since the file was offered
+let link = null; // to the file that is offered now
+
+/** Notes the fields of a record that the office has carried out. */
+export function carriedOut([word, month, opens, closes]) {
+  if (word !== "calendar") return;
+  const isCounted = [opens, closes].every((text) => /^[0-9]+$/.test(text));
+  windows.set(month, isCounted ? { month, opens: Number(opens), closes: Number(closes) } : null);
+  isNew = true;
+}
+
+/** Adds the file to what a card tells, if a window was set; or why it can't be made here. */
+export async function offer(place) {
+  if (!isNew) return;
+  isNew = false;
+  const civil = [...windows.keys()].filter((month) => windows.get(month) === null).sort();
+  const served = civil.length ? null : await servedWindows();
+  find(place).append(...(civil.length ? [byClock(civil)] : served === null ? [unread()] : fileOf(served)));
+}
+
+const BY_TOOL = "Write calendar.json for the phones with cpi-tools calendar (see RUNNING).";
+
+const byClock = (months) => make("p", {}, `The times of ${months.map(inWords).join(" and ")} are by the office’s `
+  + `clock, which this page doesn’t know. ${BY_TOOL}`);
+
+const unread = () => make("p", {}, `The calendar.json that is served now can’t be read. ${BY_TOOL}`);
+
+function fileOf(served) {
+  const months = [...served.filter(({ month }) => !windows.has(month)), ...windows.values()];
+  months.sort((a, b) => (a.month < b.month ? -1 : 1));
+  if (link) URL.revokeObjectURL(link);
+  link = URL.createObjectURL(new Blob([`${JSON.stringify({ months })}\n`], { type: "application/json" }));
+  const words = { class: "button", href: link, download: "calendar.json" };
+  return [
+    make("p", {}, "Phones show the new window once calendar.json is beside the pages (see RUNNING)."),
+    make("p", { class: "actions" }, make("a", words, "Save the file")),
+  ];
+}
+
+/** The windows that the front serves, none if it has no file yet, or null if they can't be read. */
+async function servedWindows() {
+  try {
+    const response = await fetch(FILE, { cache: "no-cache", credentials: "omit", redirect: "error" });
+    if (response.status === 404) return [];
+    const { months } = await response.json();
+    return response.ok && months.every(isWindow) ? months : null;
+  } catch {
+    return null;
+  }
+}
+
+const isWindow = ({ month, opens, closes }) =>
+  /^[0-9]{4}-[0-9]{2}$/.test(month) && Number.isInteger(opens) && Number.isInteger(closes);
