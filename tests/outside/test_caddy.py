@@ -104,7 +104,8 @@ def filled(folder: Path, front: Front) -> str:
     assert text.count("{\n\tservers {") == 1
     text = text.replace("{\n\tservers {", own)
     words = {"HOST": "localhost", "PORT": str(front.office.port), "LOG": str(front.log), "WEB": f"{folder}/web"}
-    for word, value in {**words, "CONFIG": f"{folder}/set.js", "SITE": f"{folder}/site"}.items():
+    words.update(CONFIG=f"{folder}/set.js", SITE=f"{folder}/site", CALENDAR=f"{folder}/calendar.json")
+    for word, value in words.items():
         text = text.replace(f"@{word}@", value)
     return text
 
@@ -307,12 +308,14 @@ def test_the_policy_of_the_published_website_is_its_own(front: Front, tmp_path: 
 def test_the_website_and_what_an_office_sets_lie_outside_of_the_pages(front: Front, tmp_path: Path) -> None:
     (tmp_path / "site/data").mkdir()
     (tmp_path / "site/data/cpi.csv").write_text("a,b\n")
+    (tmp_path / "calendar.json").write_text('{"months": []}\n')
     (tmp_path / "web/published").mkdir()
     for folder in ("web", "web/published"):
         (tmp_path / folder / "old.txt").write_text("old")
     with contextlib.closing(front.line()) as line:
         for path, status, kind, body in (
             ("/config.js", 200, "text/javascript; charset=utf-8", b"export const office = {};\n"),
+            ("/calendar.json", 200, "application/json", b'{"months": []}\n'),
             ("/published/data/cpi.csv", 200, "text/csv; charset=utf-8", b"a,b\n"),
             ("/published/old.txt", 404, None, b"404"),
             ("/old.txt", 200, "text/plain; charset=utf-8", b"old"),
@@ -327,6 +330,14 @@ def test_the_website_and_what_an_office_sets_lie_outside_of_the_pages(front: Fro
             assert answer.getheader("X-Content-Type-Options") == "nosniff"
             assert answer.getheader("Cache-Control") == ("no-store" if status == 404 else "no-cache"), path
     assert answer.getheader("Location") == "/published/"
+
+
+def test_the_calendar_is_only_read_and_not_there_until_it_is_written(front: Front, tmp_path: Path) -> None:
+    assert front.asked("GET", "/calendar.json")[0] == 404
+    (tmp_path / "calendar.json").write_text('{"months": []}\n')
+    assert front.asked("GET", "/calendar.json")[0] == 200
+    for method in ("POST", "PUT", "DELETE"):
+        assert front.asked(method, "/calendar.json", body=b"x")[0] == 405, method
 
 
 def test_what_is_asked_waits_for_the_office_while_nobody_listens_there(front: Front) -> None:

@@ -47,7 +47,9 @@ class Stage:
         self.office_port, relay_port, plain_port = free_port(), free_port(), free_port()
         self.relay = Relay(relay_port, self.office_port)
         self.plain_port = plain_port
-        place = Place("localhost", "127.0.0.1", free_port(), f"127.0.0.1:{plain_port}", relay_port, ROOT / "web")
+        self.calendar = folder / "calendar.json"
+        plain, web = f"127.0.0.1:{plain_port}", ROOT / "web"
+        place = Place("localhost", "127.0.0.1", free_port(), plain, relay_port, web, calendar=self.calendar)
         draw_certificate(folder, place.host)
         self.front = Front(ROOT / "ops/nginx.conf", folder, place)
         self.context = ssl.create_default_context(cafile=str(folder / "ca.crt"))
@@ -63,9 +65,10 @@ class Stage:
     # ---- the office
 
     def fresh(self) -> None:
-        """A fresh office of the same content, and a front that has kept nothing of the one before."""
+        """A fresh office of the same content, without a calendar for its pages, and a front that has kept nothing of the
+        one before."""
         self.stop_office()
-        for name in ("office.db-wal", "office.db-shm"):
+        for name in ("office.db-wal", "office.db-shm", self.calendar.name):
             (self.folder / name).unlink(missing_ok=True)
         shutil.copy(self.made, self.db)
         self.relay.fresh()

@@ -16,6 +16,7 @@ from threading import Semaphore
 from typing import TypeVar
 
 from conftest import ROOT
+from cpi_tools.command_line import main
 from cpi_tools.front import Front, standing
 from offices import ANNA, BENO, DESK, NOBODY, NOW
 from peers import Peer, address_of, all_at_once, answered_within, asked, drawn_key, once, timed
@@ -219,6 +220,25 @@ def test_the_website_and_what_an_office_sets_lie_outside_of_the_pages(stage: Sta
             assert answer.fields["X-Content-Type-Options"] == "nosniff"
             assert stage.ask("POST", path, body="x").status != 200
         assert answer.fields["Location"] == "https://localhost/published/"
+
+
+def test_the_calendar_is_asked_for_again_each_time_and_not_there_until_it_is_written(stage: Stage) -> None:
+    """The file that `cpi-tools calendar` writes; it is the front's, so it costs the office nothing."""
+    before = len(stage.relay.seen)
+    answer = stage.ask("GET", "/calendar.json")
+    assert (answer.status, answer.fields["Cache-Control"]) == (404, "no-store")
+    assert main(["calendar", str(stage.db), "--out", str(stage.calendar)]) == 0
+    answer = stage.ask("GET", "/calendar.json")
+    assert (answer.status, answer.fields["Content-Type"]) == (200, "application/json")
+    assert (answer.fields["Cache-Control"], answer.fields["X-Content-Type-Options"]) == ("no-cache", "nosniff")
+    (window,) = answer.reply["months"]
+    assert (window["month"], window["opens"]) == (NOW, 5000) and window["closes"] > time.time()
+    again = stage.ask("GET", "/calendar.json", If_None_Match=answer.fields["ETag"])
+    assert (again.status, again.body, again.fields["Cache-Control"]) == (304, b"", "no-cache")
+    for method in ("POST", "PUT", "DELETE", "OPTIONS"):
+        assert stage.ask(method, "/calendar.json", body="x").status == 403, method
+    assert answer.body == stage.calendar.read_bytes()
+    assert len(stage.relay.seen) == before
 
 
 def test_the_policy_of_the_pages(stage: Stage) -> None:

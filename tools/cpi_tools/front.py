@@ -34,8 +34,8 @@ class Place(NamedTuple):
     """Where a front listens and what it serves: its name, address and port; where plain HTTP comes in (a port with its
     address, or a socket), the port of the office, and the folder of its pages.
 
-    `config` is the `config.js` of the pages, and `published` the folder of the website; without them both are those of
-    the folder of the pages.
+    `config` is the `config.js` of the pages, `published` the folder of the website, and `calendar` the file of `cpi-tools
+    calendar`; without them they are those of the folder of the pages.
     """
 
     host: str
@@ -46,6 +46,7 @@ class Place(NamedTuple):
     site: Path
     config: Optional[Path] = None
     published: Optional[Path] = None
+    calendar: Optional[Path] = None
 
     @property
     def url(self) -> str:
@@ -154,6 +155,7 @@ def configuration(source: Path, folder: Path, place: Place) -> str:
             "WEB": str(place.site),
             "CONFIG": str(place.config or place.site / "config.js"),
             "SITE": str(place.published or place.site / "published"),
+            "CALENDAR": str(place.calendar or place.site / "calendar.json"),
             "SOCKET": f"{folder}/whole.sock",
             "CACHE": f"{folder}/cache",
             "LOG": f"{folder}/access.log",
