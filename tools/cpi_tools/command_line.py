@@ -7,11 +7,11 @@ import sys
 from collections.abc import Sequence
 from typing import Optional
 
-from . import backup, calendar_file, desk, doctor, drill, explain, next_year, probe, publish, take_in, take_out
+from . import backup, calendar_file, desk, doctor, drill, explain, keys, next_year, probe, publish, take_in, take_out
 from .terminal import Fault, ToolWords, ends_by_signals, is_line
 from .version import ShowVersion
 
-TOOLS = (backup, drill, probe, doctor, calendar_file, desk, explain, publish, take_in, take_out, next_year)
+TOOLS = (backup, drill, probe, doctor, keys, calendar_file, desk, explain, publish, take_in, take_out, next_year)
 
 
 def parser() -> ToolWords:
