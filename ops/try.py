@@ -44,6 +44,7 @@ from functools import partial
 from pathlib import Path
 from typing import NoReturn, Optional
 
+from cpi_tools.calendar_file import write_calendar
 from cpi_tools.copying import right_copy
 from cpi_tools.front import (
     LOCALHOST,
@@ -57,6 +58,7 @@ from cpi_tools.front import (
     system_program,
 )
 from cpi_tools.program import Cpi, CpiFailed, add_program, told as told_end
+from cpi_tools.sign_in import address_of_page, link_of
 from cpi_tools.terminal import Fault, ToolWords, because_of, ends_by_signals
 from cpi_tools.trials import folder_of_trial
 
@@ -64,6 +66,9 @@ ROOT = Path(__file__).resolve().parents[1]
 
 ZONE = "CET-1CEST,M3.5.0,M10.5.0/3"
 """The clock of the made-up country."""
+
+CALENDAR = "calendar.json"
+"""The windows of the office's calendar, as they were when it started."""
 
 LOOK_SECONDS = 0.2
 """How often it is looked whether office and front still run."""
@@ -140,11 +145,13 @@ class Office:
 
 
 def told(place: Place, office: Office, is_country: bool, folder: Path) -> str:
-    """Where to point a phone, and the keys."""
+    """Where to point a phone, and the keys; of the made-up country also the link by which a collector signs in."""
     with open(ROOT / "examples/national/collectors.csv", encoding="utf-8", newline="") as file:
-        collector = next(csv.DictReader(file))["key"]
+        collector = next(csv.DictReader(file))
+    key, link = collector["key"], link_of(place.url, collector["key"], f"Collector {collector['collector']}")
     rows = [
-        ("collectors", f"{place.url}/collect/", f"key {collector}" if is_country else "with their keys"),
+        ("collectors", address_of_page(place.url), f"key {key}" if is_country else "with their keys"),
+        *([("", link, "signs in without typing")] if is_country else []),
         ("everybody", f"{place.url}/tables/", ""),
         ("the desk", f"{place.url}/desk/", f"key {office.desk_key}"),
     ]
@@ -170,8 +177,8 @@ def place_of(address: str, port: int, folder: Path) -> Place:
         raise Fault(f"{address} is no address of this machine: {because_of(fault)}") from fault
     if is_listening(at, port):
         raise Fault(f"port {port} of {address} is taken: name another by --port")
-    plain, published = f"unix:{folder}/plain.sock", folder / "published"
-    return Place(host, at, port, plain, free_port(), ROOT / "web", published=published)
+    own = {"published": folder / "published", "calendar": folder / CALENDAR}
+    return Place(host, at, port, f"unix:{folder}/plain.sock", free_port(), ROOT / "web", **own)
 
 
 def of_a_trial(folder: Path, text: str) -> str:
@@ -233,13 +240,21 @@ def serve(chosen: argparse.Namespace, cpi: Cpi, folder: Path) -> int:
     office = Office(cpi, file, place.office_port, chosen.zone)
     print("The office reads its file, which takes some seconds.", flush=True)
     front = Front(ROOT / "ops/nginx.conf", folder, place)
-    with started(office), standing(front, partial(of_a_trial, folder)):
-        print(told(place, office, not chosen.db, folder), flush=True)
-        while True:
-            time.sleep(LOOK_SECONDS)
-            office.look()
-            if front.process and front.process.poll() is not None:
-                raise Fault(f"nginx ended: {folder}/error.log says why")
+    with started(office):
+        # (the program has opened the file, so it is an office, and of the tables that are read here)
+        write_calendar(file, folder / CALENDAR)
+        with standing(front, partial(of_a_trial, folder)):
+            print(told(place, office, not chosen.db, folder), flush=True)
+            watch(office, front)
+
+
+def watch(office: Office, front: Front) -> NoReturn:
+    """Starts the office again whenever it ended after its connections. Raises Fault if one of the two fails."""
+    while True:
+        time.sleep(LOOK_SECONDS)
+        office.look()
+        if front.process and front.process.poll() is not None:
+            raise Fault(f"nginx ended: {front.folder}/error.log says why")
 
 
 def a_port(text: str) -> int:

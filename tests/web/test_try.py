@@ -7,6 +7,7 @@ import datetime
 import http.client
 import importlib.machinery
 import importlib.util
+import json
 import re
 import shutil
 import signal
@@ -89,16 +90,19 @@ def trial(cpi: Cpi, made: Path, tmp_path: Path) -> Iterator[Trial]:
 def test_it_tells_where_to_point_a_phone_and_stops_at_ctrl_c(trial: Trial) -> None:
     url = f"https://localhost:{trial.port}"
     collector = re.search(rf"^  collectors +{url}/collect/ +key ([0-9a-f]{{32}})$", trial.told, re.M)
+    link = re.search(rf"^ +{url}/collect/#key=([0-9a-f]{{32}})&name=Collector%201 +signs in ", trial.told, re.M)
     desk = re.search(rf"^  the desk +{url}/desk/ +key ([0-9a-f]{{32}})$", trial.told, re.M)
-    assert collector and desk, trial.told
+    assert collector and desk and link, trial.told
     assert f"everybody   {url}/tables/" in trial.told
     assert f"{url}/ca.crt" in trial.told and fingerprint(trial.folder / "ca.crt") in trial.told
     known = (ROOT / "examples/national/collectors.csv").read_text().splitlines()[1].split(",")[1]
-    assert collector[1] == known
+    assert collector[1] == link[1] == known
     assert [trial.get(path)[0] for path in ("/", "/collect/", "/tables/", "/desk/", "/api/tables")] == [200] * 5
     assert trial.get("/ca.crt") == (200, (trial.folder / "ca.crt").read_bytes())
     assert trial.get(f"/api/work/{NOW}", ANNA)[0] == 200
     assert trial.get(f"/api/work/{NOW}", desk[1])[0] == 403  # (the desk has no work list)
+    (window,) = json.loads(trial.get("/calendar.json")[1])["months"]
+    assert window["month"] == NOW and window["closes"] > time.time()
     assert not (trial.folder / "ca.key").exists()
     assert len(trial.children) == 2
     assert trial.stop(signal.SIGINT) == 0
@@ -109,7 +113,8 @@ def test_another_office_is_copied_and_the_certificate_stays(cpi: Cpi, made: Path
     before, prints = made.read_bytes(), []
     for _ in range(2):
         trial = Trial(cpi, tmp_path / "try", "--db", str(made))
-        assert " key " not in trial.told.partition("everybody")[0]
+        assert " key " not in trial.told.partition("everybody")[0] and "#key=" not in trial.told
+        assert json.loads(trial.get("/calendar.json")[1])["months"][-1]["month"] == NOW
         assert trial.get(f"/api/work/{NOW}", ANNA)[0] == 200
         prints.append(fingerprint(tmp_path / "try/ca.crt"))
         assert trial.stop(signal.SIGTERM) == 143
