@@ -291,6 +291,29 @@ def test_no_key_stands_in_its_log(front: Front) -> None:
     assert text.count("handled request") >= 3 and KEY not in text.lower()
 
 
+OF_PAGES = {"Strict-Transport-Security", "Referrer-Policy", "Cross-Origin-Opener-Policy", "Permissions-Policy"}
+"""Fields that only pages have."""
+
+
+@pytest.mark.parametrize(
+    ("path", "status", "is_page"),
+    [("/", 200, True), ("/nothing", 404, True), ("/config.js", 200, True), ("/api/tables", 200, False),
+     ("/api/work/2026-01", 403, False), ("/api/nothing", 404, False)],
+)  # fmt: skip
+def test_a_reply_has_no_field_that_only_pages_need(path: str, status: int, is_page: bool, front: Front) -> None:
+    """As nginx does it: tests/web/test_front.py."""
+    with contextlib.closing(front.line()) as line:
+        line.request("GET", path)
+        answer = line.getresponse()
+        assert (answer.read() is not None, answer.status) == (True, status)
+    assert {name for name in OF_PAGES if answer.getheader(name)} == (OF_PAGES if is_page else set())
+    assert answer.getheader("X-Content-Type-Options") == "nosniff"
+    assert answer.getheader("Cross-Origin-Resource-Policy") == "same-origin"
+    policy = answer.headers.get_all("Content-Security-Policy") or []
+    assert len(policy) == 1 and policy[0].startswith("default-src 'none'")
+    assert (policy[0] == "default-src 'none'") == (not is_page)
+
+
 def test_the_policy_of_the_published_website_is_its_own(front: Front, tmp_path: Path) -> None:
     """Its bars say in the pages how long they are; all else may have no style of its own."""
     (tmp_path / "site/index.html").write_text("<h1>Prices</h1>")

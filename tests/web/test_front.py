@@ -13,7 +13,7 @@ from collections import Counter
 from collections.abc import Callable, Iterator
 from concurrent.futures import ThreadPoolExecutor
 from threading import Semaphore
-from typing import TypeVar
+from typing import Optional, TypeVar
 
 from conftest import ROOT
 from cpi_tools.command_line import main
@@ -242,17 +242,59 @@ def test_the_calendar_is_asked_for_again_each_time_and_not_there_until_it_is_wri
 
 
 def test_the_policy_of_the_pages(stage: Stage) -> None:
-    for path in ("/", "/collect/", "/tables/", "/desk/", "/collect/sw.js", "/nothing", "/api/items"):
+    for path in ("/", "/collect/", "/tables/", "/desk/", "/collect/sw.js", "/nothing", "/api", "/shared/api.js"):
         fields = stage.ask("GET", path).fields
         policy = fields["Content-Security-Policy"]
         assert policy.startswith("default-src 'none'; script-src 'self'; style-src 'self'; ")
         assert not re.search(r"unsafe|data:|blob:|\*|https?:", policy)
         assert "require-trusted-types-for 'script'" in policy and "frame-ancestors 'none'" in policy
         assert (fields["X-Content-Type-Options"], fields["Referrer-Policy"]) == ("nosniff", "no-referrer")
+        assert fields["Strict-Transport-Security"] == "max-age=31536000"
+        assert (fields["Cross-Origin-Opener-Policy"], fields["Cross-Origin-Resource-Policy"]) == ("same-origin",) * 2
+        assert fields["Permissions-Policy"] == "camera=(), geolocation=(), microphone=()"
         assert "Access-Control-Allow-Origin" not in fields
     assert "nginx/" not in stage.ask("GET", "/").fields["Server"]
     caddy = (ROOT / "ops/Caddyfile").read_text(encoding="utf-8")
     assert f'Content-Security-Policy "{policy}"' in caddy
+
+
+OF_REPLIES = {
+    "Server", "Date", "Content-Type", "Content-Length", "Connection",
+    "Cache-Control", "X-Content-Type-Options", "Cross-Origin-Resource-Policy", "Content-Security-Policy",
+}  # fmt: skip
+"""Fields of a reply: the first line has those of each message of HTTP/1.1 (`Connection` isn't in HTTP/2)."""
+
+
+def test_a_reply_has_no_field_that_only_pages_need(stage: Stage) -> None:
+    """A collector pays for it with each save. What is opened as a page can do nothing."""
+
+    def fields(method: str, path: str, key: Optional[str], body: Optional[str], status: int) -> set[str]:
+        answer = stage.ask(method, path, key, body)
+        assert answer.status == status, (method, path)
+        assert answer.fields["Content-Security-Policy"] == "default-src 'none'"
+        assert answer.fields["X-Content-Type-Options"] == "nosniff"
+        assert answer.fields["Cross-Origin-Resource-Policy"] == "same-origin"
+        return set(answer.fields)
+
+    for asked_for in (
+        ("POST", "/api/import", ANNA, f"quote,1,{NOW},price,321\n", 200),
+        ("PUT", f"/api/quote/2/{NOW}", ANNA, "price,1", 409),
+        ("GET", f"/api/work/{NOW}", ANNA, None, 200),
+        ("GET", "/api/tables", None, None, 200),
+        ("GET", "/api/table/2011-01/text", None, None, 200),
+        ("GET", "/api/nothing", None, None, 404),
+        ("GET", "/%61pi/work/x", None, None, 404),
+        ("POST", "/api/import", None, "items", 403),
+        ("POST", "/api/import", "x", "items", 400),
+        ("POST", "/api/import", ANNA, "items\n" * 17, 413),
+    ):
+        assert fields(*asked_for) == OF_REPLIES, asked_for
+    # (RFC 9110, 15.5.2: a 401 has it)
+    assert fields("GET", f"/api/work/{NOW}", NOBODY, None, 401) == OF_REPLIES | {"WWW-Authenticate"}
+    stage.stop_office()
+    assert fields("GET", "/api/table/2011-01/csv", BENO, None, 502) == OF_REPLIES | {"Retry-After"}
+    caddy = (ROOT / "ops/Caddyfile").read_text(encoding="utf-8")
+    assert "header /api/* Content-Security-Policy \"default-src 'none'\"" in caddy
 
 
 def test_pages_name_nothing_outside_and_hold_no_script_of_their_own() -> None:

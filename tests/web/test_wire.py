@@ -1,4 +1,4 @@
-"""A line between a collector's browser and the front that hangs and is cut, and the one of the tests itself."""
+"""A save over the line between a collector's browser and the front: its bytes, and its end when the line fails."""
 
 from __future__ import annotations
 
@@ -13,6 +13,12 @@ from offices import ANNA, NOW
 from peers import once
 from stage import Stage
 from wire import Wire, through
+
+MOST = 600
+"""Bytes that a save may cost both ways."""
+
+QUIET = 11
+"""Seconds after which Chromium asks whether a connection of HTTP/2 is still there, before it sends something over it."""
 
 ASK = "window.ask = (await import('/shared/api.js')).ask;"
 SAVE = "ask('POST', '/import', { key: arguments[0], body: arguments[1] })"
@@ -35,6 +41,14 @@ def page(browser: Browser, wire: Wire) -> Iterator[Browser]:
         yield browser
 
 
+def quiet(wire: Wire) -> None:
+    """Waits until nothing has gone over a line for a while."""
+    counted = None
+    while counted != wire.counted():
+        counted = wire.counted()
+        time.sleep(0.3)
+
+
 def saved(page: Browser, price: int) -> object:
     """What a save of one price is answered."""
     return page.run_until(f"return await {SAVE}", ANNA, row_of(price))
@@ -42,6 +56,23 @@ def saved(page: Browser, price: int) -> object:
 
 def row_of(price: int) -> str:
     return f"quote,1,{NOW},price,{price}\n"
+
+
+def test_a_save_costs_few_bytes(page: Browser, wire: Wire, stage: Stage) -> None:
+    """One message on a connection that is open; after the first one HTTP/2 shortens the fields that come again. Before
+    the last one nothing was sent for so long that Chromium asks whether the front is still there (a ping)."""
+    costs = []
+    for number, seconds in enumerate((0, 0, 0, 0, QUIET)):
+        quiet(wire)
+        time.sleep(seconds)
+        before = wire.counted()
+        assert saved(page, 321 + number) == {"rows": [{"receipt": 10 + number}]}
+        quiet(wire)
+        costs.append(wire.counted().since(before))
+    for cost in costs[1:]:
+        assert cost.connections == 0 and cost.up > len(row_of(321)) and cost.down > len('{"rows":[{"receipt":10}]}\n')
+        assert cost.both <= MOST, costs
+    assert [row[2:4] for row in stage.quotes(ANNA)] == [["price", 325]]
 
 
 def test_what_is_sent_while_the_line_hangs_comes_later(page: Browser, wire: Wire, stage: Stage) -> None:
