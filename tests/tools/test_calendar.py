@@ -44,7 +44,7 @@ def test_the_months_that_matter_now(office: Path, tmp_path: Path) -> None:
 
 
 def test_all_months_from_one_on(office: Path, tmp_path: Path) -> None:
-    """In their order, each as it stands now: 2025-03 was opened again until 3600."""
+    """In their order, each as it is now: 2025-03 was opened again until 3600."""
     out = tmp_path / "calendar.json"
     assert run(None, "calendar", office, "--out", out, "--since", "2024-12").status == 0
     lived = [(month, 1000 * at, 1000 * at + 500) for at, month in enumerate(MONTHS)]
@@ -110,7 +110,7 @@ def test_a_calendar_is_replaced_whatever_its_mode(office: Path, tmp_path: Path) 
 
 
 def test_it_is_written_whole_or_not_at_all(office: Path, tmp_path: Path, monkeypatch: pytest.MonkeyPatch) -> None:
-    """A disk without room: the one before stays, and nothing lies beside it."""
+    """A disk without room: the one before stays, and no part of the new one is left."""
     out = tmp_path / "site/calendar.json"
     out.parent.mkdir()
     out.write_text(BEFORE)

@@ -59,7 +59,7 @@ def test_each_single_wrong_character_is_found() -> None:
 
 
 def test_nearly_each_exchange_of_neighbours_is_found() -> None:
-    """Each one whose two values differ by more than 1; what is left is less than 1 in 200."""
+    """Each one whose two values differ by more than 1; the others that aren't found are less than 1 in 200."""
     found = [
         (by, not is_right(wrong)) for key in drawn_keys(1000) for by, wrong in exchanged(key + check_character(key))
     ]

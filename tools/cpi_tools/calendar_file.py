@@ -25,7 +25,7 @@ DAYS_KEPT = 400
 DAY_SECONDS = 86_400
 
 COLUMNS = ("month", "opens", "closes")
-"""What is written of a window."""
+"""The fields of a window that are written."""
 
 
 def windows_since(windows: Iterable[Window], since: Optional[int], now: int) -> list[Window]:

@@ -17,7 +17,7 @@ def address_of_page(url: str) -> str:
 
 
 def link_of(url: str, key: str, name: Optional[str]) -> str:
-    """The link that signs a collector in. What stands after `#` goes to no server (RFC 3986, 3.5); a name is UTF-8 in
+    """The link that signs a collector in. The part after `#` goes to no server (RFC 3986, 3.5); a name is UTF-8 in
     percent-encoding."""
     named = "" if name is None else f"&name={quote(name, safe='')}"
     return f"{address_of_page(url)}#key={key}{named}"

@@ -18,7 +18,7 @@ LONGEST_NAME = 60
 
 
 class NamesRefused(Fault):
-    """A file of names that can't be taken; one line, which says where and what was read, and what is wanted."""
+    """A file of names that can't be taken; one line with the place, the text that was read, and the wanted one."""
 
 
 class Names(NamedTuple):

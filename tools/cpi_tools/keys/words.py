@@ -77,7 +77,7 @@ def run(chosen: argparse.Namespace) -> int:
 
 DESCRIPTION = f"""\
 Writes one page to print, with a sheet for each collector: the number and the name, a code that
-signs the collector in on a phone, and the key to be typed where no code can be read. The code is
+signs the collector in on a phone, and the key to type if no camera can read the code. The code is
 the link URL/collect/#key=KEY&name=NAME. After the 32 digits of the typed key comes a check
 character (ISO/IEC 7064, MOD 37,36), by which the page finds a wrong digit.
 
