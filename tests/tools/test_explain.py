@@ -215,7 +215,7 @@ def test_each_month_tells_who_had_a_series_then(whole: Whole, tmp_path: Path) ->
         page = tmp_path / f"{month}.html"
         assert run(None, "explain", whole[0], month, "07.2.2.2-01", "--html", page).status == 0
         section = page.read_text(encoding="utf-8").partition('<section id="07.2.2.2-01"')[2]
-        rows = re.findall(r"<tr><td>(\d/\d+)</td><td>(\d)/\d+</td>", section)
+        rows = re.findall(r"<tr><td><bdi>(\d/\d+)</bdi></td><td><bdi>(\d)/\d+</bdi></td>", section)
         assert {series[0] for series, _ in rows} == {"1", "2", "3"} and {by for _, by in rows} == holders
 
 
@@ -319,11 +319,11 @@ def test_the_page_is_escaped_and_private(small: Path, tmp_path: Path) -> None:
     page = tmp_path / "flour.html"
     assert run(None, "explain", small, "2026-01", "01.1.1.2-01", "--html", page).status == 0
     text = page.read_text(encoding="utf-8")
-    assert "Flour, &lt;b&gt;wheat&lt;/b&gt;, 1 kg" in text and "<b>wheat" not in text
+    assert "<bdi>Flour, &lt;b&gt;wheat&lt;/b&gt;</bdi>, <bdi>1 kg</bdi>" in text and "<b>wheat" not in text
     assert "every line holds" in text and "http" not in text and "<a href=" not in text.replace('<a class="skip"', "")
     assert page.stat().st_mode & 0o777 == 0o600
     # (the aggregate is on the page of its subclass)
-    assert "<h1>Flour " in text and '<section id="01.1.1.2-01"' in text
+    assert "<h1><bdi>Flour</bdi> " in text and '<section id="01.1.1.2-01"' in text
 
 
 def test_a_page_takes_the_place_of_a_page_alone(small: Path, tmp_path: Path) -> None:
@@ -355,9 +355,10 @@ def test_the_life_of_a_series_has_a_page(whole: Whole, tmp_path: Path) -> None:
     told = run(None, *words, "--html", page)
     assert (told.status, told.out) == (0, run(None, *words).out)
     text = page.read_text(encoding="utf-8")
-    cells = re.findall(r"<td[^>]*>([^<]*)</td>", text)
+    cells = re.findall(r"<td[^>]*>(?:<bdi>)?([^<]*)(?:</bdi>)?</td>", text)
     assert cells[::9] == surveys.MONTHS[:8]
-    assert f"<h1>{told.out.splitlines()[0]}</h1>" in text and f"<p>{told.out.splitlines()[1]}</p>" in text
+    title, fact = re.sub("</?bdi>", "", text), told.out.splitlines()[1]
+    assert f"<h1>{told.out.splitlines()[0]}</h1>" in title and f"<p>{fact}</p>" in text
     assert page.stat().st_mode & 0o777 == 0o600
 
 

@@ -281,7 +281,8 @@ def test_history_outside_the_tolerance_is_confirmed_and_listed(cpi: Cpi, tmp_pat
     assert run(cpi, *words, "--check").status == 0
     page = (folder / "check" / "report.html").read_text(encoding="utf-8")
     confirmed = page.partition("Confirmed outside the tolerance")[2]
-    assert "<td>prices.csv, row 5, value</td><td class=number>2100</td><td class=number>200</td>" in confirmed
+    where = "<bdi>prices.csv</bdi>, row 5, <bdi>value</bdi>"
+    assert f"<td>{where}</td><td class=number>2100</td><td class=number>200</td>" in confirmed
     assert run(cpi, *words, "--write", tmp_path / "records").status == 0
     lines = (tmp_path / "records" / "records-01.csv").read_text(encoding="utf-8").splitlines()
     assert [line for line in lines if "confirm" in line] == [f'1000,{KEY_7},import,"quote,1,2026-01,price,2100,confirm']
@@ -496,7 +497,7 @@ def test_more_is_added_to_an_office_whose_file_keeps_its_bytes(cpi: Cpi, standin
     assert run(cpi, "take-in", folder, "--onto", standing, "--check").status == 0
     assert sums(standing) == before
     page = (folder / "check" / "report.html").read_text(encoding="utf-8")
-    assert f"Judged by cpi over a copy of {standing}." in page
+    assert f"Judged by cpi over a copy of <bdi>{standing}</bdi>." in page
     ran = run(cpi, "take-in", folder, "--onto", standing, "--write", tmp_path / "added")
     assert sums(standing) == before
     assert ran.out.splitlines()[1] == f"cpi replay --db {standing} < {tmp_path / 'added' / 'records-01.csv'}"

@@ -247,7 +247,9 @@ def test_the_deadline_file_has_the_windows_that_were_set(served: Path, desk: Bro
     served.write_text(json.dumps(SERVED), encoding="utf-8")
     desk.type("#records-text", SET)
     sent(desk, "records", "2 accepted, 1 refused of 3")
-    assert "Phones show the new window once calendar.json is beside the pages (see RUNNING)." in desk.text("#records-told")
+    assert "Phones show the new window once calendar.json is beside the pages (see RUNNING)." in desk.text(
+        "#records-told"
+    )
     first, _, last = SERVED["months"]
     april = {"month": "2011-04", "opens": 7000, "closes": 8000}
     wanted = [first, {"month": "2011-03", "opens": 6000, "closes": 7000}, april, last]

@@ -16,6 +16,7 @@ import jinja2
 from markupsafe import Markup
 
 from . import charts, exact
+from .others import isolated, others
 from .terminal import Fault, because_of
 
 TEMPLATES = Path(__file__).resolve().parent / "templates"
@@ -39,8 +40,10 @@ FILTERS: Mapping[str, Callable[..., Any]] = {
     "size": size,
     "points": exact.points,
     "month_name": charts.month_name,
+    "others": others,
+    "isolated": isolated,
 }
-"""What a template of any tool can write figures with."""
+"""What a template of any tool can write figures, and texts of others, with."""
 
 
 def style() -> Markup:

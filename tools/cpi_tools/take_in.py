@@ -21,6 +21,7 @@ from .copying import private_copy
 from .judge import Judge, Judged, moments_of
 from .numbers_of_texts import decimal
 from .office_files import NOTHING, SHEETS, Known, OfficeFiles, Options, Taken, known_of
+from .others import Worded
 from .program import Cpi, add_program
 from .sent import MOST_RECORDS
 from .sheets import Source
@@ -196,7 +197,7 @@ def run(chosen: argparse.Namespace) -> int:
     if chosen.write and os.path.lexists(chosen.write):
         raise Fault(f"{chosen.write} is there already: name a folder that isn't")
     out = chosen.out or (chosen.folder if chosen.folder.is_dir() else chosen.folder.parent) / "check"
-    over = f"a copy of {chosen.onto}" if chosen.onto else "an office in memory that was empty"
+    over = Worded("a copy of {}", str(chosen.onto)) if chosen.onto else Worded("an office in memory that was empty")
     try:
         with Progress("cpi-tools take-in") as progress:
             told = taken_in(cpi, chosen.folder, options, chosen.zone, chosen.onto, progress)

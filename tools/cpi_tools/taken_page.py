@@ -1,4 +1,5 @@
-"""The page of a check: what would be done, month by month, and what is refused. Plain HTML; each text is escaped."""
+"""The page of a check: what would be done, month by month, and what is refused. Plain HTML; each text is escaped, and
+those of others, with messages that cite them, turn nothing beside them."""
 
 from __future__ import annotations
 
@@ -8,6 +9,7 @@ from html import escape
 from .judge import Judged
 from .numbers_of_texts import decimal
 from .office_files import Taken, Weighed
+from .others import Worded, isolated, others
 from .sent import Problem
 from .sheets import Origin
 from .terminal import counted
@@ -70,8 +72,8 @@ def page(name: str, over: str, taken: Taken, judged: Judged) -> str:
     verdict = f"{counted(refused, 'cell')} to look at; nothing is taken in." if refused else "Nothing is refused."
     css = ' class="refused"' if refused else ""
     parts = [
-        f"<h1>{escape(name)}</h1>",
-        f"<p>Judged by cpi over {escape(over)}. Nothing was written to an office.</p>",
+        f"<h1>{others(name)}</h1>",
+        f"<p>Judged by cpi over {others(over)}. Nothing was written to an office.</p>",
         f"<p{css}><strong>{verdict}</strong></p>",
         f"<p>What cpi takes of it: {escape(summary(judged))}.</p>",
         *listed("Notes", taken.notes),
@@ -80,7 +82,8 @@ def page(name: str, over: str, taken: Taken, judged: Judged) -> str:
         *weights(taken.weighed),
         *confirmed(judged),
     ]
-    head = f'<meta charset="utf-8"><meta name="viewport" content="width=device-width"><title>{escape(name)}</title>'
+    head = '<meta charset="utf-8"><meta name="viewport" content="width=device-width">'
+    head += f"<title>{escape(isolated(name))}</title>"
     style, body = f"<style>\n{STYLE}</style>", "\n".join(parts)
     return f'<!DOCTYPE html>\n<html lang="en">\n<head>{head}\n{style}</head>\n<body>\n{body}\n</body></html>\n'
 
@@ -92,21 +95,26 @@ def listed(title: str, texts: Sequence[str]) -> Iterable[str]:
     """A list with a heading; nothing where it is empty."""
     if texts:
         yield f"<h2>{title}</h2>"
-        yield "<ul>" + "".join(f"<li>{escape(text)}</li>" for text in texts[:MOST_SHOWN]) + "</ul>"
+        yield "<ul>" + "".join(f"<li>{others(text)}</li>" for text in texts[:MOST_SHOWN]) + "</ul>"
         if len(texts) > MOST_SHOWN:
             yield f"<p>And {len(texts) - MOST_SHOWN:,} more of this kind.</p>"
 
 
 def table(
-    title: str, heads: Sequence[str], rows: Sequence[Sequence[object]], numbers: Iterable[int] = (), css: str = "plain"
+    title: str,
+    heads: Sequence[str],
+    rows: Sequence[Sequence[object]],
+    numbers: Iterable[int] = (),
+    cited: Iterable[int] = (),
+    css: str = "plain",
 ) -> str:
-    """A table of texts that scrolls by itself where it is wide; `numbers` are the columns of numbers, and with the
-    class `stacked` its cells stand below each other on a phone."""
-    right = {*numbers}
+    """A table of texts that scrolls by itself where it is wide; `numbers` are the columns of numbers, `cited` those
+    that cite texts of others, and with the class `stacked` its cells stand below each other on a phone."""
+    right, isolating = {*numbers}, {*cited}
 
     def cell(at: int, value: object) -> str:
         kind = " class=number" if at in right else " class=words" if len(str(value)) > LONG else ""
-        return f"<td{kind}>{escape(str(value))}</td>"
+        return f"<td{kind}>{others(value) if at in isolating else escape(str(value))}</td>"
 
     shown = rows[:MOST_SHOWN]
     lines = ["".join(cell(at, value) for at, value in enumerate(row)) for row in shown]
@@ -124,13 +132,15 @@ def problems(found: Sequence[Problem]) -> Iterable[str]:
     """What is refused; all of it stands in problems.csv."""
     rows = [(place(it.origin), it.number, it.because, it.do) for it in found]
     if rows:
-        yield table("Refused", ("where", "number", "because", "do"), rows, css="stacked")
+        yield table("Refused", ("where", "number", "because", "do"), rows, cited=(0, 2), css="stacked")
 
 
 def place(origin: Origin) -> str:
     """`prices.csv, row 5, value` of a cell."""
-    parts = [origin.file, f"row {origin.row}" if origin.row else "", origin.column]
-    return ", ".join(part for part in parts if part)
+    parts = [origin.file, origin.column]
+    if origin.row:
+        parts.insert(1, Worded(f"row {origin.row}"))
+    return Worded(", ".join("{}" for part in parts if part), *filter(None, parts))
 
 
 def months(judged: Judged) -> Iterable[str]:
@@ -159,7 +169,7 @@ def weights(weighed: Sequence[Weighed]) -> Iterable[str]:
     ]
     if rows:
         heads = ("year", "code", "given", "exact share, millionths", "weight", "change")
-        yield table("Weights, scaled to 1,000,000", heads, rows, (2, 3, 4, 5))
+        yield table("Weights, scaled to 1,000,000", heads, rows, (2, 3, 4, 5), (0, 1, 2))
 
 
 def confirmed(judged: Judged) -> Iterable[str]:
@@ -167,4 +177,4 @@ def confirmed(judged: Judged) -> Iterable[str]:
     rows = [(place(it.origin), *it[1:]) for it in judged.confirmed]
     if rows:
         heads = ("where", "price", "last price", "lowest inside", "highest inside")
-        yield table("Confirmed outside the tolerance", heads, rows, (1, 2, 3, 4))
+        yield table("Confirmed outside the tolerance", heads, rows, (1, 2, 3, 4), (0,))

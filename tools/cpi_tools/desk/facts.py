@@ -11,6 +11,7 @@ from functools import cached_property
 from typing import NamedTuple, Optional
 
 from ..exact import ALL_ITEMS
+from ..others import Worded
 from ..pack.measures import Contributions
 from ..pack.tables import NotATable, Row
 from ..pack.tables import Series as Tables
@@ -75,7 +76,7 @@ class Facts:
 
     def item(self, code: str) -> str:
         """An item with its unit."""
-        return f"{self.items[code].text}, {self.items[code].unit}"
+        return Worded("{}, {}", self.items[code].text, self.items[code].unit)
 
     def place_cells(self, it: Assignment) -> list[str]:
         """Slot, aggregate, item and outlet."""

@@ -5,6 +5,7 @@ from __future__ import annotations
 from typing import Optional
 
 from ..exact import ALL_ITEMS, Ratio, decimal, depth_of, points, tenths
+from ..others import Worded
 from ..sections import Cell, Section, columns
 from ..terminal import month_before, month_text
 from .facts import Facts
@@ -33,7 +34,7 @@ def row_of(facts: Facts, code: str) -> Optional[list[Cell]]:
     now, then = facts.rows.get(code), facts.tables.row(month_text(month_before(facts.month)), code)
     given = facts.contributions.of(month_text(facts.month), code, ALL_ITEMS)
     if now is None:
-        title = f"{facts.tables.titles[code]} (left the plan)"
+        title = Worded("{} (left the plan)", facts.tables.titles[code])
         return [code, title, *[""] * 7, added(given.to_year), ""] if given.to_year else None
     levels = [points(then.chained, 2) if then else "", points(now.chained, 2)]
     figures = [points(now.within, 2), *levels, tenths(now.month_change), tenths(now.year_change)]

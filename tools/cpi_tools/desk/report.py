@@ -8,6 +8,7 @@ from typing import NamedTuple, Optional
 
 from ..copying import private_copy
 from ..exact import decimal, depth_of, points, tenths, with_sign
+from ..others import Worded
 from ..program import Cpi
 from ..sections import Section, text_of
 from ..stored import read_copy
@@ -168,9 +169,10 @@ def lead(facts: Facts, is_frozen: bool) -> str:
     month, annual = (tenths(it).replace("-", "\u2212") for it in (top.month_change, top.year_change))
     year = f", {annual} percent on the year before" if annual else ""
     told = f"{begun} {points(top.chained, 1)}: {month} percent on the month before{year}."
-    most = sorted(divisions(facts), key=lambda it: -abs(it.points))[:2]
-    by = " and ".join(f"{it.title} ({it.text})" for it in most if it.points)
-    return f"{told} Most percentage points of the month come from {by}." if by else told
+    most = [it for it in sorted(divisions(facts), key=lambda it: -abs(it.points))[:2] if it.points]
+    by = " and ".join(f"{{}} ({it.text})" for it in most)
+    titles = [it.title for it in most]
+    return Worded(f"{told} Most percentage points of the month come from {by}.", *titles) if by else told
 
 
 def divisions(facts: Facts) -> list[Division]:

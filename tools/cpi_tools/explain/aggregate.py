@@ -7,6 +7,7 @@ from fractions import Fraction
 from typing import Optional
 
 from ..exact import HUNDRED, decimal
+from ..others import Worded
 from ..sections import Cell, Section, columns
 from ..stored import OBSERVED, Frozen, Series
 from ..terminal import link_month, month_before, month_text, slot_text
@@ -40,7 +41,7 @@ def about(sources: Sources, series: Series) -> str:
     """What a series prices, and where."""
     it = sources.holder(series, sources.month)
     item = sources.items[it.item]
-    return f"{item.code} {item.text}, {item.unit}; {sources.outlets[it.outlet]}"
+    return Worded(f"{item.code} {{}}, {{}}; {{}}", item.text, item.unit, sources.outlets[it.outlet])
 
 
 # ---- lines of a series
@@ -51,10 +52,10 @@ def base_line(sources: Sources, series: Series) -> Line:
     link, name, ticks = link_month(sources.month), f"base of {slot_text(series)}", sources.base(series)[0]
     if sources.link.is_observed(series):
         quote = sources.link.frozen[series]
-        says = f"{about(sources, series)}; {quote.mark} in {month_text(link)} {who_sent(sources, series, link, quote)}"
-        return Line(name, f"10000 * {quote.value}", ticks, says)
-    says = f"{about(sources, series)}; not observed in {month_text(link)}: its carried price of that month"
-    return Line(name, "", ticks, says)
+        told = f"{quote.mark} in {month_text(link)} {who_sent(sources, series, link, quote)}"
+        return Line(name, f"10000 * {quote.value}", ticks, Worded(f"{{}}; {told}", about(sources, series)))
+    told = f"not observed in {month_text(link)}: its carried price of that month"
+    return Line(name, "", ticks, Worded(f"{{}}; {told}", about(sources, series)))
 
 
 def quote_line(sources: Sources, series: Series) -> Line:
@@ -190,7 +191,7 @@ def glance_row(sources: Sources, series: Series, now: int, then: int) -> list[Ce
     return [
         slot_text(series),
         slot_text(holder[:2]),
-        f"{item.text}, {item.unit}",
+        Worded("{}, {}", item.text, item.unit),
         sources.outlets[holder.outlet],
         mark_text(quote),
         sent.receipt if sent and stands else None,

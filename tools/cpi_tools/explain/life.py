@@ -5,6 +5,7 @@ from __future__ import annotations
 from collections.abc import Iterator, Sequence
 from typing import NamedTuple, Optional
 
+from ..others import Worded
 from ..sections import Cell, Section, columns
 from ..stored import Assignment, Carried, Frozen, Release, Series, StoredOffice
 from ..terminal import counted, month_text, slot_text
@@ -51,7 +52,7 @@ def life_of(office: StoredOffice, place: tuple[int, int], until: int) -> Life:
             months.append(MonthOfSeries(release, own[-1], *found))
     item = next(it for it in office.items() if it.code == held[0].item)
     outlet = office.outlets()[held[0].outlet]
-    title = f"Series {slot_text(series)}: {item.code} {item.text}, {item.unit}; {outlet}"
+    title = Worded(f"Series {slot_text(series)}: {item.code} {{}}, {{}}; {{}}", item.text, item.unit, outlet)
     return Life(title, [*facts_of(office, held, months)], section_of(office, months))
 
 

@@ -5,6 +5,7 @@ from __future__ import annotations
 from fractions import Fraction
 
 from ..exact import HUNDRED, at_and_above, decimal, points, tenths
+from ..others import Worded
 from ..sections import Cell, Section, columns
 from ..terminal import link_month, month_text
 from .expressions import value_of
@@ -24,14 +25,14 @@ def weight_line(sources: Sources, code: str) -> Line:
     sent, now, row = sources.plan.weights[code], sources.own.levels[code].weight, sources.row("level_2", code)
     name, title, reference = f"weight of {code}", sources.plan.titles[code], sources.plan.reference
     if reference is None:
-        return Line(name, f"{sent}", now, f"{title}; as the plan has it", row)
+        return Line(name, f"{sent}", now, Worded("{}; as the plan has it", title), row)
     then = sources.latest(reference)
     levels = then.levels if then else {}
     span = f"from {month_text(reference)} to {month_text(link_month(sources.month))}"
     if code not in levels or code not in sources.link.levels:
-        return Line(name, "0", now, f"{title}; one of the tables {span} has no row of it", row)
+        return Line(name, "0", now, Worded(f"{{}}; one of the tables {span} has no row of it", title), row)
     expression = f"round({sent} * {sources.link.levels[code].chained} / {levels[code].chained})"
-    return Line(name, expression, now, f"{title}; moved by its prices {span}", row)
+    return Line(name, expression, now, Worded(f"{{}}; moved by its prices {span}", title), row)
 
 
 def adds_line(sources: Sources, node: str, code: str) -> Line:
@@ -42,7 +43,7 @@ def adds_line(sources: Sources, node: str, code: str) -> Line:
     change = f"({own.within} - {then})" if own.within >= then else f"({then} - {own.within})"
     expression = f"round({HUNDRED} * {own.weight} * {change} / ({whole.weight} * {whole_then}))"
     expression = expression if own.within >= then else f"-{expression}"
-    return Line(f"contribution of {code}", expression, value_of(expression), sources.plan.titles[code])
+    return Line(f"contribution of {code}", expression, value_of(expression), Worded("{}", sources.plan.titles[code]))
 
 
 def contributions(sources: Sources, node: str) -> list[tuple[Fraction, str, Line]]:
@@ -65,7 +66,7 @@ def node_parts(sources: Sources, node: str) -> list[Part]:
         Line("index", f"round({total} / {weight})", own.within, "within the year; the link month is 100", row, True),
     ]
     titles = sources.plan.titles
-    indices = [Line(f"index of {code}", "", it.within, titles[code]) for code, it in zip(codes, rows)]
+    indices = [Line(f"index of {code}", "", it.within, Worded("{}", titles[code])) for code, it in zip(codes, rows)]
     adds = [line for _, _, line in contributions(sources, node)[:MOST_CONTRIBUTIONS]]
     return [
         Part("Mean", "Always of the elementary indices, by their weights in use, and rounded once.", mean),

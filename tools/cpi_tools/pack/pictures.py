@@ -10,6 +10,7 @@ from markupsafe import Markup
 from .. import charts
 from ..charts import OTHER, OWN, Line, Picture, month_name
 from ..exact import ALL_ITEMS, decimal, depth_of
+from ..others import isolated, others
 from .tables import Row, Series, link_of
 
 
@@ -49,7 +50,7 @@ def of_node(series: Series, code: str) -> list[Chart]:
             says += f" and {charts.signed(high)} percent in {month_name(high_month)}."
             # (what isn't known yet isn't drawn: the annual change begins with the second year)
             first = months.index(known[0][0])
-            picture = Picture(key, f"{title}: change on the {key} before", says)
+            picture = Picture(key, f"{isolated(title)}: change on the {key} before", says)
             drawn = charts.columns(picture, months[first:], values[first:])
             found.append(Chart(f"Change on the {key} before", "Percent", drawn))
     return found
@@ -71,8 +72,10 @@ def _level(
     lines, key = [Line(OWN, levels)], Markup("")
     if code != ALL_ITEMS:
         lines.append(Line(OTHER, [_of(row, "chained", 10**6) for row in whole]))
-        key = Markup("<b>Full line</b>: {}. <i>Broken line</i>: {}.").format(title, series.titles[ALL_ITEMS])
-    drawn = charts.lines(Picture("level", f"{title}: index", says), months, lines)
+        key = Markup("<b>Full line</b>: {}. <i>Broken line</i>: {}.").format(
+            others(title), others(series.titles[ALL_ITEMS])
+        )
+    drawn = charts.lines(Picture("level", f"{isolated(title)}: index", says), months, lines)
     return Chart("Index", base_text(series, code), drawn, key)
 
 

@@ -16,6 +16,7 @@ from typing import NamedTuple, Optional
 from .. import charts
 from ..charts import month_name
 from ..exact import ALL_ITEMS, HUNDRED, Ratio, depth_of
+from ..others import isolated
 from ..pages import TEMPLATES, environment, write_page
 from .config import Config
 from .measures import Contributions, reference_level
@@ -212,14 +213,14 @@ class Site:
         """Title and levels of a node for the calculator."""
         levels = [row.chained if row else None for row in self.series.rows(code)]
         begun = [] if len(self.clause_months) == len(levels) else [HUNDRED if levels[0] else None]
-        return {"title": self.series.titles[code], "levels": begun + levels}
+        return {"title": isolated(self.series.titles[code]), "levels": begun + levels}
 
     def _levels(self) -> str:
         """What the calculator counts with, as a script: levels in millionths of a point, as whole numbers."""
         series, months = self.series, self.clause_months
         tables = [series.latest[month] for month in months]
         data = {
-            "currency": self.config.currency,
+            "currency": isolated(self.config.currency) if self.config.currency else "",
             "digits": self.config.minor_digits,
             "months": months,
             "names": [month_name(month) for month in months],

@@ -1,0 +1,175 @@
+"""Texts of others on the pages of the tools: each is an element of its own, or between isolates where none can be."""
+
+from __future__ import annotations
+
+import csv
+import io
+import json
+import re
+from html.parser import HTMLParser
+from pathlib import Path
+from typing import Optional
+
+import pytest
+
+import surveys
+from cpi_tools.others import Worded, closed, isolated, others
+from cpi_tools.pack.config import Config
+from cpi_tools.pack.public import from_file
+from cpi_tools.program import Cpi, record
+from cpi_tools.publish import publish
+from ran import run
+
+MARK = "\u00a7"
+"""Each text of others in these offices begins with it, and nothing of ours has it."""
+
+PLACES = {"item": (4, 5), "outlet": (4,)}
+"""Where the texts of a record are."""
+
+NO_ELEMENTS = ("title", "option", "desc")
+"""What has no elements in it."""
+
+
+# ---- a text by itself
+
+
+@pytest.mark.parametrize(
+    ("text", "kept"),
+    [
+        ("1 l\u202e", "1 l\u202e"),
+        ("1 l\u2069\u202e", "1 l\u202e"),
+        ("1 l\u202e\u2067", "1 l\u202e\u2067\u2069"),
+        ("\u2066a\u2069\u2069\u2068b\u2067c", "\u2066a\u2069\u2068b\u2067c\u2069\u2069"),
+        ("a\u2029b\u0085c\nd\re\x1ef", "a b c d e f"),
+        ("", ""),
+    ],
+    ids=["override", "leaves", "stays open", "both", "paragraphs", "nothing"],
+)
+def test_a_text_cant_leave_its_element(text: str, kept: str) -> None:
+    assert closed(text) == kept
+    assert others(text) == f"<bdi>{kept}</bdi>"
+    assert isolated(text) == f"\u2068{kept}\u2069"
+
+
+def test_a_text_is_escaped_once() -> None:
+    assert others("<b> & 'c'").__html__() == "<bdi>&lt;b&gt; &amp; &#x27;c&#x27;</bdi>"
+
+
+def test_words_are_plain_in_a_file_and_isolate_their_texts_on_a_page() -> None:
+    inner = Worded("it's {}, {}", "<rice>", "1 kg\u2069")
+    told = Worded("{}; in {}", inner, "Shop")
+    assert told == "it's <rice>, 1 kg\u2069; in Shop"
+    assert told.__html__() == "it&#x27;s <bdi>&lt;rice&gt;</bdi>, <bdi>1 kg</bdi>; in <bdi>Shop</bdi>"
+    assert isolated(told) == "it's \u2068<rice>\u2069, \u20681 kg\u2069; in \u2068Shop\u2069"
+    assert others(told) == told.__html__()
+
+
+# ---- pages
+
+
+class Texts(HTMLParser):
+    """The faults of a page: marked texts outside of an element of their own, or with others in it."""
+
+    def __init__(self) -> None:
+        super().__init__()
+        self.faults: list[str] = []
+        self.marks = 0
+        self._open: list[str] = []
+
+    def handle_starttag(self, tag: str, attrs: list[tuple[str, Optional[str]]]) -> None:
+        self._open.append(tag)
+        for name, value in attrs:
+            self._look(f"{tag} {name}", value or "")
+
+    def handle_endtag(self, tag: str) -> None:
+        while self._open and self._open.pop() != tag:
+            pass
+
+    def handle_data(self, data: str) -> None:
+        if "bdi" not in self._open:
+            self._look(self._open[-1] if self._open else "", data)
+            return
+        self.marks += data.count(MARK)
+        if data.count(MARK) > 1 or (MARK in data and not data.startswith(MARK)):
+            self.faults.append(f"not its own: {data}")
+
+    def _look(self, where: str, text: str) -> None:
+        is_attribute, bare = " " in where, re.sub("\u2068[^\u2069]*\u2069", "", text)
+        self.marks += text.count(MARK) - bare.count(MARK)
+        if MARK in bare or (text != bare and not is_attribute and where not in NO_ELEMENTS):
+            self.faults.append(f"{where}: {text}")
+
+
+def faults_of(page: Path) -> list[str]:
+    """The faults of a page, on which there has to be at least one marked text."""
+    read = Texts()
+    read.feed(page.read_text(encoding="utf-8"))
+    return read.faults or ([] if read.marks else ["no text of others"])
+
+
+def marked_line(line: str) -> str:
+    """A record with its texts marked."""
+    (fields,) = csv.reader([line])
+    for at in PLACES.get(fields[2], ()):
+        fields[at] = MARK + fields[at]
+    if fields[2] == "plan":
+        fields[4] = re.sub(r'^(T,[^,]*,"?)', rf"\1{MARK}", fields[4], flags=re.M)
+    return record(*fields)
+
+
+@pytest.fixture(scope="module")
+def office(cpi: Cpi, tmp_path_factory: pytest.TempPathFactory) -> Path:
+    """The small office with all its texts marked, its last month not frozen."""
+    path = tmp_path_factory.mktemp("marked") / "office.db"
+    head, plan, rest = re.split(r"^(0,desk,plan.*?^\"$)\n", surveys.SMALL, flags=re.M | re.S)
+    lines = [marked_line(line) for part in (head, rest) for line in part.splitlines()]
+    (fields,) = csv.reader(io.StringIO(plan, newline=""))
+    fields[4] = re.sub(r'^(T,[^,]*,"?)', rf"\1{MARK}", fields[4], flags=re.M)
+    lines.insert(len(head.splitlines()), record(*fields))
+    assert [reply for reply in cpi.replay(lines, db=path) if "refused" in reply] == []
+    return path
+
+
+def test_on_the_pages_of_a_website(cpi: Cpi, office: Path, tmp_path: Path) -> None:
+    words = {name: MARK + name for name in ("office", "title", "country", "contact", "licence", "currency")}
+    out = tmp_path / "public"
+    publish(from_file(cpi, office, 9000), Config(agency="NSO", area="XX", **words), out, None, lambda _: None)
+    pages = [*out.rglob("*.html")]
+    assert len(pages) > 12
+    assert {page.name: found for page in pages if (found := faults_of(page))} == {}
+    levels = json.loads((out / "assets/levels.js").read_text(encoding="utf-8").partition("=")[2].rstrip(";\n"))
+    assert levels["currency"] == f"\u2068{MARK}currency\u2069"
+    assert levels["items"]["00"]["title"] == f"\u2068{MARK}All items\u2069"
+
+
+def test_on_the_pages_of_the_desk(cpi: Cpi, office: Path, tmp_path: Path) -> None:
+    for month in ("2026-01", "2026-02"):
+        assert run(cpi, "desk", "month", office, month, "--at", 4500, "--out", tmp_path / month).status == 0
+        assert faults_of(tmp_path / month / "month.html") == []
+        for file in (tmp_path / month).glob("*.csv"):
+            assert not re.search("<bdi>|[\u2068\u2069]", file.read_text(encoding="utf-8")), file
+
+
+def test_on_the_pages_of_an_explanation(office: Path, tmp_path: Path) -> None:
+    out = tmp_path / "explained"
+    told = run(None, "explain", office, "2026-01", "all", "--html", out)
+    assert run(None, "explain", office, "2026-01", "--series", "7/2", "--html", out / "life.html").status == 0
+    pages = [*out.glob("*.html")]
+    assert len(pages) == 7 and told.status == 0
+    assert {page.name: found for page in pages if (found := faults_of(page))} == {}
+    plain = run(None, "explain", office, "2026-01", "01.1.1.2-01").out
+    assert f"{MARK}Flour, <b>wheat</b>, {MARK}1 kg; {MARK}Corner shop" in plain
+
+
+def test_on_the_page_of_a_check(cpi: Cpi, office: Path, tmp_path: Path) -> None:
+    folder = tmp_path / f"{MARK}sheets"
+    folder.mkdir()
+    (folder / "items.csv").write_text(f"item,text,unit,low,high,{MARK}more\n{MARK}TEA,Tea,1 kg,500,2000,x\n", "utf-8")
+    onto = tmp_path / f"{MARK}office.db"
+    onto.write_bytes(office.read_bytes())
+    assert run(cpi, "take-in", folder, "--onto", onto, "--check").status == 1
+    read = Texts()
+    read.feed((folder / "check/report.html").read_text(encoding="utf-8"))
+    # (a path and a message are isolated as a whole)
+    bare = [it for it in read.faults if not it.startswith("not its own: ")]
+    assert bare == [] and read.marks > 3

@@ -1,0 +1,69 @@
+"""Texts of others on a page: titles, items, outlets, the office, files, cells, whatever isn't our own wording.
+
+Such a text is an element of its own, `<bdi>`, so that neither its direction nor an override in it turns what is beside
+it (Unicode Standard Annex 9, isolates). Where no element can be, in an attribute, a title, an option or a text that a
+script writes, it is between the characters FIRST STRONG ISOLATE and POP DIRECTIONAL ISOLATE. Templates have both as
+filters, `others` and `isolated`. `web/shared/dom.js` has the rule for the pages of `web/`.
+"""
+
+from __future__ import annotations
+
+import re
+from html import escape
+
+OPENS, CLOSES = "\u2068", "\u2069"
+"""FIRST STRONG ISOLATE and POP DIRECTIONAL ISOLATE."""
+
+PARAGRAPHS = re.compile("[\n\r\x1c-\x1e\x85\u2029]")
+"""What begins a paragraph, and so ends each isolate."""
+
+ISOLATES = re.compile("[\u2066-\u2069]")
+
+
+def closed(text: str) -> str:
+    """A text that can't leave its element: each isolate of its own is closed, what would close another one is left out,
+    and what would begin a paragraph is a space."""
+    kept, is_open = [], 0
+    for part in re.split(f"({ISOLATES.pattern})", PARAGRAPHS.sub(" ", text)):
+        if part == CLOSES and not is_open:
+            continue
+        is_open += -1 if part == CLOSES else bool(ISOLATES.fullmatch(part))
+        kept.append(part)
+    return "".join(kept) + CLOSES * is_open
+
+
+class Element(str):
+    """Markup of a page: a template doesn't escape it again."""
+
+    def __html__(self) -> Element:
+        return self
+
+
+class Worded(str):
+    """Words of ours with texts of others in them: plain in a file or on a terminal, and on a page with each of these
+    texts in its element. `form` has `{}` for each of them; one may be Worded itself."""
+
+    form: str
+    texts: tuple[str, ...]
+
+    def __new__(cls, form: str, *texts: str) -> Worded:
+        made = super().__new__(cls, form.format(*texts))
+        made.form, made.texts = form, texts
+        return made
+
+    def __html__(self) -> Element:
+        return Element(escape(self.form).format(*map(others, self.texts)))
+
+
+def others(text: object) -> Element:
+    """A text of others as an element."""
+    if isinstance(text, Worded):
+        return text.__html__()
+    return Element(f"<bdi>{escape(closed(str(text)))}</bdi>")
+
+
+def isolated(text: object) -> str:
+    """A text of others where no element can be."""
+    if isinstance(text, Worded):
+        return text.form.format(*map(isolated, text.texts))
+    return f"{OPENS}{closed(str(text))}{CLOSES}"
