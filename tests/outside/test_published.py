@@ -236,8 +236,8 @@ def round_half_up(over: int, under: int) -> int:
 
 
 def money(minor: int) -> str:
-    """Minor units as the page writes them, with narrow spaces at thousands."""
-    return f"{minor // 100:,}.{minor % 100:02} crowns".replace(",", "\u202f")
+    """Minor units as the page writes them, with narrow spaces at thousands and the currency isolated."""
+    return f"{minor // 100:,}.{minor % 100:02} \u2068crowns\u2069".replace(",", "\u202f")
 
 
 def amount_in(opened: Browser, pack: Path, then: str, now: str, amount: str, code: str, decimals: int) -> object:

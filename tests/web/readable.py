@@ -149,8 +149,9 @@ for (let node = walker.nextNode(); node; node = walker.nextNode()) {
   const holder = node.parentElement, other = node.previousSibling;
   if (!isSeen(holder) || holder.closest("bdi, option, textarea, script, style, noscript, .unseen, .hidden")) continue;
   let before = other?.nodeName === "BDI" ? { right: [...other.getClientRects()].at(-1) } : {};
-  for (let at = 0; at < node.data.length; at += 1) {
-    const box = boxOf(node, at);
+  for (let at = 0, deep = 0; at < node.data.length; at += 1) {
+    deep += { "\u2068": 1, "\u2069": -1 }[node.data[at]] ?? 0;
+    const box = deep ? null : boxOf(node, at);
     if (!box) continue;
     const { left, right } = before;
     if (left && isOfOneLine(left, box) && box.left < left.left) { found.push(`turned: ${node.data}`); break; }
@@ -166,18 +167,16 @@ in English."""
 
 BARE = """
 const found = [], [texts] = arguments;
-const has = (text) => texts.find((one) => text.includes(one.slice(0, 4)));
+const isBare = (text) => {
+  const left = text.replace(/\u2068[^\u2069]*\u2069/g, "");
+  return texts.some((one) => left.includes(one.slice(0, 4)));
+};
 const walker = document.createTreeWalker(document, NodeFilter.SHOW_TEXT);
 for (let node = walker.nextNode(); node; node = walker.nextNode()) {
-  const { parentElement: { localName } } = node;
-  const isMark = ["title", "option", "desc"].includes(localName) && /\u2068[^]*\u2069/.test(node.data);
-  const isCode = ["script", "style", "textarea"].includes(localName);
-  if (has(node.data) && !isMark && !isCode && !node.parentElement.closest("bdi")) found.push(`bare: ${node.data}`);
+  if (isBare(node.data) && !node.parentElement.closest("bdi, script, style, textarea")) found.push(`bare: ${node.data}`);
 }
 for (const element of document.querySelectorAll("*")) {
-  for (const { name, value } of element.attributes) {
-    if (has(value) && !/\u2068[^]*\u2069/.test(value)) found.push(`bare ${name}: ${value}`);
-  }
+  for (const { name, value } of element.attributes) if (isBare(value)) found.push(`bare ${name}: ${value}`);
 }
 return found;
 """
