@@ -82,7 +82,10 @@ function told(fault) {
 }
 
 line.on.gone = session.followOthers;
-line.on.settled = entry.settled;
+line.on.settled = (answered) => {
+  entry.settled(answered);
+  unsent.settled(answered);
+};
 unsent.on.open = entry.edit;
 unsent.on.dropped = entry.dropped;
 for (const part of [entry, exported, search, session, unsent]) part.listen();

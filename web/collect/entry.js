@@ -9,6 +9,7 @@ import { entryAt, isToDo, rowOf, state, storedOf, takeEntries, takeEntry } from 
 import * as store from "./store.js";
 import * as tabs from "./tabs.js";
 import { whyNotKept } from "./told.js";
+import * as unsent from "./unsent.js";
 
 let editing = null; // { month, slot, row, entry, stored, seen, isListed, wasToDo }
 let isSaving = false;
@@ -116,10 +117,11 @@ async function drop() {
 }
 
 /** Shows that an entry was dropped. */
-export async function dropped({ who, slot }) {
-  takeEntries(await store.entries(who));
+export async function dropped(entry) {
+  takeEntries(await store.entries(entry.who));
+  unsent.leaveOut(entry);
   tabs.tell("entries");
-  touch([slot]);
+  touch([entry.slot]);
 }
 
 /** Sends an entry in the place of the one that another device has stored since. */

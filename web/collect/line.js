@@ -127,8 +127,8 @@ async function settled({ who }, answered) {
   const [list, entries] = await Promise.all([store.listOf(who, state.month), store.entries(who)]);
   if (state.who !== who) return;
   takeKept(list ?? null, entries);
-  touch(answered.filter(([{ month }]) => month === state.month).map(([{ slot }]) => slot));
   on.settled(answered);
+  touch(answered.filter(([{ month }]) => month === state.month).map(([{ slot }]) => slot));
   tabs.tell("answered");
 }
 

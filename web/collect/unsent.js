@@ -2,11 +2,12 @@
 // What is listed is chosen with the view, so that nothing moves under a finger; the head counts them at any moment.
 import { becomes, find, make } from "../shared/dom.js";
 import { inWords } from "../shared/months.js";
-import { entryAt, keyOfEntry, kindOf, state, takeEntries } from "./state.js";
+import { entryAt, keyOfEntry, kindOf, state } from "./state.js";
 import * as store from "./store.js";
 import { inMarks, whyNotStored } from "./told.js";
 
 let listed = []; // entries, as they were when they were listed
+const stored = new Map(); // of those: what the office has stored since, as it was sent
 let dropping = null; // the entry of the question
 
 /** The page sets both: what opens the form of an entry, and what is done when one was dropped. */
@@ -14,6 +15,7 @@ export const on = { open: () => {}, dropped: () => {} };
 
 /** Lists what isn't stored now: what was refused or is to be looked at, and what waits in another month. */
 export function choose() {
+  stored.clear();
   listed = state.entries.filter((entry) => kindOf(entry) !== "waiting" || entry.month !== state.month);
   listed.sort((a, b) => (a.month === b.month ? a.at - b.at : a.month < b.month ? -1 : 1));
 }
@@ -32,19 +34,35 @@ export function showAll() {
   find("unsent-title").focus({ preventScroll: true });
 }
 
+/** The office has answered entries: an entry that it has stored is shown with what was stored. */
+export function settled(answered) {
+  for (const [sent, { receipt }] of answered) if (receipt) stored.set(keyOfEntry(sent), sent);
+}
+
 function item(then) {
-  const now = entryAt(then.month, then.slot), entry = now ?? then;
+  const now = entryAt(then.month, then.slot), sent = now ? null : stored.get(keyOfEntry(then));
+  const entry = now ?? sent ?? then;
   const [, , outlet, , text, unit] = entry.row ?? [null, null, "", null, `Slot ${entry.slot}`, ""];
   const where = [make("span", {}, inWords(entry.month)), outlet && " · ", outlet && make("bdi", {}, outlet)];
   return make("li", { id: `unsent-${entry.month}-${entry.slot}`, "data-unsent": keyOfEntry(entry) },
     make("p", { class: "muted" }, ...where.filter(Boolean)),
     make("p", {}, make("bdi", { class: "item" }, text), unit && ", ", make("bdi", {}, unit),
       ": ", make("strong", {}, inMarks(entry.mark, entry.value))),
-    make("p", { class: now ? "why" : "why good" }, now ? whyNotStored(now) : "Stored."),
-    now ? make("div", { class: "actions" },
+    make("p", { class: sent ? "why good" : "why" }, ...becomeOf(then, now, sent)),
+    make("div", { class: now ? "actions" : "actions gone" },
       make("button", { type: "button", "data-do": "open" }, "Open"),
-      make("button", { type: "button", "data-do": "drop" }, "Drop")) : null);
+      make("button", { type: "button", "data-do": "drop" }, "Drop")));
 }
+
+/** Why an entry isn't stored; if that has changed since it was listed, a few words in the room that it had. */
+function becomeOf(then, now, sent) {
+  const before = whyNotStored(then);
+  if (now && whyNotStored(now) === before) return [before];
+  const after = now ? CHANGED[kindOf(now)] : sent ? "Stored." : "It isn’t on this phone any more.";
+  return [make("span", { class: "before" }, before), make("span", {}, after)];
+}
+
+const CHANGED = { waiting: "It waits to be sent.", refused: "Refused: open it.", look: "To look at: open it." };
 
 // ---- Dropping one
 
@@ -64,14 +82,19 @@ async function dropped() {
   dropping = null;
   if (find("dropping").returnValue !== "drop" || !entry || entry.who !== state.who) return;
   await store.dropEntry(entry);
-  takeEntries(await store.entries(entry.who));
-  listed = listed.filter((it) => keyOfEntry(it) !== keyOfEntry(entry) || entryAt(entry.month, entry.slot));
   on.dropped(entry);
+}
+
+/** Takes an entry out of the list that was dropped; not one that the office has stored meanwhile. */
+export function leaveOut({ month, slot }) {
+  const isLeft = (it) => it.month !== month || it.slot !== slot || stored.has(keyOfEntry(it)) || entryAt(month, slot);
+  listed = listed.filter(isLeft);
 }
 
 /** Leaves nothing of a collector in the page. */
 export function forget() {
   listed = [];
+  stored.clear();
   dropping = null;
   find("dropping-text").textContent = "";
   find("dropping").close("keep");
