@@ -5,7 +5,7 @@ import { notice, showHead } from "./head.js";
 import { render, show, showCounts, touch } from "./list.js";
 import { fetchLists, isOld } from "./lists.js";
 import { dueIn, made, sendAll } from "./send.js";
-import { state, takeEntries, takeKept } from "./state.js";
+import { state, storedOf, takeEntries, takeKept } from "./state.js";
 import * as store from "./store.js";
 import * as tabs from "./tabs.js";
 
@@ -21,9 +21,10 @@ let tries = 0, timer = 0;
 /** What is done when another tab has signed out, and with entries that were answered; the page sets both. */
 export const on = { gone: () => {}, settled: () => {} };
 
-/** Sends an entry that was just made. */
+/** Sends an entry that was just made. It is looked up before that if the list knows more than its form did. */
 export function send(entry) {
-  if (state.line === "up") made(entry);
+  const isKnown = entry.month === state.month && (storedOf(entry.slot)?.[4] ?? 0) <= entry.seen;
+  if (state.line === "up" && isKnown) made(entry);
   return again();
 }
 

@@ -37,13 +37,13 @@ export function dueIn({ state, reply, tried, times = 0 }, now = Date.now()) {
 }
 
 /**
- * Sends what is due, and tells of each import which entries were answered; with `isAll` what was refused for a while is
- * due. Null once all of it was answered; a refusal of all if the office took no more, and the rest waits; or throws
- * NoAnswer. Sending again what was stored gives its receipt again.
+ * Sends what is due, and tells which entries were answered, [entry, reply] each; the reply is empty if the collector is
+ * asked instead. With `isAll` what was refused for a while is due. Null once all of it was answered; a refusal of all if
+ * the office took no more, and the rest waits; or throws NoAnswer. Sending again what was stored gives its receipt again.
  */
 export async function sendAll(collector, isAll, onSettled) {
   const isDue = (entry) => dueIn(entry, isAll ? Infinity : undefined) === 0;
-  const refusal = await lookUp(collector, isDue);
+  const refusal = await lookUp(collector, isDue, onSettled);
   if (refusal) return refusal;
   const done = new Set(); // versions
   for (;;) {
@@ -87,7 +87,7 @@ const isOwn = ({ refused }) => refused !== 11 && refused !== 90;
  * Looks up what the office has of the months of entries that weren't sent at once. Of those that another device has
  * overtaken meanwhile the collector is asked. A refusal of all, or null; throws NoAnswer.
  */
-async function lookUp(collector, isDue) {
+async function lookUp(collector, isDue, onSettled) {
   const late = (await store.entries(collector.who)).filter((entry) => isDue(entry) && !isFresh(entry));
   for (const month of new Set(late.map((entry) => entry.month))) {
     const reply = await ask("GET", `/quotes/${month}/${month}`, { key: collector.key });
@@ -96,7 +96,9 @@ async function lookUp(collector, isDue) {
     const quotes = new Map(reply.quotes.map((row) => [row[0], row]));
     const moved = late.filter((entry) => entry.month === month)
       .map((entry) => [entry, quotes.get(entry.slot)]).filter(([entry, quote]) => hasMovedOn(entry, quote));
-    if (moved.length) await store.keepMoved(collector, moved);
+    if (moved.length === 0) continue;
+    await store.keepMoved(collector, month, moved);
+    await onSettled(moved.map(([entry]) => [entry, {}]));
   }
   return null;
 }
