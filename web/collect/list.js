@@ -102,6 +102,7 @@ function outletSections() {
 function outletSection(number, rows) {
   const rowsShown = state.view === "todo" ? rows.filter(([slot]) => open.has(slot) || isOpen(slot)) : rows;
   if (rowsShown.length === 0) return null;
+  if (state.view === "todo") for (const [slot] of rowsShown) open.add(slot); // (they stay until a view is chosen)
   return make("details", { class: "outlet", id: `at-${number}`, "data-outlet": number, open: !search.isFolded(number) },
     make("summary", {}, make("h3", {}, make("bdi", {}, rows[0][2])), countSpan(rows)),
     make("ul", {}, ...rowsShown.map((row) => make("li", { id: `slot-${row[0]}` }, slotButton(row)))));
