@@ -2,6 +2,7 @@
 // windows. A save needs none of them: its receipt is enough.
 import { ask, NoAnswer } from "../shared/api.js";
 import { readWindows } from "./deadline.js";
+import { areRows } from "./quotes.js";
 import { state, takeItems } from "./state.js";
 import * as store from "./store.js";
 
@@ -27,7 +28,7 @@ export async function fetchLists(collector, isWhole) {
   if (state.who !== who) return null;
   const refused = [work, quotes].find((reply) => Number.isInteger(reply.refused));
   if (refused) return refused;
-  if (!Array.isArray(work.work) || !Array.isArray(quotes.quotes)) throw new NoAnswer("odd");
+  if (!areRows(work.work) || !areRows(quotes.quotes)) throw new NoAnswer("odd");
   await store.keepList(collector, month, { work: work.work, quotes: quotes.quotes, at: Date.now() });
   return null;
 }
@@ -37,7 +38,7 @@ async function fetchItems(isWhole) {
   const hasAll = (state.list?.work ?? []).every((row) => state.tolerance.has(row[3]));
   if (!isWhole && hasAll && kept?.at && Date.now() - kept.at < NEW_ITEMS) return;
   const { items } = await ask("GET", "/items");
-  if (!Array.isArray(items)) throw new NoAnswer("odd");
+  if (!Array.isArray(items) || !items.every(Array.isArray)) throw new NoAnswer("odd");
   await store.keepShared("items", items);
   takeItems(items);
 }

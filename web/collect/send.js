@@ -1,6 +1,6 @@
 // Sends the entries of the phone. One tab at a time does (line.js), so that a later mark is never overtaken.
 import { ask, NoAnswer } from "../shared/api.js";
-import { hasMovedOn } from "./quotes.js";
+import { areRows, hasMovedOn } from "./quotes.js";
 import * as store from "./store.js";
 
 const ROWS = 50; // rows of one import: the office serves one after another, so nobody holds it for long
@@ -92,7 +92,7 @@ async function lookUp(collector, isDue, onSettled) {
   for (const month of new Set(late.map((entry) => entry.month))) {
     const reply = await ask("GET", `/quotes/${month}/${month}`, { key: collector.key });
     if (isRefusal(reply)) return reply;
-    if (!Array.isArray(reply.quotes)) throw new NoAnswer("odd");
+    if (!areRows(reply.quotes)) throw new NoAnswer("odd");
     const quotes = new Map(reply.quotes.map((row) => [row[0], row]));
     const moved = late.filter((entry) => entry.month === month)
       .map((entry) => [entry, quotes.get(entry.slot)]).filter(([entry, quote]) => hasMovedOn(entry, quote));
