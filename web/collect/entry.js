@@ -2,7 +2,7 @@
 import { find } from "../shared/dom.js";
 import { figures, typed } from "../shared/money.js";
 import * as form from "./form.js";
-import { send } from "./line.js";
+import { refresh, send } from "./line.js";
 import { focusOn, nextToDo, touch } from "./list.js";
 import { farFrom } from "./look.js";
 import { entryAt, isToDo, rowOf, state, storedOf, takeEntries, takeEntry } from "./state.js";
@@ -122,6 +122,7 @@ export async function dropped(entry) {
   unsent.leaveOut(entry);
   tabs.tell("entries");
   touch([entry.slot]);
+  if (entry.state === "waiting") refresh(true); // (the office may have stored it, and its reply been lost)
 }
 
 /** Sends an entry in the place of the one that another device has stored since. */

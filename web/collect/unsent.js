@@ -72,7 +72,8 @@ export function askToDrop(entry) {
   const [, , outlet, , text, unit] = entry.row ?? [null, null, "", null, `Slot ${entry.slot}`, ""];
   find("dropping-text").replaceChildren(make("bdi", {}, [text, unit].filter(Boolean).join(", ")),
     `: ${inMarks(entry.mark, entry.value)}, ${inWords(entry.month)}`, outlet && ", ", make("bdi", {}, outlet),
-    ". The office hasn’t stored it, and it will be gone from this phone.");
+    entry.state === "waiting" ? ". It will be gone from this phone, unless the office has stored it by now."
+      : ". The office hasn’t stored it, and it will be gone from this phone.");
   find("dropping").returnValue = "keep";
   find("dropping").showModal();
 }
