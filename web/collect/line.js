@@ -75,7 +75,10 @@ async function once() {
   try {
     wait = await byItself(exchanged);
   } catch (fault) {
-    if (!(fault instanceof NoAnswer)) throw fault;
+    if (!(fault instanceof NoAnswer)) {
+      timer = setTimeout(later, LONGEST_WAIT * 1000); // (the phone's disk was full, say)
+      throw fault;
+    }
     if (state.who === who) state.line = { line: "down", odd: "odd" }[fault.kind] ?? "busy";
     wait = fault.wait;
   }
