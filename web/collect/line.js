@@ -110,7 +110,11 @@ async function exchanged() {
     await on.gone();
     return null;
   }
-  const wait = toldWait({ who }, await sendAll({ key, who }, isWhole, (answered) => settled({ key, who }, answered)));
+  const refusal = await sendAll({ key, who }, isWhole, (answered) => settled({ key, who }, answered)).catch((fault) => {
+    isAll ||= isWhole;
+    throw fault;
+  });
+  const wait = toldWait({ who }, refusal);
   if (state.who !== who) return null;
   takeEntries(await store.entries(who));
   return wait === null && wanted ? listed({ key, who }) : wait;
