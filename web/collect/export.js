@@ -17,9 +17,12 @@ export function asCsv() {
   return [COLUMNS, ...rows].map((row) => `${row.map((value) => written(String(value))).join(",")}\r\n`).join("");
 }
 
+const TOLD = 5000; // milliseconds for which the button tells what became of a copy
+
 async function copy({ target }) {
   const isCopied = await navigator.clipboard.writeText(asCsv()).then(() => true, () => false);
   target.textContent = isCopied ? "Copied" : "The browser refuses it: save a file";
+  setTimeout(() => { target.textContent = "Copy all"; }, TOLD);
 }
 
 function save() {
