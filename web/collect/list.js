@@ -11,7 +11,8 @@ import * as store from "./store.js";
 import { inMarks, stillStored, toldOf } from "./told.js";
 import * as unsent from "./unsent.js";
 
-let open = new Set(); // the slots that To do shows
+let open = new Set(); // the slots that To do shows; a row stays there until the view is chosen again
+let tall = new Set(); // those with a line of what the office still has, which stays as long
 
 /** Reads what the phone has kept, and shows it. */
 export async function show() {
@@ -24,12 +25,17 @@ export async function show() {
 
 /** Chooses the rows that the view shows from now on. */
 export function choose() {
-  open = new Set((state.list?.work ?? []).map(([slot]) => slot).filter(isOpen));
+  open = new Set();
+  tall = new Set();
   unsent.choose();
   render();
 }
 
-const isOpen = (slot) => toldOf(slot)[0] !== "good";
+/** Whether To do shows a slot. */
+function isOpen(slot) {
+  if (toldOf(slot)[0] !== "good") open.add(slot);
+  return open.has(slot);
+}
 
 /** Shows all of it. */
 export function render() {
@@ -89,18 +95,23 @@ function listed() {
 
 const rowsOf = (outlet) => state.list.work.filter((row) => row[1] === outlet);
 
-/** A section for each outlet with something to show, in the order of the office's list. */
-function outletSections() {
+/** The rows of each outlet by its number, as they are shown: in the order of the office's list. */
+function byOutlet() {
   const outlets = new Map();
-  for (const row of state.list.work) {
+  for (const row of state.list?.work ?? []) {
     if (!outlets.has(row[1])) outlets.set(row[1], []);
     outlets.get(row[1]).push(row);
   }
-  return [...outlets].map(([number, rows]) => outletSection(number, rows)).filter(Boolean);
+  return outlets;
+}
+
+/** A section for each outlet with something to show. */
+function outletSections() {
+  return [...byOutlet()].map(([number, rows]) => outletSection(number, rows)).filter(Boolean);
 }
 
 function outletSection(number, rows) {
-  const rowsShown = state.view === "todo" ? rows.filter(([slot]) => open.has(slot) || isOpen(slot)) : rows;
+  const rowsShown = state.view === "todo" ? rows.filter(([slot]) => isOpen(slot)) : rows;
   if (rowsShown.length === 0) return null;
   if (state.view === "todo") for (const [slot] of rowsShown) open.add(slot); // (they stay until a view is chosen)
   return make("details", { class: "outlet", id: `at-${number}`, "data-outlet": number, open: !search.isFolded(number) },
@@ -122,7 +133,14 @@ function slotButton([slot, , , , text, unit, last]) {
       make("span", { class: "unit" }, make("bdi", {}, unit), ` · last ${last === null ? "none" : shown(last)}`)),
     make("span", { class: "told" },
       make("span", { class: "mark" }, mark), make("span", { class: `chip ${kind}` }, told),
-      make("span", { class: "still" }, stillStored(slot))));
+      make("span", { class: "still" }, lineOf(slot))));
+}
+
+/** What the office still has of a slot; a row that had such a line keeps it, so that those below don't move. */
+function lineOf(slot) {
+  const told = stillStored(slot);
+  if (told) tall.add(slot);
+  return told || (tall.has(slot) ? "\u00a0" : "");
 }
 
 function quotesTable() {
@@ -144,23 +162,28 @@ function quoteRow([slot, , mark, value, receipt]) {
 
 // ---- From row to row
 
-/** The next slot that is to do behind one, in the order of the list; after the last the first. Null if none is. */
+/** The next slot that is to do behind one, in the order of what is shown; after the last the first. Null if none is. */
 export function nextToDo(slot) {
-  const slots = (state.list?.work ?? []).map((row) => row[0]).filter((it) => search.isFound(rowOf(it)));
-  const at = slots.indexOf(slot);
+  const slots = [...byOutlet().values()].flat().filter(search.isFound).map((row) => row[0]), at = slots.indexOf(slot);
   return slots.slice(at + 1).concat(slots.slice(0, at + 1)).find(isToDo) ?? null;
 }
 
 let at = null; // the slot whose row had the focus last
 
-/** The focus goes to the row of a slot, which is brought into sight; to the views if it isn't there. */
+/** The focus goes to the row of a slot, which is brought into sight if it isn't; to the views if it isn't there. */
 export function focusOn(slot) {
   const button = find(`slot-${slot}`)?.firstChild;
   if (button) button.closest("details").open = true;
   const target = button && !button.parentElement.hidden ? button : find("show-all");
-  target.scrollIntoView({ block: "center" });
+  if (!isInSight(target)) target.scrollIntoView({ block: "center" });
   target.focus({ preventScroll: true });
   at = slot;
+}
+
+/** Whether nothing of an element lies below the head of the page, or outside the window. */
+function isInSight(element) {
+  const { top, bottom } = element.getBoundingClientRect();
+  return top >= find("head").getBoundingClientRect().bottom && bottom <= innerHeight;
 }
 
 /** The focus goes to the next row that is to do. */
