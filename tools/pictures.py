@@ -3,8 +3,8 @@
 
     tools/pictures.py URL FOLDER --authority FILE --key KEY --desk-key KEY
 
-The office is the one that ops/try has started: URL, both keys and FILE, its ca.crt, are what that tells. Two prices of
-the collector are entered, one of them far from the last. The pictures are FOLDER/PAGE-WIDTH.png.
+The office is the one that ops/try has started: it prints URL, both keys and FILE, its ca.crt. The collector enters two
+prices, and one of last month, which is refused. The pictures are FOLDER/PAGE-WIDTH.png.
 
 example: tools/pictures.py https://localhost:8443 out/pictures --authority out/try/ca.crt --key KEY --desk-key KEY
 """
@@ -12,6 +12,7 @@ example: tools/pictures.py https://localhost:8443 out/pictures --authority out/t
 from __future__ import annotations
 
 import argparse
+import re
 import sys
 import tempfile
 from pathlib import Path
@@ -28,7 +29,7 @@ WIDTHS = {360: 740, 1280: 900}
 
 
 def of_phone(browser: Browser, width: int, key: str, folder: Path) -> None:
-    """Signing in, the list, an entry, a second look, what is stored."""
+    """Signing in, the list, an entry, a second look, what is stored, what isn't."""
     phone = Phone(browser)
 
     def taken(name: str, is_whole: bool = False) -> None:
@@ -37,23 +38,45 @@ def of_phone(browser: Browser, width: int, key: str, folder: Path) -> None:
     phone.open()
     browser.wait_shown("#sign-in")
     taken("key")
-    phone.sign_in(key)
+    browser.open(f"/collect/#key={key}&name=Noor%20B.")
+    browser.wait_text("#line", "All sent")
+    browser.wait(lambda: browser.all("[data-slot]"), "a work list")
+    browser.click("#storage-read")
     phone.show("all")
-    first, second = (int(str(slot.get_attribute("data-slot"))) for slot in browser.all("[data-slot]")[:2])
-    phone.edit(first)
-    bounds = browser.text("#entry-last").rstrip(".").split()
-    browser.type("#price", bounds[2].rstrip("."))
+    first, second, third = (int(str(slot.get_attribute("data-slot"))) for slot in browser.all("[data-slot]")[:3])
+    phone.enter(first, mark="missing", reason="stock")
+    phone.edit(second)
+    low, high = re.findall(r"[0-9.]+[0-9]", browser.text("#entry-last"))[1:3]
+    browser.type("#price", low)
     taken("entry")
-    browser.click("#entry-save")
-    phone.wait_told(first, "Receipt")
-    phone.enter(second, "999.99")
-    browser.wait_text("#entry-refusal", "Look again")
-    taken("again")
-    browser.click("#entry-cancel")
+    phone.save()
+    phone.wait_told(second, "Receipt")
     browser.run("scrollTo(0, 0)")
     taken("list")
+    phone.edit(third)
+    browser.type("#price", "999.99")
+    browser.click("#entry-save")
+    browser.wait_text("#entry-refusal", "Look again")
+    taken("again")
+    phone.close()
     phone.show("quotes")
     taken("stored")
+    of_refused(phone, high)
+    taken("not-stored")
+    browser.click('#unsent [data-do="drop"]')
+    browser.click('#dropping [value="drop"]')
+
+
+def of_refused(phone: Phone, price: str) -> None:
+    """A price of last month, whose window has closed, and the list of what isn't stored."""
+    phone.browser.click("#month-before")
+    phone.show("all")
+    slot = int(str(phone.browser.all("[data-slot]")[0].get_attribute("data-slot")))
+    phone.enter(slot, price)
+    if phone.edited():
+        phone.confirm()
+    phone.wait_told(slot, "Refused")
+    phone.browser.click("#alarm")
 
 
 def of_others(browser: Browser, width: int, desk_key: str, folder: Path) -> None:

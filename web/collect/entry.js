@@ -35,6 +35,7 @@ export function edit(slot, month = state.month) {
 /** The mark that the form shows, or null with what is wrong with it, or asked about it, shown. */
 function chosen() {
   const mark = form.markOf();
+  if (!mark) return form.tellFault("Choose what you found.");
   if (mark === "missing") {
     const value = form.reasonOf();
     return value ? { mark, value } : form.tellFault("Choose a reason.");
