@@ -375,9 +375,9 @@ def test_peers_that_are_gone_shake_nothing(stage: Stage) -> None:
 
 
 def test_one_address_takes_no_more_than_its_share(stage: Stage) -> None:
-    """Of forty connections of one address 32 may wait for their bodies; another address is served meanwhile."""
+    """Of 72 connections of one address 64 may wait for their bodies; another address is served meanwhile."""
     with contextlib.ExitStack() as peers:
-        found = [peers.enter_context(Peer(stage, 7)) for _ in range(40)]
+        found = [peers.enter_context(Peer(stage, 7)) for _ in range(72)]
         for peer in found:
             peer.send(Peer.put(drawn_key(), 9))
         told = [""] * len(found)
@@ -393,7 +393,7 @@ def test_one_address_takes_no_more_than_its_share(stage: Stage) -> None:
 
 
 def test_who_asks_faster_than_anybody_reads_is_told_to_wait(stage: Stage) -> None:
-    """Twenty messages a second, and a hundred more at once, are an address's; another one is served meanwhile."""
+    """Twenty messages a second, and 200 more at once, are an address's; another one is served meanwhile."""
     one = (address_of(9), 0)
     line = http.client.HTTPSConnection("localhost", stage.port, context=stage.context, source_address=one)
     with contextlib.closing(line):
@@ -403,7 +403,7 @@ def test_who_asks_faster_than_anybody_reads_is_told_to_wait(stage: Stage) -> Non
             answer.read()
             if answer.status != 200:
                 break
-    assert (answer.status, answer.getheader("Retry-After"), number >= 100) == (429, "2", True)
+    assert (answer.status, answer.getheader("Retry-After"), number >= 200) == (429, "2", True)
     assert asked(stage, "/api/items", address=10) == 200
 
 
