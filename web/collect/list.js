@@ -175,9 +175,15 @@ export function focusOn(slot) {
   const button = find(`slot-${slot}`)?.firstChild;
   if (button) button.closest("details").open = true;
   const target = button && !button.parentElement.hidden ? button : find("show-all");
-  if (!isInSight(target)) target.scrollIntoView({ block: "center" });
+  bringIntoSight(target);
   target.focus({ preventScroll: true });
   at = slot;
+}
+
+/** Scrolls to an element, if it isn't in sight; again in the next frames, as rows that come into sight get their heights. */
+function bringIntoSight(element, frames = 2) {
+  if (!isInSight(element)) element.scrollIntoView({ block: "center" });
+  if (frames) requestAnimationFrame(() => bringIntoSight(element, frames - 1));
 }
 
 /** Whether nothing of an element lies below the head of the page, or outside the window. */
