@@ -22,8 +22,11 @@ export async function readWindows() {
   }
 }
 
+const LAST = 8_640_000_000_000; // the last moment of a Date (ECMA-262)
+
+const isMoment = (at) => Number.isInteger(at) && at >= 0 && at <= LAST;
 const isWindow = ({ month, opens, closes }) =>
-  /^[0-9]{4}-[0-9]{2}$/.test(month) && Number.isInteger(opens) && Number.isInteger(closes);
+  /^[0-9]{4}-(0[1-9]|1[0-2])$/.test(month) && isMoment(opens) && isMoment(closes) && opens < closes;
 
 const seconds = () => Date.now() / 1000;
 
@@ -38,13 +41,17 @@ export function currentMonth() {
   return (open[0] ?? coming[0])?.month ?? thisMonth();
 }
 
-/** Shows when the window of the month closes, and warns of what isn't sent. */
+/**
+ * Shows when the window of the month closes. If it does so soon, another line warns of what isn't stored, or says that all
+ * is: it has its room before there is anything to warn of, so that no row moves.
+ */
 export function showDeadline() {
   const window = state.windows.find(({ month }) => month === state.month);
   const count = state.entries.filter(({ month }) => month === state.month).length;
-  const isLate = window && count > 0 && window.closes - seconds() < SOON;
-  find("deadline").textContent = window ? wordsOf(window) + (isLate ? ` ${warning(count)}` : "") : "";
-  find("deadline").classList.toggle("late", Boolean(isLate));
+  const left = window ? window.closes - seconds() : SOON, isSoon = left < SOON && (left > 0 || count > 0);
+  find("deadline").textContent = window ? wordsOf(window) : "";
+  find("unstored").textContent = isSoon ? warning(count) : "";
+  find("unstored").classList.toggle("late", isSoon && count > 0);
 }
 
 function wordsOf({ month, opens, closes }) {
@@ -54,7 +61,10 @@ function wordsOf({ month, opens, closes }) {
   return `The window closed on ${timeOf(closes * 1000)}.`;
 }
 
-const warning = (count) => (count === 1 ? "One entry isn’t stored yet." : `${count} entries aren’t stored yet.`);
+function warning(count) {
+  if (count === 0) return "Everything you entered is stored.";
+  return count === 1 ? "One entry isn’t stored yet." : `${count} entries aren’t stored yet.`;
+}
 
 const relative = new Intl.RelativeTimeFormat(document.documentElement.lang);
 
