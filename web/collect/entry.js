@@ -61,12 +61,13 @@ async function save(isConfirmed) {
 async function keep(choice) {
   const edited = editing, { month, slot, row, seen } = edited;
   form.tellFault("");
-  const typedBefore = form.awaitTyping();
+  const price = form.awaitTyping();
   isSaving = true;
   try {
     const kept = await store.keepEntry(state, { month, slot, row, seen, ...choice, state: "waiting" });
-    if (kept) goOn(kept, edited, form.typedSince(typedBefore));
+    if (kept) goOn(kept, edited, form.typedSince());
   } catch (fault) {
+    if (editing === edited) find("price").value = price; // (whatever was typed ahead)
     form.tellFault(`This entry isn’t kept: ${whyNotKept(fault)}`);
   } finally {
     isSaving = false;
@@ -81,8 +82,8 @@ function goOn(kept, edited, text) {
   const { slot, row, wasToDo } = edited;
   const next = wasToDo && isOpen() && editing === edited ? nextToDo(slot) : null;
   if (next !== null) {
-    form.tellSaved(kept, row[1] !== rowOf(next)[1]);
     edit(next);
+    form.tellSaved(kept, row[1] !== rowOf(next)[1]);
     form.goOnTyping(text);
   } else if (editing === edited) {
     close();

@@ -75,14 +75,17 @@ export function focusPrice() {
   find("price").select();
 }
 
-/** What is typed while an entry is being kept takes the place of its price; the price, to compare with (typedSince). */
+let isTyped = false; // since the last entry was saved
+
+/** What is typed while an entry is being kept takes the place of its price; the price. */
 export function awaitTyping() {
   if (document.activeElement === find("price")) find("price").select();
+  isTyped = false;
   return find("price").value;
 }
 
 /** What was typed since, for the next row; nothing is lost of what a fast hand types ahead. */
-export const typedSince = (before) => (find("price").value === before ? "" : find("price").value);
+export const typedSince = () => (isTyped ? find("price").value : "");
 
 /** Puts what was typed ahead into the form. */
 export function goOnTyping(text) {
@@ -98,12 +101,13 @@ export function tellFault(text) {
   return null;
 }
 
-/** Says what was saved last, and whose row is next; nothing when the form opens. */
+/** Says what was saved last, and if the next row is in another shop; nothing when the form opens. */
 export function tellSaved(kept, isElsewhere = false) {
-  find("entry").classList.toggle("elsewhere", Boolean(kept) && isElsewhere);
+  find("entry").classList.toggle("elsewhere", isElsewhere);
+  if (isElsewhere) find("entry-outlet").prepend("Next shop: ");
   const [, , , , text = ""] = kept?.row ?? [];
   find("entry-saved").replaceChildren(...(kept
-    ? [make("bdi", {}, text), `: ${inMarks(kept.mark, kept.value)} saved.${isElsewhere ? " Next shop:" : ""}`] : []));
+    ? [`${inMarks(kept.mark, kept.value)} saved: `, make("bdi", {}, text)] : []));
 }
 
 /** Asks which price is meant by what was typed; null. */
@@ -157,6 +161,7 @@ export function listen(edited) {
     showChange(edited().row);
   });
   find("price").addEventListener("input", () => {
+    isTyped = true;
     tellFault("");
     showQuestion(null);
     showChange(edited().row);
