@@ -1,5 +1,5 @@
 // The head of the page: who is signed in, the connection to the office, and how much isn't stored. It is seen always.
-import { find } from "../shared/dom.js";
+import { find, make } from "../shared/dom.js";
 import { countOf, state } from "./state.js";
 import { counted } from "./told.js";
 
@@ -26,8 +26,18 @@ function wordsOf(waiting) {
   return state.entries.length === 0 ? "All sent" : "";
 }
 
+let lasting = ""; // the text that stays until it was read, or none
+
 /** A text about all of the page, until it is over; or none. */
 export function notice(text) {
-  find("notice").textContent = text;
-  find("notice").hidden = !text;
+  const told = text || lasting, isLasting = Boolean(told) && told === lasting;
+  const read = isLasting && make("button", { type: "button", onclick: () => noticeUntilRead("") }, "I know");
+  find("notice").replaceChildren(...[told, isLasting && " ", read].filter(Boolean));
+  find("notice").hidden = !told;
+}
+
+/** A text about all of the page that stays until the collector has read it; or none. */
+export function noticeUntilRead(text) {
+  lasting = text;
+  notice("");
 }

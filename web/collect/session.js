@@ -3,7 +3,7 @@ import { ask, NoAnswer } from "../shared/api.js";
 import { find } from "../shared/dom.js";
 import { toCollector } from "../shared/refusals.js";
 import * as entry from "./entry.js";
-import { notice } from "./head.js";
+import { noticeUntilRead } from "./head.js";
 import { nameIn, readKey, takeLink } from "./key.js";
 import * as line from "./line.js";
 import { choose, render, show } from "./list.js";
@@ -22,13 +22,16 @@ export async function start() {
   if (key) await enter(key, await store.storedName());
   else showSignIn();
   if (link) await follow(link);
+  if (key) await refresh();
 }
 
 /** A link signs in, if nobody is signed in; what another collector hasn't sent stays on the phone. */
 async function follow(link) {
   const { key, fault } = readKey(link.text);
-  if (state.key && state.key !== key) {
-    notice("Another collector is signed in on this phone. Sign out first, then open the code again.");
+  if (state.key && fault) {
+    noticeUntilRead(`The code that was opened isn’t whole. ${fault}`);
+  } else if (state.key && state.key !== key) {
+    noticeUntilRead("Another collector is signed in on this phone. Sign out first, then open the code again.");
   } else if (state.key) {
     await store.keepSession(key, link.name || state.name);
     state.name = link.name || state.name;
@@ -52,8 +55,12 @@ function showSignIn() {
 }
 
 async function signIn() {
+  if (!find("asking").hidden) return;
   const { key, fault } = readKey(find("key").value), name = nameIn(find("name").value);
-  const why = fault ?? await keyFault(key);
+  find("key-fault").textContent = fault ?? "";
+  if (fault) return;
+  find("asking").hidden = false;
+  const why = await keyFault(key).finally(() => { find("asking").hidden = true; });
   find("key-fault").textContent = why;
   if (why) return;
   await store.keepSession(key, name);
@@ -62,6 +69,7 @@ async function signIn() {
   find("key").type = "password";
   tabs.tell("key");
   await enter(key, name);
+  await refresh();
 }
 
 /** Why a key opens nothing here, or no text. */
@@ -87,6 +95,10 @@ async function enter(key, name) {
   await show();
   choose();
   await showStorage();
+}
+
+/** Asks for the lists; the month may be another one by them. */
+async function refresh() {
   await line.refresh(true);
   await shownMonth.follow();
 }
@@ -128,7 +140,7 @@ function cleared() {
   search.forget();
   Object.assign(state, signedOut());
   takeKept(null, []);
-  notice("");
+  noticeUntilRead("");
   render();
 }
 
