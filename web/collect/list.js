@@ -196,4 +196,5 @@ function isInSight(element) {
 export function jump() {
   const next = nextToDo(at);
   if (next !== null) focusOn(next);
+  else search.tellNone();
 }

@@ -1,17 +1,21 @@
 // Finding a row: by item, unit or outlet as one types, and by folding the outlets that one isn't in.
 import { find } from "../shared/dom.js";
-import { rowOf, state } from "./state.js";
+import { rowOf } from "./state.js";
 
 const folded = new Set(); // the numbers of the outlets that are folded
 let words = []; // of what is searched for
 
+/** Letters whose stroke or ligature has no decomposition (Unicode Standard Annex 15), as one types them without it. */
+const LETTERS = { ł: "l", ø: "o", đ: "d", ð: "d", ħ: "h", ŧ: "t", ı: "i", ß: "ss", æ: "ae", œ: "oe" };
+
 /** A text as it is searched: without accents, in small letters. */
-const plain = (text) => text.normalize("NFKD").replace(/\p{M}/gu, "").toLowerCase();
+const plain = (text) => text.normalize("NFKD").replace(/\p{M}/gu, "").toLowerCase()
+  .replace(/[łøđðħŧıßæœ]/g, (letter) => LETTERS[letter]);
 
 export const isFolded = (outlet) => folded.has(outlet) && words.length === 0;
 
 /** Whether a row has each word of what is searched for. */
-export function isFound([, , outlet, , text, unit]) {
+export function isFound([, , outlet = "", , text = "", unit = ""]) {
   if (words.length === 0) return true;
   const all = plain(`${outlet} ${text} ${unit}`);
   return words.every((word) => all.includes(word));
@@ -32,13 +36,22 @@ export function filter() {
     section.hidden = isEmpty;
     section.open = !isFolded(Number(section.dataset.outlet));
   }
-  find("found").textContent = words.length && state.view !== "quotes" ? `${count} found` : "";
+  for (const row of find("list").querySelectorAll("[data-quote]")) {
+    row.hidden = words.length > 0 && !isFound(rowOf(Number(row.dataset.quote)) ?? []);
+    if (!row.hidden) count += 1;
+  }
+  find("found").textContent = words.length ? `${count} found` : "";
 }
 
 /** Searches for a text, from now on. */
 export function searchFor(text) {
   words = plain(text).split(/\s+/).filter(Boolean);
   filter();
+}
+
+/** Says that no row of those that are found is to do. */
+export function tellNone() {
+  find("found").textContent = "Nothing of what is found is to do.";
 }
 
 /** Nothing is searched for, and nothing is folded. */
@@ -51,6 +64,9 @@ export function forget() {
 /** The events of the field, and of the outlets' heads. */
 export function listen() {
   find("search").addEventListener("input", ({ target }) => searchFor(target.value));
+  find("search").addEventListener("keydown", ({ key, target }) => {
+    if (key === "Enter") target.blur(); // (so that the keyboard of a phone goes)
+  });
   find("list").addEventListener("toggle", ({ target }) => {
     if (words.length) return; // (what was opened by a search is folded again after it)
     const outlet = Number(target.dataset.outlet);
