@@ -18,6 +18,12 @@ return !document.getElementById("entry-refusal").hidden || document.getElementBy
 """Whether the form asks something, or says what is wrong."""
 
 
+TOLD = """
+const parts = document.querySelector(`[data-slot="${arguments[0]}"] .told`)?.children ?? [];
+return [...parts].map((part) => part.textContent.trim()).filter(Boolean).join("\\n");
+"""
+
+
 class Phone:
     """A browser with the page of a collector."""
 
@@ -46,8 +52,9 @@ class Phone:
         self.browser.click(f"#show-{view}")
 
     def told(self, slot: int) -> str:
-        """What the list tells of a slot."""
-        return self.browser.text(f'[data-slot="{slot}"] .told')
+        """What the list says of a slot, in or out of sight, a line each; nothing if it isn't shown."""
+        found: str = self.browser.run(TOLD, slot)
+        return found
 
     def wait_told(self, slot: int, text: str) -> None:
         self.browser.wait(lambda: text in self.told(slot), f"{text!r} of slot {slot}")

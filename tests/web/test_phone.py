@@ -82,8 +82,8 @@ def test_a_key_that_the_front_denies_is_told_and_what_waits_stays(phone: Phone, 
 
 def test_texts_of_the_office_are_shown_as_texts(phone: Phone) -> None:
     phone.sign_in()
-    assert SCRIPT in phone.browser.text("#list")
-    assert IMAGE in phone.browser.text("#list")
+    listed = phone.browser.run("return document.getElementById('list').textContent")
+    assert SCRIPT in listed and IMAGE in listed
     phone.edit(3)
     assert SCRIPT in phone.browser.text("#entry")
     assert IMAGE in phone.browser.text("#entry")
@@ -400,6 +400,7 @@ def test_a_long_day_is_sent_in_a_few_imports_and_each_is_one_write(phone: Phone,
     assert stage.relay.asked().count("POST /import") - before == 3  # (fifty rows at most)
     assert phone.browser.run("return window.writes") <= 3 + 4  # (and the lists, perhaps twice)
     assert [row[:1] + row[2:] for row in stage.quotes(NOBODY)] == [[at, "price", 100 + at, at] for at in slots]
+    phone.show("todo")
     assert phone.browser.text("#list") == "All done: everything of this month is stored."
 
 

@@ -194,12 +194,12 @@ class Hand:
             key, shop, item, saved, at = seen
             assert at == "price", f"the keyboard isn't at the price of {item}"
             if self.before and saved:
-                assert saved.startswith(f"{self.before[0]}: ") and self.before[1] in saved, (saved, self.before)
+                assert saved.endswith(f" saved: {self.before[0]}") and self.before[1] in saved, (saved, self.before)
             found = self.answers.pop((shop, item))
             self.answer(found)
             self.browser.wait(lambda before=key: (self.form() or [None])[0] != before, f"{item} is saved")
             name = item.rpartition(", ")[0]
-            self.before = (name, money(found.value) if isinstance(found.value, int) else "saved")
+            self.before = (name, money(found.value) if isinstance(found.value, int) else "")
             self.count += 1
 
     def answer(self, found: Found) -> None:

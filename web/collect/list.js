@@ -69,7 +69,9 @@ export function showCounts() {
   const { work = [], at } = state.list ?? {};
   const stored = work.filter(([slot]) => storedOf(slot)).length;
   const when = at && (new Date(at).toDateString() === new Date().toDateString() ? clockOf(at) : dayOf(at));
-  find("progress").textContent = state.list ? `${stored} of ${work.length} stored, list of ${when}` : "";
+  // (the text keeps its width, so that no line breaks anew, and no row moves)
+  const rest = "\u2007".repeat(String(work.length).length - String(stored).length);
+  find("progress").textContent = state.list ? `${stored} of ${work.length} stored, list of ${when}${rest}` : "";
   find("done").hidden = work.length === 0;
   find("done").max = work.length || 1;
   find("done").value = stored;
@@ -113,7 +115,6 @@ function outletSections() {
 function outletSection(number, rows) {
   const rowsShown = state.view === "todo" ? rows.filter(([slot]) => isOpen(slot)) : rows;
   if (rowsShown.length === 0) return null;
-  if (state.view === "todo") for (const [slot] of rowsShown) open.add(slot); // (they stay until a view is chosen)
   return make("details", { class: "outlet", id: `at-${number}`, "data-outlet": number, open: !search.isFolded(number) },
     make("summary", {}, make("h3", {}, make("bdi", {}, rows[0][2])), countSpan(rows)),
     make("ul", {}, ...rowsShown.map((row) => make("li", { id: `slot-${row[0]}` }, slotButton(row)))));
