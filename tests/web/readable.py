@@ -130,8 +130,8 @@ document.activeElement.blur();
 return found;
 """
 )
-"""What a keyboard can't reach, what isn't marked when it does, and where the ring has a contrast below 3 to the ground
-that it is drawn on: that of the parent, or of the element itself if the ring is drawn within it."""
+"""What a keyboard can't reach, what isn't marked when it does, and each ring with a contrast below 3 to the ground that it
+is drawn on: that of the parent, or of the element itself if the ring is drawn within it."""
 
 
 TURNED = (
@@ -180,11 +180,11 @@ for (const element of document.querySelectorAll("*")) {
 }
 return found;
 """
-"""Where one of some texts of others stands in no element of its own, and between no isolates."""
+"""Each place at which one of some texts of others is neither in an element of its own nor between isolates."""
 
 
 def faults_of_texts(browser: Browser, texts: Sequence[str]) -> list[str]:
-    """What is wrong with a page on which texts of others stand: each of them is isolated, and none turns our own."""
+    """What is wrong with a page that has texts of others: each has to be isolated, and none turns our own."""
     found: list[str] = [*browser.run(TURNED), *browser.run(BARE, texts)]
     return found
 

@@ -318,7 +318,7 @@ def test_the_key_is_kept_nowhere(desk: Browser) -> None:
 
 
 @pytest.mark.parametrize("width", [360, 1280])
-def test_no_text_of_others_turns_what_is_beside_it(desk: Browser, tmp_path: Path, width: int) -> None:
+def test_no_text_of_others_turns_the_words_next_to_it(desk: Browser, tmp_path: Path, width: int) -> None:
     desk.size(width, 800)
     desk.type("#records-text", "".join(f"outlet,10,{text}\n" for text in TURNING))
     sent(desk, "records", "0 accepted, 3 refused")

@@ -1,5 +1,5 @@
-"""The pages of the companions with texts that are written from right to left: what is beside them is drawn as ever, and
-the ring of the focus is seen on each ground, light and dark."""
+"""The pages of the companions with texts that are written from right to left: the words next to them are drawn as ever,
+and the focus ring is seen on each ground, light and dark."""
 
 from __future__ import annotations
 
@@ -66,7 +66,7 @@ def opened(browser: Browser, page: Path, width: int) -> None:
 
 @pytest.mark.parametrize("width", [360, 1280])
 @pytest.mark.parametrize("name", PAGES)
-def test_no_text_of_others_turns_what_is_beside_it(browser: Browser, folder: Path, name: str, width: int) -> None:
+def test_no_text_of_others_turns_the_words_next_to_it(browser: Browser, folder: Path, name: str, width: int) -> None:
     opened(browser, folder / name, width)
     assert any(text[:4] in browser.run("return document.documentElement.textContent") for text in TURNING)
     assert faults_of_texts(browser, TURNING) == []
@@ -90,7 +90,7 @@ def test_what_the_calculator_says_isnt_turned(browser: Browser, folder: Path) ->
 
 @pytest.mark.parametrize("scheme", ["light", "dark"])
 @pytest.mark.parametrize("name", PAGES)
-def test_the_ring_of_the_focus_is_seen(browser: Browser, folder: Path, name: str, scheme: str) -> None:
+def test_the_focus_ring_is_seen(browser: Browser, folder: Path, name: str, scheme: str) -> None:
     browser.shown_as(scheme)
     opened(browser, folder / name, 1280)
     assert browser.run(FOCUS) == []

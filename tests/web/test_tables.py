@@ -169,7 +169,7 @@ def test_the_page_waits_for_an_office_that_is_away(browser: Browser, stage: Stag
 
 
 @pytest.mark.parametrize("width", [360, 1280])
-def test_no_text_of_the_office_turns_what_is_beside_it(browser: Browser, width: int) -> None:
+def test_no_text_of_the_office_turns_the_words_next_to_it(browser: Browser, width: int) -> None:
     opened(browser, width)
     browser.choose("depth", "5")
     ticked(browser, "01.1", "01.1.1", "01.1.1.1")

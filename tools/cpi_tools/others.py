@@ -1,9 +1,9 @@
 """Texts of others on a page: titles, items, outlets, the office, files, cells, whatever isn't our own wording.
 
-Such a text is an element of its own, `<bdi>`, so that neither its direction nor an override in it turns what is beside
-it (Unicode Standard Annex 9, isolates). Where no element can be, in an attribute, a title, an option or a text that a
-script writes, it is between the characters FIRST STRONG ISOLATE and POP DIRECTIONAL ISOLATE. Templates have both as
-filters, `others` and `isolated`. `web/shared/dom.js` has the rule for the pages of `web/`.
+Such a text is an element of its own, `<bdi>`, so that neither its direction nor an override in it turns the words next
+to it (Unicode Standard Annex 9, isolates). An attribute, a title, an option, and a text that a script writes have no
+elements: there the text is between the characters FIRST STRONG ISOLATE and POP DIRECTIONAL ISOLATE. Templates have both
+as filters, `others` and `isolated`. `web/shared/dom.js` has the rule for the pages of `web/`.
 """
 
 from __future__ import annotations
@@ -63,7 +63,7 @@ def others(text: object) -> Element:
 
 
 def isolated(text: object) -> str:
-    """A text of others where no element can be."""
+    """A text of others between isolates, for a place that has no elements."""
     if isinstance(text, Worded):
         return text.form.format(*map(isolated, text.texts))
     return f"{OPENS}{closed(str(text))}{CLOSES}"

@@ -1,5 +1,5 @@
 """The page of a check: what would be done, month by month, and what is refused. Plain HTML; each text is escaped, and
-those of others, with messages that cite them, turn nothing beside them."""
+those of others, and messages that cite them, turn nothing next to them."""
 
 from __future__ import annotations
 

@@ -2,13 +2,14 @@
 //
 // A text that others wrote (a title, an item, an outlet, the office, a file, a cell) is drawn in an element of its own,
 // `make("bdi", {}, text)`, and in an attribute or an option it is `isolated(text)`: so neither its direction nor an
-// override in it turns what is beside it (Unicode Standard Annex 9, isolates).
+// override in it turns the words next to it (Unicode Standard Annex 9, isolates).
 
 export const find = (id) => document.getElementById(id);
 
 /** An element with attributes and children; a child that is no element becomes text. */
 export function make(name, attributes = {}, ...children) {
-  return filled(document.createElement(name), attributes, name === "bdi" ? children.map(String).map(closed) : children);
+  const kept = (child) => (typeof child === "string" ? closed(child) : child);
+  return filled(document.createElement(name), attributes, name === "bdi" ? children.map(kept) : children);
 }
 
 export function makeSvg(name, attributes = {}, ...children) {
@@ -26,7 +27,7 @@ function filled(element, attributes, children) {
   return element;
 }
 
-/** A text of others where no element can be: between FIRST STRONG ISOLATE and POP DIRECTIONAL ISOLATE. */
+/** A text of others for a place that has no elements: between FIRST STRONG ISOLATE and POP DIRECTIONAL ISOLATE. */
 export const isolated = (text) => `\u2068${closed(text)}\u2069`;
 
 /**
