@@ -161,6 +161,15 @@ def test_on_the_pages_of_an_explanation(office: Path, tmp_path: Path) -> None:
     assert f"{MARK}Flour, <b>wheat</b>, {MARK}1 kg; {MARK}Corner shop" in plain
 
 
+def test_on_the_sheets_of_keys(cpi: Cpi, office: Path, tmp_path: Path) -> None:
+    names, page = tmp_path / "names.csv", tmp_path / "sheets.html"
+    names.write_text(f"collector,name\n7,{MARK}Ada\u2069\u202e\n", encoding="utf-8")
+    words = ("--url", "https://prices.example", "--names", names, "--out", page)
+    assert run(None, "keys", office, *words).status == 0
+    assert faults_of(page) == []
+    assert f"<bdi>{MARK}Ada\u202e</bdi>" in page.read_text(encoding="utf-8")
+
+
 def test_on_the_page_of_a_check(cpi: Cpi, office: Path, tmp_path: Path) -> None:
     folder = tmp_path / f"{MARK}sheets"
     folder.mkdir()
