@@ -3,16 +3,14 @@
 from __future__ import annotations
 
 import json
-import shutil
 import time
-from collections.abc import Iterator
 from pathlib import Path
 from typing import Optional
 
 import pytest
 
 from browser import Browser
-from conftest import ROOT
+from cpi_tools.command_line import main
 from offices import ANNA, ARABIC, DESK, LEAVING, OVERRIDE, SCRIPT, TURNING
 from readable import faults_enlarged, faults_for_keys, faults_of_page, faults_of_texts
 from stage import Stage
@@ -218,18 +216,6 @@ SET = "calendar,2011-04,7000,8000,9000\ncalendar,2011-03,6000,7000,8000\nassign,
 """Windows of two months, and a row that is refused."""
 
 
-@pytest.fixture
-def served(stage: Stage, tmp_path: Path) -> Iterator[Path]:
-    """The file calendar.json beside a copy of the pages, which isn't there yet."""
-    copy = tmp_path / "web"
-    shutil.copytree(ROOT / "web", copy)
-    (copy / "calendar.json").unlink(missing_ok=True)
-    stage.front.stop()
-    stage.front.start(lambda text: text.replace(f"root {ROOT}/web;", f"root {copy};"))
-    yield copy / "calendar.json"
-    stage.front.stop()
-
-
 def saved(desk: Browser, folder: Path, name: str) -> dict[str, list[dict[str, object]]]:
     """The file that a card offers, saved."""
     desk.cdp("Page.setDownloadBehavior", behavior="allow", downloadPath=str(folder))
@@ -237,19 +223,18 @@ def saved(desk: Browser, folder: Path, name: str) -> dict[str, list[dict[str, ob
     file.unlink(missing_ok=True)
     desk.wait_text(f"#{name}-told", "Save the file")
     desk.click(f"#{name}-told a")
-    desk.wait(file.is_file, "the file")
+    desk.wait(lambda: file.is_file() and file.read_bytes().endswith(b"]}\n"), "the file")
     found: dict[str, list[dict[str, object]]] = json.loads(file.read_text(encoding="utf-8"))
     return found
 
 
-def test_the_deadline_file_has_the_windows_that_were_set(served: Path, desk: Browser, tmp_path: Path) -> None:
-    """What is served stays, but for the months that were set, on this page and before the file was put there too."""
-    served.write_text(json.dumps(SERVED), encoding="utf-8")
+def test_the_deadline_file_has_the_windows_that_were_set(desk: Browser, stage: Stage, tmp_path: Path) -> None:
+    """A month that wasn't set stays as it is served. A second file has the windows of the first one too."""
+    stage.calendar.write_text(json.dumps(SERVED), encoding="utf-8")
     desk.type("#records-text", SET)
     sent(desk, "records", "2 accepted, 1 refused of 3")
-    assert "Phones show the new window once calendar.json is beside the pages (see RUNNING)." in desk.text(
-        "#records-told"
-    )
+    told = "Phones show the new window once the front serves this calendar.json (see RUNNING)."
+    desk.wait_text("#records-told", told)
     first, _, last = SERVED["months"]
     april = {"month": "2011-04", "opens": 7000, "closes": 8000}
     wanted = [first, {"month": "2011-03", "opens": 6000, "closes": 7000}, april, last]
@@ -264,7 +249,19 @@ def test_the_deadline_file_has_the_windows_that_were_set(served: Path, desk: Bro
     assert desk.all("#records-told a") == []
 
 
-def test_the_first_deadline_file_has_what_was_set_alone(served: Path, desk: Browser, tmp_path: Path) -> None:
+def test_the_deadline_file_is_that_of_the_tool(desk: Browser, stage: Stage, tmp_path: Path) -> None:
+    """The tool writes the same bytes of the office's file before the page adds its windows, and afterwards."""
+    after = tmp_path / "after.json"
+    for file in (stage.calendar, after):
+        if file == after:
+            desk.type("#records-text", SET)
+            sent(desk, "records", "2 accepted, 1 refused of 3")
+            saved(desk, tmp_path, "records")
+        assert main(["calendar", str(stage.db), "--since", "2000-01", "--out", str(file)]) == 0
+    assert (tmp_path / "calendar.json").read_bytes() == after.read_bytes() != stage.calendar.read_bytes()
+
+
+def test_the_first_deadline_file_has_only_what_was_set(desk: Browser, tmp_path: Path) -> None:
     desk.type("#records-text", "calendar,2011-03,6000,7000,8000\n")
     sent(desk, "records", "1 accepted, 0 refused of 1")
     march = {"month": "2011-03", "opens": 6000, "closes": 7000}
@@ -272,14 +269,14 @@ def test_the_first_deadline_file_has_what_was_set_alone(served: Path, desk: Brow
 
 
 @pytest.mark.parametrize("text", ["{", "{}", "null", '{"months":[{"month":"2011-03"}]}'])
-def test_a_deadline_file_that_cant_be_read_is_told(served: Path, desk: Browser, text: str) -> None:
-    served.write_text(text, encoding="utf-8")
+def test_a_deadline_file_that_cant_be_read_is_told(desk: Browser, stage: Stage, text: str) -> None:
+    stage.calendar.write_text(text, encoding="utf-8")
     desk.type("#records-text", "calendar,2011-03,6000,7000,8000\n")
     sent(desk, "records", "The calendar.json that is served now can’t be read. Write calendar.json for the phones with")
     assert desk.all("#records-told a") == []
 
 
-def test_a_time_by_the_offices_clock_is_left_to_the_tool(served: Path, desk: Browser) -> None:
+def test_a_time_by_the_offices_clock_is_left_to_the_tool(desk: Browser) -> None:
     rows = "calendar,2011-04,7000,8000,9000\ncalendar,2011-03,6000,2011-03-24T18:00,2011-03-28T09:30\n"
     desk.type("#records-text", rows)
     sent(desk, "records", "2 accepted, 0 refused of 2")

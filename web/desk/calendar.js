@@ -1,5 +1,5 @@
 // calendar.json, from which phones show when a window closes: what the front serves now, with the windows that the desk
-// has set since this page was loaded. RUNNING says where the file belongs.
+// has set since this page was loaded, in the form in which cpi-tools calendar writes it. RUNNING says where it belongs.
 import { find, make } from "../shared/dom.js";
 import { inWords } from "../shared/months.js";
 
@@ -33,14 +33,17 @@ const byClock = (months) => make("p", {}, `The times of ${months.map(inWords).jo
 
 const unread = () => make("p", {}, `The calendar.json that is served now can’t be read. ${BY_TOOL}`);
 
+const line = ({ month, opens, closes }) => `\n{"month": "${month}", "opens": ${opens}, "closes": ${closes}}`;
+
 function fileOf(served) {
   const months = [...served.filter(({ month }) => !windows.has(month)), ...windows.values()];
   months.sort((a, b) => (a.month < b.month ? -1 : 1));
   if (link) URL.revokeObjectURL(link);
-  link = URL.createObjectURL(new Blob([`${JSON.stringify({ months })}\n`], { type: "application/json" }));
+  const text = `{"months": [${months.map(line).join(",")}\n]}\n`;
+  link = URL.createObjectURL(new Blob([text], { type: "application/json" }));
   const words = { class: "button", href: link, download: "calendar.json" };
   return [
-    make("p", {}, "Phones show the new window once calendar.json is beside the pages (see RUNNING)."),
+    make("p", {}, "Phones show the new window once the front serves this calendar.json (see RUNNING)."),
     make("p", { class: "actions" }, make("a", words, "Save the file")),
   ];
 }
