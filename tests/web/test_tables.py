@@ -217,6 +217,40 @@ def test_a_colour_has_a_name_in_the_root(name: str) -> None:
     assert re.findall(r"#[0-9a-fA-F]{3,8}\b(?=[^{]*\})|rgba?\(|hsla?\(|(?<![-\w])(?:white|black)(?![-\w])", below) == []
 
 
+PARTS = """
+const { make } = await import("/shared/dom.js");
+const kinds = (name, kinds, ...words) => kinds.map((kind) => make(name, { class: kind, type: "button" }, ...words));
+const parts = () => [
+  ...kinds("span", ["chip todo", "chip good", "chip waiting", "chip bad", "muted", "fault"], "A chip"),
+  ...["", "bad", "good"].map((kind) => make("p", { class: `notice ${kind}` }, "A notice with ",
+    make("a", { href: "/" }, "a link"), make("span", { class: "muted" }, " and a note"), make("button", {}, "Do it"))),
+  ...kinds("button", ["", "main", "warn"], "A button"), make("button", { "aria-pressed": "true" }, "Pressed"),
+  make("input", { placeholder: "2026-01", "aria-label": "A field" }), make("a", { href: "/" }, "A link"),
+];
+const filled = (ground, ink) => {
+  const made = make("p", {}, `${ink} on ${ground}`);
+  made.style.cssText = `background: var(--${ground}); color: var(--${ink})`;
+  return made;
+};
+const pairs = [["band", "band-ink"], ["hover", "link"], ["hover", "ink"], ["main", "on-link"], ["main-hover", "on-link"],
+  ["warn-fill", "on-fill"], ["warn-fill-hover", "on-fill"], ["bad-fill", "on-fill"], ["head", "on-head"],
+  ["head-hover", "on-head"], ["deep", "on-head"]];
+document.querySelector("header").append(make("button", { class: "quiet" }, "Sign out"));
+document.querySelector("main").replaceChildren(make("div", { class: "card" }, ...parts()), ...parts(),
+  ...pairs.map((pair) => filled(...pair)));
+"""
+"""All that `shared/base.css` has a colour for, on a card and on the page, and each pair of colours that it names."""
+
+
+@pytest.mark.parametrize("scheme", ["light", "dark"])
+def test_each_part_of_a_page_is_seen(browser: Browser, scheme: str) -> None:
+    browser.shown_as(scheme)
+    browser.open("/")
+    browser.run_until(PARTS)
+    assert len(browser.all("main button")) == 14
+    assert [*faults_of_page(browser), *faults_for_keys(browser)] == []
+
+
 @pytest.mark.parametrize("scheme", ["light", "dark"])
 def test_the_first_page_leads_to_each_other(browser: Browser, scheme: str) -> None:
     browser.shown_as(scheme)
