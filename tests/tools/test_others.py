@@ -13,7 +13,7 @@ from typing import Optional
 import pytest
 
 import surveys
-from cpi_tools.others import Worded, closed, isolated, others
+from cpi_tools.others import Worded, cited, closed, isolated, others
 from cpi_tools.pack.config import Config
 from cpi_tools.pack.public import from_file
 from cpi_tools.program import Cpi, record
@@ -62,6 +62,14 @@ def test_words_are_plain_in_a_file_and_isolate_their_texts_on_a_page() -> None:
     assert told.__html__() == "it&#x27;s <bdi>&lt;rice&gt;</bdi>, <bdi>1 kg</bdi>; in <bdi>Shop</bdi>"
     assert isolated(told) == "it's \u2068<rice>\u2069, \u20681 kg\u2069; in \u2068Shop\u2069"
     assert others(told) == told.__html__()
+
+
+def test_what_a_message_cites_turns_none_of_its_words() -> None:
+    told = cited('"1 l\u202e" & "<b>\u2067" are one\u2069')
+    assert told.replace("&quot;", '"') == (
+        '<bdi>"<bdi>1 l\u202e</bdi>" &amp; "<bdi>&lt;b&gt;\u2067\u2069</bdi>" are one</bdi>'
+    )
+    assert cited("1 kg") == "<bdi>1 kg</bdi>" and cited(Worded("{}, row 5", "a.csv")) == "<bdi>a.csv</bdi>, row 5"
 
 
 # ---- pages

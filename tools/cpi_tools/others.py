@@ -19,6 +19,9 @@ PARAGRAPHS = re.compile("[\n\r\x1c-\x1e\x85\u2029]")
 
 ISOLATES = re.compile("[\u2066-\u2069]")
 
+QUOTE = '"'
+QUOTED = re.compile(f"{QUOTE}([^{QUOTE}]*){QUOTE}")
+
 
 def closed(text: str) -> str:
     """A text that can't leave its element: each isolate of its own is closed, what would close another one is left out,
@@ -60,6 +63,14 @@ def others(text: object) -> Element:
     if isinstance(text, Worded):
         return text.__html__()
     return Element(f"<bdi>{escape(closed(str(text)))}</bdi>")
+
+
+def cited(text: object) -> Element:
+    """A message as an element, and each text that it cites in quotation marks as one within it."""
+    if isinstance(text, Worded):
+        return text.__html__()
+    parts = [others(it) if at % 2 else escape(closed(it)) for at, it in enumerate(QUOTED.split(str(text)))]
+    return Element(f"<bdi>{escape(QUOTE).join(parts)}</bdi>")
 
 
 def isolated(text: object) -> str:

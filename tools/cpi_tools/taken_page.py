@@ -9,7 +9,7 @@ from html import escape
 from .judge import Judged
 from .numbers_of_texts import decimal
 from .office_files import Taken, Weighed
-from .others import Worded, isolated, others
+from .others import Worded, cited, isolated, others
 from .sent import Problem
 from .sheets import Origin
 from .terminal import counted
@@ -95,7 +95,7 @@ def listed(title: str, texts: Sequence[str]) -> Iterable[str]:
     """A list with a heading; nothing where it is empty."""
     if texts:
         yield f"<h2>{title}</h2>"
-        yield "<ul>" + "".join(f"<li>{others(text)}</li>" for text in texts[:MOST_SHOWN]) + "</ul>"
+        yield "<ul>" + "".join(f"<li>{cited(text)}</li>" for text in texts[:MOST_SHOWN]) + "</ul>"
         if len(texts) > MOST_SHOWN:
             yield f"<p>And {len(texts) - MOST_SHOWN:,} more of this kind.</p>"
 
@@ -105,16 +105,16 @@ def table(
     heads: Sequence[str],
     rows: Sequence[Sequence[object]],
     numbers: Iterable[int] = (),
-    cited: Iterable[int] = (),
+    of_others: Iterable[int] = (),
     css: str = "plain",
 ) -> str:
-    """A table of texts that scrolls by itself where it is wide; `numbers` are the columns of numbers, `cited` those
-    that cite texts of others, and with the class `stacked` its cells stand below each other on a phone."""
-    right, isolating = {*numbers}, {*cited}
+    """A table that scrolls by itself if it is wide. `numbers` are the columns of numbers, `of_others` those with texts
+    of others, or messages that cite them. With the class `stacked` its cells are below each other on a phone."""
+    right, isolating = {*numbers}, {*of_others}
 
     def cell(at: int, value: object) -> str:
         kind = " class=number" if at in right else " class=words" if len(str(value)) > LONG else ""
-        return f"<td{kind}>{others(value) if at in isolating else escape(str(value))}</td>"
+        return f"<td{kind}>{cited(value) if at in isolating else escape(str(value))}</td>"
 
     shown = rows[:MOST_SHOWN]
     lines = ["".join(cell(at, value) for at, value in enumerate(row)) for row in shown]
@@ -132,7 +132,7 @@ def problems(found: Sequence[Problem]) -> Iterable[str]:
     """What is refused; all of it stands in problems.csv."""
     rows = [(place(it.origin), it.number, it.because, it.do) for it in found]
     if rows:
-        yield table("Refused", ("where", "number", "because", "do"), rows, cited=(0, 2), css="stacked")
+        yield table("Refused", ("where", "number", "because", "do"), rows, of_others=(0, 2, 3), css="stacked")
 
 
 def place(origin: Origin) -> str:
