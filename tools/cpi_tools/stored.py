@@ -211,7 +211,7 @@ class StoredOffice:
 
     def plans(self) -> list[Plan]:
         """The plans, by year."""
-        references: dict[int, int] = dict(self.ask("SELECT year, month FROM plan_ref"))  # type: ignore[arg-type]
+        references = self.references()
         found: dict[int, Plan] = {}
         for year, code, title, weight in self.ask("SELECT year, code, title, weight FROM node ORDER BY year, code"):
             plan = found.setdefault(year, Plan(year, {}, {}, {}, references.get(year)))
@@ -220,6 +220,10 @@ class StoredOffice:
         for year, item, code in self.ask("SELECT year, item, code FROM plan_item ORDER BY year, item"):
             found[year].places[item] = code
         return [*found.values()]
+
+    def references(self) -> dict[int, int]:
+        """The reference month of each plan that has one, by year."""
+        return dict(self.ask("SELECT year, month FROM plan_ref"))  # type: ignore[arg-type]
 
     def frozen_moments(self) -> dict[tuple[int, int], tuple[int, int]]:
         """By month and revision, when it was frozen and when it is published, in seconds since 1970 UTC."""

@@ -16,6 +16,7 @@ from ..stored import read_copy
 from ..terminal import Fault, counted, month_text, time_text
 from ..trial import freeze_on_copy, state_of
 from . import aggregates, response
+from .early import Early, early_tables
 from .facts import Facts
 
 Answer = Callable[[str], str]
@@ -32,7 +33,8 @@ class Named(NamedTuple):
 
 
 class Closed(NamedTuple):
-    """A month as it was frozen on a copy: what the refusals named, the rows of its table, and who answered."""
+    """A month as it was frozen on a copy: what the refusals named, the rows of its table, how many slots are priced,
+    and the tables that come out too early."""
 
     month: int
     closes: int
@@ -41,6 +43,7 @@ class Closed(NamedTuple):
     rows: int
     priced: int
     slots: int
+    early: list[Early]
 
 
 class Decision(NamedTuple):
@@ -62,6 +65,7 @@ def close(cpi: Cpi, office_copy: Path, month: int, at: int) -> Closed:
     """
     with read_copy(office_copy) as office:
         state = state_of(office, month)
+        early = early_tables(office, state, at)
     if state.is_frozen:
         raise NotClosed(f"{month_text(month)} is frozen, revision {state.revision}: reopen it to freeze it again")
     closes = state.window.closes
@@ -70,7 +74,7 @@ def close(cpi: Cpi, office_copy: Path, month: int, at: int) -> Closed:
         with read_copy(copy) as office:
             facts = Facts(office, month, frozen)
             named, count = [named_of(facts, code) for code in frozen.carry], response.in_all(facts)
-            return Closed(month, closes, frozen.revision, named, len(facts.rows), count.priced, count.slots)
+            return Closed(month, closes, frozen.revision, named, len(facts.rows), count.priced, count.slots, early)
 
 
 def named_of(facts: Facts, code: str) -> Named:
@@ -111,8 +115,9 @@ def decision_on(it: Named, ask: Optional[Answer]) -> Decision:
 def told(
     closed: Closed, decisions: Sequence[Decision], by: Optional[str], allowed: Optional[Sequence[str]] = None
 ) -> Iterator[str]:
-    """The note on a month that is closed: who decided what and why, which codes need no place on the list though they
-    may be carried, and what its table will be."""
+    """The note on a month that is closed: which table comes out too early, who decided what and why, which codes need
+    no place on the list though they may be carried, and what its table will be."""
+    yield from (f"Warning: {it}" for it in closed.early)
     for it in decisions:
         yield f"carried: {it.code} {it.title}; {it.because}{f'; decided by {by}' if by else ''}"
     for code in sorted({*(allowed or ())} - {it.code for it in decisions}):

@@ -15,6 +15,7 @@ from ..stored import read_copy
 from ..terminal import month_text, time_text
 from ..trial import Frozen, Refused, State, as_frozen, freeze_on_copy, state_of
 from . import aggregates, influence, provisional, response, unusual
+from .early import early_tables
 from .facts import Facts
 
 PERCENT = "\u202f%"
@@ -53,13 +54,14 @@ class Division(NamedTuple):
 
 
 class Report(NamedTuple):
-    """What a page and a text say of a month."""
+    """What a page and a text say of a month; `warnings` are of tables that come out too early."""
 
     month: str
     at: str
     standing: str
     is_frozen: bool
     lead: str
+    warnings: list[str]
     fault: str
     cards: list[Card]
     divisions: list[Division]
@@ -79,6 +81,7 @@ def report_of(cpi: Cpi, office_copy: Path, asked: Asked, now: Now) -> Report:
     with read_copy(office_copy) as office:
         state = state_of(office, asked.month)
         carry = next((each.carry for each in reversed(office.releases()) if each.month == asked.month), ())
+        warnings = [str(it) for it in early_tables(office, state, asked.at)]
     at = max(asked.at, state.window.closes)
     with private_copy(office_copy) as copy:
         frozen: Optional[Frozen] = None
@@ -96,7 +99,8 @@ def report_of(cpi: Cpi, office_copy: Path, asked: Asked, now: Now) -> Report:
                 left = influence.left_out(facts, trial, asked.left_out)
             now("counting")
             sections = sections_of(facts, asked, frozen, left)
-            return gathered(facts, asked, state, sections, fault, frozen.table if frozen else b"")
+            report = gathered(facts, asked, state, sections, fault, frozen.table if frozen else b"")
+            return report._replace(warnings=warnings)
 
 
 def sections_of(facts: Facts, asked: Asked, frozen: Optional[Frozen], left: Sequence[influence.Left]) -> list[Section]:
@@ -136,6 +140,7 @@ def gathered(facts: Facts, asked: Asked, state: State, sections: list[Section], 
         standing(state, asked.at),
         state.is_frozen,
         lead(facts, state.is_frozen),
+        [],
         fault,
         [*index_cards(facts), *survey_cards(facts, sections), *aggregate_cards(facts, sections)],
         divisions(facts),
@@ -229,7 +234,8 @@ FOLDED = ("table", "silent", "homogeneity", "carry-series", "outlets")
 
 def text_of_report(report: Report) -> str:
     """The report for a terminal: its cards, and the first rows of its sections."""
-    head = [f"{report.month} at {report.at}: {report.standing}", *filter(None, [report.lead])]
+    warnings = [f"Warning: {it}" for it in report.warnings]
+    head = [f"{report.month} at {report.at}: {report.standing}", *filter(None, [report.lead]), *warnings]
     cards = [f"  {it.figure:>9}  {it.name}{f' ({it.word})' if it.word else ''}" for it in report.cards]
     parts = [text_of(it, 16 if it.key == "top" else 8) for it in report.sections if it.key not in FOLDED]
     return "\n\n".join(["\n".join([*head, *cards]), *parts])

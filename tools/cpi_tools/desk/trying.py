@@ -17,6 +17,7 @@ from ..sections import Cell, Section, columns
 from ..stored import StoredOffice, Window, read_copy
 from ..terminal import Fault, month_text, slot_text
 from ..trial import Frozen, Record, as_frozen, freeze_on_copy, reopened, state_of
+from .early import until_when
 
 Place = tuple[int, int]
 """A collector and a slot."""
@@ -32,10 +33,12 @@ class Tried(NamedTuple):
 
 
 class Beside(NamedTuple):
-    """A month as it stands, and as it would be."""
+    """A month as it stands, and as it would be; of a frozen one, by when a further revision has to come out, if by the
+    calendar another table will be computed from it."""
 
     as_is: Frozen
     tried: Frozen
+    until: Optional[str]
 
 
 class NotTried(Fault):
@@ -49,12 +52,13 @@ def what_if(cpi: Cpi, office_copy: Path, month: int, at: int, tried: Tried) -> B
         carry = next((each.carry for each in reversed(office.releases()) if each.month == month), ())
         after, calendar = reopened(state) if state.is_frozen else (state, None)
         quotes = [*quotes_of(office, after.window, tried)]
+        until = until_when(office, month) if state.is_frozen else None
     moment = max(at, state.window.closes)
     with private_copy(office_copy) as copy:
         as_is = as_frozen(cpi, copy, state, carry) if state.is_frozen else freeze_on_copy(cpi, copy, state, moment)
     with private_copy(office_copy) as copy:
         sent = [calendar, *quotes] if calendar else quotes
-        return Beside(as_is, freeze_on_copy(cpi, copy, after, moment, tried.carry, sent))
+        return Beside(as_is, freeze_on_copy(cpi, copy, after, moment, tried.carry, sent), until)
 
 
 def quotes_of(office: StoredOffice, window: Window, tried: Tried) -> Iterator[Record]:

@@ -114,6 +114,8 @@ def run_what_if(chosen: argparse.Namespace) -> int:
     print(text_of(found, len(found.rows)))
     for name, it in (("as it stands", beside.as_is), ("what if", beside.tried)):
         print(f"carry list {name}: {' '.join(it.carry) or 'empty'}")
+    if beside.until:
+        print(beside.until)
     return 0
 
 
