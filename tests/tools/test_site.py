@@ -7,6 +7,7 @@ import json
 import re
 import shutil
 import subprocess
+from fractions import Fraction
 from html.parser import HTMLParser
 from pathlib import Path
 from typing import Optional
@@ -18,7 +19,7 @@ from cpi_tools.pack.pictures import of_imputed, of_node
 from cpi_tools.pack.public import Listed, Published
 from cpi_tools.pack.tables import Series
 from cpi_tools.publish import publish
-from published import CODES
+from published import CODES, REVISED
 from test_measures import over_another_december, tea_again, two_years
 
 CONFIG = Config("NSO", "XX", "Office <of> prices", country="Exampleland", reference="2025", currency="crowns")
@@ -107,6 +108,76 @@ def test_annual_contributions_over_a_december_under_embargo_are_not_told(tmp_pat
     assert untold not in words_of(tmp_path / "public/node/01.html")
     revised = words_of(tmp_path / "public/revisions.html")
     assert "January 2027: the change on the month before January 2027: the change on the year before" in revised
+
+
+# ---- revised months that figures are computed from
+
+
+def site_of(published: list[Published], out: Path) -> Path:
+    """The site of some tables."""
+    publish(published, CONFIG._replace(reference=""), out, None, lambda _: None)
+    return out
+
+
+def test_a_december_that_was_revised_is_told_beside_the_figures(tmp_path: Path) -> None:
+    """All items were at 105 in December 2026, and at 106 by its revision of second 150; January is 106 * 1.04, and was
+    published before it. The revision didn't change coffee (01)."""
+    hidden = over_another_december()
+    (december,) = [it for it in hidden if it.listed.month == "2026-12"]
+    table = december.table.replace(b"105.000000,105.000000,2.2,5.0", b"106.000000,106.000000,3.2,6.0")
+    assert table != december.table
+    shown = [*hidden, Published(Listed("2026-12", 2, 150), table)]
+    february = hidden[-1].table.replace(b"110.240000,4.0,10.5", b"110.240000,0.0,7.3")
+    later = [*shown, Published(Listed("2027-02", 1, 160), february.replace(b",4.0,", b",0.0,"))]
+
+    untold = (
+        "December 2026 was revised, and that revision isn't published yet. It already counts in the index, the change"
+    )
+    site = site_of(hidden, tmp_path / "hidden")
+    for page in ("index.html", "node/00.html", "node/01.html"):
+        told = words_of(site / page)
+        assert f"{untold} on the month before and the change on the year before, so the published levels don't" in told
+        assert "was revised on" not in told
+
+    begun = (
+        "December 2026 was revised on 1 January 1970, 00:02 UTC: its index is 106.0, and was 105.0 before. The revised"
+    )
+    site = site_of(shown, tmp_path / "shown")
+    for page in ("index.html", "node/00.html"):
+        told = words_of(site / page)
+        assert f"{begun} one counts in the index and the change on the month before ( revisions )." in told
+        assert untold not in told
+    assert "was revised" not in words_of(site / "node/01.html")
+    assert f"{begun} one counts in the index ( revisions )." in words_of(
+        site_of(later, tmp_path / "later") / "index.html"
+    )
+
+
+def test_a_month_before_that_was_revised_is_told_beside_the_change(published: list[Published], tmp_path: Path) -> None:
+    """Of the month after a revision that is published, and of the last month, whose month before has a hidden one."""
+    until = [it for it in published if it.listed.month <= "2026-04"]
+    levels = [
+        Fraction(it.table.decode().split(",", 4)[3])
+        for it in until
+        if it.listed.month == REVISED and it.table[:2] == b"00"
+    ]
+    assert len(levels) == 2 and REVISED == "2026-03"
+    site = site_of(until, tmp_path / "told")
+    told, old, new = words_of(site / "index.html"), *(f"{float(it):.1f}" for it in levels)
+    assert f"its index is {new}, and was {old} before. The revised one counts in the change on the month before" in told
+    assert "was revised" in words_of(site / "node/01.html") and "was revised" not in words_of(site / "node/07.html")
+    last = words_of(site_of(published, tmp_path / "last") / "index.html")
+    assert (
+        "April 2027 was revised, and that revision isn't published yet. It already counts in the change on the" in last
+    )
+    after = [it for it in published if it.listed.month <= "2026-05"]
+    assert "was revised" not in words_of(site_of(after, tmp_path / "after") / "index.html")
+
+
+def test_a_year_before_that_was_revised_is_told_beside_the_change(published: list[Published], tmp_path: Path) -> None:
+    until = [it for it in published if it.listed.month <= "2027-03"]
+    told = words_of(site_of(until, tmp_path / "told") / "index.html")
+    assert "March 2026 was revised" in told and "The revised one counts in the change on the year before (" in told
 
 
 def test_what_left_long_ago_has_its_pictures() -> None:

@@ -18,6 +18,7 @@ from ..charts import month_name
 from ..exact import ALL_ITEMS, HUNDRED, Ratio, depth_of
 from ..others import isolated
 from ..pages import TEMPLATES, environment, write_page
+from .bases import hidden_bases, revised_bases
 from .config import Config
 from .measures import Contributions, reference_level
 from .pictures import of_imputed, of_node
@@ -76,6 +77,7 @@ class Site:
         self.month = series.months[-1]
         # (in the month before all others each item that begins there has 100, which a contract can count from)
         self.clause_months = [*([series.base] if series.base in series.latest else []), *series.months]
+        self.hidden = hidden_bases(series, contributions.unexplained)
         self.pages = environment(HERE / "templates")
         self.pages.filters.update(FILTERS)
         self.pages.globals.update(
@@ -85,6 +87,7 @@ class Site:
             table=series.last,
             whole=series.last.rows[ALL_ITEMS],
             base=series.base,
+            hidden=self.hidden,
             share=share,
             depth_of=depth_of,
         )
@@ -150,6 +153,7 @@ class Site:
             "most": most[0] if most else None,
             "against": against[0] if against else None,
             "total": total,
+            "revised": [*revised_bases(self.series, whole, self.hidden)],
             "charts": of_node(self.series, ALL_ITEMS),
             "imputed": of_imputed(self.series),
         }
@@ -169,6 +173,7 @@ class Site:
             "rows": rows,
             "zero": zero,
             "is_untold": bool(self.series.children(code)) and (self.month, is_annual) in self.contributions.unexplained,
+            "revised": [*revised_bases(self.series, row, self.hidden)] if row else [],
             "path": self.series.path(code),
             "history": history[::-1],
             "given": given.to_year if is_annual else given.to_month,

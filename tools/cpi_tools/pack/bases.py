@@ -1,0 +1,64 @@
+"""The revised months that figures of a month are computed from: the month before, the link month, the year before.
+
+The office computes a month from the latest revisions of those before it, published or not. So a change can differ from
+the one between the levels that were published first, and while a revision isn't out, from any that a reader can compute.
+"""
+
+from __future__ import annotations
+
+from collections import defaultdict
+from collections.abc import Iterator
+from typing import NamedTuple
+
+from .tables import Row, Series, Table, before, link_of
+
+INDEX, ON_MONTH, ON_YEAR = "the index", "the change on the month before", "the change on the year before"
+
+Figures = dict[str, list[str]]
+"""By the month that they are computed from, figures of a month in words."""
+
+
+class Base(NamedTuple):
+    """A month in its latest published revision and in the one before, the level of a node in both in millionths of a
+    point, and the figures that are computed from it, in words."""
+
+    old: Table
+    new: Table
+    levels: tuple[int, int]
+    figures: str
+
+
+def in_words(figures: list[str]) -> str:
+    """`the index and the change on the month before`."""
+    return " and ".join([*filter(None, [", ".join(figures[:-1])]), figures[-1]])
+
+
+def hidden_bases(series: Series, unexplained: frozenset[tuple[str, bool]]) -> dict[str, str]:
+    """By month, the figures of the last month that are computed from a revision of it that isn't published yet;
+    `unexplained` has the months whose changes aren't those of the published levels, and whether on the year."""
+    month = series.months[-1]
+    found: Figures = defaultdict(list)
+    if not series.is_linked(month):
+        found[link_of(month)].append(INDEX)
+    if (month, False) in unexplained:
+        found[before(month)].append(ON_MONTH)
+    if (month, True) in unexplained:
+        found[before(month, 12) if series.is_linked(month) else link_of(month)].append(ON_YEAR)
+    return {earlier: in_words(figures) for earlier, figures in found.items()}
+
+
+def revised_bases(series: Series, row: Row, hidden: dict[str, str]) -> Iterator[Base]:
+    """The months that the figures of a node in the last month are computed from whose latest revision, which is
+    published, changed the node's level."""
+    month = series.months[-1]
+    figures: Figures = defaultdict(list)
+    figures[link_of(month)].append(INDEX)
+    figures[before(month)].append(ON_MONTH)
+    if row.year_change is not None:
+        figures[before(month, 12)].append(ON_YEAR)
+    for old, new in zip(series.vintages, series.vintages[1:]):
+        then, now = old.rows.get(row.code), new.rows.get(row.code)
+        is_latest = new is series.latest[new.month] and old.month == new.month
+        if is_latest and new.month in figures and new.month not in hidden and then and now:
+            if then.chained != now.chained:
+                yield Base(old, new, (then.chained, now.chained), in_words(figures[new.month]))
