@@ -7,6 +7,7 @@ from __future__ import annotations
 
 import contextlib
 import sqlite3
+from collections import defaultdict
 from collections.abc import Iterator
 from pathlib import Path
 from typing import Any, NamedTuple, Optional
@@ -298,6 +299,19 @@ class StoredOffice:
             month,
         )
         return {(collector, slot): latest for collector, slot, latest in rows}
+
+    def months_observed(self, first: int, last: int) -> dict[Series, list[int]]:
+        """The months from one to another in which each series was observed, whoever had it, in their order."""
+        rows = self.ask(
+            "SELECT a.series_collector, a.series_slot, q.month FROM quote_2 AS q"
+            " JOIN assignment_2 AS a ON a.collector = q.collector AND a.slot = q.slot"
+            " WHERE q.month BETWEEN ? AND ? AND q.value > 0 ORDER BY q.month",
+            *(first, last),
+        )
+        found: dict[Series, list[int]] = defaultdict(list)
+        for collector, slot, month in rows:
+            found[collector, slot].append(month)
+        return found
 
     def frozen_of(self, series: Series) -> dict[tuple[int, int], Frozen]:
         """What was frozen of a series, by month and revision."""

@@ -45,8 +45,8 @@ class Facts:
         self.last = office.last_prices(month)
         self.outlets, self.keys = office.outlets(), office.keys()
         self.items: dict[str, Item] = {it.code: it for it in office.items()}
-        plans = {plan.year: plan for plan in office.plans()}
-        self.plan: Optional[Plan] = plans.get(month // 100) or plans.get(month // 100 + 1)
+        self.plans = {plan.year: plan for plan in office.plans()}
+        self.plan: Optional[Plan] = self.plans.get(month // 100) or self.plans.get(month // 100 + 1)
         self.latest: dict[int, Release] = {release.month: release for release in office.releases()}
         self.release = self.latest.get(month) if frozen else None
         try:

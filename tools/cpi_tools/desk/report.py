@@ -14,7 +14,7 @@ from ..sections import Section, text_of
 from ..stored import read_copy
 from ..terminal import month_text, time_text
 from ..trial import Frozen, Refused, State, as_frozen, freeze_on_copy, state_of
-from . import aggregates, influence, provisional, response, unusual
+from . import aggregates, influence, provisional, response, sparse, unusual
 from .early import early_tables
 from .facts import Facts
 
@@ -113,6 +113,7 @@ def sections_of(facts: Facts, asked: Asked, frozen: Optional[Frozen], left: Sequ
         response.by_reason(facts),
         response.silent(facts),
         response.long_missing(facts),
+        sparse.quarterly(facts),
         response.gone(facts),
         response.replacements(facts),
     ]
@@ -123,6 +124,7 @@ def sections_of(facts: Facts, asked: Asked, frozen: Optional[Frozen], left: Sequ
         provisional.top(whole),
         aggregates.carry(facts, frozen.carry),
         aggregates.carry_series(facts, frozen.carry),
+        sparse.unmatched(facts),
         influence.influence(facts, left),
         *survey,
         aggregates.imputed(facts),
