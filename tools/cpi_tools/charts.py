@@ -13,21 +13,16 @@ from typing import NamedTuple, Optional
 
 from markupsafe import Markup, escape
 
+from .terminal import month_name as month_name
+
 WIDTH, HEIGHT = 400, 224
 LEFT, RIGHT, TOP, FOOT = 40, 14, 16, 41
 
 MOST_MONTHS = 61
 """Months that a picture shows at most: the last ones, five years and the month that they are against."""
 
-MONTHS = "January February March April May June July August September October November December".split()
-
 OWN, OTHER = "own", "other"
 """The classes of a line: what the picture is of, and what stands beside it, which is broken."""
-
-
-def month_name(month: str) -> str:
-    """`January 2026` of `2026-01`."""
-    return f"{MONTHS[int(month[5:]) - 1]} {month[:4]}"
 
 
 def signed(value: float) -> str:

@@ -9,7 +9,9 @@ as filters, `others` and `isolated`. `web/shared/dom.js` has the rule for the pa
 from __future__ import annotations
 
 import re
+from collections.abc import Sequence
 from html import escape
+from string import Formatter
 
 OPENS, CLOSES = "\u2068", "\u2069"
 """FIRST STRONG ISOLATE and POP DIRECTIONAL ISOLATE."""
@@ -56,6 +58,33 @@ class Worded(str):
 
     def __html__(self) -> Element:
         return Element(escape(self.form).format(*map(others, self.texts)))
+
+
+def worded(form: str, **places: object) -> Worded:
+    """A sentence of ours with what belongs in its named places, `{title}` or `{month}`. A text of others is handed in
+    as Worded; anything else is ours, such as a figure."""
+    parts, texts = list[str](), list[str]()
+    for literal, name, _, _ in Formatter().parse(form):
+        parts.append(_literal(literal))
+        value = "" if name is None else places[name]
+        parts.append("{}" if isinstance(value, Worded) else _literal(str(value)))
+        texts += [value] if isinstance(value, Worded) else []
+    return Worded("".join(parts), *texts)
+
+
+def _literal(text: str) -> str:
+    """A text that is no place of a form."""
+    return text.replace("{", "{{").replace("}", "}}")
+
+
+def of_others(text: str) -> Worded:
+    """A text of others, for a place in words of ours."""
+    return Worded("{}", text)
+
+
+def listed(texts: Sequence[Worded]) -> Worded:
+    """Some texts one after the other, parted by semicolons, since a name may have a comma in it."""
+    return Worded("; ".join(["{}"] * len(texts)), *texts)
 
 
 def others(text: object) -> Element:

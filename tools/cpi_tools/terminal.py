@@ -53,6 +53,14 @@ def month_text(month: int) -> str:
     return f"{month // 100:04}-{month % 100:02}"
 
 
+MONTHS = "January February March April May June July August September October November December".split()
+
+
+def month_name(month: str) -> str:
+    """`January 2026` of `2026-01`."""
+    return f"{MONTHS[int(month[5:]) - 1]} {month[:4]}"
+
+
 def month_before(month: int) -> int:
     """202512 of 202601."""
     return month - 1 if month % 100 > 1 else month - 89

@@ -25,6 +25,7 @@ def level_part(sources: Sources, code: str) -> Part:
             "monthly change", change_expression(then, own.chained), own.month_change, "tenths of a percent", row, True
         ),
         *year_lines(sources, code, link),
+        *revision_lines(sources, code),
     ]
     return Part("Chained level and changes", "Levels in millionths of a point, changes in tenths of a percent.", lines)
 
@@ -44,3 +45,13 @@ def year_lines(sources: Sources, code: str, link: int) -> list[Line]:
         Line("level a year before", "", then, source),
         Line("annual change", expression, own.year_change, "tenths of a percent", row, True),
     ]
+
+
+def revision_lines(sources: Sources, code: str) -> list[Line]:
+    """The chained level in the other revisions of the month."""
+    own, found = sources.own.release, list[Line]()
+    for release in sources.releases:
+        rows = sources.office.levels(release) if release.month == own.month and release != own else {}
+        if code in rows:
+            found.append(Line(f"level in revision {release.revision}", "", rows[code].chained, "as it was frozen"))
+    return found

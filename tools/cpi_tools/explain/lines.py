@@ -11,6 +11,7 @@ from fractions import Fraction
 from functools import cached_property
 from typing import NamedTuple, Union
 
+from ..others import Worded
 from ..sections import Section
 from .expressions import value_of
 
@@ -83,12 +84,13 @@ class Figure(NamedTuple):
 
 
 class Explanation(NamedTuple):
-    """All that is told of a node in a release of a month."""
+    """All that is told of a node in a release of a month: sentences first, then figures, facts and lines."""
 
     code: str
     title: str
     month: str
     revision: int
+    sentences: list[Worded]
     figures: list[Figure]
     facts: list[str]
     glance: Section
@@ -107,10 +109,10 @@ class Explanation(NamedTuple):
 
     @property
     def text(self) -> str:
-        """The explanation as it is printed: a line a step."""
+        """The explanation as it is printed: a line a sentence, and then a line a step."""
         figures = ", ".join(f"{it.name} {it.text}" for it in self.figures)
         head = f"{self.code} {self.title}: {self.month}, revision {self.revision}"
-        blocks = ["\n".join([head, figures, *self.facts])]
+        blocks = ["\n".join([head, *self.sentences]), "\n".join([figures, *self.facts])]
         for part in self.parts:
             blocks.append("\n".join([f"{part.title}. {part.note}", *(line.text for line in part.lines)]))
         return "\n\n".join(blocks)

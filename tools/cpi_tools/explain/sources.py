@@ -20,11 +20,12 @@ from ..stored import (
     StoredOffice,
 )
 from ..terminal import Fault, link_month, month_before, month_text
+from .money import TICKS, Money
 
 AGGREGATE = 5
 """The depth of an elementary aggregate."""
 
-WHOLE_SCALE = (10_000, 1)
+WHOLE_SCALE = (TICKS, 1)
 """The scale of a price that nothing replaced: ticks per minor unit."""
 
 
@@ -67,13 +68,13 @@ class Month:
 
 
 class Sources:
-    """A release of a month, the months that it was computed from, and the survey.
+    """A release of a month, the months that it was computed from, the survey, and how amounts of money are written.
 
     Raises NotExplained where the month isn't frozen, hasn't that revision, or has no table.
     """
 
-    def __init__(self, office: StoredOffice, month: int, revision: Optional[int] = None):
-        self.office, self.month = office, month
+    def __init__(self, office: StoredOffice, month: int, revision: Optional[int] = None, money: Money = Money()):
+        self.office, self.month, self.money = office, month, money
         self.releases = office.releases()
         self._latest = {release.month: release for release in self.releases}
         own = [it for it in self.releases if it.month == month and revision in (None, it.revision)]

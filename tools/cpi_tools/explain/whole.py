@@ -5,12 +5,16 @@ from __future__ import annotations
 from collections.abc import Iterator
 
 from ..exact import at_and_above, depth_of, points, tenths
+from ..others import worded
 from ..terminal import month_text, slot_text, time_text
+from . import wording
 from .aggregate import aggregate_parts, sample_glance
 from .level import level_part
 from .life import handed_over
 from .lines import Explanation, Figure
 from .node import node_glance, node_parts
+from .node_sentences import samples_part
+from .sentences import sentences_of
 from .sources import AGGREGATE, NotExplained, Sources
 
 
@@ -34,20 +38,20 @@ def explained(sources: Sources, code: str) -> Explanation:
 def _explained(sources: Sources, code: str) -> Explanation:
     is_aggregate = depth_of(code) == AGGREGATE
     parts = [level_part(sources, code), *(aggregate_parts if is_aggregate else node_parts)(sources, code)]
-    found = Explanation(
+    parts += [] if is_aggregate else [samples_part(sources, code)]
+    # (each expression is valued here, so that one that has no value is told as such)
+    are_true = all([part.is_true for part in parts])
+    return Explanation(
         code,
         sources.plan.titles[code],
         month_text(sources.month),
         sources.own.release.revision,
+        sentences_of(sources, code) if are_true else [worded(wording.UNTRUE)],
         figures_of(sources, code),
         [*facts_of(sources, code)],
         (sample_glance if is_aggregate else node_glance)(sources, code),
         parts,
     )
-    for line in found.lines:
-        # (its expression is valued here, so that one that has no value is told as such)
-        line.is_true  # noqa: B018
-    return found
 
 
 def figures_of(sources: Sources, code: str) -> list[Figure]:

@@ -18,6 +18,7 @@ from ..stored import read_copy
 from ..terminal import Fault, Progress, ToolWords, a_month, a_slot, at_least, because_of, counted, month_text, needs
 from .life import Life, life_of
 from .lines import Explanation
+from .money import Money
 from .sources import Sources
 from .whole import explained
 
@@ -39,7 +40,8 @@ def run(chosen: argparse.Namespace) -> int:
             progress.now("explaining")
             if chosen.series:
                 return told_life(life_of(office, chosen.series, chosen.month), chosen.html)
-            sources = Sources(office, chosen.month, chosen.revision)
+            money = Money(chosen.minor, chosen.currency)
+            sources = Sources(office, chosen.month, chosen.revision, money)
             return (told_all if chosen.code == ALL else told_one)(sources, chosen)
 
 
@@ -125,20 +127,22 @@ def page_at(to: Path) -> Iterator[ModuleType]:
 # ---- words
 
 DESCRIPTION = """\
-Tells where a figure comes from: each step is a line `name = expression = value` in whole numbers,
-from the chained level down to the quotes with who sent them and their receipts. Each expression is
-valued, and compared with the row of the file that holds its value: a line that isn't true begins
-with `!`, and standard error names the row. CODE `all` looks at each line of each node. --series
-tells the life of a series instead: who priced it, hand-overs, replacements, and when it was
-imputed. It reads a copy of the office's file with its log, so cpi may run meanwhile; the month has
-to be frozen. Prices of shops are in what it tells.
+Tells where a figure comes from. First come three to five sentences: how prices changed, which of
+them changed most and where, which are imputed and why, and how that makes the level. Then each
+step is a line `name = expression = value` in whole numbers, from the chained level down to the
+quotes with who sent them and their receipts. Each expression is valued, and compared with the row
+of the file that holds its value: a line that isn't true begins with `!`, standard error names the
+row, and no sentence says how the figure came about. CODE `all` looks at each line of each node.
+--series tells the life of a series instead: who priced it, hand-overs, replacements, and when it
+was imputed. It reads a copy of the office's file with its log, so cpi may run meanwhile; the month
+has to be frozen. Prices of shops are in what it tells.
 
-Prices are in minor units of money, carried prices and bases in ticks (10,000 a minor unit), indices
-and levels in millionths of a point, changes in tenths of a percent.
+In the lines prices are in minor units of money, carried prices and bases in ticks (10,000 a minor
+unit), indices and levels in millionths of a point, changes in tenths of a percent.
 """
 
 EPILOG = """\
-example: cpi-tools explain office.db 2026-02 01.1.1.1-01
+example: cpi-tools explain office.db 2026-02 01.1.1.1-01 --currency EUR
          cpi-tools explain office.db 2026-02 all --html out/explained
          cpi-tools explain office.db 2026-02 --series 7/2
 
@@ -155,6 +159,14 @@ def add_words(tools: argparse._SubParsersAction[ToolWords]) -> None:
     add("month", type=a_month, metavar="MONTH", help="a frozen month like 2026-02")
     add("code", nargs="?", metavar="CODE", help="a node like 00 or 01.1.1.1-01, or all")
     add("--revision", type=at_least(1), metavar="R", help="a revision of the month (else its latest)")
+    add(
+        "--minor",
+        type=at_least(1),
+        default=100,
+        metavar="N",
+        help="minor units in a unit of money, in sentences (%(default)s)",
+    )
+    add("--currency", default="", metavar="TEXT", help="what a sentence writes after an amount, such as EUR")
     add("--series", type=a_slot, metavar="COLLECTOR/SLOT", help="a slot: the life of its series up to MONTH")
     add(
         "--html",

@@ -1,0 +1,346 @@
+"""The sentences of `cpi-tools explain`: by hand for a small office, and each figure against the lines below for a long
+one, in which each kind of month comes."""
+
+from __future__ import annotations
+
+import contextlib
+import re
+import sqlite3
+from collections import Counter
+from collections.abc import Iterator
+from decimal import ROUND_HALF_UP, Decimal
+from pathlib import Path
+from string import Formatter
+
+import pytest
+
+import surveys
+from cpi_tools.explain import wording
+from cpi_tools.program import Cpi
+from ran import run
+from surveys import key_of
+
+EUR = ("--currency", "EUR")
+
+
+@pytest.fixture(scope="module")
+def whole(cpi: Cpi, tmp_path_factory: pytest.TempPathFactory) -> Path:
+    """The long office, all of its months frozen."""
+    path = tmp_path_factory.mktemp("whole") / "office.db"
+    surveys.long(cpi, path)
+    return path
+
+
+@pytest.fixture(scope="module")
+def small(cpi: Cpi, tmp_path_factory: pytest.TempPathFactory) -> Path:
+    """The small office with 2026-02 frozen: a price of rice is imputed, and flour is carried."""
+    path = surveys.small(cpi, tmp_path_factory.mktemp("small"))
+    assert cpi.replay(["4000,desk,freeze,2026-02,01.1.1.2-01"], db=path) == [{"done": True}]
+    return path
+
+
+def sentences(path: Path, month: str, code: str, *words: object) -> list[str]:
+    """The sentences of a node: they are between its head and the first empty line."""
+    told = run(None, "explain", path, month, code, *words)
+    assert told.status == 0
+    return told.out.partition("\n\n")[0].splitlines()[1:]
+
+
+# ---- by hand
+
+
+def test_the_first_month_of_rice(small: Path) -> None:
+    """2.00 and 2.40 became 2.10 and 2.46: 4.56 / 4.40 = 1.03636."""
+    assert sentences(small, "2026-01", "01.1.1.1-01", *EUR) == [
+        "Rice, packed: prices rose by 3.6 percent from December 2025 to January 2026; January 2025 has no figure, so"
+        " there is no change in a year.",
+        "2 prices in 2 shops (Corner shop; Market hall) could be compared: 2 rose and 0 fell; Rice, 1 kg at Corner shop"
+        " changed most, from 2.00 EUR to 2.10 EUR.",
+        "Together the 2 prices count as 4.56 EUR, after 4.40 EUR in December 2025, so the level, 100.0 then, is 103.6.",
+    ]
+
+
+def test_an_imputed_price_of_rice(small: Path) -> None:
+    """2.46 became 2.52, so 2.10 counts as 2.10 * 2.52 / 2.46 = 2.1512. Together that is 4.6712, which is 106.164 percent
+    of 4.40, and 2.439 percent more than 103.636."""
+    assert sentences(small, "2026-02", "01.1.1.1-01", *EUR) == [
+        "Rice, packed: prices rose by 2.4 percent from January 2026 to February 2026; February 2025 has no figure, so"
+        " there is no change in a year.",
+        "One price could be compared: Rice, 1 kg at Market hall went from 2.46 EUR to 2.52 EUR.",
+        "Rice, 1 kg was out of stock at Corner shop, so its price is imputed: it moves with what could be compared (2.46"
+        " EUR to 2.52 EUR), from 2.10 EUR to 2.15 EUR.",
+        "Together the 2 prices count as 4.67 EUR, after 4.40 EUR in December 2025, so the level, 100.0 then, is 106.2.",
+    ]
+
+
+def test_a_carried_aggregate_of_one_series(small: Path) -> None:
+    """Flour was 0.80 and 0.84, and its shop was closed in February: 0.84 / 0.80 = 1.05 in both months."""
+    assert sentences(small, "2026-02", "01.1.1.2-01", *EUR) == [
+        "Flour, wheat: prices didn't change from January 2026 to February 2026; February 2025 has no figure, so there is"
+        " no change in a year.",
+        "Nothing could be compared (Corner shop: closed), so the desk decided to carry the price of Flour, <b>wheat</b>,"
+        " 1 kg at Corner shop: it counts as 0.84 EUR, as it did in January 2026.",
+        "It is the only price: after 0.80 EUR in December 2025 it counts as 0.84 EUR, so the level, 100.0 then, is"
+        " 105.0.",
+    ]
+
+
+def test_all_items(small: Path) -> None:
+    """0.6 * 106.1641 + 0.4 * 105 = 105.6985, after 0.6 * 103.6364 + 0.4 * 105 = 104.1818: 1.456 percent more. All of
+    it comes from rice: 0.6 * (106.1641 - 103.6364) / 104.1818 = 1.4557 percentage points."""
+    assert sentences(small, "2026-02", "00", *EUR) == [
+        "All items: prices rose by 1.5 percent from January 2026 to February 2026; February 2025 has no figure, so there"
+        " is no change in a year.",
+        "All of the month's change comes from Rice, packed: +1.46 percentage points.",
+        "It rests on 3 prices in 2 shops; 2 of these prices are imputed (closed: 1; out of stock: 1; nothing to compare, so"
+        " carried by the desk: Flour, wheat).",
+        "By their weights, the indices of its 2 aggregates have the mean 105.7 (December 2025 is 100), so the level,"
+        " 100.0 then, is 105.7.",
+    ]
+
+
+@pytest.mark.parametrize(("words", "amount"), [((), "2.00"), (("--minor", 1, *EUR), "200 EUR"),
+                                               (("--minor", 1000, "--currency", "{KWD}"), "0.200 {KWD}")])  # fmt: skip
+def test_amounts_are_in_the_money_of_the_office(small: Path, words: tuple[object, ...], amount: str) -> None:
+    (compared,) = [it for it in sentences(small, "2026-01", "01.1.1.1-01", *words) if "changed most" in it]
+    assert f"changed most, from {amount} to " in compared
+
+
+def test_a_revision_says_what_became_of_the_level(cpi: Cpi, tmp_path: Path) -> None:
+    """January is reopened, and 2.46 put right to 2.42: 4.52 / 4.40 = 1.0273 in place of 1.0364."""
+    path = surveys.small(cpi, tmp_path)
+    sent = [
+        "2100,desk,calendar,2026-01,2000,2500,3500",
+        f"2200,{key_of(8)},quote,1,2026-01,price,242",
+        "2500,desk,freeze,2026-01",
+    ]
+    assert not [reply for reply in cpi.replay(sent, db=path) if "refused" in reply]
+    now, before = (sentences(path, "2026-01", "01.1.1.1-01", "--revision", it)[-1] for it in (2, 1))
+    assert now == "This is revision 2; in revision 1 the level was 103.6."
+    assert before == "This is revision 1; revision 2 took its place, with the level 102.7."
+
+
+# ---- against the lines
+
+PATTERNS = {
+    "change": r"Node, (?:\S+): prices .* from (?:\w+ \d+) to .*",
+    "one compared": r"One price could be compared: .* went from (\S+) EUR to (\S+) EUR(?:, counted as what it replaced)?\.",
+    "compared": r"(\d+) prices (?:in (\d+) shops \(.*\)|at .*) could be compared: (\d+) rose and (\d+) fell; .* changed"
+    r" most, from (\S+) EUR to (\S+) EUR(?:, counted as what it replaced)?\.",
+    "none compared": r"No price could be compared, since none was found in .*",
+    "one imputed": r".* is imputed: it moves with what could be compared \((\S+) EUR to (\S+) EUR\), from (\S+) EUR to"
+    r" (\S+) EUR\.",
+    "imputed": r"(\d+) prices couldn't be compared \(.*\), so they are imputed: .* compared \((\S+) EUR to (\S+) EUR\)\.",
+    "one carried": r"Nothing could be compared .* decided to carry the price of .*: it counts as (\S+) EUR, as it did in"
+    r" .*",
+    "carried": r"Nothing could be compared .* decided to carry (\d+) prices: they count as they did in .*",
+    "level": r"Together the (\d+) prices (?:\(found again after a month without a price: (\d+)\) )?count as (\S+) EUR, after"
+    r" (\S+) EUR in \w+ \d+, so the level, (\S+) then, is (\S+)\.",
+    "contributions": r"These moved the index most in the month, in percentage points: (.*)\.",
+    "contribution": r"All of the month's change comes from .*: (\S+) percentage points\.",
+    "unchanged": r"None of its aggregates changed the index in the month\.",
+    "prices": r"It rests on (\d+) prices (?:in (\d+) shops|at .*)(?:, and all of them were found|; (\d+) of these"
+    r" prices (?:is|are) imputed .*)\.",
+    "mean": r"By their weights, the indices of its (\d+) aggregates have the mean (\S+) .* so the level, (\S+) then, is"
+    r" (\S+)\.",
+    "one aggregate": r"Its one aggregate has the index (\S+) \(\w+ \d+ is 100\), so the level, (\S+) then, is (\S+)\.",
+    "revised": r"This is revision \d; (?:in )?revision (\d) .* (\d+\.\d)\.",
+    "handed over": r"From June 2026 on (?:other collectors look for (\d+) of these prices|collector 9 prices .*).*"
+    r" collector 3.*",
+}
+
+
+class Lines:
+    """The lines of a node as they are printed, read again."""
+
+    def __init__(self, text: str):
+        self.values: dict[str, int] = {}
+        self.terms: Counter[str] = Counter()
+        self.names: list[str] = []
+        for line in text.splitlines():
+            found = re.fullmatch(r"  ([^=#]+?)(?: = ([^#]*?))?(?: = (-?\d+))?(?:    # .*)?", line)
+            if not found:
+                continue
+            name, middle, value = found.groups()
+            value = value or middle
+            self.names.append(name)
+            if value and re.fullmatch(r"-?\d+", value):
+                self.values[name] = int(value)
+            self.terms[name] = (middle or "").count(" + ") + 1
+
+    def changes(self) -> Iterator[tuple[int, int]]:
+        """What each series counted as and counts as, of those that were compared."""
+        for name in self.names:
+            series = name.partition("carried price of ")[2]
+            if name == f"carried price of {series}" and series in self.matched:
+                yield self.values[f"earlier {name}"], self.values[name]
+
+    matched: frozenset[str] = frozenset()
+
+
+def lines_of(text: str) -> Lines:
+    found = Lines(text)
+    found.matched = frozenset(re.findall(r"  carried price of (\S+) = .*    # matched$", text, re.M))
+    return found
+
+
+def rounded(over: int, under: int, digits: int) -> str:
+    """A quotient with some decimals, halves away from zero, by Python's decimal numbers."""
+    return str((Decimal(over) / under).quantize(Decimal(1).scaleb(-digits), ROUND_HALF_UP))
+
+
+def money(ticks: int) -> str:
+    return rounded(ticks, 1_000_000, 2)
+
+
+def level(millionths: int) -> str:
+    return rounded(millionths, 1_000_000, 1)
+
+
+def points(millionths: int) -> str:
+    text = rounded(abs(millionths), 1_000_000, 2)
+    return text if text == "0.00" else f"{'+' if millionths > 0 else chr(0x2212)}{text}"
+
+
+def look_at_change(text: str, lines: Lines) -> None:
+    """Directions and sizes of both changes."""
+    month, year = lines.values["monthly change"], lines.values.get("annual change")
+    part, _, rest = text.partition(" from ")
+    for change, said in ((month, part), (year, rest)):
+        if change:
+            assert f"by {rounded(abs(change), 10, 1)} percent" in said, text
+    words = {1: "rose", -1: "fell", 0: "didn't change"}
+    assert f"prices {words[(month > 0) - (month < 0)]}" in part, text
+    if year is None:
+        assert "has no figure, so there is no change in a year" in rest
+    elif (year > 0) == (month > 0) and (year < 0) == (month < 0) and year:
+        assert ", and by " in rest and rest.endswith("in a year.")
+    elif month or year:
+        assert f"in a year they {words[(year > 0) - (year < 0)]}" in rest
+
+
+def figures(kind: str, lines: Lines) -> tuple[object, ...]:
+    """What the groups of a kind have to be, from the lines."""
+    values = lines.values
+    moved = money(values.get("moved from", 0)), money(values.get("moved to", 0))
+    imputed = [it for it in lines.names if re.match("carried price of", it) and f"{it} imputed" in lines.values]
+    chained = level(values["link level"]), level(values["chained level"])
+    adds = [points(value) for name, value in values.items() if name.startswith("contribution of ") and value]
+    changes = sorted(lines.changes(), key=lambda it: -abs(Decimal(it[1] - it[0]) / it[0]))
+    most = tuple(map(money, changes[0])) if changes else ()
+    rose, fell = (sum((now - then) * sign > 0 for then, now in changes) for sign in (1, -1))
+    then = [values[f"earlier {it}"] for it in imputed]
+    carried = [money(values[it]) for it in imputed]
+    of_prices = money(values.get("sum of carried prices", 0)), money(values.get("sum of bases", 0))
+    return {
+        "one compared": most,
+        "compared": (len(changes), None, rose, fell, *most),
+        "one imputed": (*moved, *map(money, then[:1]), *carried[:1]),
+        "imputed": (len(imputed), *moved),
+        "one carried": tuple(carried[:1]),
+        "carried": (len(imputed),),
+        "level": (lines.terms["sum of carried prices"], None, *of_prices, *chained),
+        "contributions": ("; ".join(adds[:3]),),
+        "contribution": tuple(adds[:1]),
+        "prices": (values.get("prices below"), None, None),
+        "mean": (lines.terms["sum of weights"], level(values["index"]), *chained),
+        "one aggregate": (level(values["index"]), *chained),
+    }.get(kind, ())
+
+
+def look_at_sentence(text: str, lines: Lines) -> str:
+    """Compares the figures of a sentence with the lines; its kind."""
+    kind, found = next((kind, it) for kind, form in PATTERNS.items() if (it := re.fullmatch(form, text)))
+    if kind == "change":
+        look_at_change(text, lines)
+    elif kind == "contributions":
+        assert re.findall(r"\((\S+)\)", found[1]) == str(figures(kind, lines)[0]).split("; ")
+    elif kind == "revised":
+        assert found[2] == level(lines.values[f"level in revision {found[1]}"])
+    elif kind == "prices":
+        assert int(found[1]) == lines.values["prices below"]
+        assert int(found[2] or 1) == lines.values["outlets below"]
+        assert int(found[3] or 0) == lines.values["imputed below"]
+    else:
+        wanted = figures(kind, lines)
+        pairs = [(it, want) for it, want in zip(found.groups(), wanted) if want is not None]
+        assert [it for it, _ in pairs] == [str(want) for _, want in pairs], text
+    return kind
+
+
+def test_each_figure_of_each_sentence_is_one_of_the_lines(whole: Path) -> None:
+    """Over all months and nodes of the long office, in which each kind of sentence comes."""
+    kinds, counts = Counter[str](), Counter[int]()
+    months = [(month, 1) for month in surveys.MONTHS[1:]] + [(surveys.REVISED, 2)]
+    for month, revision in months:
+        for code in nodes_of(whole, month):
+            out = run(None, "explain", whole, month, code, "--revision", revision, *EUR).out
+            lines = lines_of(out)
+            for series in re.findall(r"  carried price of (\S+) = .*    # imputed", out):
+                lines.values[f"carried price of {series} imputed"] = 1
+            said = out.partition("\n\n")[0].splitlines()[1:]
+            counts[len(said)] += 1
+            kinds.update(look_at_sentence(it, lines) for it in said)
+    assert {*counts} == {3, 4, 5}
+    assert {*PATTERNS} - {*kinds} == set()
+
+
+def nodes_of(path: Path, month: str) -> list[str]:
+    """All nodes of a month."""
+    weights = {code: it.first if month < "2027" else it.second for code, it in surveys.AGGREGATES.items()}
+    kept = [code for code, weight in weights.items() if weight and code != "12.1.1.1-01"]
+    return sorted({"00", *(code[:end] for code in kept for end in (2, 4, 6, 8, 11))})
+
+
+# ---- wording
+
+ALL_FORMS = [it for it in vars(wording).values() if isinstance(it, str) and re.search(r"\{.*\.$", it)]
+ALL_FORMS += [*wording.CHANGES.values(), *wording.ONE_IMPUTED.values()]
+
+PLACES = {
+    "title", "change", "year_change", "before", "month", "year_before", "item", "outlet", "outlets", "then", "now",
+    "count", "shops", "rose", "fell", "earlier", "later", "reasons", "base", "december", "link", "level", "returned",
+    "points", "contributions", "prices", "imputed", "index", "revision", "other", "collector", "former",
+}  # fmt: skip
+
+
+def test_each_sentence_is_whole_and_has_named_places() -> None:
+    assert len(ALL_FORMS) > 40
+    for form in ALL_FORMS:
+        names = [name for _, name, _, _ in Formatter().parse(form) if name is not None]
+        assert {*names} <= PLACES, form
+        assert re.match(r"[A-Z{0-9]", form) and form.endswith("."), form
+
+
+def test_the_change_of_each_kind_names_what_it_says() -> None:
+    ways = (wording.ROSE, wording.FELL, wording.SAME)
+    assert {*wording.CHANGES} == {(month, year) for month in ways for year in (*ways, wording.NONE)}
+    for (month, year), form in wording.CHANGES.items():
+        assert ("{change}" in form) == (month != wording.SAME)
+        assert ("{year_change}" in form) == (year in (wording.ROSE, wording.FELL))
+        assert ("{year_before}" in form) == (year == wording.NONE)
+
+
+# ---- pages, and what isn't true
+
+
+def test_the_page_begins_with_the_sentences(small: Path, tmp_path: Path) -> None:
+    page = tmp_path / "rice.html"
+    words = ("explain", small, "2026-02", "01.1.1.1-01", "--currency", "<EUR>", "--html", page)
+    assert run(None, *words).status == 0
+    section = page.read_text(encoding="utf-8").partition('<section id="01.1.1.1-01"')[2]
+    lead = section.partition('<p class="lead">')[2].partition("</p>")[0]
+    assert "<bdi>Rice, packed</bdi>: prices rose by 2.4 percent" in lead
+    assert "from 2.10 <bdi>&lt;EUR&gt;</bdi> to 2.15 <bdi>&lt;EUR&gt;</bdi>." in lead
+    assert section.index('class="lead"') < section.index('class="cards exact"')
+
+
+def test_a_figure_that_isnt_true_is_put_in_no_words(small: Path, tmp_path: Path) -> None:
+    path = tmp_path / "changed.db"
+    path.write_bytes(small.read_bytes())
+    with contextlib.closing(sqlite3.connect(path)) as link:
+        assert link.execute("UPDATE carried_2 SET ticks = ticks + 1 WHERE month = 202602 AND slot = 1").rowcount == 2
+        link.commit()
+    told = run(None, "explain", path, "2026-02", "01.1.1.1-01")
+    assert told.status == 1
+    assert told.out.partition("\n\n")[0].splitlines()[1:] == [wording.UNTRUE]

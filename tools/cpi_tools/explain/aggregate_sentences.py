@@ -1,0 +1,149 @@
+"""What is said of an elementary aggregate: which prices were compared, which are imputed, and what they add up to."""
+
+from __future__ import annotations
+
+from collections.abc import Iterator, Sequence
+from fractions import Fraction
+from typing import NamedTuple
+
+from ..others import Worded, worded
+from ..stored import Series
+from ..terminal import month_before
+from . import wording
+from .sources import WHOLE_SCALE, Sources
+from .spoken import (
+    chained_places,
+    item_words,
+    month_words,
+    names,
+    outlet_words,
+    outlets_of,
+    reason_of,
+    reasons_by_name,
+)
+
+
+class Sample(NamedTuple):
+    """The series of an aggregate: all of them, those that could be compared with the month before, and those that are
+    imputed."""
+
+    all: Sequence[Series]
+    matched: Sequence[Series]
+    imputed: Sequence[Series]
+
+
+def sentences_of_prices(sources: Sources, code: str) -> Iterator[Worded]:
+    """From the prices that were compared to the level."""
+    every = sources.samples[code]
+    matched = [it for it in every if sources.is_matched(it)]
+    sample = Sample(every, matched, [it for it in every if not sources.is_comparable(it)])
+    if matched:
+        yield of_compared(sources, matched)
+        if sample.imputed:
+            yield of_imputed(sources, sample)
+    elif sample.imputed:
+        yield of_carried(sources, sample.imputed)
+    else:
+        months = {"before": month_words(month_before(sources.month)), "month": month_words(sources.month)}
+        yield worded(wording.NONE_COMPARED, **months)
+    yield of_level(sources, code, sample)
+
+
+# ---- what was compared
+
+
+def change_of(sources: Sources, series: Series) -> Fraction:
+    """By which part a series changed, as it counts."""
+    then = sources.then(series)[0]
+    return Fraction(sources.own.carried[series].ticks - then, then)
+
+
+def span(sources: Sources, series: Series) -> dict[str, Worded]:
+    """The places `then` and `now` of a series, as it counts."""
+    then, now = sources.then(series)[0], sources.own.carried[series].ticks
+    return {"then": sources.money.of_ticks(then), "now": sources.money.of_ticks(now)}
+
+
+def of_compared(sources: Sources, matched: Sequence[Series]) -> Worded:
+    """How many prices were compared, in which shops, and which of them changed most."""
+    most = min(matched, key=lambda it: (-abs(change_of(sources, it)), it))
+    changes = [change_of(sources, it) for it in matched]
+    rose, fell = sum(it > 0 for it in changes), sum(it < 0 for it in changes)
+    outlets = [*dict.fromkeys(outlet_words(sources, it) for it in matched)]
+    return worded(
+        compared_form(sources, matched, most),
+        count=len(matched),
+        shops=len(outlets_of(sources, matched)),
+        outlets=names(outlets),
+        rose=rose,
+        fell=fell,
+        item=item_words(sources, most),
+        outlet=outlet_words(sources, most),
+        **span(sources, most),
+    )
+
+
+def compared_form(sources: Sources, matched: Sequence[Series], most: Series) -> str:
+    """The sentence of the prices that were compared, of which one changed most."""
+    is_replaced = sources.then(most)[1] != WHOLE_SCALE
+    if len(matched) == 1:
+        return wording.ONE_COMPARED_REPLACED if is_replaced else wording.ONE_COMPARED
+    if len(outlets_of(sources, matched)) == 1:
+        if not change_of(sources, most):
+            return wording.COMPARED_UNCHANGED_IN_ONE_SHOP
+        return wording.COMPARED_REPLACED_IN_ONE_SHOP if is_replaced else wording.COMPARED_IN_ONE_SHOP
+    if not change_of(sources, most):
+        return wording.COMPARED_UNCHANGED
+    return wording.COMPARED_REPLACED if is_replaced else wording.COMPARED
+
+
+# ---- what wasn't
+
+
+def of_imputed(sources: Sources, sample: Sample) -> Worded:
+    """Why prices are imputed, and what they move with."""
+    moved = {
+        "earlier": sources.money.of_ticks(sum(sources.then(it)[0] for it in sample.matched)),
+        "later": sources.money.of_ticks(sum(sources.own.carried[it].ticks for it in sample.matched)),
+    }
+    if len(sample.imputed) > 1:
+        reasons = reasons_by_name(sources, sample.imputed)
+        return worded(wording.IMPUTED, count=len(sample.imputed), reasons=reasons, **moved)
+    (only,) = sample.imputed
+    named = {"item": item_words(sources, only), "outlet": outlet_words(sources, only)}
+    return worded(wording.ONE_IMPUTED[reason_of(sources, only)], **named, **moved, **span(sources, only))
+
+
+def of_carried(sources: Sources, imputed: Sequence[Series]) -> Worded:
+    """What the desk decided to carry."""
+    before, reasons = month_words(month_before(sources.month)), reasons_by_name(sources, imputed)
+    if len(imputed) > 1:
+        return worded(wording.CARRIED, count=len(imputed), reasons=reasons, before=before)
+    named = {"item": item_words(sources, imputed[0]), "outlet": outlet_words(sources, imputed[0])}
+    now = span(sources, imputed[0])["now"]
+    return worded(wording.ONE_CARRIED, reasons=reasons, before=before, now=now, **named)
+
+
+# ---- what it adds up to
+
+
+def of_level(sources: Sources, code: str, sample: Sample) -> Worded:
+    """How the prices make the level."""
+    returned = len(sample.all) - len(sample.matched) - len(sample.imputed) if sample.matched else 0
+    sums = sum(sources.base(it)[0] for it in sample.all), sum(sources.own.carried[it].ticks for it in sample.all)
+    base, now = map(sources.money.of_ticks, sums)
+    return worded(
+        level_form(len(sample.all), returned),
+        count=len(sample.all),
+        returned=returned,
+        base=base,
+        now=now,
+        **chained_places(sources, code),
+    )
+
+
+def level_form(count: int, returned: int) -> str:
+    """The sentence of so many prices, of which some were found again."""
+    if count == 1:
+        return wording.ONE_PRICE_MAKES
+    return wording.PRICES_WITH_RETURNED_MAKE if returned else wording.PRICES_MAKE

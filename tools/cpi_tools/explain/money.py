@@ -1,0 +1,25 @@
+"""Amounts of money as people write them: minor units and ticks in the currency of the office."""
+
+from __future__ import annotations
+
+from typing import NamedTuple
+
+from ..exact import decimal
+from ..others import Worded, of_others, worded
+
+TICKS = 10_000
+"""Ticks in a minor unit of money."""
+
+AMOUNT = "{amount} {currency}"
+
+
+class Money(NamedTuple):
+    """How many minor units make a unit of money, and what is written after an amount (nothing, if it is empty)."""
+
+    minor: int = 100
+    currency: str = ""
+
+    def of_ticks(self, ticks: int) -> Worded:
+        """`2.15 EUR` of 2,151,220 ticks: to the nearest minor unit, halves away from zero."""
+        amount = decimal(ticks, TICKS * self.minor, len(str(self.minor - 1)) if self.minor > 1 else 0)
+        return worded(AMOUNT, amount=amount, currency=of_others(self.currency)) if self.currency else Worded(amount)

@@ -1,0 +1,101 @@
+"""What is said of a node above aggregates: what adds most to its change, what it rests on, and its mean."""
+
+from __future__ import annotations
+
+from collections.abc import Iterator, Sequence
+
+from ..exact import decimal, with_sign
+from ..others import Worded, listed, of_others, worded
+from ..stored import Series
+from . import wording
+from .lines import Line, Part, summed
+from .node import below, contributions
+from .sources import Sources
+from .spoken import MOST_NAMES, chained_places, counted_reasons, level_words, names, outlet_words, outlets_of
+
+
+def sentences_of_aggregates(sources: Sources, node: str) -> Iterator[Worded]:
+    """From what adds most to the level."""
+    yield of_contributions(sources, node)
+    yield of_prices(sources, node)
+    codes = below(sources, node)
+    yield worded(
+        wording.AGGREGATES_MAKE if len(codes) > 1 else wording.ONE_AGGREGATE_MAKES,
+        count=len(codes),
+        index=level_words(sources.own.levels[node].within),
+        **chained_places(sources, node),
+    )
+
+
+def of_contributions(sources: Sources, node: str) -> Worded:
+    """What adds most to the change of the month, or takes most away."""
+    parts = [
+        (of_others(sources.plan.titles[code]), with_sign(decimal(added.numerator, 10**6, 2)))
+        for added, code, _ in contributions(sources, node)
+        if added
+    ]
+    if not parts:
+        return worded(wording.NO_CONTRIBUTION)
+    if len(parts) == 1:
+        return worded(wording.ONE_CONTRIBUTION, title=parts[0][0], points=parts[0][1])
+    told = [worded(wording.CONTRIBUTION, title=title, points=points) for title, points in parts[:MOST_NAMES]]
+    return worded(wording.CONTRIBUTIONS, contributions=listed(told))
+
+
+# ---- what it rests on
+
+
+def imputed_of(sources: Sources, sample: Sequence[Series]) -> list[Series]:
+    """The series of a sample that are imputed."""
+    return [it for it in sample if sources.own.carried[it].imputed]
+
+
+def samples_part(sources: Sources, node: str) -> Part:
+    """How many prices a node rests on, how many of them are imputed, and in how many outlets they were looked for."""
+    samples = [sources.samples[code] for code in below(sources, node)]
+    counts, imputed = [len(it) for it in samples], [len(imputed_of(sources, it)) for it in samples]
+    outlets = len(outlets_of(sources, (series for sample in samples for series in sample)))
+    lines = [
+        Line("prices below", summed(counts), sum(counts), "the samples of the aggregates below, as their codes come"),
+        Line("imputed below", summed(imputed), sum(imputed), "of these"),
+        Line("outlets below", "", outlets, "each counted once"),
+    ]
+    return Part("What it rests on", "Of each aggregate below, in the order of their codes.", lines)
+
+
+def of_prices(sources: Sources, node: str) -> Worded:
+    """How many prices there are, in how many shops, and why some of them are imputed."""
+    sample = [series for code in below(sources, node) for series in sources.samples[code]]
+    imputed, shops = imputed_of(sources, sample), len(outlets_of(sources, sample))
+    return worded(
+        prices_form(len(sample), shops, len(imputed)),
+        prices=len(sample),
+        shops=shops,
+        outlet=outlet_words(sources, sample[0]),
+        imputed=len(imputed),
+        reasons=reasons_below(sources, node, imputed),
+    )
+
+
+def prices_form(prices: int, shops: int, imputed: int) -> str:
+    """The sentence of so many prices in so many shops."""
+    if prices == 1:
+        return wording.ONE_PRICE_IMPUTED if imputed else wording.ONE_PRICE_FOUND
+    if not imputed:
+        return wording.ALL_FOUND_IN_ONE_SHOP if shops == 1 else wording.ALL_FOUND
+    if imputed == 1:
+        return wording.ONE_OF_PRICES_IMPUTED_IN_ONE_SHOP if shops == 1 else wording.ONE_OF_PRICES_IMPUTED
+    return wording.PRICES_IMPUTED_IN_ONE_SHOP if shops == 1 else wording.PRICES_IMPUTED
+
+
+def reasons_below(sources: Sources, node: str, imputed: Sequence[Series]) -> Worded:
+    """Why prices are imputed, and which aggregates the desk carried."""
+    reasons = counted_reasons(sources, imputed)
+    carried = [of_others(sources.plan.titles[code]) for code in below(sources, node) if is_carried(sources, code)]
+    return listed([reasons, worded(wording.CARRIED_BELOW, titles=names(carried))]) if carried else reasons
+
+
+def is_carried(sources: Sources, code: str) -> bool:
+    """Whether nothing of an aggregate could be compared, so that it is carried."""
+    sample = sources.samples[code]
+    return bool(imputed_of(sources, sample)) and not any(sources.is_matched(it) for it in sample)

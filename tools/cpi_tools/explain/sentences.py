@@ -1,0 +1,94 @@
+"""A figure in three to five sentences, which come before its lines: the lines derive each figure in them."""
+
+from __future__ import annotations
+
+from collections.abc import Iterator
+from typing import Optional
+
+from ..exact import depth_of, tenths
+from ..others import Worded, of_others, worded
+from ..stored import Assignment, Release
+from ..terminal import month_before
+from . import wording
+from .aggregate_sentences import sentences_of_prices
+from .node_sentences import sentences_of_aggregates
+from .sources import AGGREGATE, Sources
+from .spoken import level_words, month_words
+
+
+def sentences_of(sources: Sources, code: str) -> list[Worded]:
+    """What is said of a node whose lines are true."""
+    parts = sentences_of_prices if depth_of(code) == AGGREGATE else sentences_of_aggregates
+    return [of_changes(sources, code), *parts(sources, code), *of_events(sources, code)]
+
+
+def way(change: Optional[int]) -> str:
+    """Which way prices went, by a change in tenths of a percent."""
+    if change is None:
+        return wording.NONE
+    return wording.SAME if not change else wording.ROSE if change > 0 else wording.FELL
+
+
+def of_changes(sources: Sources, code: str) -> Worded:
+    """What prices did on the month, and on the year."""
+    own = sources.own.levels[code]
+    return worded(
+        wording.CHANGES[way(own.month_change), way(own.year_change)],
+        title=of_others(sources.plan.titles[code]),
+        change=tenths(abs(own.month_change)),
+        year_change=tenths(abs(own.year_change or 0)),
+        before=month_words(month_before(sources.month)),
+        month=month_words(sources.month),
+        year_before=month_words(sources.month - 100),
+    )
+
+
+# ---- what happened to the month
+
+
+def other_revision(sources: Sources, code: str) -> Optional[Release]:
+    """The revision that took the place of this one, or whose place this one took; None if the node isn't in it."""
+    own = sources.own.release
+    others = [it for it in sources.releases if it.month == own.month and it.revision != own.revision]
+    found = others[-1] if others else None
+    return found if found and code in sources.office.levels(found) else None
+
+
+def given_away(sources: Sources, code: str) -> list[tuple[Assignment, Assignment]]:
+    """The series of a sample that went to another collector in the month: who had each, and who has it."""
+    found = []
+    for series in sources.samples.get(code, []):
+        held = sources.held[series]
+        pairs = zip(held, held[1:])
+        found += [it for it in pairs if it[1].first_month == sources.month and it[0].collector != it[1].collector]
+    return found
+
+
+def of_events(sources: Sources, code: str) -> Iterator[Worded]:
+    """At most one sentence: the revision, and series that other collectors price from now on."""
+    other, away = other_revision(sources, code), given_away(sources, code)
+    form = event_form(sources.own.release, other, len(away))
+    if not form:
+        return
+    places: dict[str, object] = {"month": month_words(sources.month), "revision": sources.own.release.revision}
+    if other:
+        places["other"], places["level"] = other.revision, level_words(sources.office.levels(other)[code].chained)
+    if away:
+        former, now = away[0]
+        item = sources.items[now.item]
+        places["item"] = worded(wording.ITEM, text=of_others(item.text), unit=of_others(item.unit))
+        places["outlet"] = of_others(sources.outlets[now.outlet])
+        places.update(count=len(away), collector=now.collector, former=former.collector)
+    yield worded(form, **places)
+
+
+def event_form(own: Release, other: Optional[Release], away: int) -> str:
+    """The sentence of what happened to the month; nothing if nothing did."""
+    if not other:
+        return "" if not away else wording.HANDED_OVER if away == 1 else wording.HANDED_OVER_MANY
+    is_past = other.revision > own.revision
+    if not away:
+        return wording.REVISED_SINCE if is_past else wording.REVISED
+    if away == 1:
+        return wording.REVISED_SINCE_HANDED_OVER if is_past else wording.REVISED_HANDED_OVER
+    return wording.REVISED_SINCE_HANDED_OVER_MANY if is_past else wording.REVISED_HANDED_OVER_MANY

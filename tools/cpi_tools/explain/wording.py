@@ -1,0 +1,208 @@
+"""The sentences of an explanation in English, each of them whole, with named places for figures, months and names.
+
+A translation has the same keys and the same places. No sentence is put together from pieces of others. If a count
+changes the words around it, there is a sentence for one and a sentence for many.
+"""
+
+from __future__ import annotations
+
+from collections.abc import Mapping
+
+ROSE, FELL, SAME, NONE = "rose", "fell", "same", "none"
+"""Which way prices went, to a tenth of a percent; NONE if there is nothing to compare with."""
+
+CHANGES: Mapping[tuple[str, str], str] = {
+    (ROSE, ROSE): "{title}: prices rose by {change} percent from {before} to {month}, and by {year_change} percent in a"
+    " year.",
+    (ROSE, FELL): "{title}: prices rose by {change} percent from {before} to {month}; in a year they fell by"
+    " {year_change} percent.",
+    (ROSE, SAME): "{title}: prices rose by {change} percent from {before} to {month}; in a year they didn't change.",
+    (ROSE, NONE): "{title}: prices rose by {change} percent from {before} to {month}; {year_before} has no figure, so"
+    " there is no change in a year.",
+    (FELL, ROSE): "{title}: prices fell by {change} percent from {before} to {month}; in a year they rose by"
+    " {year_change} percent.",
+    (FELL, FELL): "{title}: prices fell by {change} percent from {before} to {month}, and by {year_change} percent in a"
+    " year.",
+    (FELL, SAME): "{title}: prices fell by {change} percent from {before} to {month}; in a year they didn't change.",
+    (FELL, NONE): "{title}: prices fell by {change} percent from {before} to {month}; {year_before} has no figure, so"
+    " there is no change in a year.",
+    (SAME, ROSE): "{title}: prices didn't change from {before} to {month}; in a year they rose by {year_change}"
+    " percent.",
+    (SAME, FELL): "{title}: prices didn't change from {before} to {month}; in a year they fell by {year_change}"
+    " percent.",
+    (SAME, SAME): "{title}: prices didn't change, neither from {before} to {month} nor in a year.",
+    (SAME, NONE): "{title}: prices didn't change from {before} to {month}; {year_before} has no figure, so there is no"
+    " change in a year.",
+}
+"""What prices did on the month, and on the year."""
+
+# ---- an elementary aggregate
+
+ONE_COMPARED = "One price could be compared: {item} at {outlet} went from {then} to {now}."
+
+ONE_COMPARED_REPLACED = (
+    "One price could be compared: {item} at {outlet} went from {then} to {now}, counted as what it replaced."
+)
+
+COMPARED = (
+    "{count} prices in {shops} shops ({outlets}) could be compared: {rose} rose and {fell} fell;"
+    " {item} at {outlet} changed most, from {then} to {now}."
+)
+
+COMPARED_REPLACED = (
+    "{count} prices in {shops} shops ({outlets}) could be compared: {rose} rose and {fell} fell;"
+    " {item} at {outlet} changed most, from {then} to {now}, counted as what it replaced."
+)
+
+COMPARED_IN_ONE_SHOP = (
+    "{count} prices at {outlet} could be compared: {rose} rose and {fell} fell; {item} changed most,"
+    " from {then} to {now}."
+)
+
+COMPARED_REPLACED_IN_ONE_SHOP = (
+    "{count} prices at {outlet} could be compared: {rose} rose and {fell} fell; {item} changed most,"
+    " from {then} to {now}, counted as what it replaced."
+)
+
+COMPARED_UNCHANGED = "{count} prices in {shops} shops ({outlets}) could be compared, and none of them changed."
+
+COMPARED_UNCHANGED_IN_ONE_SHOP = "{count} prices at {outlet} could be compared, and none of them changed."
+
+NONE_COMPARED = "No price could be compared, since none was found in {before}: those of {month} count as they are."
+
+ONE_IMPUTED: Mapping[str, str] = {
+    "stock": "{item} was out of stock at {outlet}, so its price is imputed: it moves with what could be compared ({earlier}"
+    " to {later}), from {then} to {now}.",
+    "closed": "{outlet} was closed, so its price of {item} is imputed: it moves with what could be compared ({earlier} to"
+    " {later}), from {then} to {now}.",
+    "gone": "{outlet} no longer sells {item}, so the price is imputed: it moves with what could be compared ({earlier} to"
+    " {later}), from {then} to {now}.",
+    "refused": "{outlet} refused the price of {item}, so it is imputed: it moves with what could be compared ({earlier} to"
+    " {later}), from {then} to {now}.",
+    "": "Nothing was sent of {item} at {outlet}, so its price is imputed: it moves with what could be compared ({earlier}"
+    " to {later}), from {then} to {now}.",
+    "other": "{item} at {outlet} was replaced by one of another quality, so its price is imputed: it moves with what"
+    " could be compared ({earlier} to {later}), from {then} to {now}.",
+}
+"""Why the only imputed price is, by the reason of the quote; nothing, if no quote was sent."""
+
+IMPUTED = (
+    "{count} prices couldn't be compared ({reasons}), so they are imputed: they move with what could be compared"
+    " ({earlier} to {later})."
+)
+
+ONE_CARRIED = (
+    "Nothing could be compared ({reasons}), so the desk decided to carry the price of {item} at {outlet}: it counts as"
+    " {now}, as it did in {before}."
+)
+
+CARRIED = (
+    "Nothing could be compared ({reasons}), so the desk decided to carry {count} prices: they count as they did in"
+    " {before}."
+)
+
+REASONS: Mapping[str, str] = {
+    "stock": "out of stock",
+    "closed": "closed",
+    "gone": "no longer sold",
+    "refused": "refused",
+    "": "nothing was sent",
+    "other": "another quality",
+}
+"""Why there is no price to compare, as a label next to a name or a count."""
+
+NAMED_REASON, COUNTED_REASON = "{outlet}: {reason}", "{reason}: {count}"
+
+AND_MORE = "{names}; and others"
+
+ITEM = "{text}, {unit}"
+
+ONE_PRICE_MAKES = (
+    "It is the only price: after {base} in {december} it counts as {now}, so the level, {link} then, is {level}."
+)
+
+PRICES_MAKE = (
+    "Together the {count} prices count as {now}, after {base} in {december}, so the level, {link} then, is {level}."
+)
+
+PRICES_WITH_RETURNED_MAKE = (
+    "Together the {count} prices (found again after a month without a price: {returned}) count as {now}, after {base} in"
+    " {december}, so the level, {link} then, is {level}."
+)
+
+# ---- a node above
+
+NO_CONTRIBUTION = "None of its aggregates changed the index in the month."
+
+ONE_CONTRIBUTION = "All of the month's change comes from {title}: {points} percentage points."
+
+CONTRIBUTIONS = "These moved the index most in the month, in percentage points: {contributions}."
+
+CONTRIBUTION = "{title} ({points})"
+
+ONE_PRICE_FOUND = "It rests on one price, which was found at {outlet}."
+
+ONE_PRICE_IMPUTED = "It rests on one price, that of {outlet}, and this is imputed ({reasons})."
+
+ALL_FOUND = "It rests on {prices} prices in {shops} shops, and all of them were found."
+
+ALL_FOUND_IN_ONE_SHOP = "It rests on {prices} prices at {outlet}, and all of them were found."
+
+ONE_OF_PRICES_IMPUTED = "It rests on {prices} prices in {shops} shops; 1 of these prices is imputed ({reasons})."
+
+ONE_OF_PRICES_IMPUTED_IN_ONE_SHOP = "It rests on {prices} prices at {outlet}; 1 of these prices is imputed ({reasons})."
+
+PRICES_IMPUTED = "It rests on {prices} prices in {shops} shops; {imputed} of these prices are imputed ({reasons})."
+
+PRICES_IMPUTED_IN_ONE_SHOP = (
+    "It rests on {prices} prices at {outlet}; {imputed} of these prices are imputed ({reasons})."
+)
+
+CARRIED_BELOW = "nothing to compare, so carried by the desk: {titles}"
+
+ONE_AGGREGATE_MAKES = (
+    "Its one aggregate has the index {index} ({december} is 100), so the level, {link} then, is {level}."
+)
+
+AGGREGATES_MAKE = (
+    "By their weights, the indices of its {count} aggregates have the mean {index} ({december} is 100), so the level,"
+    " {link} then, is {level}."
+)
+
+# ---- what happened to the month
+
+REVISED = "This is revision {revision}; in revision {other} the level was {level}."
+
+REVISED_SINCE = "This is revision {revision}; revision {other} took its place, with the level {level}."
+
+HANDED_OVER = "From {month} on collector {collector} prices {item} at {outlet}, in place of collector {former}."
+
+HANDED_OVER_MANY = (
+    "From {month} on other collectors look for {count} of these prices; {item} at {outlet} went from collector {former} to"
+    " collector {collector}."
+)
+
+REVISED_HANDED_OVER = (
+    "This is revision {revision} (in revision {other} the level was {level}), and from {month} on collector {collector}"
+    " prices {item} at {outlet}, in place of collector {former}."
+)
+
+REVISED_HANDED_OVER_MANY = (
+    "This is revision {revision} (in revision {other} the level was {level}), and from {month} on other collectors look for"
+    " {count} of these prices; {item} at {outlet} went from collector {former} to collector {collector}."
+)
+
+REVISED_SINCE_HANDED_OVER = (
+    "This is revision {revision} (revision {other} took its place, with the level {level}), and from {month} on"
+    " collector {collector} prices {item} at {outlet}, in place of collector {former}."
+)
+
+REVISED_SINCE_HANDED_OVER_MANY = (
+    "This is revision {revision} (revision {other} took its place, with the level {level}), and from {month} on other"
+    " collectors look for {count} of these prices; {item} at {outlet} went from collector {former} to collector {collector}."
+)
+
+UNTRUE = (
+    "No sentence says how this figure came about: a line below isn't true (it begins with !), so something in the file"
+    " was changed since the freeze."
+)
