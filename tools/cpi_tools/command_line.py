@@ -2,12 +2,14 @@
 
 from __future__ import annotations
 
-import os
+import argparse
+import contextlib
 import sys
-from collections.abc import Sequence
+from collections.abc import Iterator, Sequence
 from typing import Optional
 
 from . import backup, calendar_file, desk, doctor, drill, explain, keys, next_year, probe, publish, take_in, take_out
+from .output import shown_outputs
 from .terminal import Fault, ToolWords, ends_by_signals, is_line
 from .version import ShowVersion
 
@@ -33,27 +35,45 @@ def main(given: Optional[Sequence[str]] = None) -> int:
 
     What a tool is known to meet is one line on standard error and status 1; words that aren't its own are 2.
     """
-    try:
-        return _run(sys.argv[1:] if given is None else given)
-    except BrokenPipeError:
-        # (who read the output has gone, so the rest of it goes nowhere)
-        os.dup2(os.open(os.devnull, os.O_WRONLY), sys.stdout.fileno())
-        return 1
+    with shown_outputs() as out:
+        try:
+            return _run(sys.argv[1:] if given is None else given)
+        except BrokenPipeError:
+            # (the reader of the output has gone)
+            out.goes_nowhere()
+            return 1
 
 
 def _run(words: Sequence[str]) -> int:
     """Runs a tool by its words; its exit status."""
-    chosen, others = parser().parse_known_args(words)
+    tool = "cpi-tools"
+    try:
+        with _flushed():
+            chosen, others = parser().parse_known_args(words)
+        tool = f"cpi-tools {chosen.tool}"
+        with _flushed():
+            return _ran(chosen, others, words)
+    except Fault as fault:
+        print(f"{tool}: {fault}", file=sys.stderr)
+        return 1
+
+
+@contextlib.contextmanager
+def _flushed() -> Iterator[None]:
+    """What was written meanwhile is written out at the end, so that a fault of that is told, also behind `--help`."""
+    try:
+        yield
+    finally:
+        sys.stdout.flush()
+
+
+def _ran(chosen: argparse.Namespace, others: Sequence[str], words: Sequence[str]) -> int:
+    """Runs the tool that was chosen; its exit status. Raises Fault."""
     if odd := [word for word in words if not is_line(word)]:
         chosen.words.error(f"a word isn't a line of UTF-8: {odd[0]!a}")
     if others:
         # (told by the tool whose words they were to be, which has its own status for it)
         chosen.words.error(f"unrecognized arguments: {' '.join(others)}")
-    try:
-        with ends_by_signals():
-            status: int = chosen.run(chosen)
-            sys.stdout.flush()
-            return status
-    except Fault as fault:
-        print(f"cpi-tools {chosen.tool}: {fault}", file=sys.stderr)
-        return 1
+    with ends_by_signals():
+        status: int = chosen.run(chosen)
+        return status

@@ -11,7 +11,6 @@ import argparse
 import hashlib
 import os
 import subprocess
-import sys
 from collections.abc import Iterator, Sequence
 from pathlib import Path
 from typing import Any, Optional, Union
@@ -106,14 +105,5 @@ class ShowVersion(argparse.Action):
         values: Union[str, Sequence[Any], None],
         option_string: Optional[str] = None,
     ) -> None:
-        text = "\n".join(lines())
-        try:
-            with naming("standard output"):
-                print(text, flush=True)
-        except BrokenPipeError:
-            raise
-        except OSError as fault:
-            # (the rest of it goes nowhere)
-            os.dup2(os.open(os.devnull, os.O_WRONLY), sys.stdout.fileno())
-            parser.exit(1, f"{parser.prog}: {because_of(fault)}\n")
+        print("\n".join(lines()))
         parser.exit()
