@@ -100,7 +100,7 @@ def test_the_tidy_file_has_the_digits_of_the_tables(pack: Path, printed: Rows) -
     assert {(row["month"], row["code"]): [row[name] for name in FIELDS] for row in rows} == wanted
     assert len(rows) == len(wanted)
     assert {row["revision"] for row in rows if row["month"] == REVISED} == {"2"}
-    assert {(row["code"], row["level"]) for row in rows} >= {("00", "0"), ("01.1", "2"), ("01.1.1.1-01", "5")}
+    assert {(row["code"], row["depth"]) for row in rows} >= {("00", "0"), ("01.1", "2"), ("01.1.1.1-01", "5")}
     # the moments of tests are counted from 1970: the month's number in thousands of seconds, and 900
     assert {row["published"] for row in rows if row["month"] == "2025-01"} == {"1970-01-01T00:31:40Z"}
 

@@ -230,7 +230,7 @@ def test_a_node_has_its_page_and_its_file(site: Path) -> None:
     told = words_of(site / "node/01.html")
     assert told.count("All items") >= 2 and "What it is made of" in told and 'Food, "proper"' in told
     head, *rows = (site / "node/01.csv").read_text(encoding="utf-8").splitlines()
-    assert head.startswith("month,revision,published,code,level,title,weight,index,chained,")
+    assert head.startswith("month,revision,published,code,depth,title,weight,index,chained,")
     whole = (site / "data/cpi.csv").read_text(encoding="utf-8").splitlines()
     assert rows == [line for line in whole if line.split(",")[3] == "01"] and len(rows) == 29
 

@@ -20,7 +20,7 @@ from .measures import (
 )
 from .tables import Row, Series, Table, iso
 
-HEAD = ("month", "revision", "published", "code", "level", "title", "weight", "index", "chained", "month_change",
+HEAD = ("month", "revision", "published", "code", "depth", "title", "weight", "index", "chained", "month_change",
         "year_change", "imputed")  # fmt: skip
 """The columns of cpi.csv, of vintages.csv and of each node's file."""
 
