@@ -10,6 +10,7 @@ import csv
 import hashlib
 import io
 import json
+import os
 import subprocess
 import sys
 import zipfile
@@ -415,6 +416,37 @@ def test_a_folder_that_is_no_pack_is_left_alone(published: list[Published], tmp_
     with pytest.raises(NotPlaced, match="is there already, and isn't a folder that this tool wrote"):
         publish(published[:2], CONFIG, tmp_path / "mine", None, quiet)
     assert [it.name for it in (tmp_path / "mine").iterdir()] == ["letter"]
+
+
+def test_a_link_is_followed_and_stays(published: list[Published], tmp_path: Path) -> None:
+    """A web server hands out the folder that the link leads to: it is replaced there, at once and as a whole."""
+    real, link = tmp_path / "disk/pack", tmp_path / "www/public"
+    publish(published[:5], CONFIG, real, None, quiet)
+    before = (real / "manifest.json").read_bytes()
+    link.parent.mkdir()
+    link.symlink_to("../disk/pack")
+    publish(published, CONFIG, link, None, quiet)
+    assert link.is_symlink() and os.readlink(link) == "../disk/pack"
+    assert (real / "manifest.json").read_bytes() != before
+    # (the manifest before was found behind the link)
+    assert json.loads((real / "manifest.json").read_text())["previous"] == hashlib.sha256(before).hexdigest()
+    assert sorted(os.listdir(link.parent)) == ["public"] and sorted(os.listdir(real.parent)) == ["pack"]
+
+
+def test_a_link_that_leads_to_no_pack_is_left_alone(published: list[Published], tmp_path: Path) -> None:
+    (tmp_path / "other").mkdir()
+    (tmp_path / "other/index.html").write_text("mine")
+    for name, to, because in (
+        ("gone", "nowhere/pack", "gone is a symbolic link to nowhere/pack, which isn't there"),
+        ("round", "round", "round is a symbolic link to round, which isn't there"),
+        ("kept", "other", "other is there already, and isn't a folder that this tool wrote"),
+    ):
+        (tmp_path / name).symlink_to(to)
+        with pytest.raises(NotPlaced, match=because):
+            publish(published[:2], CONFIG, tmp_path / name, None, quiet)
+        assert os.readlink(tmp_path / name) == to
+    assert sorted(os.listdir(tmp_path)) == ["gone", "kept", "other", "round"]
+    assert os.listdir(tmp_path / "other") == ["index.html"]
 
 
 def test_the_sums_are_those_of_the_files(pack: Path) -> None:

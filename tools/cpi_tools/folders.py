@@ -3,6 +3,7 @@
 from __future__ import annotations
 
 import contextlib
+import os
 import tempfile
 from collections.abc import Iterator
 from pathlib import Path
@@ -20,13 +21,28 @@ def refuse_shared(out: Path, what: str) -> None:
         raise NotPlaced(f"{out} can be read by others, and {what} may not: give it a folder of its own")
 
 
+def behind_link(out: Path) -> Path:
+    """The folder that a symbolic link leads to, so that the link isn't replaced by a folder; `out` itself if it is none.
+
+    Raises NotPlaced if the link leads to nothing, for instance to a disk that isn't mounted.
+    """
+    if not out.is_symlink():
+        return out
+    try:
+        return out.resolve(strict=True)
+    except (OSError, RuntimeError) as fault:
+        raise NotPlaced(f"{out} is a symbolic link to {os.readlink(out)}, which isn't there") from fault
+
+
 @contextlib.contextmanager
 def written_folder(out: Path, known_by: str, is_private: bool = True) -> Iterator[Path]:
     """A new folder, which takes the place of `out` at the end; after a fault nothing is left of it.
 
     A folder that stands at `out` is replaced as a whole where it has the file `known_by`, so that nothing else is lost.
-    A private one can be read by its owner alone. Raises NotPlaced.
+    If `out` is a symbolic link, the folder that it leads to is replaced, and the link stays. A private one can be read
+    by its owner alone. Raises NotPlaced.
     """
+    out = behind_link(out)
     if out.exists() and not (out / known_by).is_file():
         raise NotPlaced(f"{out} is there already, and isn't a folder that this tool wrote: it has no {known_by}")
     try:

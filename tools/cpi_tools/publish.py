@@ -144,7 +144,8 @@ public, so it can't be in it. The same tables give the same bytes, whenever they
 
 With --db FILE the file is copied first, as it stands, and cpi may run meanwhile; a moment that is
 still to come is refused, but with --draft. A pack that stands in FOLDER is replaced as a whole,
-but where one of its tables is another one now, or isn't there any more. manifest.json has the
+but where one of its tables is another one now, or isn't there any more. If FOLDER is a symbolic
+link, the folder that it leads to is replaced, and the link stays. manifest.json has the
 SHA-256 of each table and of the manifest before: that of the pack that stands in FOLDER, or
 --previous.
 """
