@@ -149,6 +149,9 @@ def test_an_office_that_does_not_answer_is_critical(capsys: pytest.CaptureFixtur
     ("words", "message"),
     [
         (["--age", "3"], "3 isn't two whole numbers like 26,50"),
+        (["--slow", "5,1"], "5,1: from 1 on it is critical, so it never warns from 5 on"),
+        (["--late", "25,24"], "25,24: from 24 on it is critical, so it never warns from 25 on"),
+        (["--free", "1,5"], "1,5: from 5 on downwards it is critical, so it never warns from 1 on"),
         (["--url", "ftp://x"], "ftp://x is no address like http://127.0.0.1:8080"),
         (["--url", "http://x:99999"], "is no address"),
         (["--timeout", "0"], "0 isn't a whole number from 1 on"),
@@ -326,6 +329,24 @@ def seen(**other: Any) -> Seen:
 )
 def test_how_it_judges(other: dict[str, Any], state: int, told: tuple[str, ...]) -> None:
     assert probe_told.judged(seen(**other), chosen()) == (state, told)
+
+
+def test_three_late_months_are_named_and_the_others_counted() -> None:
+    """Of 37 the three that are late for longest, in whatever order they come: a line of all would be 2.6 kB."""
+    hours = [(it * 7) % 37 for it in range(37)]
+    late = tuple(window(202601 + it % 12, NOW - hour * 3600) for it, hour in enumerate(hours))
+    found = probe_told.judged(seen(late=late), chosen("--late", "10,36"))
+    assert found.state == CRITICAL
+    ends = ("2027-01-13 20:00 UTC", "2027-01-13 21:00 UTC", "2027-01-13 22:00 UTC", "no table of 34 more months")
+    assert len(found.told) == 4 and all(told.endswith(end) for told, end in zip(found.told, ends))
+    told, _, figures = probe_told.nagios_line(seen(late=late), found).partition(" | ")
+    assert len(told) < 250 and " late_tables=37 " in figures
+    four = probe_told.judged(seen(late=late[:4]), chosen())
+    assert len(four.told) == 4 and four.told[-1] == "no table of 1 more month"
+
+
+def test_equal_levels_are_taken() -> None:
+    assert (chosen("--slow", "5,5").slow, chosen("--days", "7,7").days) == (Levels(5, 5), Levels(7, 7))
 
 
 def test_levels_are_chosen() -> None:

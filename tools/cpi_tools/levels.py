@@ -41,7 +41,28 @@ def state_of_rest(value: int, levels: Levels) -> int:
 
 
 def levels(text: str) -> Levels:
-    """A type of argparse: two whole numbers, `26,50`."""
+    """A type of argparse for a figure that gets worse as it rises: two whole numbers, `26,50`."""
+    found = _two_numbers(text)
+    if found.warning > found.critical:
+        raise argparse.ArgumentTypeError(
+            f"{text}: from {found.critical} on it is critical, so it never warns from {found.warning} on; a warning"
+            " isn't above the critical value"
+        )
+    return found
+
+
+def levels_of_rest(text: str) -> Levels:
+    """A type of argparse for a figure that gets worse as it falls: two whole numbers, `21,7`."""
+    found = _two_numbers(text)
+    if found.warning < found.critical:
+        raise argparse.ArgumentTypeError(
+            f"{text}: from {found.critical} on downwards it is critical, so it never warns from {found.warning} on; a"
+            " warning isn't below the critical value"
+        )
+    return found
+
+
+def _two_numbers(text: str) -> Levels:
     found = re.fullmatch(r"([0-9]{1,10}),([0-9]{1,10})", text)
     if not found:
         raise argparse.ArgumentTypeError(f"{text} isn't two whole numbers like 26,50")

@@ -17,7 +17,7 @@ from typing import Optional, TypeVar
 
 from .certificates import certificate_at, place
 from .connections import connections_left
-from .levels import OK, Levels, levels
+from .levels import OK, Levels, levels, levels_of_rest
 from .machine_clock import machine_clock
 from .probe_looks import Answer, Backups, asked, backups_of, calendar_of, files_of, late_months, trusting
 from .probe_told import Seen, judged, nagios_line, prometheus_text
@@ -199,7 +199,8 @@ def add_words(tools: argparse._SubParsersAction[ToolWords]) -> None:
     add("--clock", action="store_true", help="whether this machine's clock is synchronized (a warning if not)")
     add("--prometheus", action="store_true", help="write all figures as Prometheus reads them")
     for name, default, told in LEVELS:
-        add(f"--{name}", type=levels, default=default, metavar="W,C", help=f"{told} ({default[0]},{default[1]})")
+        kind = levels if default.warning < default.critical else levels_of_rest
+        add(f"--{name}", type=kind, default=default, metavar="W,C", help=f"{told} ({default[0]},{default[1]})")
     told = "how long a failed request is a warning, if a later write succeeded (%(default)s)"
     add("--refused", type=at_least(0), default=24, metavar="HOURS", help=told)
     words.status_of_error = 3

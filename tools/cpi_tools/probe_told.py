@@ -17,6 +17,9 @@ from .writes import Writes
 
 HOUR, DAY = 3600, 86_400
 
+MOST_MONTHS = 3
+"""More late months than this are counted."""
+
 
 class Seen(NamedTuple):
     """What a probe saw; None of what it wasn't to look at, or couldn't. `fault` is why there is no answer, `unseen` has
@@ -59,10 +62,17 @@ def _of_answer(seen: Seen, chosen: argparse.Namespace) -> Iterator[Judgement]:
         yield CRITICAL, seen.fault
     if seen.answer:
         yield state_of(seen.answer.milliseconds, chosen.slow), f"it answered after {seen.answer.milliseconds} ms"
-    for row in seen.late or ():
-        hours = (seen.now - row.publishes) // HOUR
-        told = f"no table of {month_text(row.month)}, to be published {time_text(row.publishes)}"
-        yield state_of(hours, chosen.late), told
+    yield from _of_late(seen, chosen)
+
+
+def _of_late(seen: Seen, chosen: argparse.Namespace) -> Iterator[Judgement]:
+    """The months that are late for longest, and how many others are: a monitoring system cuts a long line."""
+    late = sorted(seen.late or (), key=lambda it: it.publishes)
+    states = [state_of((seen.now - row.publishes) // HOUR, chosen.late) for row in late]
+    for state, row in zip(states[:MOST_MONTHS], late):
+        yield state, f"no table of {month_text(row.month)}, to be published {time_text(row.publishes)}"
+    if others := states[MOST_MONTHS:]:
+        yield worst(others), f"no table of {counted(len(others), 'more month')}"
 
 
 def _of_files(seen: Seen, chosen: argparse.Namespace) -> Iterator[Judgement]:
