@@ -7,7 +7,7 @@ import contextlib
 import os
 import subprocess
 import time
-from collections.abc import Callable
+from collections.abc import Callable, Iterator
 from pathlib import Path
 from typing import Any, Optional
 
@@ -65,6 +65,7 @@ class Browser:
             self.driver.close()
         self.driver.switch_to.window(first)
         self.offline(False)
+        self.cdp("Emulation.setTouchEmulationEnabled", enabled=False)
         self.shown_as("light")
         self.driver.get("about:blank")
         self.cdp("Storage.clearDataForOrigin", origin=self.url, storageTypes="all")
@@ -95,6 +96,44 @@ class Browser:
             downloadThroughput=-1,
             uploadThroughput=-1,
         )
+
+    @contextlib.contextmanager
+    def slowed(self, times: int) -> Iterator[None]:
+        """The processor is so many times as slow meanwhile."""
+        self.cdp("Emulation.setCPUThrottlingRate", rate=times)
+        try:
+            yield
+        finally:
+            self.cdp("Emulation.setCPUThrottlingRate", rate=1)
+
+    @contextlib.contextmanager
+    def on_each_page(self, script: str) -> Iterator[None]:
+        """Each page that is opened meanwhile runs a script before its own."""
+        made = self.cdp("Page.addScriptToEvaluateOnNewDocument", source=script)["identifier"]
+        try:
+            yield
+        finally:
+            self.cdp("Page.removeScriptToEvaluateOnNewDocument", identifier=made)
+
+    # ---- a touch screen
+
+    def touch(self, x: float, y: float) -> None:
+        """A tap at a place of the window, in pixels."""
+        self.cdp("Emulation.setTouchEmulationEnabled", enabled=True)
+        self.cdp("Input.dispatchTouchEvent", type="touchStart", touchPoints=[{"x": x, "y": y}])
+        self.cdp("Input.dispatchTouchEvent", type="touchEnd", touchPoints=[])
+
+    def tap(self, selector: str) -> tuple[float, float]:
+        """A tap in the middle of an element, which is in sight; the place."""
+        x, y = self.middle(selector)
+        self.touch(x, y)
+        return x, y
+
+    def middle(self, selector: str) -> tuple[float, float]:
+        """The middle of an element, in pixels of the window."""
+        script = "const { left, top, width, height } = document.querySelector(arguments[0]).getBoundingClientRect();"
+        x, y = self.run(f"{script} return [left + width / 2, top + height / 2]", selector)
+        return x, y
 
     # ---- the page
 

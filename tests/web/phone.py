@@ -17,6 +17,11 @@ return !document.getElementById("entry-refusal").hidden || document.getElementBy
 """
 """Whether the form asks something, or says what is wrong."""
 
+PLACES = """
+const rows = [...document.querySelectorAll("[data-slot]")];
+return Object.fromEntries(rows.map((row) => [row.dataset.slot, row.getBoundingClientRect().top]));
+"""
+
 
 TOLD = """
 const parts = document.querySelector(`[data-slot="${arguments[0]}"] .told`)?.children ?? [];
@@ -73,7 +78,9 @@ class Phone:
         """Fills in the form of a slot and saves it; the form of the next row, which comes then, is closed."""
         self.edit(slot)
         self.fill(price, mark, reason)
-        self.browser.wait(lambda: self.edited() != f"{self.month()}/{slot}" or self.browser.run(ASKS), "saved, or asked")
+        self.browser.wait(
+            lambda: self.edited() != f"{self.month()}/{slot}" or self.browser.run(ASKS), "saved, or asked"
+        )
         self.leave(slot)
 
     def month(self) -> str:
@@ -135,3 +142,30 @@ class Phone:
 
     def send(self) -> None:
         self.browser.click("#send")
+
+    # ---- by touch
+
+    def tap_row(self, slot: int) -> tuple[float, float]:
+        """Opens the form of a row that is in sight by a tap; the place of the row."""
+        place = self.browser.tap(f'[data-slot="{slot}"]')
+        self.wait_edited(slot)
+        return place
+
+    def tap_save(self, price: str) -> None:
+        """Types a price where the focus is, and taps Save."""
+        self.press(price)
+        self.browser.tap("#entry-save")
+
+    def wait_edited(self, slot: Optional[int]) -> None:
+        """Waits for the form of a slot, or until none is open."""
+        wanted = None if slot is None else f"{self.month()}/{slot}"
+        self.browser.wait(lambda: self.edited() == wanted, f"the form of {wanted}")
+
+    def places(self) -> dict[str, float]:
+        """Where each row begins, in pixels from the top of the window."""
+        found: dict[str, float] = self.browser.run(PLACES)
+        return found
+
+    def focused(self) -> str:
+        """What has the focus: the id of an element, or the slot of a row."""
+        return str(self.browser.run("const it = document.activeElement; return it.dataset.slot ?? it.id"))

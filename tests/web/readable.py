@@ -46,7 +46,7 @@ CONTRASTS = (
 for (const element of all("body *")) {
   const own = [...element.childNodes].filter((node) => node.nodeType === 3).map((node) => node.data.trim()).join("");
   const text = own || element.value || element.placeholder;
-  if (!text || element.closest("option, noscript, title, .unseen")) continue;
+  if (!text || element.closest("option, noscript, title, progress, .unseen")) continue;
   const style = getComputedStyle(element, own || element.value ? null : "::placeholder");
   const ink = parts(element instanceof SVGElement ? style.fill : style.color);
   const has = contrast(ink, ground(element));

@@ -121,7 +121,9 @@ def register(stage: Stage) -> None:
     rows = [f"collector,9,{NOBODY}", f"calendar,{BEFORE},4000,9999999990,9999999999"]
     rows += [f'outlet,{90 + number},"{shop}"' for number, shop in enumerate(SHOPS)]
     named = {shelf[1]: f"I{at % 25}U{at % 4}" for at, (shelf, _, _, _) in enumerate(DAY)}
-    rows += [f'item,{code},"{text.rpartition(", ")[0]}",{text.rpartition(", ")[2]},700,1500' for text, code in named.items()]
+    rows += [
+        f'item,{code},"{text.rpartition(", ")[0]}",{text.rpartition(", ")[2]},700,1500' for text, code in named.items()
+    ]
     rows += [
         f"assign,9,{slot},{90 + SHOPS.index(shelf[0])},{named[shelf[1]]},2010-12,2199-12" for shelf, slot, _, _ in DAY
     ]
@@ -161,8 +163,11 @@ class Hand:
         """Touches an element, scrolled to if it is out of sight."""
         place = self.browser.run(PLACE, what)
         if place is None:
-            self.browser.run("(typeof arguments[0] === 'string' ? document.querySelector(arguments[0]) : arguments[0])"
-                             ".scrollIntoView({ block: 'center' })", what)
+            self.browser.run(
+                "(typeof arguments[0] === 'string' ? document.querySelector(arguments[0]) : arguments[0])"
+                ".scrollIntoView({ block: 'center' })",
+                what,
+            )
             place = self.browser.run(PLACE, what)
         assert place, what
         point = [{"x": place[0], "y": place[1]}]
