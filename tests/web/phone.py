@@ -5,6 +5,7 @@ from __future__ import annotations
 from typing import Any, Optional
 
 from selenium.webdriver.common.action_chains import ActionChains
+from selenium.webdriver.common.keys import Keys
 
 from browser import Browser
 from offices import ANNA
@@ -169,3 +170,8 @@ class Phone:
     def focused(self) -> str:
         """What has the focus: the id of an element, or the slot of a row."""
         return str(self.browser.run("const it = document.activeElement; return it.dataset.slot ?? it.id"))
+
+    def retype(self, text: str, *keys: str) -> None:
+        """Types a text in the place of the price that is there, and presses keys."""
+        self.browser.run("document.getElementById('price').select()")
+        self.press(text or Keys.DELETE, *keys)

@@ -35,6 +35,11 @@ class Relay:
         """How often a row that begins so was sent to the office."""
         return sum(row.startswith(start) for _, body in self.seen for row in body.decode().splitlines())
 
+    def quotes(self, month: str) -> list[str]:
+        """The rows of a month that were sent to the office."""
+        rows = [row for head, body in self.seen if head.startswith(b"POST") for row in body.decode().splitlines()]
+        return [row for row in rows if row.startswith("quote,") and row.split(",")[2] == month]
+
     def asked(self) -> list[str]:
         """What the office was asked: method and path."""
         return [b" ".join(head.split(b" ", 2)[:2]).decode() for head, _ in self.seen]

@@ -1,0 +1,279 @@
+"""The collectors' form: save and next, what is seen of it on a small screen, and digits of any keyboard."""
+
+from __future__ import annotations
+
+from typing import Any
+
+import pytest
+from selenium.webdriver.common.keys import Keys
+
+from browser import Browser
+from long_list import LONG_ITEM, LONG_OUTLET, LONG_UNIT, give_list
+from offices import ANNA, NOBODY, NOW
+from phone import Phone
+from readable import faults_enlarged, faults_for_keys, faults_of_page
+from stage import Stage
+
+
+WATCH = """
+window.blurs = 0;
+document.getElementById("price").addEventListener("blur", () => { window.blurs += 1; });
+"""
+"""Counts how often the price loses the focus: then the keyboard of a phone goes."""
+
+
+# ---- save and next
+
+
+def test_the_next_form_comes_and_the_keyboard_stays(phone: Phone, stage: Stage) -> None:
+    give_list(stage, 3)
+    phone.sign_in(NOBODY)
+    phone.edit(1)
+    phone.browser.run(WATCH)
+    for slot in (2, 3):
+        phone.tap_save("2.10")
+        phone.wait_edited(slot)
+        assert (phone.focused(), phone.browser.run("return window.blurs")) == ("price", 0)
+        assert phone.browser.find("#price").get_attribute("value") == ""
+        assert phone.browser.text("#entry-saved") == "2.10 saved: Rice, long grain"
+    phone.tap_save("2.10")
+    phone.wait_edited(None)
+    assert phone.focused() == "3"
+
+
+def test_a_correction_closes_the_form(phone: Phone) -> None:
+    phone.sign_in()
+    phone.show("all")
+    phone.enter(1, "3.21")
+    phone.wait_told(1, "Receipt")
+    phone.edit(1)
+    phone.fill("3.22")
+    phone.wait_edited(None)
+    assert phone.focused() == "1"
+
+
+SLOW_DISK = """
+Object.defineProperty(IDBTransaction.prototype, "oncomplete", {
+  set(handler) { this.addEventListener("complete", () => setTimeout(handler, 1500)); },
+});
+"""
+"""Each write takes a second and a half."""
+
+FULL_DISK = """
+Object.defineProperty(IDBTransaction.prototype, "oncomplete", { set() {
+  setTimeout(() => this.onabort(), 1500);
+} });
+Object.defineProperty(IDBTransaction.prototype, "error", { get: () => new DOMException("full", "QuotaExceededError") });
+"""
+"""Each write fails as late."""
+
+
+@pytest.mark.parametrize("ahead", ["2", "2.10"])
+def test_a_figure_that_is_typed_ahead_is_the_next_rows(phone: Phone, stage: Stage, ahead: str) -> None:
+    give_list(stage, 2)
+    phone.sign_in(NOBODY)
+    phone.tap_row(1)
+    phone.browser.run(SLOW_DISK)
+    phone.tap_save("2.10")
+    phone.press(ahead)
+    assert phone.edited() == f"{NOW}/1"
+    phone.wait_edited(2)
+    assert phone.browser.find("#price").get_attribute("value") == ahead
+    phone.press("0")  # (the rest of it comes behind)
+    assert phone.browser.find("#price").get_attribute("value") == f"{ahead}0"
+    assert [row[:1] + row[3:4] for row in stage.wait_for_quotes(NOBODY)] == [[1, 210]]
+
+
+def test_a_figure_that_is_typed_ahead_of_a_full_disk_costs_no_price(phone: Phone) -> None:
+    phone.sign_in()
+    phone.tap_row(1)
+    phone.browser.run(FULL_DISK)
+    phone.tap_save("3.21")
+    phone.press("4")
+    phone.browser.wait_text("#price-fault", "This entry isn’t kept: there is no room left.")
+    assert phone.browser.find("#price").get_attribute("value") == "3.21"
+
+
+# ---- what is seen on a small screen
+
+UNSEEN = """
+return arguments[0].filter((selector) => {
+  const element = document.querySelector(selector), { left, top, right, bottom } = element.getBoundingClientRect();
+  const x = (left + right) / 2, y = (top + bottom) / 2;
+  const places = [[left + 2, y], [right - 2, y], [x, top + 2], [x, bottom - 2]];
+  return !places.every((place) => element.contains(document.elementFromPoint(...place)));
+});
+"""
+"""Which elements are cut, or covered by another one, at one of their sides."""
+
+
+def test_price_and_save_are_seen_above_the_keyboard(phone: Phone, stage: Stage) -> None:
+    """At 360 x 400, whatever the texts; so is what the form asks, and that the next row is in another shop."""
+    give_list(stage, 21, LONG_ITEM, LONG_OUTLET, LONG_UNIT)
+    assert min(len(LONG_ITEM), len(LONG_OUTLET)) >= 150
+    phone.sign_in(NOBODY)
+    phone.edit(20)
+    phone.browser.size(360, 400)
+    found = {"form": phone.browser.run(UNSEEN, ["#price", "#entry-save", "#entry-item", "#entry-last"])}
+    phone.tap_save("9.99")
+    phone.browser.wait_text("#entry-refusal", "Look again.")
+    found["second look"] = phone.browser.run(UNSEEN, ["#price", "#entry-confirm"])
+    phone.retype("2,100")
+    phone.browser.tap("#entry-save")
+    phone.browser.wait_text("#entry-refusal", "Which price is it?")
+    found["readings"] = phone.browser.run(UNSEEN, ["#price", "[data-reading]"])
+    phone.retype("2.10")
+    phone.browser.tap("#entry-save")
+    phone.wait_edited(21)
+    found["next"] = phone.browser.run(UNSEEN, ["#price", "#entry-save", "#entry-saved", "#entry-outlet"])
+    assert found == {name: [] for name in found}
+    assert phone.browser.text("#entry-outlet").startswith("Next shop: The supermarket")
+    assert phone.browser.text("#entry-saved").startswith("2.10 saved: Rice")
+
+
+COVERED = """
+return [...document.querySelectorAll("#entry :is(input, button)")].filter((it) => it.checkVisibility() && !it.disabled)
+  .filter((it) => {
+    it.focus();
+    const { left, top, width, height } = it.getBoundingClientRect();
+    return !(it.closest("label") ?? it).contains(document.elementFromPoint(left + width / 2, top + height / 2));
+  }).map((it) => it.outerHTML);
+"""
+"""What is covered as it has the focus."""
+
+
+def test_what_has_the_focus_isnt_covered(phone: Phone, stage: Stage) -> None:
+    give_list(stage, 1, LONG_ITEM, LONG_OUTLET)
+    phone.sign_in(NOBODY)
+    phone.browser.size(360, 400)
+    phone.edit(1)
+    assert phone.browser.run(COVERED) == []
+
+
+def test_the_same_shop_isnt_named_as_another_one(phone: Phone) -> None:
+    phone.sign_in()
+    phone.edit(1)
+    phone.fill("3.21")
+    phone.wait_edited(2)
+    assert phone.browser.text("#entry-outlet") == "Corner shop"
+    phone.fill("4.80")
+    phone.wait_edited(3)
+    assert phone.browser.text("#entry-outlet").startswith("Next shop: <img")
+    phone.close()
+    phone.edit(4)
+    assert not phone.browser.text("#entry-outlet").startswith("Next shop")
+
+
+CHANGES = {
+    "2": ("±0.0 %", False), "2.1": ("+5.0 %", False), "1.40": ("−30.0 %", False), "1.39": ("−30.5 %", True),
+    "3.00": ("+50.0 %", False), "3.01": ("+50.5 %", True), "2.001": ("", False), "x": ("", False), "": ("", False),
+}  # fmt: skip
+"""What is typed over a last price of 2.00, the change in percent, and whether it is outside the tolerances."""
+
+
+def test_the_change_in_percent_is_told_at_once(phone: Phone, stage: Stage) -> None:
+    give_list(stage, 1)
+    phone.sign_in(NOBODY)
+    phone.edit(1)
+    for text, (told, is_far) in CHANGES.items():
+        phone.retype(text)
+        found = phone.browser.run(
+            "const it = document.getElementById('entry-change'); return [it.textContent, it.className]"
+        )
+        assert (found[0], "far" in found[1]) == (told, is_far), text
+    phone.retype("2.10")
+    phone.browser.click('#entry input[value="other"]')
+    assert phone.browser.text("#entry-change") == ""  # (another article isn't compared)
+
+
+# ---- digits
+
+TYPED = {
+    "\u0662\u066b\u0662\u0660": 220, "\u06f2\u066b\u06f2\u06f1": 221, "\u0968.\u0968\u0968": 222,
+    "\uff12\uff0e\uff12\uff13": 223, "2,24": 224, " 2.25 ": 225, "\u200f\u0662.\u0662\u0666": 226,
+}  # fmt: skip
+"""2.20 to 2.26 as Arabic, Persian, Hindi, Japanese and European keyboards write them."""
+
+
+def test_digits_of_any_keyboard_are_taken(phone: Phone, stage: Stage) -> None:
+    give_list(stage, len(TYPED))
+    phone.sign_in(NOBODY)
+    phone.edit(1)
+    for slot, text in enumerate(TYPED, 1):
+        phone.press(text, Keys.ENTER)
+        phone.wait_edited(slot + 1 if slot < len(TYPED) else None)
+    phone.browser.wait_text("#line", "All sent")
+    assert [row[3] for row in stage.quotes(NOBODY)] == [*TYPED.values()]
+
+
+def test_what_can_be_two_prices_is_asked(phone: Phone, stage: Stage) -> None:
+    """An office with two decimals reads 1,459 as 1459.00 only if its collector says so."""
+    phone.sign_in()
+    phone.edit(3)
+    phone.press("1,459", Keys.ENTER)
+    phone.browser.wait_text("#entry-refusal", "Which price is it?")
+    assert phone.browser.text("[data-reading]") == "1459.00" and stage.relay.quotes(NOW) == []
+    phone.press(Keys.ENTER)
+    assert (phone.edited(), stage.relay.quotes(NOW)) == (f"{NOW}/3", [])
+    phone.browser.tap("[data-reading]")
+    phone.wait_edited(4)
+    assert [row[:1] + row[3:4] for row in stage.wait_for_quotes(ANNA)] == [[3, 145_900]]
+
+
+# ---- a stored price
+
+
+def test_a_stored_price_is_withdrawn_by_no_price_and_its_reason(phone: Phone, stage: Stage) -> None:
+    phone.sign_in()
+    phone.show("all")
+    phone.enter(1, "3.21")
+    phone.wait_told(1, "Receipt")
+    phone.edit(1)
+    assert phone.browser.text("#withdraw-text").startswith("A stored price can’t be deleted.")
+    phone.browser.click("#entry-withdraw")
+    phone.browser.click("#entry-save")
+    phone.browser.wait_text("#price-fault", "Choose a reason.")
+    phone.browser.click('#entry input[value="gone"]')
+    phone.browser.click("#entry-save")
+    phone.wait_edited(None)
+    phone.wait_told(1, "No longer sold")
+    phone.wait_told(1, "Receipt")
+    assert [row[:4] for row in stage.quotes(ANNA)] == [[1, NOW, "missing", "gone"]]
+    phone.edit(1)
+    assert not phone.browser.find("#entry-withdraw").is_displayed()
+
+
+# ---- eyes, fingers and keys
+
+
+@pytest.mark.parametrize("width, scheme", [(360, "dark"), (1280, "light")])
+def test_the_form_can_be_read_touched_and_enlarged(phone: Phone, stage: Stage, width: int, scheme: str) -> None:
+    def looked_at(browser: Browser) -> list[str]:
+        found = faults_of_page(browser)
+        return found if width > 600 else [*found, *faults_for_keys(browser), *faults_enlarged(browser)]
+
+    browser, found = phone.browser, dict[str, Any]()
+    browser.size(width, 740)
+    browser.shown_as(scheme)
+    give_list(stage, 21, LONG_ITEM, LONG_OUTLET, LONG_UNIT)
+    phone.sign_in(NOBODY)
+    phone.edit(20)
+    browser.type("#price", "9.99")
+    found["far"] = looked_at(browser)
+    browser.click("#entry-save")
+    found["second look"] = looked_at(browser)
+    browser.type("#price", "2,100")
+    browser.click("#entry-save")
+    found["readings"] = looked_at(browser)
+    browser.type("#price", "2.10")
+    browser.click("#entry-save")
+    phone.wait_edited(21)
+    found["next shop"] = looked_at(browser)
+    phone.fill(mark="missing")
+    found["reason"] = looked_at(browser)
+    phone.close()
+    browser.wait_text("#line", "All sent")
+    phone.show("all")
+    phone.edit(20)
+    found["stored"] = looked_at(browser)
+    assert found == {name: [] for name in found}
