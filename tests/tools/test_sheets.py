@@ -14,17 +14,27 @@ from zipfile import ZipFile
 import openpyxl
 import pytest
 
+from cpi_tools.cells import BadSheet, Columns, Numeral, Origin, Sheet, SheetFault
 from cpi_tools.numbers_of_texts import Numbers, decimal
-from cpi_tools.sheets import BadSheet, Numeral, Origin, Sheet, SheetFault, Source
+from cpi_tools.sheets import Source
 from cpi_tools.terminal import Fault
 
-NAMES = ("outlets", "prices")
+NAMES = {
+    "outlets": Columns(("outlet", "name"), texts=("name",)),
+    "prices": Columns(("month", "value"), has_months=True),
+}
 
 
 def read(path: Path, name: str = "outlets") -> Sheet:
     found = Source(path, NAMES).sheet(name)
     assert found is not None
     return found
+
+
+def unread(source: Source) -> list[str]:
+    """The files and sheets that aren't read."""
+    assert all(it.because and it.do for it in source.unread)
+    return [it.origin.file for it in source.unread]
 
 
 def fault_of(path: Path, name: str = "outlets") -> SheetFault:
@@ -98,7 +108,7 @@ def test_a_sheet_is_found_by_its_name_and_only_once(tmp_path: Path) -> None:
     outlets, prices = source.sheet("outlets"), source.sheet("prices")
     assert outlets and prices and prices.rows[0]["value"] == "5"
     assert (outlets.file, prices.file) == ("Shops-OUTLETS.csv", "prices.xlsx:Sheet1")
-    assert source.unread == ["price.csv", "prices.xlsx:notes"]
+    assert unread(source) == ["price.csv", "prices.xlsx:notes", "read me.txt"]
     (tmp_path / "outlets.csv").write_text("outlet,name\n11,x\n")
     assert fault_of(tmp_path).because == "outlets is there twice: Shops-OUTLETS.csv and outlets.csv"
 
@@ -119,13 +129,27 @@ def test_a_workbook_is_found_by_the_names_that_its_csv_has(tmp_path: Path) -> No
     outlets, prices = source.sheet("outlets"), source.sheet("prices")
     assert outlets and prices
     assert (outlets.file, outlets.rows[0].cells) == ("shops-outlets.xlsx", {"outlet": "10", "name": "x"})
-    assert (prices.file, source.unread) == ("2026-Prices.xlsx:Sheet1", ["2026-Prices.xlsx:other"])
+    assert (prices.file, unread(source)) == ("2026-Prices.xlsx:Sheet1", ["2026-Prices.xlsx:other"])
 
 
-def test_a_spreadsheet_of_another_kind_is_told(tmp_path: Path) -> None:
-    for name in ("outlets.ods", "Prices.XLS", "outlets.tsv", "prices.xlsm", "notes.txt"):
+def test_what_is_not_read_is_told(tmp_path: Path) -> None:
+    """But for what a system puts beside files, what is ignored by its name, and folders of the tool's own."""
+    told = ("Prices.XLS", "outlets.ods", "outlets.docx", "notes.txt", "prices-2025.csv")
+    for name in (*told, "desktop.ini", "Thumbs.db", ".DS_Store", "Read me.txt"):
         (tmp_path / name).write_text("x")
-    assert Source(tmp_path, NAMES).unread == ["Prices.XLS", "outlets.ods", "outlets.tsv", "prices.xlsm"]
+    for name in ("older", "check"):
+        (tmp_path / name).mkdir()
+    source = Source(tmp_path, NAMES, ["read ME.txt"], [tmp_path / "check"])
+    assert unread(source) == sorted((*told, "older"))
+    dos = {it.origin.file: it.do for it in source.unread}
+    assert dos["outlets.ods"].startswith("save it as .xlsx or CSV, or install libreoffice-calc-nogui; or ")
+    wanted = "give it the name of a sheet (outlets, prices), or take it out of the folder, or name it by --ignore"
+    assert dos["prices-2025.csv"] == wanted
+
+
+def test_an_empty_sheet_of_a_workbook_is_none(tmp_path: Path) -> None:
+    path = as_book(tmp_path / "office.xlsx", outlets=[["outlet", "name"], [10, "x"]], Sheet2=[], Sheet3=[["", None]])
+    assert Source(path, NAMES).unread == []
 
 
 def test_a_file_whose_name_is_no_line_is_told_as_one(tmp_path: Path) -> None:
@@ -133,7 +157,7 @@ def test_a_file_whose_name_is_no_line_is_told_as_one(tmp_path: Path) -> None:
         Path(os.fsdecode(os.path.join(os.fsencode(tmp_path), name))).write_bytes(b"outlet,name\n10,x\n")
     source = Source(tmp_path, NAMES)
     outlets = source.sheet("outlets")
-    assert outlets and outlets.file == r"x\udcff-outlets.csv" and source.unread == [r"y\n.csv"]
+    assert outlets and outlets.file == r"x\udcff-outlets.csv" and unread(source) == [r"y\n.csv"]
 
 
 @pytest.mark.parametrize("name", ["nothing", "words.txt", "broken.xlsx"])
@@ -205,10 +229,11 @@ def test_cells_are_the_texts_that_csv_has(tmp_path: Path) -> None:
     path = as_book(tmp_path / "outlets.xlsx", x=[[f"c{at}" for at in range(len(cells))], cells])
     book = openpyxl.load_workbook(path)
     book["x"]["F2"].number_format = "yyyy-mm"
+    book["x"]["G2"].number_format = '[$-407]d. mmm "hier" yy'
     book["x"]["H2"].number_format = 'yyyy-mm-dd"T"hh:mm'
     book.save(path)
     (row,) = read(path.parent).rows
-    texts = ["5", "2.5", "210", "01.1", "TRUE", "2025-12", "2025-12-05T00:00", "2026-01-01T00:00", "", "0"]
+    texts = ["5", "2.5", "210", "01.1", "TRUE", "2025-12-01", "2025-12-05", "2026-01-01T00:00", "", "0"]
     assert [*row.cells.values()] == texts
     assert [isinstance(cell, Numeral) for cell in row.cells.values()] == [it in (0, 1, 2, 9) for it in range(10)]
 
@@ -232,7 +257,7 @@ def test_seconds_are_not_lost_without_a_word(tmp_path: Path) -> None:
 
 def test_a_formula_without_a_value_is_told(tmp_path: Path) -> None:
     as_book(tmp_path / "outlets.xlsx", x=[["outlet", "name"], [10, "x"], ["=A2+1", "y"]])
-    told = fault_of(tmp_path)
+    (told,) = read(tmp_path).faults
     assert told.origin == Origin("outlets.xlsx", 3, "A") and "no value" in told.because
 
 
@@ -240,13 +265,13 @@ def test_an_error_in_a_cell_is_told(tmp_path: Path) -> None:
     path = as_book(tmp_path / "outlets.xlsx", x=[["outlet", "name"], [10, "x"]])
     broken = b'<c r="A2" t="e"><v>#REF!</v></c>'
     changed(path, SHEET, lambda data: re.sub(rb'<c r="A2"[^>]*>.*?</c>', broken, data))
-    told = fault_of(tmp_path)
+    (told,) = read(tmp_path).faults
     assert told.origin == Origin("outlets.xlsx", 2, "A") and "#REF!" in told.because
 
 
 def test_a_number_of_which_digits_are_lost_is_told(tmp_path: Path) -> None:
     as_book(tmp_path / "outlets.xlsx", x=[["outlet", "name"], [10, 999_999_999_999_999], [11, float("7" * 32)]])
-    told = fault_of(tmp_path)
+    (told,) = read(tmp_path).faults
     assert told.origin == Origin("outlets.xlsx", 3, "B") and "keeps 15 digits" in told.because
 
 
@@ -259,6 +284,14 @@ def test_a_number_of_which_digits_are_lost_is_told(tmp_path: Path) -> None:
         (".", "2.10", Fraction(21, 10)),
         (".", " 1 234.5 ", Fraction(2469, 2)),
         (".", "1\u202f234", Fraction(1234)),
+        (".", "12 345 678", Fraction(12_345_678)),
+        (".", "2 40", None),
+        (".", "1 2 3", None),
+        (".", "1234 567", None),
+        (".", "1 234'567", None),
+        (".", "1 234 56", None),
+        (".", "2e3", None),
+        (".", Numeral("45.5%"), None),
         (".", "-3", Fraction(-3)),
         (",", "2,10", Fraction(21, 10)),
         (",", "1'234,5", Fraction(2469, 2)),

@@ -138,3 +138,66 @@ def test_nothing_takes_the_place_of_a_folder(cpi: Cpi, office: Path, tmp_path: P
     (tmp_path / "files").mkdir()
     ran = run(cpi, "take-out", office, tmp_path / "files")
     assert (ran.status, ran.out) == (1, "") and "is there already" in ran.err
+
+
+# ---- onto the office that it came from
+
+
+def reopened(cpi: Cpi, office: Path) -> Path:
+    """The office with a quote after its freeze, and its last month open again with a correction in it."""
+    sent = [
+        record(14_001, KEY, "quote", 1, "2026-02", "price", 1234, "confirm"),
+        record(0, "desk", "calendar", "2026-02", 14_000, 20_000, 30_000),
+        record(19_999, KEY, "quote", 2, "2026-02", "missing", "stock"),
+    ]
+    assert not [reply for reply in cpi.replay(sent, db=office) if "refused" in reply]
+    return office
+
+
+def test_what_was_taken_out_is_passed_over_by_the_office_that_has_it(cpi: Cpi, office: Path, tmp_path: Path) -> None:
+    """Freezes, a hand-over, a revision and a reopened month among it: no problem, and nothing to send."""
+    reopened(cpi, office)
+    assert run(cpi, "take-out", office, tmp_path / "files").status == 0
+    before = sums(office)
+    rows = sum(len(rows_of(path)) for path in (tmp_path / "files").glob("*.csv"))
+    ran = run(cpi, "take-in", tmp_path / "files", "--onto", office, "--check")
+    assert (ran.status, ran.err) == (0, "")
+    # (a plan is one row of what is sent, and three sheets of rows of what is taken out)
+    plans = {name: len(rows_of(tmp_path / f"files/{name}.csv")) for name in ("classification", "places", "plans")}
+    standing = rows - sum(plans.values()) + plans["plans"]
+    assert ran.out == f"nothing new, {standing} rows that the office has already\n"
+    ran = run(cpi, "take-in", tmp_path / "files", "--onto", office, "--write", tmp_path / "records")
+    assert (ran.status, ran.out.count("\n"), [*(tmp_path / "records").iterdir()]) == (0, 1, [])
+    assert sums(office) == before
+
+
+@pytest.mark.parametrize("name", ["items", "outlets", "collectors", "series", "handovers", "calendar", "releases"])
+def test_a_sheet_by_itself_is_passed_over_too(cpi: Cpi, office: Path, tmp_path: Path, name: str) -> None:
+    reopened(cpi, office)
+    assert run(cpi, "take-out", office, tmp_path / "files").status == 0
+    (tmp_path / "one").mkdir()
+    (tmp_path / f"files/{name}.csv").rename(tmp_path / f"one/{name}.csv")
+    ran = run(cpi, "take-in", tmp_path / "one", "--onto", office, "--check")
+    assert (ran.status, ran.out.partition(",")[0], ran.err) == (0, "nothing new", "")
+
+
+def test_what_differs_from_what_was_taken_out_is_sent(cpi: Cpi, office: Path, tmp_path: Path) -> None:
+    """One price of the month that is open again, and one freeze with another carry list, among all that stands."""
+    reopened(cpi, office)
+    assert run(cpi, "take-out", office, tmp_path / "files").status == 0
+    prices = tmp_path / "files/prices.csv"
+    heads, *rows = prices.read_text(encoding="utf-8").splitlines()
+    late = [row for row in rows if row.startswith("2026-02,") and row.endswith(",2")]
+    assert len(late) == 2 and ",1234,confirm,2" in late[0]
+    prices.write_text("\n".join([heads, *rows]).replace(",1234,confirm,2", ",1235,confirm,2"), encoding="utf-8")
+    ran = run(cpi, "take-in", tmp_path / "files", "--onto", office, "--write", tmp_path / "records")
+    assert (ran.status, ran.err, ran.out.partition(",")[0]) == (0, "", "1 quote")
+    lines = (tmp_path / "records/records-01.csv").read_text(encoding="utf-8").splitlines()
+    assert lines == [f'14000,{KEY},import,"quote,1,2026-02,price,1235,confirm', '"']
+    releases = tmp_path / "files/releases.csv"
+    heads, first, *others = releases.read_text(encoding="utf-8").splitlines()
+    assert first.endswith(",")
+    releases.write_text("\n".join([heads, f"{first}01.1.1.1-01", *others]) + "\n", encoding="utf-8")
+    assert run(cpi, "take-in", tmp_path / "files", "--onto", office, "--check").status == 1
+    told = [(it["file"], it["row"]) for it in rows_of(tmp_path / "files/check/problems.csv")]
+    assert told[0] == ("releases.csv", "2")

@@ -2,6 +2,7 @@
 
 from __future__ import annotations
 
+import itertools
 import tempfile
 from collections import Counter, defaultdict
 from collections.abc import Collection, Iterable, Iterator
@@ -9,15 +10,16 @@ from dataclasses import dataclass, field
 from pathlib import Path
 from typing import NamedTuple, Optional
 
+from .cells import MOST_TOLD, Origin, more_of
+from .desk_words import words_of
 from .odd_cells import odd_columns
 from .office_files import Taken
 from .plan_faults import faulty_cells, has_too_many_rows, unreadable
 from .program import LAST_MOMENT, Cpi, Reply, Session, record
 from .sent import DESK, MOST_RECORDS, MOST_ROWS, Bundle, Problem, Sent, bundled
-from .sheets import Origin
 from .stored import stored_office
 from .terminal import month_text
-from .words import COLLECTOR, Words, refusal_words
+from .words import Words, refusal_words
 
 MOST_BUNDLES = MOST_RECORDS // 3
 """Bundles of one run: beside its record one may be sent again with `confirm`, and a table be asked for."""
@@ -93,21 +95,25 @@ class Judge:
         office has before."""
         self._cpi, self._zone, self._is_confirmed = cpi, zone, is_confirmed
         self._items = {*items}
-        self._refused: list[tuple[Bundle, Sent, Reply]] = []
+        self._refused: list[tuple[Optional[Bundle], Sent, Reply]] = []
+        """Each with its plan, if it is a row of one."""
+        self._more = 0
         self._told = Judged()
 
     def judge(self, taken: Taken, db: Optional[Path] = None, most: int = MOST_BUNDLES) -> Judged:
         """What the program says to all of it, over an office in memory, or over a copy that is changed by that.
 
-        Where a price was confirmed, its row in `taken` is with `confirm` from then on. A run of the program gets at
-        most so many bundles; where it takes several runs the office is a file that is thrown away.
+        If a price was confirmed, it is sent with `confirm` from then on. A run of the program gets at most so many
+        bundles; if there may be more of them the office is a file that is thrown away.
         """
-        parts = [taken.bundles[start : start + most] for start in range(0, len(taken.bundles), most)]
+        self._confirm = taken.store.confirm
+        bundles = iter(taken.bundles)
         with tempfile.TemporaryDirectory(prefix="cpi-tools-") as folder:
-            file = db or (Path(folder) / "judged.db" if len(parts) > 1 else None)
-            for part in parts:
+            file = db or (Path(folder) / "judged.db" if taken.bundles.most > most else None)
+            for first in bundles:
                 with self._cpi.session(db=file, zone=self._zone) as session:
-                    for bundle in part:
+                    self._send(session, first)
+                    for bundle in itertools.islice(bundles, most - 1):
                         self._send(session, bundle)
         self._told.problems = [*taken.problems, *self._problems()]
         return self._told
@@ -123,6 +129,7 @@ class Judge:
                 self._note(bundle, row, reply)
         for row in outside:
             row.fields.append("confirm")
+            self._confirm(row.number)
         for again in bundled(0, bundle.caller, outside):
             again.at = bundle.at
             self._send(session, again)
@@ -133,8 +140,10 @@ class Judge:
         """Counts a row by its reply, or keeps its refusal."""
         month = None if bundle.year or row.word not in MONTH_OF else self._told.months[row.fields[MONTH_OF[row.word]]]
         is_refused = "refused" in reply
-        if is_refused:
-            self._refused.append((bundle, row, reply))
+        if is_refused and len(self._refused) < MOST_TOLD:
+            self._refused.append((bundle if bundle.year else None, row, reply))
+        elif is_refused:
+            self._more += 1
         else:
             self._told.taken["plan" if bundle.year else row.word] += 1
             self._items |= {row.fields[1]} if row.word == "item" else set()
@@ -158,30 +167,35 @@ class Judge:
 
     def _problems(self) -> Iterator[Problem]:
         """Each refusal with the cells that it speaks of."""
-        odd = iter(odd_columns(self._cpi, [row for bundle, row, reply in self._refused if is_unread(bundle, reply)]))
-        for bundle, row, reply in self._refused:
-            if bundle.year:
-                yield from self._plan_problems(bundle, reply)
+        odd = iter(odd_columns(self._cpi, [row for plan, row, reply in self._refused if is_unread(plan, reply)]))
+        for plan, row, reply in self._refused:
+            if plan:
+                yield from self._plan_problems(plan, reply)
             else:
-                column = next(odd) or row.own if is_unread(bundle, reply) else row.column(reply["refused"])
+                column = next(odd) or row.own if is_unread(plan, reply) else row.column(reply["refused"])
                 words = words_of(row, reply, column)
                 yield Problem(row.origin.at(column), number_of(reply), words.because, words.do)
+        if self._more:
+            yield Problem(self._refused[-1][1].origin, "", more_of(self._more), "mend those above first")
 
     def _plan_problems(self, plan: Bundle, reply: Reply) -> Iterator[Problem]:
         unread = unreadable(self._cpi, plan) if reply["refused"] == 10 else []
+        found = {}
         for row, column in unread:
             words = words_of(row, reply, column)
             because = f"the plan of {plan.year}: {words.because}"
-            yield Problem(row.origin.at(column), number_of(reply), because, words.do)
+            # (a row of the sheet is a title and a weight, and both may be told of the same cell)
+            found[row.origin.at(column)] = Problem(row.origin.at(column), number_of(reply), because, words.do)
+        yield from found.values()
         if not unread:
             words = words_of_plan(plan, reply)
             cells = faulty_cells(self._cpi, plan, reply, self._items)
             yield from (Problem(origin, number_of(reply), *words) for origin in cells)
 
 
-def is_unread(bundle: Bundle, reply: Reply) -> bool:
+def is_unread(plan: Optional[Bundle], reply: Reply) -> bool:
     """Whether a row was refused since it is no record; a plan is looked at as a whole."""
-    return not bundle.year and reply["refused"] == 10
+    return not plan and reply["refused"] == 10
 
 
 def number_of(reply: Reply) -> str:
@@ -197,22 +211,9 @@ def words_of_plan(plan: Bundle, reply: Reply) -> Words:
         because += f", but to {reply['found']:,}"
     if "code" in reply:
         because += f": {reply['code']}"
-    if reply["refused"] == 10 and has_too_many_rows(plan):
-        return Words(f"the plan of {plan.year} has {len(plan.rows):,} rows, and {MOST_ROWS:,} are the most", do)
-    return Words(f"the plan of {plan.year}: {because}", do)
-
-
-def words_of(row: Sent, reply: Reply, column: str) -> Words:
-    """Why a row was refused at a column, with what the reply tells beside, and what to do."""
-    because, do = refusal_words(reply, COLLECTOR if row.word == "quote" else DESK, row.word)
     if reply["refused"] == 10:
-        because = row.hint or because
-        if any(text != text.strip() for text in row.fields):
-            because += "; a blank stands before or behind a text"
-        do = f"see what the column {column} takes (docs/CHANGING-OVER.md)"
-    elif reply["refused"] == 26:
-        because += f": {row.fields[4]} after {reply['last']}, where {reply['low']} to {reply['high']} are inside"
-        do = "look again; mend it, or confirm it: by a column confirm, or all that are outside by --confirm-history"
-    elif "code" in reply:
-        because += f": {reply['code']}"
-    return Words(because, do)
+        if has_too_many_rows(plan):
+            told = f"the plan of {plan.year} has {len(plan.rows):,} rows, and {MOST_ROWS:,} are the most"
+            return Words(told, "leave out what the year doesn't need")
+        return Words(f'a plan has the year "{plan.year}"', "write a year from 2000 to 2199")
+    return Words(f"the plan of {plan.year}: {because}", do)

@@ -1,4 +1,4 @@
-"""Numbers as offices write them: a decimal sign of their own, blanks between thousands. Always exact."""
+"""Numbers as offices write them: a decimal sign of their own, a mark between groups of three digits. Always exact."""
 
 from __future__ import annotations
 
@@ -6,11 +6,14 @@ import re
 from fractions import Fraction
 from typing import Optional
 
-from .sheets import Numeral
+from .cells import Dated, Numeral
 
-PLAIN = re.compile(r"[+-]?[0-9]+(\.[0-9]+)?(e[+-]?[0-9]{1,3})?", re.I)
-BLANKS = re.compile("[ \u00a0\u202f\u2009']")
-"""What stands between thousands: blanks of several widths, and the sign of Switzerland."""
+OF_CELL = re.compile(r"[+-]?[0-9]+(\.[0-9]+)?(e[+-]?[0-9]{1,3})?", re.I)
+"""A number of a workbook."""
+
+PLAIN = re.compile(r"[+-]?[0-9]+(\.[0-9]+)?")
+GROUPED = re.compile(r"([+-]?[0-9]{1,3}(?:([ \u00a0\u202f\u2009'\u2019])[0-9]{3})(?:\2[0-9]{3})*)(\.[0-9]+)?")
+"""Blanks of several widths, and the sign of Switzerland, stand only between groups of three digits, one kind a number."""
 
 
 class Numbers:
@@ -20,18 +23,25 @@ class Numbers:
         self.decimal = decimal
 
     def of(self, text: str) -> Optional[Fraction]:
-        """The number of a text, None where it is none. A number of a workbook has a point, whatever the sign is."""
-        plain = text
-        if not isinstance(text, Numeral):
-            plain = BLANKS.sub("", text.strip())
-            if self.decimal != "." and "." in plain:
+        """The number of a text, None if it is none. A number of a workbook has a point, whatever the sign is."""
+        if isinstance(text, Numeral):
+            return Fraction(text) if OF_CELL.fullmatch(text) else None
+        plain = text.strip()
+        if self.decimal != ".":
+            if "." in plain:
                 return None
             plain = plain.replace(self.decimal, ".")
+        if found := GROUPED.fullmatch(plain):
+            plain = found[1].replace(found[2], "") + (found[3] or "")
         return Fraction(plain) if PLAIN.fullmatch(plain) else None
 
     def told_none(self, text: str) -> str:
         """Why a text is no number."""
-        return f"{text} is no number with the decimal sign {self.decimal}"
+        if isinstance(text, Dated):
+            return f"the cell is the date {text}, and no number"
+        if text.endswith("%"):
+            return f'"{text}" is a percent'
+        return f'"{text}" is no number with the decimal sign {self.decimal}'
 
 
 def decimal(number: Fraction, sign: str = "") -> str:

@@ -1,46 +1,41 @@
 """An office's sheets, whose rows are put in the order in which an office would have sent them.
 
-Nothing is judged here: texts go to the program as they stand, and only what it can't be asked is told, such as a file
-that is missing.
+Nothing is judged here: texts go to the program as they are, and only what it can't be asked is told, such as a file
+that is missing, or a column from which no price is read.
 """
 
 from __future__ import annotations
 
-import re
 import secrets
-from collections import defaultdict
-from collections.abc import Callable, Iterable, Iterator, Sequence
+from collections import Counter, defaultdict
+from collections.abc import Callable, Collection, Iterable, Iterator, Sequence
 from dataclasses import dataclass, field
-from fractions import Fraction
 from typing import NamedTuple, Optional, Union
 
-from .numbers_of_texts import Numbers, decimal
-from .price_cells import Place, PriceCells, Priced
+from .cells import BadSheet, Columns, Dated, Origin, Row, Sheet, SheetFault
+from .months_of_texts import month_of
+from .numbers_of_texts import Numbers
+from .plan_rows import PlanRows, Weighed
+from .price_cells import MonthRead, Place, PriceCells
+from .price_store import PriceStore, Standing
 from .sent import DESK, FIELDS, Bundle, Problem, Sent, bundled, problem_of
-from .sheets import BadSheet, Origin, Row, Sheet, SheetFault, Source
-from .stored import StoredOffice
-from .terminal import counted, month_text
-from .weights import scaled
-
-
-class Columns(NamedTuple):
-    """The columns that a sheet has to have, and those that it may have."""
-
-    needed: tuple[str, ...]
-    others: tuple[str, ...] = ()
-
+from .sheets import Source
 
 SHEETS: dict[str, Columns] = {
-    "items": Columns(FIELDS["item"], ("code",)),
-    "outlets": Columns(FIELDS["outlet"]),
+    "items": Columns(FIELDS["item"], ("code",), texts=("text", "unit")),
+    "outlets": Columns(FIELDS["outlet"], texts=("name",)),
     "collectors": Columns(("collector",), ("key",)),
     "series": Columns(("collector", "outlet", "item", "first", "last"), ("slot",)),
-    "classification": Columns(("year", "code", "title", "weight")),
+    "classification": Columns(("year", "code", "title", "weight"), texts=("title",)),
     "places": Columns(("year", "item", "code")),
     "plans": Columns(("year", "reference")),
     "handovers": Columns(("month", "collector", "slot", "to", "to_slot")),
     "calendar": Columns(FIELDS["calendar"]),
-    "prices": Columns(("month", "value"), ("collector", "slot", "outlet", "item", "mark", "confirm", "revision")),
+    "prices": Columns(
+        ("month", "value"),
+        ("collector", "slot", "outlet", "item", "mark", "confirm", "revision"),
+        has_months=True,
+    ),
     "releases": Columns(("month",), ("revision", "opens", "closes", "publishes", "frozen_at", "carry")),
 }
 """The sheets of an office, in the order in which their rows are sent."""
@@ -48,69 +43,94 @@ SHEETS: dict[str, Columns] = {
 NEEDED = ("items", "outlets", "collectors", "series", "classification", "calendar")
 """The sheets without which there is no office; one that is there already needs none of them."""
 
-WINDOW = ("opens", "closes", "publishes")
+MONTHS = {
+    "series": ("first", "last"),
+    "plans": ("reference",),
+    "handovers": ("month",),
+    "calendar": ("month",),
+    "releases": ("month",),
+}
+"""The columns that are months, beside those of prices."""
 
-WHOLE = {"percent": Fraction(100), "permille": Fraction(1000)}
-"""What weights add up to by their unit; money has no such sum."""
+WINDOW = ("opens", "closes", "publishes")
+MOVED = FIELDS["handover"]
+DATES = {*WINDOW, "frozen_at", "code", *(column for columns in MONTHS.values() for column in columns)}
+"""The columns in which a cell that is a date has words of its own."""
+
+LAST_TURN = 10
+"""The revision after the last one: quotes that no freeze took."""
 
 Clock = Callable[[Iterable[str]], dict[str, int]]
 """Tells civil times in seconds since 1970 UTC; what is no civil time isn't among them."""
 
+Window = tuple[str, ...]
+"""When a window opens and closes, and when its table is published, as texts."""
+
 
 class Options(NamedTuple):
     """How texts are read: minor units in a unit of the prices, the decimal sign, what the weights are given in (`ppm`
-    aren't scaled), and whether prices outside the tolerance are confirmed."""
+    aren't scaled), whether prices outside the tolerance are confirmed, and the names of files, sheets and columns of
+    prices that aren't read on purpose, in small letters."""
 
     minor: int = 1
     decimal: str = "."
     weights: str = "ppm"
     is_confirmed: bool = False
+    ignored: frozenset[str] = frozenset()
+
+
+class Frozen(NamedTuple):
+    """A release that an office has: when it is published and was frozen, in seconds as texts, and its carry list."""
+
+    publishes: str
+    frozen_at: str
+    carry: frozenset[str]
 
 
 class Known(NamedTuple):
-    """What an office has already that is being added to; all as texts, a window by its month in seconds."""
+    """What an office has already that is being added to, all as texts: keys by collector; the fields of items and the
+    names of outlets; places as slots have them and as they were first given; windows by month; hand-overs; the rows of
+    plans by year; releases by month and revision; and what stands of the prices of a month."""
 
     keys: dict[str, str]
-    items: frozenset[str]
+    items: dict[str, tuple[str, ...]]
+    outlets: dict[str, str]
     places: tuple[Place, ...]
-    windows: dict[str, dict[str, str]]
+    given: frozenset[Place]
+    windows: dict[str, Window]
+    handovers: frozenset[tuple[str, ...]]
+    plans: dict[str, frozenset[tuple[str, ...]]]
+    releases: dict[tuple[str, str], Frozen]
+    prices_of: Callable[[str], Iterable[Standing]]
 
 
-NOTHING = Known({}, frozenset(), (), {})
+NOTHING = Known({}, {}, {}, (), frozenset(), {}, frozenset(), {}, {}, lambda _: ())
 
 
-def known_of(stored: StoredOffice) -> Known:
-    """What the copy of an office has."""
-    texts = [
-        Place(str(it.collector), str(it.slot), str(it.outlet), it.item, *map(month_text, it[4:6]))
-        for it in stored.assignments()
-    ]
-    windows = {month_text(it.month): dict(zip(WINDOW, map(str, it[1:]))) for it in stored.calendar()}
-    keys = {str(number): key for number, key in stored.keys().items()}
-    return Known(keys, frozenset(it.code for it in stored.items()), tuple(texts), windows)
+class Bundles:
+    """What is sent, in its order, made anew whenever it is asked for; `most` is at least how many these are."""
 
+    def __init__(self, make: Callable[[], Iterator[Bundle]], most: int):
+        self._make, self.most = make, most
 
-class Weighed(NamedTuple):
-    """A weight as it was given and as it is sent, in parts per million; `share` is the exact one."""
-
-    origin: Origin
-    year: str
-    code: str
-    given: str
-    share: Fraction
-    weight: int
+    def __iter__(self) -> Iterator[Bundle]:
+        return self._make()
 
 
 @dataclass
 class Taken:
-    """What the files say: what is sent, in its order; what is wrong with the files themselves; what else there is to
-    tell; drawn keys by the collector's number; and scaled weights."""
+    """What the files say: what is sent, in its order; what is wrong with the files themselves, and what else a reader
+    should look at; the months that were read from other spellings; drawn keys by the collector's number; scaled
+    weights; how many rows of each sheet stand in the office already; and the prices."""
 
-    bundles: list[Bundle] = field(default_factory=list)
+    bundles: Bundles
     problems: list[Problem] = field(default_factory=list)
-    notes: list[str] = field(default_factory=list)
+    warnings: list[SheetFault] = field(default_factory=list)
+    readings: list[MonthRead] = field(default_factory=list)
     drawn: dict[str, str] = field(default_factory=dict)
     weighed: list[Weighed] = field(default_factory=list)
+    standing: Counter[str] = field(default_factory=Counter)
+    store: PriceStore = field(default_factory=lambda: PriceStore(""))
 
 
 class OfficeFiles:
@@ -120,35 +140,42 @@ class OfficeFiles:
         """`is_new` says that the office begins with these files, so that none of the needed ones may be missing."""
         self._source, self._options, self._known = source, options, known
         self._numbers = Numbers(options.decimal)
-        self.taken = Taken()
+        self._store = PriceStore("")
+        self.taken = Taken(Bundles(self._bundles, 0), store=self._store)
         self._keys = dict(known.keys)
         self._sheets: dict[str, Optional[Sheet]] = {}
         for name in SHEETS:
-            self._sheets[name] = self._read(name, is_new)
+            if name != "prices":
+                self._sheets[name] = self._read(name, is_new)
         self._windows = self._calendar_rows()
         rows = [*self._windows.values(), *self._rows("releases")]
         self._seconds = clock({row[name] for row in rows for name in (*WINDOW, "frozen_at")})
-        self._mended: dict[Origin, str] = {}
-        self._tell_unread()
+        self._before: list[Bundle] = []
 
     def in_order(self) -> Taken:
         """All rows, as an office would have sent them."""
-        send = self.taken.bundles
-        send += bundled(0, DESK, self._registered("item", "items"))
-        send += bundled(0, DESK, self._registered("outlet", "outlets"))
-        send += bundled(0, DESK, self._collectors())
+        before = self._before
+        before += bundled(0, DESK, self._new("items", self._registered("item", "items"), self._is_item))
+        before += bundled(0, DESK, self._new("outlets", self._registered("outlet", "outlets"), self._is_outlet))
+        before += bundled(0, DESK, self._new("collectors", self._collectors(), self._is_collector))
         slots = self._slots()
-        send += bundled(0, DESK, self._assigned(slots))
-        send += self._plans()
-        prices = self._prices(slots)
-        handed, releases = self._by_month("handovers"), self._by_month("releases")
-        for month in sorted({*self._windows, *prices, *handed, *releases}):
-            send += self._month(month, prices.get(month, []), handed.get(month, []), releases.get(month, []))
-        if self._mended:
-            origin, code = next(iter(self._mended.items()))
-            told = f"{counted(len(self._mended), 'code')} of the classification lacked the first zero"
-            self.taken.notes.append(f"{told}, as {code} in {origin.file} row {origin.row}: it is read as 0{code}")
+        before += bundled(0, DESK, self._new("series", self._assigned(slots), self._is_assigned))
+        before += self._plans()
+        self._read_prices(slots)
+        self.taken.problems += map(problem_of, self._source.unread)
+        self._handed, self._releases = self._by_month("handovers"), self._by_month("releases")
+        self._count_standing()
+        months = {*self._windows, *self._store.months(), *self._handed, *self._releases}
+        self._months = sorted(months)
+        singles = sum(map(len, (self._rows("releases"), self._rows("handovers"), self._windows)))
+        most = len(before) + 2 * singles + self._store.most_bundles()
+        self.taken.bundles = Bundles(self._bundles, most)
         return self.taken
+
+    def _bundles(self) -> Iterator[Bundle]:
+        yield from self._before
+        for month in self._months:
+            yield from self._month(month, self._handed.get(month, []), self._releases.get(month, []))
 
     # ---- sheets
 
@@ -162,13 +189,11 @@ class OfficeFiles:
         if sheet is None:
             faults = self._missing(name) if is_new else []
         else:
-            needed = PriceCells.needed(sheet) if name == "prices" else SHEETS[name].needed
-            faults = [
-                SheetFault(Origin(sheet.file, 1, it), f"the column {it} is missing", f"name a column {it}")
-                for it in needed
-                if it not in sheet.columns
-            ]
+            faults = [*missing_columns(sheet, SHEETS[name].needed)]
             self.taken.problems += map(problem_of, sheet.faults)
+            self.taken.warnings += [*sheet.warnings, *unread_columns(sheet, SHEETS[name])]
+            self._read_months(sheet, MONTHS.get(name, ()))
+            self._look_for_dates(sheet, {*SHEETS[name].needed, *SHEETS[name].others} - DATES)
         self.taken.problems += map(problem_of, faults)
         return None if faults else sheet
 
@@ -180,9 +205,31 @@ class OfficeFiles:
         do = "add it, with the columns " + ", ".join(SHEETS[name].needed)
         return [SheetFault(Origin(f"{name}.csv", 0), f"the file {name}.csv is missing", do)]
 
+    def _read_months(self, sheet: Sheet, columns: Collection[str]) -> None:
+        """Reads the months of a sheet; what is none is left to the program, which refuses it."""
+        found = {}
+        for column in columns:
+            for row in sheet.rows:
+                text = row[column]
+                month = month_of(text)
+                if month and month != text:
+                    row.cells[column] = month
+                    found[column, text] = month
+        self.taken.readings += [MonthRead(sheet.file, *it, month) for it, month in found.items()]
+
+    def _look_for_dates(self, sheet: Sheet, columns: Collection[str]) -> None:
+        """Tells cells that are dates in columns that take none: a spreadsheet takes `SEP1` for one."""
+        for row in sheet.rows:
+            for column in columns:
+                cell = row[column]
+                if isinstance(cell, Dated):
+                    because = f"the cell is the date {cell}, as a spreadsheet takes SEP1 and 1-2 for one"
+                    do = "give the column the format of text, and write the cell again"
+                    self.taken.problems.append(problem_of(SheetFault(row.origin.at(column), because, do)))
+
     def _rows(self, name: str) -> Sequence[Row]:
         sheet = self._sheets[name]
-        return sheet.rows if sheet else ()
+        return tuple(sheet.rows) if sheet else ()
 
     def _by_month(self, name: str) -> dict[str, list[Row]]:
         found: dict[str, list[Row]] = defaultdict(list)
@@ -191,27 +238,62 @@ class OfficeFiles:
         return found
 
     def _calendar_rows(self) -> dict[str, Row]:
-        """The row of each month; of two the later one stands, and that is told."""
+        """The row of each month; two that differ are told."""
         found: dict[str, Row] = {}
         for row in self._rows("calendar"):
-            origin, above = row.origin, found.get(row["month"])
-            if above:
-                told = f"{origin.file} row {origin.row} has the month {row['month']} of row {above.origin.row} again"
-                self.taken.notes.append(f"{told}: the later row stands")
-            found[row["month"]] = row
+            above = found.setdefault(row["month"], row)
+            if above is not row:
+                origin = row.origin.at("month")
+                again = f"row {above.origin.row} has the month {row['month']} too"
+                if above.cells == row.cells:
+                    self.taken.warnings.append(SheetFault(origin, f"{again}, and the same window", "take one out"))
+                else:
+                    fault = SheetFault(origin, f"{again}, and another window", "leave the one that holds")
+                    self.taken.problems.append(problem_of(fault))
         return found
 
-    def _tell_unread(self) -> None:
-        """Notes files and columns that nothing is read from."""
-        if self._source.unread:
-            self.taken.notes.append(f"not read: {', '.join(self._source.unread)}")
-        for name, sheet in self._sheets.items():
-            if sheet:
-                read = {*SHEETS[name].needed, *SHEETS[name].others}
-                read |= {*PriceCells.months_of(sheet)} if name == "prices" else set()
-                others = [column for column in sheet.columns if column and column not in read]
-                if others:
-                    self.taken.notes.append(f"{sheet.file}: columns that aren't read: {', '.join(others)}")
+    # ---- what an office has already
+
+    def _new(self, name: str, rows: Iterable[Sent], stands: Callable[[Sent], bool]) -> Iterator[Sent]:
+        """The rows that don't stand in the office already; the others are counted."""
+        for row in rows:
+            if stands(row):
+                self.taken.standing[name] += 1
+            else:
+                yield row
+
+    def _count_standing(self) -> None:
+        """Counts the months' rows that stand in the office already."""
+        standing = self.taken.standing
+        standing["handovers"] = sum(map(self._is_handed, self._rows("handovers")))
+        for own in self._releases.values():
+            standing["releases"] += sum(self._is_frozen(it, turn) for turn, it in enumerate(by_revision(own), 1))
+        for month, row in self._windows.items():
+            standing["calendar"] += self._is_same(self._window(month, row), self._known.windows.get(month))
+
+    def _is_item(self, row: Sent) -> bool:
+        return self._known.items.get(row.fields[1]) == (*row.fields[1:],)
+
+    def _is_outlet(self, row: Sent) -> bool:
+        return self._known.outlets.get(row.fields[1]) == row.fields[2]
+
+    def _is_collector(self, row: Sent) -> bool:
+        return self._known.keys.get(row.fields[1]) == row.fields[2]
+
+    def _is_assigned(self, row: Sent) -> bool:
+        place = Place(*row.fields[1:])
+        return place in self._known.given or place in self._known.places
+
+    def _is_handed(self, row: Row) -> bool:
+        return tuple(row[it] for it in MOVED) in self._known.handovers
+
+    def _is_frozen(self, release: Row, turn: int) -> bool:
+        """Whether a release stands so, as far as its row tells it."""
+        known = self._known.releases.get((release["month"], release["revision"] or str(turn)))
+        if known is None or {*release["carry"].split()} != known.carry:
+            return False
+        told = ((release[name], getattr(known, name)) for name in ("publishes", "frozen_at"))
+        return all(not text or str(self._moment(text)) == stored for text, stored in told)
 
     # ---- what is registered
 
@@ -236,7 +318,7 @@ class OfficeFiles:
         named |= {(row["to"], row["to_slot"]) for row in self._rows("handovers")}
         named |= {(it.collector, it.slot) for it in self._known.places}
         standing: dict[tuple[str, ...], list[str]] = defaultdict(list)
-        for it in self._known.places:
+        for it in sorted({*self._known.places, *self._known.given}, key=lambda it: (it.collector, int(it.slot))):
             standing[it.collector, it.outlet, it.item, it.first, it.last].append(it.slot)
         last: dict[str, int] = defaultdict(int)
         found = []
@@ -258,153 +340,157 @@ class OfficeFiles:
             columns = [it if it != "slot" or row["slot"] else "collector" for it in FIELDS["assign"]]
             yield Sent(["assign", *fields], row.origin, tuple(columns))
 
-    # ---- plans
-
     def _plans(self) -> Iterator[Bundle]:
-        rows: dict[str, list[Sent]] = defaultdict(list)
-        weights = self._weights()
-        years: dict[str, list[str]] = defaultdict(list)
-        for row in self._rows("classification"):
-            year, code, hint = row["year"], self._code(row), hint_of_code(row["code"])
-            rows[year].append(Sent(["T", code, row["title"]], row.origin, FIELDS["T"], "year", hint))
-            if row["weight"]:
-                years[code].append(year)
-                weight, hint = weights.get(row.origin, row["weight"]), hint or self._hint_of_weight(row["weight"])
-                rows[year].append(Sent(["W", code, weight], row.origin, FIELDS["W"], "year", hint))
-        for year, row in self._placed(years):
-            fields = ["I", row["item"], self._code(row)]
-            rows[year].append(Sent(fields, row.origin, FIELDS["I"], "year", hint_of_code(row["code"])))
-        for row in self._rows("plans"):
-            if row["reference"]:
-                rows[row["year"]].append(Sent(["R", row["reference"]], row.origin, FIELDS["R"], "year"))
-        return (Bundle(0, DESK, rows[year], year) for year in sorted(rows))
+        """The plan of each year, but for those that stand so."""
+        rows = PlanRows(self._numbers, self._options.weights)
+        places = self._rows("places") if self._sheets["places"] else None
+        by_year = rows.by_year(self._rows("classification"), places, self._rows("items"), self._rows("plans"))
+        self.taken.problems += map(problem_of, rows.faults)
+        self.taken.warnings += rows.warnings
+        self.taken.weighed += rows.weighed
+        for year, own in by_year.items():
+            if self._known.plans.get(year) == frozenset(tuple(row.fields) for row in own):
+                self.taken.standing["plans"] += 1
+            else:
+                yield Bundle(0, DESK, own, year)
 
-    def _placed(self, years: dict[str, list[str]]) -> Iterator[tuple[str, Row]]:
-        """The year and the row of each place: those of `places`; without it, each item's code in all its years."""
-        if self._sheets["places"]:
-            yield from ((row["year"], row) for row in self._rows("places"))
-        elif years:
-            first = min(year for own in years.values() for year in own)
-            for row in self._rows("items"):
-                if row["code"]:
-                    yield from ((year, row) for year in years.get(self._code(row), [first]))
+    # ---- prices
 
-    def _code(self, row: Row) -> str:
-        """A code of the classification; where a spreadsheet took `01.1` for a number, its first zero is lost."""
-        code = row["code"]
-        if code[:1].isdigit() and (len(code) == 1 or code[1] == "."):
-            self._mended[row.origin] = code
-            return f"0{code}"
-        return code
+    def _read_prices(self, slots: Sequence[str]) -> None:
+        """Stores what was priced; what is wrong with the sheet is told."""
+        faults: list[SheetFault] = []
+        try:
+            sheet = self._source.streamed("prices")
+            if sheet:
+                of_cells = self._store_prices(sheet, slots)
+                faults = [*sheet.faults, *of_cells]
+                self.taken.warnings += sheet.warnings
+        except BadSheet as bad:
+            faults = [bad.fault]
+        self.taken.problems += map(problem_of, faults)
 
-    def _hint_of_weight(self, text: str) -> str:
-        """What is known of a weight that the program can't read."""
-        number = self._numbers.of(text)
-        if number is None:
-            return self._numbers.told_none(text)
-        is_whole = self._options.weights != "ppm" or number.denominator == 1
-        return "" if is_whole else f"{text} isn't whole in parts per million (--weights)"
-
-    def _weights(self) -> dict[Origin, str]:
-        """Weights in parts per million, by their rows; what is no number, or isn't whole then, isn't among them."""
-        given: dict[str, list[tuple[Row, Fraction]]] = defaultdict(list)
-        for row in self._rows("classification"):
-            number = self._numbers.of(row["weight"])
-            if number is not None and number >= 0:
-                given[row["year"]].append((row, number))
-        if self._options.weights == "ppm":
-            pairs = (pair for rows in given.values() for pair in rows)
-            return {row.origin: str(number) for row, number in pairs if number.denominator == 1}
-        for year, rows in sorted(given.items()):
-            total = sum((number for _, number in rows), Fraction(0)) or Fraction(1)
-            wanted = WHOLE.get(self._options.weights, total)
-            if total != wanted:
-                told = f"the weights of {year} add up to {decimal(total)}, not to {wanted}"
-                self.taken.notes.append(f"{told}: they are scaled all the same")
-            for (row, number), weight in zip(rows, scaled([number for _, number in rows])):
-                share = number * 1_000_000 / total
-                self.taken.weighed.append(Weighed(row.origin, year, self._code(row), row["weight"], share, weight))
-        return {it.origin: str(it.weight) for it in self.taken.weighed}
-
-    # ---- months
-
-    def _prices(self, slots: Sequence[str]) -> dict[str, list[Priced]]:
-        """What was priced, by month."""
-        sheet = self._sheets["prices"]
-        if sheet is None:
-            return {}
+    def _store_prices(self, sheet: Sheet, slots: Sequence[str]) -> list[SheetFault]:
+        """Stores the prices of a sheet, but for those that stand; what is wrong with them."""
+        cells = PriceCells(sheet, SHEETS["prices"], self._numbers, self._options.minor, self._options.ignored)
+        if missing := [*missing_columns(sheet, cells.needed)]:
+            return [*cells.faults.all(), *missing]
         series = [
             Place(row["collector"], slot, *(row[it] for it in ("outlet", "item", "first", "last")))
             for row, slot in zip(self._rows("series"), slots)
         ]
         handed = sorted(self._rows("handovers"), key=lambda row: row["month"])
-        cells = PriceCells(sheet, self._numbers, self._options.minor, self._keys)
-        cells.place([*self._known.places, *series], handed)
-        found = cells.by_month()
-        self.taken.problems += map(problem_of, cells.faults)
-        self.taken.notes += cells.notes
-        return found
+        cells.place([*self._known.places, *series], [it for it in handed if not self._is_handed(it)])
+        store = self._store
+        store.file = sheet.file
+        store.fill(cells.prices())
+        same = self._tell_repeated(cells)
+        for month in store.months():
+            self.taken.standing["prices"] += store.take_standing(self._known.prices_of(month))
+        if not cells.count and not cells.faults.all():
+            do = "write its prices below the columns, or take the sheet out"
+            cells.faults.add(SheetFault(cells.heading, "the sheet has no price", do))
+        self.taken.readings += cells.readings()
+        self.taken.warnings += same
+        return cells.faults.all()
 
-    def _month(
-        self, month: str, prices: Sequence[Priced], handed: Sequence[Row], releases: Sequence[Row]
-    ) -> Iterator[Bundle]:
+    def _tell_repeated(self, cells: PriceCells) -> list[SheetFault]:
+        """Tells rows of one series and month: each that differs from the first; of those that don't, how many."""
+        same: list[SheetFault] = []
+        count = 0
+        for it in self._store.take_repeated():
+            origin = Origin(self._store.file, it.row, it.column)
+            of = f"of slot {it.collector}/{it.slot} in {it.month}"
+            if it.is_same:
+                count += 1
+                told = f"the price {of} is in row {it.first_row} too"
+                same = same or [SheetFault(origin, told, "leave one of the two rows")]
+            else:
+                because = f'the price {of} is "{it.text}" here, and "{it.first}" in row {it.first_row}'
+                do = "leave the one that is right; the correction of a frozen month has its revision"
+                cells.faults.add(SheetFault(origin, because, do))
+        return [it._replace(because=f"{it.because}; prices that are there again: {count:,}") for it in same]
+
+    # ---- months
+
+    def _month(self, month: str, handed: Sequence[Row], releases: Sequence[Row]) -> Iterator[Bundle]:
         """A month's windows, hand-overs, quotes and freezes, revision by revision, and then what came later."""
-        moved = [Sent(["handover", *(row[it] for it in MOVED)], row.origin, MOVED) for row in handed]
-        own = self._windows.get(month)
-        stands: Optional[tuple[str, ...]] = None
-        for turn, release in enumerate(sorted(releases, key=lambda row: row["revision"]), 1):
-            stands = self._window(month, release)
-            yield self._calendar(month, release, stands)
-            yield from bundled(0, DESK, moved if turn == 1 else [])
-            yield from self._quoted(stands, [it for it in prices if it.turn == turn])
-            yield self._freeze(release, stands)
-        if own is not None and stands != self._window(month, own):
-            stands = self._window(month, own)
-            yield self._calendar(month, own, stands)
-        if not releases:
-            yield from bundled(0, DESK, moved)
-        known = self._known.windows.get(month)
-        last = stands or (tuple(known[it] for it in WINDOW) if known else None)
-        yield from self._quoted(last, [it for it in prices if not 1 <= it.turn <= len(releases)])
+        new = [it for it in handed if not self._is_handed(it)]
+        moved = bundled(0, DESK, (Sent(["handover", *(row[it] for it in MOVED)], row.origin, MOVED) for row in new))
+        own, now = self._windows.get(month), self._known.windows.get(month)
+        for turn, release in enumerate(by_revision(releases), 1):
+            window = self._window(month, release)
+            if self._is_frozen(release, turn):
+                yield from self._quoted(window, month, turn, turn)
+                continue
+            if not self._is_same(window, now):
+                yield self._calendar(month, release, window)
+                now = window
+            yield from moved
+            moved = []
+            yield from self._quoted(window, month, turn, turn)
+            yield self._freeze(release, window)
+        if own is not None and not self._is_same(self._window(month, own), now):
+            now = self._window(month, own)
+            yield self._calendar(month, own, now)
+        yield from moved
+        yield from self._quoted(now, month, len(releases) + 1, LAST_TURN)
 
-    def _window(self, month: str, row: Row) -> tuple[str, ...]:
-        """The window that a row tells; what a release doesn't tell is the calendar's."""
-        own = self._windows.get(month)
-        return tuple(row[it] or (own[it] if own else "") for it in WINDOW)
+    def _window(self, month: str, row: Row) -> Window:
+        """The window that a row tells; what a release doesn't tell is the calendar's, or that which stands."""
+        own, known = self._windows.get(month), self._known.windows.get(month, ("", "", ""))
+        return tuple(row[it] or (own[it] if own else "") or stands for it, stands in zip(WINDOW, known))
 
-    def _calendar(self, month: str, row: Row, window: tuple[str, ...]) -> Bundle:
+    def _is_same(self, window: Window, other: Optional[Window]) -> bool:
+        return other is not None and [*map(self._moment, window)] == [*map(self._moment, other)]
+
+    def _calendar(self, month: str, row: Row, window: Window) -> Bundle:
         return Bundle(0, DESK, [Sent(["calendar", month, *window], row.origin, FIELDS["calendar"])], is_single=True)
 
-    def _freeze(self, release: Row, window: tuple[str, ...]) -> Bundle:
-        """A freeze at its moment, which is the end of the window where none is told."""
+    def _freeze(self, release: Row, window: Window) -> Bundle:
+        """A freeze at its moment, which is the end of the window if none is told."""
         own = "frozen_at" if release["frozen_at"] else "month"
         carry = release["carry"].split()
-        sent = Sent(["freeze", release["month"], *carry], release.origin, FIELDS["freeze"], own)
+        fields = ["freeze", release["month"], *carry]
+        sent = Sent(fields, release.origin, FIELDS["freeze"], own, given=release["frozen_at"])
         return Bundle(self._moment(release["frozen_at"] or window[1]), DESK, [sent], is_single=True)
 
-    def _quoted(self, window: Optional[tuple[str, ...]], prices: Sequence[Priced]) -> Iterator[Bundle]:
-        """Quotes as imports of their collectors, as the window opens. No import has a slot twice."""
+    def _quoted(self, window: Optional[Window], month: str, first: int, last: int) -> Iterator[Bundle]:
+        """Quotes of some revisions as imports of their collectors, as the window opens. No import has a slot twice."""
         at = self._moment(window[0]) if window else 0
-        by_key: dict[tuple[int, str], list[Sent]] = defaultdict(list)
-        for it in prices:
-            by_key[it.again, it.key].append(it.sent)
-        for (_, key), rows in by_key.items():
+        nobody = secrets.token_hex(16)
+        by_import: dict[tuple[int, str], list[Sent]] = defaultdict(list)
+        seen: Counter[tuple[str, str]] = Counter()
+        for collector, sent in self._store.of_month(month, first, last):
+            slot = (collector, sent.fields[1])
+            by_import[seen[slot], self._keys.get(collector, nobody)].append(sent)
+            seen[slot] += 1
+        for (_, key), rows in by_import.items():
             yield from bundled(at if isinstance(at, int) else 0, key, rows)
 
     def _moment(self, text: str) -> Union[int, str]:
-        """A moment in seconds; a text that is none goes to the program as it stands."""
+        """A moment in seconds; a text that is none goes to the program as it is."""
         if text.isascii() and text.isdigit() and len(text) <= 10:
             return int(text)
         return self._seconds.get(text, text)
 
 
-MOVED = FIELDS["handover"]
+def by_revision(releases: Sequence[Row]) -> list[Row]:
+    """The releases of a month in their order."""
+    return sorted(releases, key=lambda row: row["revision"])
 
-DATE = re.compile(r"[0-9]{4}-[0-9]{2}(-[0-9]{2}T.*)?")
+
+def missing_columns(sheet: Sheet, needed: Iterable[str]) -> Iterator[SheetFault]:
+    """The columns that a sheet lacks."""
+    has = ", ".join(f'"{head}"' for head in sheet.written if head)
+    for column in needed:
+        if column not in sheet.columns:
+            because = f"the column {column} is missing: row 1 has {has}"
+            yield SheetFault(Origin(sheet.file, 1, column), because, f"name a column {column}")
 
 
-def hint_of_code(code: str) -> str:
-    """What is known of a code of the classification that the program can't read."""
-    if not DATE.fullmatch(code):
-        return ""
-    return f"the cell is the date {code}, as a spreadsheet takes 01.1.1 for one: give the column the format of text"
+def unread_columns(sheet: Sheet, columns: Columns) -> Iterator[SheetFault]:
+    """The columns of a sheet that nothing is read from."""
+    for column in sheet.columns:
+        if column and column not in columns.needed and column not in columns.others:
+            do = f"nothing, if it isn't one of {', '.join((*columns.needed, *columns.others))}"
+            yield SheetFault(Origin(sheet.file, 1, column), "the column isn't read", do)

@@ -8,7 +8,7 @@ from collections.abc import Collection, Iterator, Sequence
 from .odd_cells import are_read, odd_columns
 from .program import Cpi, Reply, record
 from .sent import DESK, MOST_ROWS, Bundle, Sent
-from .sheets import Origin
+from .cells import Origin
 
 Rows = dict[str, list[Sent]]
 """The rows of a plan by their letters."""

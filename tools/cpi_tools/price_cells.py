@@ -3,22 +3,27 @@
 from __future__ import annotations
 
 import re
-import secrets
 from collections import defaultdict
-from collections.abc import Iterator, Sequence
+from collections.abc import Collection, Iterator, Sequence
 from typing import NamedTuple, Optional
 
+from .cells import Capped, Columns, Origin, Row, Sheet, SheetFault
+from .months_of_texts import month_of, told_no_month
 from .numbers_of_texts import Numbers
-from .sent import Sent
-from .sheets import Row, Sheet, SheetFault
+from .price_store import Price
 
-MONTH = re.compile(r"[0-9]{4}-[0-9]{2}")
 REASONS = ("stock", "closed", "gone", "refused")
 """Why there is no price."""
 
-MISSING, PRICE, COMPARABLE = "missing", "price", "comparable"
+MISSING, PRICE, COMPARABLE, OTHER = "missing", "price", "comparable", "other"
+MARKS = (MISSING, PRICE, COMPARABLE, OTHER)
 EMPTY = ("", ".")
 """Cells of a wide sheet that are no quote."""
+
+OF_A_ROW = ("month", "value")
+"""The columns that only a sheet with a row for each price has."""
+
+LIKE = "write a month like 2026-01"
 
 
 class Place(NamedTuple):
@@ -33,7 +38,7 @@ class Place(NamedTuple):
 
 
 class Held(NamedTuple):
-    """A place, and the month from which on another slot has its series, empty where none has."""
+    """A place, and the month from which on another slot has its series, empty if none has."""
 
     place: Place
     until: str = ""
@@ -43,8 +48,17 @@ class Held(NamedTuple):
         return self.place.first <= month <= self.place.last and not (self.until and self.until <= month)
 
 
+class MonthRead(NamedTuple):
+    """A text in another spelling than `2026-01`, and the month that it was read as."""
+
+    file: str
+    column: str
+    text: str
+    month: str
+
+
 class Cell(NamedTuple):
-    """A cell with a price or a reason, and the names of the columns that its month and its text stand in."""
+    """A cell with a price or a reason, and the names of the columns of its month and its text."""
 
     row: Row
     month: str
@@ -53,48 +67,83 @@ class Cell(NamedTuple):
     text_column: str
 
 
-class Priced(NamedTuple):
-    """A quote with its collector's key, the revision whose freeze takes it first (0 where none is told), and how many
-    others of its revision, slot and month stand above it."""
-
-    turn: int
-    again: int
-    key: str
-    sent: Sent
-
-
 class PriceCells:
     """Reads a sheet of prices."""
 
-    def __init__(self, sheet: Sheet, numbers: Numbers, minor: int, keys: dict[str, str]):
-        """`minor` is how many minor units are in a unit of the prices; `keys` are by the collectors' numbers."""
-        self._sheet, self._numbers, self._minor, self._keys = sheet, numbers, minor, keys
-        self._nobody = secrets.token_hex(16)
+    def __init__(self, sheet: Sheet, columns: Columns, numbers: Numbers, minor: int, ignored: Collection[str]):
+        """`minor` is how many minor units are in a unit of the prices; `ignored` are columns in small letters that
+        aren't read on purpose."""
+        self._sheet, self._numbers, self._minor = sheet, numbers, minor
         self._places: dict[tuple[str, str], list[Held]] = {}
-        self.faults: list[SheetFault] = []
-        self.notes: list[str] = []
+        self._read: dict[str, str] = {}
+        self.faults = Capped()
+        self.count = 0
+        self.is_wide = "value" not in sheet.columns
+        self._months = self._months_of_columns(columns, ignored)
+        self.is_wide &= bool(self._months) or "month" not in sheet.columns
+        slot = ("outlet", "item") if {"outlet", "item"} & {*sheet.columns} else ("collector", "slot")
+        self.needed: tuple[str, ...] = slot if self.is_wide else (*slot, *OF_A_ROW)
+        if self.is_wide and not self._months:
+            because = "no column is a month, and there is no column value"
+            self.faults.add(SheetFault(self.heading, because, f"{LIKE} above prices, or give a row to each price"))
 
     # ---- the form of the sheet
 
-    @staticmethod
-    def months_of(sheet: Sheet) -> list[str]:
-        """The columns of a wide sheet that are a month; none of a sheet with a row a price."""
-        return [it for it in sheet.columns if MONTH.fullmatch(it)] if "value" not in sheet.columns else []
+    def _months_of_columns(self, columns: Columns, ignored: Collection[str]) -> list[tuple[str, str, str]]:
+        """The columns of a wide sheet that are a month: their name, their name as it is written, and the month. What is
+        neither such a column nor a known one is told."""
+        found: dict[str, tuple[str, str, str]] = {}
+        known = {*columns.needed, *columns.others}
+        for column, written in zip(self._sheet.columns, self._sheet.written):
+            month = month_of(written)
+            if column in ignored or not column:
+                continue
+            if month and self.is_wide and month in found:
+                both = f'"{found[month][1]}" and "{written}" are both the month {month}'
+                self._tell_column(written, both, "leave one of the two columns")
+            elif month and self.is_wide:
+                found[month] = (column, written, month)
+            elif month:
+                because = f"{written} is a month, and a sheet with a column value has a row for each price"
+                self._tell_column(written, because, "take out the column value, or those that are months")
+            elif column not in known:
+                do = f'{LIKE}; if the column has no prices, name it: --ignore "{written}"'
+                self._tell_column(written, told_no_month(written), do)
+        if found and "month" in self._sheet.columns and "month" not in ignored:
+            because = "a sheet with a column for each month has no column month"
+            self._tell_column("month", because, "take out the column month, or give a row to each price")
+        return [*found.values()]
 
-    @classmethod
-    def needed(cls, sheet: Sheet) -> tuple[str, ...]:
-        """The columns that the sheet has to have: those that tell the slot, and without months those of a row."""
-        slot = ("outlet", "item") if {"outlet", "item"} & {*sheet.columns} else ("collector", "slot")
-        return slot if cls.months_of(sheet) else (*slot, "month", "value")
+    def _tell_column(self, column: str, because: str, do: str) -> None:
+        self.faults.add(SheetFault(self.heading.at(column), because, do))
+
+    @property
+    def heading(self) -> Origin:
+        """The row of the heading."""
+        return Origin(self._sheet.file, 1)
+
+    def readings(self) -> list[MonthRead]:
+        """Each text of a month that was read, once for each column, but for those like `2026-01`."""
+        of_heads = [MonthRead(self._sheet.file, written, written, month) for _, written, month in self._months]
+        of_rows = [MonthRead(self._sheet.file, "month", text, month) for text, month in self._read.items()]
+        return [it for it in (*of_heads, *of_rows) if it.month not in ("", it.text)]
 
     def _cells(self) -> Iterator[Cell]:
-        months = self.months_of(self._sheet)
         for row in self._sheet.rows:
-            if months:
-                cells = ((month, row[month]) for month in months)
-                yield from (Cell(row, it, text, it, it) for it, text in cells if text.strip() not in EMPTY)
-            else:
-                yield Cell(row, row["month"], row["value"], "month", "value")
+            if self.is_wide:
+                cells = ((month, written, row[column]) for column, written, month in self._months)
+                yield from (Cell(row, it, text, name, name) for it, name, text in cells if text.strip() not in EMPTY)
+            elif month := self._month(row):
+                yield Cell(row, month, row["value"], "month", "value")
+
+    def _month(self, row: Row) -> str:
+        """The month of a row; empty, and told, if it can't be read."""
+        text = row["month"]
+        if text not in self._read:
+            self._read[text] = month_of(text)
+        if not self._read[text]:
+            self.faults.add(SheetFault(row.origin.at("month"), told_no_month(text), LIKE))
+        return self._read[text]
 
     # ---- whose price it is
 
@@ -116,82 +165,75 @@ class PriceCells:
         row = cell.row
         if row["collector"] and row["slot"] or "item" not in self._sheet.columns:
             return row["collector"], row["slot"], "slot"
-        found = [it.place for it in self._places.get((row["outlet"], row["item"]), []) if it.is_in(cell.month)]
+        of_series = self._places.get((row["outlet"], row["item"]), [])
+        found = [it.place for it in of_series if it.is_in(cell.month)]
         found = [it for it in found if row["collector"] in ("", it.collector)]
         if len(found) == 1:
             return found[0].collector, found[0].slot, "item"
-        how = "more than one slot prices" if found else "no slot prices"
-        self.faults.append(
-            SheetFault(
-                row.origin.at("item"),
-                f"{how} that item in that outlet in {cell.month}",
-                "look at the outlet, the item and the months of its series, or give collector and slot",
-            )
-        )
+        self.faults.add(self._told_no_slot(cell, bool(of_series), bool(found)))
         return None
+
+    def _told_no_slot(self, cell: Cell, has_series: bool, has_several: bool) -> SheetFault:
+        """Why a price isn't that of one slot: once for a row if that is so in each of its months."""
+        row, of = cell.row, f'the item "{cell.row["item"]}" in the outlet "{cell.row["outlet"]}"'
+        do = "look at the outlet, the item and the months of its series, or give collector and slot"
+        if not row["outlet"] or not row["item"]:
+            missing = " and ".join(name for name in ("outlet", "item") if not row[name])
+            do = "write it in each row with a price; a unit, a total or a note isn't read: take it out"
+            return SheetFault(row.origin.at(missing.split()[0]), f"the row has prices and names no {missing}", do)
+        if has_several:
+            return SheetFault(row.origin.at("item"), f"more than one slot prices {of} in {cell.month}", do)
+        when = f" in {cell.month}" if has_series else ""
+        return SheetFault(row.origin.at("item"), f"no series has {of}{when}", do)
 
     # ---- quotes
 
-    def by_month(self) -> dict[str, list[Priced]]:
-        """The quotes of all cells, by month."""
-        found: dict[str, list[Priced]] = defaultdict(list)
-        seen: dict[tuple[str, str, str, int], list[int]] = defaultdict(list)
+    def prices(self) -> Iterator[Price]:
+        """All cells as they are sent, in the order of the sheet."""
         for cell in self._cells():
+            self.count += 1
             slot, turn = self._slot(cell), self._turn(cell.row)
-            if slot is None or turn is None:
-                continue
-            collector, number, column = slot
-            above = seen[cell.month, collector, number, turn]
-            if above:
-                origin = cell.row.origin
-                told = f"{origin.file} row {origin.row} has the slot and the month {cell.month} of row {above[-1]}"
-                self.notes.append(f"{told} again: the later row stands")
-            key = self._keys.get(collector, self._nobody)
-            found[cell.month].append(Priced(turn, len(above), key, self._quote(cell, number, column)))
-            above.append(cell.row.origin.row)
-        return found
+            if slot is not None and turn is not None:
+                yield self._price_of(cell, turn, *slot)
 
     def _turn(self, row: Row) -> Optional[int]:
         revision = row["revision"]
         if revision and not re.fullmatch("[1-9]|10", revision):
-            because = f"{revision} is no revision"
-            self.faults.append(SheetFault(row.origin.at("revision"), because, "give 1 to 9, or leave it empty"))
+            because = f'"{revision}" is no revision'
+            self.faults.add(SheetFault(row.origin.at("revision"), because, "give 1 to 9, or leave it empty"))
             return None
         return int(revision or 1)
 
-    def _quote(self, cell: Cell, slot: str, column: str) -> Sent:
+    def _price_of(self, cell: Cell, turn: int, collector: str, slot: str, column: str) -> Price:
         """The quote of a cell: a reason, or a price by itself or behind its mark; `confirm` as the row has it."""
         mark, value = cell.row["mark"], cell.text
         mark_column = "mark" if mark else cell.text_column
         if not mark:
-            words = value.split()
-            mark = MISSING if words and words[0] in REASONS else words[0] if is_marked(words) else PRICE
-            value = value.strip()[len(words[0]) :].strip() if is_marked(words) else value
+            first, *others = value.split() or [""]
+            word = first.lower()
+            if word in REASONS:
+                mark, value = MISSING, " ".join([word, *others])
+            else:
+                mark = word if others and word in MARKS else PRICE
+                value = value.strip()[len(first) :].strip() if others and word in MARKS else value
         hint = ""
         if mark != MISSING:
-            value, hint = self._price(value)
-        confirm = [cell.row["confirm"]] if cell.row["confirm"] else []
-        columns = (column, cell.month_column, mark_column, cell.text_column, "confirm")
-        return Sent(
-            ["quote", slot, cell.month, mark, value.strip(), *confirm],
-            cell.row.origin,
-            columns,
-            "collector" if column == "slot" else "item",
-            hint,
+            value, hint = self._minor_units(value)
+        own = "collector" if column == "slot" else "item"
+        columns = (column, cell.month_column, mark_column, cell.text_column, "confirm", own)
+        confirm = cell.row["confirm"]
+        row = cell.row.origin.row
+        return Price(
+            cell.month, turn, collector, slot, mark, value.strip(), confirm, row, columns, str(cell.text), hint
         )
 
-    def _price(self, text: str) -> tuple[str, str]:
+    def _minor_units(self, text: str) -> tuple[str, str]:
         """A price in minor units; what is no whole number of them goes to the program as it is, which refuses it, with
         what is known of it."""
         number = self._numbers.of(text)
         if number is None:
-            return text, self._numbers.told_none(text) if text else ""
+            return text, self._numbers.told_none(text) if text else "the cell is empty"
         minor = number * self._minor
         if minor.denominator == 1:
             return str(minor.numerator), ""
         return text if self._minor == 1 else f"{text} * {self._minor}", f"{text} isn't whole in minor units (--minor)"
-
-
-def is_marked(words: Sequence[str]) -> bool:
-    """Whether a cell has a mark before its price, as `comparable 250` has."""
-    return len(words) > 1 and words[0].isalpha() and words[0] not in REASONS

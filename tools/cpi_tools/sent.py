@@ -6,8 +6,8 @@ from collections.abc import Iterable, Iterator
 from dataclasses import dataclass, field
 from typing import NamedTuple, Union
 
+from .cells import Origin, SheetFault
 from .program import Reply, record
-from .sheets import Origin, SheetFault
 
 MOST_ROWS = 20_000
 """Rows of one import, and of one plan."""
@@ -67,7 +67,7 @@ and 10 of any field."""
 
 
 class Problem(NamedTuple):
-    """A row that isn't taken: where it stands, the refusal's number, why, and what to do."""
+    """A row that isn't taken: where it is, the refusal's number, why, and what to do."""
 
     origin: Origin
     number: str
@@ -86,6 +86,8 @@ class Sent:
     column that each field came from.
 
     `own` is the column that tells who sends it, or when; `hint` is what is known of a text that the program can't read.
+    A price, a weight and a freeze have the text of their cell; a quote has the number of its collector, and its own
+    number in the store of prices.
     """
 
     fields: list[str]
@@ -93,11 +95,27 @@ class Sent:
     columns: tuple[str, ...]
     own: str = ""
     hint: str = ""
+    given: str = ""
+    collector: str = ""
+    number: int = 0
 
     @property
     def word(self) -> str:
         """The record's word, or the letter of a plan's row."""
         return self.fields[0]
+
+    def sources(self) -> Iterator[tuple[str, str]]:
+        """Each field's name with the column that it came from."""
+        return zip(FIELDS[self.word], self.columns)
+
+    def text_of(self, name: str) -> str:
+        """The text of a field as its cell has it; empty if the row has no such field."""
+        if name in ("value", "weight", "frozen_at"):
+            return self.given
+        if name == "carry":
+            return " ".join(self.fields[2:])
+        names = FIELDS[self.word]
+        return self.fields[1 + names.index(name)] if name in names[: len(self.fields) - 1] else ""
 
     def column(self, number: int) -> str:
         """The column that a refusal speaks of; none for 10, of which this row alone says nothing."""
@@ -107,7 +125,7 @@ class Sent:
 
     def named(self, name: str) -> str:
         """The column that a field came from, by the field's name."""
-        return dict(zip(FIELDS[self.word], self.columns)).get(name, "")
+        return dict(self.sources()).get(name, "")
 
 
 @dataclass

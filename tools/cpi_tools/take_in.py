@@ -8,26 +8,33 @@ from __future__ import annotations
 
 import argparse
 import contextlib
-import csv
+import itertools
 import os
 import shlex
 import sys
 import tempfile
 from collections.abc import Iterable, Iterator, Sequence
 from pathlib import Path
-from typing import NamedTuple, Optional, TextIO
+from typing import NamedTuple, Optional
 
+from .cells import SheetFault
+from .converted import converted
 from .copying import private_copy
 from .judge import Judge, Judged, moments_of
 from .numbers_of_texts import decimal
-from .office_files import NOTHING, SHEETS, Known, OfficeFiles, Options, Taken, known_of
+from .office_files import NOTHING, SHEETS, Known, OfficeFiles, Options, Taken
 from .others import Worded
+from .private_files import private_file, write_rows as write_rows
 from .program import Cpi, add_program
-from .sent import MOST_RECORDS
-from .sheets import Source
+from .sent import MOST_RECORDS, Bundle
+from .sheets import Source, files_of
+from .standing import known_of
 from .stored import stored_office
-from .taken_page import page, summary
-from .terminal import Fault, Progress, ToolWords, at_least, because_of, counted, naming
+from .taken_page import page, place, summary
+from .terminal import Fault, Progress, ToolWords, at_least, because_of, counted
+
+MOST_SHOWN = 20
+"""Warnings that the terminal shows; `problems.csv` and `report.html` have all."""
 
 
 class TakenIn(NamedTuple):
@@ -37,62 +44,56 @@ class TakenIn(NamedTuple):
     judged: Judged
 
 
+@contextlib.contextmanager
 def taken_in(
     cpi: Cpi,
     folder: Path,
     options: Options,
     zone: str,
     onto: Optional[Path] = None,
+    own: Sequence[Path] = (),
     progress: Optional[Progress] = None,
-) -> TakenIn:
+) -> Iterator[TakenIn]:
     """Reads the files of a folder or a workbook, and lets the program judge them.
 
-    `onto` is the file of an office to which they are to be added: it is copied, and not a byte of it changes. Raises
-    Fault where the folder can't be read, no right copy can be made, or the program fails.
+    `onto` is the file of an office to which they are to be added: it is copied, and not a byte of it changes. `own` are
+    folders that this tool writes, and doesn't read. What was taken is kept as long as the context is. Raises Fault if
+    the folder can't be read, no right copy can be made, or the program fails.
     """
     now = progress.now if progress else lambda _: None
     now(f"reading {folder}")
-    source = Source(folder, SHEETS)
-    with private_copy(onto) if onto else contextlib.nullcontext() as copy:
-        known = known_from(cpi, copy, onto) if copy and onto else NOTHING
-        files = OfficeFiles(source, options, known, lambda texts: moments_of(cpi, texts, zone), is_new=onto is None)
-        taken = files.in_order()
-        now(f"cpi judges {counted(sum(len(it.rows) for it in taken.bundles), 'row')}")
-        return TakenIn(taken, Judge(cpi, zone, options.is_confirmed, known.items).judge(taken, copy))
+    with contextlib.ExitStack() as stack:
+        copy = stack.enter_context(private_copy(onto)) if onto else None
+        with converted(files_of(folder)) as workbooks, known_from(cpi, copy, onto) as known:
+            source = Source(folder, SHEETS, options.ignored, own, workbooks)
+            files = OfficeFiles(source, options, known, lambda texts: moments_of(cpi, texts, zone), onto is None)
+            taken = files.in_order()
+        stack.callback(taken.store.close)
+        now("cpi judges what was read")
+        yield TakenIn(taken, Judge(cpi, zone, options.is_confirmed, known.items).judge(taken, copy))
 
 
-def known_from(cpi: Cpi, copy: Path, onto: Path) -> Known:
+@contextlib.contextmanager
+def known_from(cpi: Cpi, copy: Optional[Path], onto: Optional[Path]) -> Iterator[Known]:
     """What the copy of an office has, once the program has opened it: so its schema is the one that is read here."""
+    if copy is None or onto is None:
+        yield NOTHING
+        return
     cpi.open(copy, onto)
     with stored_office(copy) as stored:
-        return known_of(stored)
+        yield known_of(stored)
 
 
 # ---- what is written
 
 
-@contextlib.contextmanager
-def private_file(path: Path) -> Iterator[TextIO]:
-    """A new file of mode 0600, open for writing, in place of one that is there; keys stand in some of them."""
-    path.unlink(missing_ok=True)
-    opened = os.open(path, os.O_WRONLY | os.O_CREAT | os.O_EXCL, 0o600)
-    with naming(path), open(opened, "w", encoding="utf-8", newline="") as file:
-        yield file
-
-
-def write_rows(path: Path, heads: Sequence[str], rows: Iterable[Sequence[object]]) -> None:
-    """Writes a CSV file of mode 0600, in place of one that is there."""
-    with private_file(path) as file:
-        out = csv.writer(file, lineterminator="\n")
-        out.writerow(heads)
-        out.writerows(rows)
-
-
 def write_check(out: Path, name: str, over: str, told: TakenIn) -> None:
-    """Writes `problems.csv` and `report.html`, and `weights.csv` where weights were scaled."""
+    """Writes `problems.csv` and `report.html`, and `weights.csv` if weights were scaled."""
     out.mkdir(mode=0o700, parents=True, exist_ok=True)
-    rows = ((*it.origin, it.number, it.because, it.do) for it in told.judged.problems)
-    write_rows(out / "problems.csv", ("file", "row", "column", "number", "because", "do"), rows)
+    problems = (("problem", *it.origin, it.number, it.because, it.do) for it in told.judged.problems)
+    warnings = (("warning", *it.origin, "", it.because, it.do) for it in told.taken.warnings)
+    heads = ("kind", "file", "row", "column", "number", "because", "do")
+    write_rows(out / "problems.csv", heads, itertools.chain(problems, warnings))
     (out / "weights.csv").unlink(missing_ok=True)
     if told.taken.weighed:
         weights = (
@@ -105,28 +106,30 @@ def write_check(out: Path, name: str, over: str, told: TakenIn) -> None:
 
 
 def write_records(out: Path, taken: Taken, most: int = MOST_RECORDS) -> list[Path]:
-    """Writes a new folder of records, `most` a file, whole or not at all; the files.
+    """Writes a new folder of records, `most` a file, whole or not at all; the files, none if nothing is to be sent.
 
-    A key that was drawn stands in `keys.csv` beside them, and in no other place but the records.
+    A key that was drawn is in `keys.csv` beside them, and in no other place but the records.
     """
     out.parent.mkdir(parents=True, exist_ok=True)
     with tempfile.TemporaryDirectory(prefix=".cpi-take-in-", dir=out.parent) as room:
         made = Path(room) / "records"
         made.mkdir(mode=0o700)
         names = []
-        for number, lines in enumerate(parted([it.line() for it in taken.bundles], most), 1):
+        for number, part in enumerate(parted(taken.bundles, most), 1):
             names.append(f"records-{number:02}.csv")
             with private_file(made / names[-1]) as file:
-                file.writelines(f"{line}\n" for line in lines)
+                file.writelines(f"{it.line()}\n" for it in part)
         if taken.drawn:
             write_rows(made / "keys.csv", ("collector", "key"), taken.drawn.items())
         made.rename(out)
     return [out / name for name in names]
 
 
-def parted(lines: Sequence[str], most: int) -> Iterator[Sequence[str]]:
-    """Lines in parts of at most so many."""
-    return (lines[start : start + most] for start in range(0, len(lines), most))
+def parted(bundles: Iterable[Bundle], most: int) -> Iterator[Iterator[Bundle]]:
+    """What is sent in parts of at most so many, each to be read before the next one."""
+    left = iter(bundles)
+    for first in left:
+        yield itertools.chain([first], itertools.islice(left, most - 1))
 
 
 def command(files: Sequence[Path], zone: str, onto: Optional[Path]) -> str:
@@ -139,16 +142,19 @@ def command(files: Sequence[Path], zone: str, onto: Optional[Path]) -> str:
 # ---- words
 
 DESCRIPTION = """\
-Reads the spreadsheets of an office, as CSV files (commas, semicolons or tabs) or .xlsx workbooks in
-FOLDER, or as one workbook: items, outlets, collectors, series, classification, places, plans,
-handovers, calendar, prices, releases. docs/CHANGING-OVER.md has their columns. Rows become records
-in the order of an office, and cpi itself says what it would refuse: in an office in memory, or over
-a copy of the office that --onto names, which isn't changed.
+Reads the spreadsheets of an office, as files of text (.csv, .tsv, .txt) or workbooks (.xlsx, .xlsm;
+.ods, .xls and .xlsb if LibreOffice is installed) in FOLDER, or as one workbook: items, outlets,
+collectors, series, classification, places, plans, handovers, calendar, prices, releases.
+docs/CHANGING-OVER.md has their columns. Rows become records in the order of an office, and cpi
+itself says what it would refuse: in an office in memory, or over a copy of the office that --onto
+names, which isn't changed. What that office already has, exactly so, is passed over.
 
---check writes problems.csv (file, row as a spreadsheet counts it, column, number of the refusal,
-because, do) and report.html. --write makes the folder OUT with records-01.csv and on, where nothing
-is refused, and prints the commands that send them; keys that weren't given are drawn, and stand in
-OUT/keys.csv. The records have the collectors' keys in them: files here have mode 0600.
+--check writes problems.csv (kind, file, row as a spreadsheet counts it, column, number of the
+refusal, because, do) and report.html. A column of prices that is no month, a file that isn't read,
+and whatever can be read in two ways are problems. --write makes the folder OUT with records-01.csv
+and on, if there is no problem, and prints the commands that send them; keys that weren't given are
+drawn, and are in OUT/keys.csv. The records have the collectors' keys in them: files here have mode
+0600. A workbook unpacks to at most 256 MiB.
 """
 
 EPILOG = """\
@@ -156,8 +162,8 @@ example: cpi-tools take-in next-year/draft --onto office.db --check
          cpi-tools take-in spreadsheets --check --minor 100 --weights percent
          cpi-tools take-in spreadsheets --write records --minor 100 --weights percent
 
-exit status: 0 where nothing is refused; 1 where something is, or with one line what else went
-wrong; 2 where the words are refused
+exit status: 0 if there is no problem; 1 if there is one, or with one line what else went wrong;
+2 if the words are refused
 """
 
 
@@ -185,6 +191,13 @@ def add_words(tools: argparse._SubParsersAction[ToolWords]) -> None:
         help="what weights are in; all but ppm are scaled to 1,000,000 by greatest remainders (%(default)s)",
     )
     words.add_argument(
+        "--ignore",
+        action="append",
+        default=[],
+        metavar="NAME",
+        help="a column of prices, a file or a sheet that isn't read on purpose; may be repeated",
+    )
+    words.add_argument(
         "--confirm-history", action="store_true", help="prices outside the tolerance are confirmed, and listed"
     )
     add_program(words)
@@ -193,23 +206,35 @@ def add_words(tools: argparse._SubParsersAction[ToolWords]) -> None:
 
 def run(chosen: argparse.Namespace) -> int:
     """Runs the tool by its words; its exit status."""
-    cpi, options = Cpi(chosen.program), Options(chosen.minor, chosen.decimal, chosen.weights, chosen.confirm_history)
+    ignored = frozenset(name.strip().lower() for name in chosen.ignore)
+    options = Options(chosen.minor, chosen.decimal, chosen.weights, chosen.confirm_history, ignored)
+    cpi = Cpi(chosen.program)
     if chosen.write and os.path.lexists(chosen.write):
         raise Fault(f"{chosen.write} is there already: name a folder that isn't")
     out = chosen.out or (chosen.folder if chosen.folder.is_dir() else chosen.folder.parent) / "check"
     over = Worded("a copy of {}", str(chosen.onto)) if chosen.onto else Worded("an office in memory that was empty")
     try:
-        with Progress("cpi-tools take-in") as progress:
-            told = taken_in(cpi, chosen.folder, options, chosen.zone, chosen.onto, progress)
-        for note in told.taken.notes:
-            print(f"cpi-tools take-in: {note}", file=sys.stderr)
-        if chosen.check or told.judged.problems:
-            write_check(out, chosen.folder.name, over, told)
-        if told.judged.problems:
-            raise Fault(f"{counted(len(told.judged.problems), 'problem')}: {out / 'problems.csv'}")
-        print(summary(told.judged))
-        if chosen.write:
-            print(command(write_records(chosen.write, told.taken), chosen.zone, chosen.onto))
+        with contextlib.ExitStack() as stack:
+            with Progress("cpi-tools take-in") as progress:
+                told = stack.enter_context(
+                    taken_in(cpi, chosen.folder, options, chosen.zone, chosen.onto, [out], progress)
+                )
+            show_warnings(told.taken.warnings)
+            if chosen.check or told.judged.problems:
+                write_check(out, chosen.folder.name, over, told)
+            if told.judged.problems:
+                raise Fault(f"{counted(len(told.judged.problems), 'problem')}: {out / 'problems.csv'}")
+            print(summary(told.taken, told.judged))
+            if chosen.write and (files := write_records(chosen.write, told.taken)):
+                print(command(files, chosen.zone, chosen.onto))
     except OSError as fault:
         raise Fault(because_of(fault)) from fault
     return 0
+
+
+def show_warnings(warnings: Sequence[SheetFault]) -> None:
+    """Tells the first warnings on standard error."""
+    for it in warnings[:MOST_SHOWN]:
+        print(f"cpi-tools take-in: warning: {place(it.origin)}: {it.because}", file=sys.stderr)
+    if len(warnings) > MOST_SHOWN:
+        print(f"cpi-tools take-in: {counted(len(warnings) - MOST_SHOWN, 'more warning')}", file=sys.stderr)

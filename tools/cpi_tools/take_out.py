@@ -18,9 +18,9 @@ from pathlib import Path
 from .copying import private_copy
 from .office_files import SHEETS
 from .price_cells import COMPARABLE, MISSING, PRICE, REASONS
+from .private_files import write_rows
 from .program import Cpi, add_program
 from .stored import Assignment, Quote, Release, Series, Slot, StoredOffice, Window, stored_office
-from .take_in import write_rows
 from .terminal import Fault, Progress, ToolWords, because_of, month_text
 
 Line = Sequence[object]
@@ -105,9 +105,14 @@ def rows_of_prices(stored: StoredOffice, held: Held) -> Iterator[Line]:
     for month in sorted({*stored.months_of_quotes(), *(it.month for it in releases)}):
         own = [it for it in releases if it.month == month]
         for revision, slot, quote in quotes_of(stored, month, own, held, series):
-            mark, value = (MISSING, quote.mark) if quote.mark in REASONS else (quote.mark, quote.value)
+            mark, value = told_quote(quote)
             confirm = "confirm" if mark in (PRICE, COMPARABLE) else ""
             yield month_text(month), *slot, mark, value, confirm, revision
+
+
+def told_quote(quote: Quote) -> tuple[str, object]:
+    """A quote's mark and its price, or `missing` and the reason."""
+    return (MISSING, quote.mark) if quote.mark in REASONS else (quote.mark, quote.value)
 
 
 def quotes_of(

@@ -6,12 +6,14 @@ from __future__ import annotations
 from collections.abc import Iterable, Sequence
 from html import escape
 
+from .cells import Origin, SheetFault
 from .judge import Judged
 from .numbers_of_texts import decimal
-from .office_files import Taken, Weighed
+from .office_files import Taken
 from .others import Worded, cited, isolated, others
+from .plan_rows import Weighed
+from .price_cells import MonthRead
 from .sent import Problem
-from .sheets import Origin
 from .terminal import counted
 
 MOST_SHOWN = 200
@@ -60,24 +62,27 @@ def named(word: str, count: int) -> str:
     return f"{count:,} series" if word == "assign" else counted(count, NAMES[word])
 
 
-def summary(judged: Judged) -> str:
-    """How many rows of each kind are taken, in one line."""
+def summary(taken: Taken, judged: Judged) -> str:
+    """How many rows of each kind are taken, and how many the office has already, in one line."""
     told = [named(word, judged.taken[word]) for word in NAMES if judged.taken[word]]
-    return ", ".join(told) or "nothing"
+    standing = sum(taken.standing.values())
+    known = [f"{counted(standing, 'row')} that the office has already"] if standing else []
+    return ", ".join([*(told or ["nothing new"] if known else told), *known]) or "nothing"
 
 
 def page(name: str, over: str, taken: Taken, judged: Judged) -> str:
     """The page of a check of `name`; `over` says what it was judged over."""
     refused = len(judged.problems)
-    verdict = f"{counted(refused, 'cell')} to look at; nothing is taken in." if refused else "Nothing is refused."
+    verdict = f"{counted(refused, 'problem')}; nothing is taken in." if refused else "Nothing is refused."
     css = ' class="refused"' if refused else ""
     parts = [
         f"<h1>{others(name)}</h1>",
         f"<p>Judged by cpi over {others(over)}. Nothing was written to an office.</p>",
         f"<p{css}><strong>{verdict}</strong></p>",
-        f"<p>What cpi takes of it: {escape(summary(judged))}.</p>",
-        *listed("Notes", taken.notes),
+        f"<p>What cpi takes of it: {escape(summary(taken, judged))}.</p>",
         *problems(judged.problems),
+        *warnings(taken.warnings),
+        *readings(taken.readings),
         *months(judged),
         *weights(taken.weighed),
         *confirmed(judged),
@@ -89,15 +94,6 @@ def page(name: str, over: str, taken: Taken, judged: Judged) -> str:
 
 
 # ---- parts
-
-
-def listed(title: str, texts: Sequence[str]) -> Iterable[str]:
-    """A list with a heading; nothing where it is empty."""
-    if texts:
-        yield f"<h2>{title}</h2>"
-        yield "<ul>" + "".join(f"<li>{cited(text)}</li>" for text in texts[:MOST_SHOWN]) + "</ul>"
-        if len(texts) > MOST_SHOWN:
-            yield f"<p>And {len(texts) - MOST_SHOWN:,} more of this kind.</p>"
 
 
 def table(
@@ -129,10 +125,24 @@ def table(
 
 
 def problems(found: Sequence[Problem]) -> Iterable[str]:
-    """What is refused; all of it stands in problems.csv."""
+    """What is refused; all of it is in problems.csv."""
     rows = [(place(it.origin), it.number, it.because, it.do) for it in found]
     if rows:
-        yield table("Refused", ("where", "number", "because", "do"), rows, of_others=(0, 2, 3), css="stacked")
+        yield table("Problems", ("where", "number", "because", "do"), rows, of_others=(0, 2, 3), css="stacked")
+
+
+def warnings(found: Sequence[SheetFault]) -> Iterable[str]:
+    """What is taken, and should be looked at; all of it is in problems.csv."""
+    rows = [(place(it.origin), it.because, it.do) for it in found]
+    if rows:
+        yield table("Warnings", ("where", "because", "do"), rows, of_others=(0, 1, 2), css="stacked")
+
+
+def readings(found: Sequence[MonthRead]) -> Iterable[str]:
+    """Texts in other spellings, and the months that they were read as."""
+    rows = [(it.file, it.column, it.text, it.month) for it in found]
+    if rows:
+        yield table("Months, as they were read", ("file", "column", "text", "month"), rows, of_others=(0, 1, 2))
 
 
 def place(origin: Origin) -> str:

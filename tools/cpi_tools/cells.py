@@ -1,0 +1,151 @@
+"""Cells of spreadsheets as texts that know their file, row and column, and what is wrong with them."""
+
+from __future__ import annotations
+
+from collections.abc import Iterable, Iterator, Sequence
+from dataclasses import dataclass, field
+from pathlib import Path
+from typing import NamedTuple
+
+from .terminal import is_line
+
+
+class Origin(NamedTuple):
+    """Where a text stands: the file, the row as a spreadsheet counts it (the heading is 1), the column's name.
+
+    Row 0 is the file as a whole.
+    """
+
+    file: str
+    row: int
+    column: str = ""
+
+    def at(self, column: str) -> Origin:
+        """The same row at a column."""
+        return self._replace(column=column)
+
+
+class SheetFault(NamedTuple):
+    """What is wrong with a sheet before anybody asks what its rows say; or what a reader should know of it."""
+
+    origin: Origin
+    because: str
+    do: str
+
+
+class BadSheet(Exception):
+    """A sheet that can't be read as a table at all."""
+
+    def __init__(self, origin: Origin, because: str, do: str):
+        super().__init__(because)
+        self.fault = SheetFault(origin, because, do)
+
+
+class Numeral(str):
+    """The text of a cell that a workbook has as a number: with a point, whatever the decimal sign of texts is. A cell
+    of a percent format has what it shows, `45.5%`."""
+
+
+class Dated(str):
+    """The text of a cell that a workbook has as a date, `2026-01-31`, or as a time, `2026-01-31T06:00`."""
+
+
+class Columns(NamedTuple):
+    """The columns that a sheet has to have, and those that it may have; `texts` are those in which a blank before or
+    behind a text counts. `has_months` says that a column may be named by a month."""
+
+    needed: tuple[str, ...]
+    others: tuple[str, ...] = ()
+    texts: tuple[str, ...] = ()
+    has_months: bool = False
+
+
+@dataclass(frozen=True)
+class Row:
+    """A row's texts by the names of their columns; a column that isn't there has empty ones."""
+
+    origin: Origin
+    cells: dict[str, str]
+
+    def __getitem__(self, column: str) -> str:
+        return self.cells.get(column, "")
+
+
+@dataclass
+class Texts:
+    """The cells of a sheet row by row, read once; a row may be shorter than others. What is wrong with single cells and
+    what else there is to tell is found while the rows are read. An error in reading is a BadSheet."""
+
+    rows: Iterator[Sequence[str]]
+    faults: list[SheetFault] = field(default_factory=list)
+    warnings: list[SheetFault] = field(default_factory=list)
+
+
+@dataclass
+class Sheet:
+    """A sheet: its file; its columns in small letters, and as they are written; and its rows that aren't empty. Where
+    the rows are an iterator, faults and warnings are found while they are read."""
+
+    file: str
+    columns: tuple[str, ...]
+    written: tuple[str, ...]
+    rows: Iterable[Row]
+    faults: list[SheetFault]
+    warnings: list[SheetFault]
+
+
+MOST_ALIKE = 20
+"""Faults of one kind in a sheet that are told cell by cell; the others are counted."""
+
+
+class Alike:
+    """Faults of one kind: the first are told one by one, and one more line counts the others."""
+
+    def __init__(self, told: list[SheetFault]):
+        self._told, self._count, self._last = told, 0, SheetFault(Origin("", 0), "", "")
+
+    def add(self, fault: SheetFault) -> None:
+        """One more."""
+        self._count, self._last = self._count + 1, fault
+        if self._count <= MOST_ALIKE:
+            self._told.append(fault)
+
+    def end(self) -> None:
+        """Counts those that weren't told."""
+        if self._count > MOST_ALIKE:
+            more = f"{self._count - MOST_ALIKE:,} more cells of this kind, the last one here: {self._last.because}"
+            self._told.append(self._last._replace(because=more))
+
+
+MOST_TOLD = 10_000
+"""Problems of a check that are told one by one; the others are counted."""
+
+
+class Capped:
+    """Faults in their order, the first of them; what comes after `MOST_TOLD` is counted."""
+
+    def __init__(self) -> None:
+        self._told: list[SheetFault] = []
+        self._more = 0
+
+    def add(self, fault: SheetFault) -> None:
+        """One more; one that is like the last isn't told again."""
+        if len(self._told) >= MOST_TOLD:
+            self._more += 1
+        elif not self._told or self._told[-1] != fault:
+            self._told.append(fault)
+
+    def all(self) -> list[SheetFault]:
+        """Those that are told, and how many more there are."""
+        last = [SheetFault(self._told[-1].origin, more_of(self._more), "mend those above first")] if self._more else []
+        return [*self._told, *last]
+
+
+def more_of(count: int) -> str:
+    """What is told of problems that aren't told one by one."""
+    return f"{count:,} more problems of this kind from here on"
+
+
+def label_of(path: Path) -> str:
+    """The name of a file as one line of UTF-8, whatever it is to the system."""
+    return path.name if is_line(path.name) else ascii(path.name)[1:-1]

@@ -1,0 +1,76 @@
+"""Files of text as cells: CSV and its like, with commas, semicolons or tabs, whichever the first row has most of.
+
+They are UTF-8, with or without a byte order mark, or UTF-16 with one, as a spreadsheet program saves "Unicode text". A
+first line like `sep=;` names the separator to some spreadsheet programs, which don't show it as a row.
+"""
+
+from __future__ import annotations
+
+import csv
+import re
+from collections.abc import Iterator
+from pathlib import Path
+from typing import TextIO
+
+from .cells import BadSheet, Origin, Texts, label_of
+from .terminal import because_of
+
+SEPARATORS = ",;\t"
+
+NAMED_SEPARATOR = re.compile("sep=(.)\r?\n?", re.I)
+
+MARKS_OF_UTF_16 = (b"\xff\xfe", b"\xfe\xff")
+"""The byte order marks of UTF-16."""
+
+UTF_8 = "save it as CSV in UTF-8"
+
+
+def texts_of_csv(path: Path) -> Texts:
+    """The cells of a file. Raises BadSheet where the file or its first line can't be read; so do the rows."""
+    return Texts(_rows(path))
+
+
+def _rows(path: Path) -> Iterator[list[str]]:
+    label, number, is_utf_16 = label_of(path), 0, False
+    try:
+        with path.open("rb") as bytes_of_file:
+            is_utf_16 = bytes_of_file.read(2) in MARKS_OF_UTF_16
+        with path.open(encoding="utf-16" if is_utf_16 else "utf-8-sig", newline="") as file:
+            separator = _separator(file, label)
+            for number, row in enumerate(csv.reader(file, delimiter=separator, strict=True), 1):
+                yield row
+    except OSError as fault:
+        raise BadSheet(Origin(label, 0), because_of(fault), "see why the file can't be read") from fault
+    except UnicodeError as fault:
+        because = "the file begins as UTF-16 does, and isn't that"
+        raise BadSheet(Origin(label, number + 1), because, UTF_8) if is_utf_16 else _no_utf_8(path) from fault
+    except csv.Error as fault:
+        told = str(fault).splitlines()[0]
+        raise BadSheet(Origin(label, number + 1), f"the row is no CSV: {told}", "look at its quotes") from fault
+
+
+def _separator(file: TextIO, label: str) -> str:
+    """The separator of a file, which is at its first row then."""
+    first = file.readline()
+    if "\0" in first:
+        raise BadSheet(Origin(label, 1), "the file isn't UTF-8: it has bytes of zero, as UTF-16 has", UTF_8)
+    if named := NAMED_SEPARATOR.fullmatch(first):
+        return named[1]
+    file.seek(0)
+    return max(SEPARATORS, key=re.split("[\r\n]", first, maxsplit=1)[0].count)
+
+
+def _no_utf_8(path: Path) -> BadSheet:
+    """What is told of a file that isn't UTF-8: the row, and the cell as far as it can be shown."""
+    told = BadSheet(Origin(label_of(path), 0), "the file isn't UTF-8", UTF_8)
+    with path.open("rb") as file:
+        for number, line in enumerate(file, 1):
+            try:
+                line.decode("utf-8")
+            except UnicodeDecodeError as fault:
+                before = re.split(f"[{SEPARATORS}]", line[: fault.start].decode("utf-8"))[-1]
+                behind = line[fault.start :].decode("ascii", "backslashreplace")
+                cell = before + re.split(f"[{SEPARATORS}\r\n]", behind)[0]
+                because = f"the file isn't UTF-8: a cell has the bytes {cell[:60]}"
+                return BadSheet(Origin(label_of(path), number), because, UTF_8)
+    return told
