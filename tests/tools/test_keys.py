@@ -257,8 +257,8 @@ NOT_TAKEN = [
      " row"),
     ("collector\n1\n", "row 1: there is no column name, only collector: name a column name in the first row"),
     ("", "row 1: the first row is empty: name the columns in the first row"),
-    ("collector,name,name\n", "row 1: the column name is there twice: rename one of the two"),
-    ("collector,name\n1,Lovelace, Ada\n", "row 2: a cell stands in no named column: name the column in the first row, or"
+    ("collector,name,name\n", "row 1: the column name is there twice: rename one of the two; a second table needs a sheet of its own"),
+    ("collector,name\n1,Lovelace, Ada\n", "row 2: a cell stands in no named column: \" Ada\": name the column in the first row, or"
      " put quotation marks round a text that has the separator in it"),
     ('collector,name\n1,"A\n', "row 2: the row is no CSV: unexpected end of data: look at its quotes"),
 ]  # fmt: skip
@@ -277,7 +277,7 @@ def test_names_that_are_no_text(office: Path) -> None:
     names = office.parent / "names.csv"
     names.write_bytes(b"collector,name\n1,Zo\xeb\n")
     ran, out = printed(office, "--names", names)
-    wanted = "cpi-tools keys: names.csv, row 2: the file isn't UTF-8: save it as CSV in UTF-8\n"
+    wanted = "cpi-tools keys: names.csv, row 2: the file isn't UTF-8: a cell has the bytes Zo\\xeb: save it as CSV in UTF-8\n"
     assert ran == (1, "", wanted)
     ran, out = printed(office, "--names", office.parent / "none.csv")
     assert (ran.status, ran.out, ran.err.count("\n")) == (1, "", 1) and "No such file or directory" in ran.err

@@ -8,7 +8,9 @@ from collections.abc import Collection
 from pathlib import Path
 from typing import NamedTuple, NoReturn
 
-from ..sheets import BadSheet, Origin, Row, Sheet, SheetFault, sheet_of, texts_of_csv
+from ..cells import BadSheet, Columns, Origin, Row, Sheet, SheetFault
+from ..csv_texts import texts_of_csv
+from ..sheets import sheet_of
 from ..terminal import Fault
 
 NUMBER, NAME = COLUMNS = ("collector", "name")
@@ -32,7 +34,8 @@ def read_names(path: Path, known: Collection[int]) -> Names:
     """The names of a file in UTF-8, by RFC 4180 or with semicolons or tabs for commas. `known` are the numbers of the
     office's collectors. Raises NamesRefused at the first thing that is wrong."""
     try:
-        sheet = sheet_of(path.name, texts_of_csv(path))
+        sheet = sheet_of(path.name, texts_of_csv(path), Columns(COLUMNS))
+        sheet.rows = [*sheet.rows]
     except BadSheet as bad:
         refuse(bad.fault)
     look_at_columns(sheet)
