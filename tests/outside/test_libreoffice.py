@@ -10,6 +10,7 @@ from pathlib import Path
 
 import pytest
 
+from cpi_tools.office_files import SHEETS
 from cpi_tools.program import Cpi
 from cpi_tools.sheets import Source
 from conftest import ROOT
@@ -73,12 +74,36 @@ def test_workbooks_of_libreoffice_are_read_as_their_csv(cpi: Cpi, tmp_path: Path
     assert found["xlsx"] == found["csv"] and len(found["csv"]) == 3
 
 
+@pytest.mark.parametrize("form", ["ods", "xls"])
+def test_spreadsheets_of_other_kinds_are_read_as_their_csv(cpi: Cpi, tmp_path: Path, form: str) -> None:
+    """LibreOffice makes workbooks of them, and nothing of that is left."""
+    folder = written(tmp_path / "csv", office())
+    converted(tmp_path / "home", form, tmp_path / form, sorted(folder.glob("*.csv")))
+    found = {}
+    for source in ("csv", form):
+        records = tmp_path / f"{source}-records"
+        ran = run(cpi, "take-in", tmp_path / source, "--write", records, "--minor", 100)
+        assert ran.status == 0, (tmp_path / source / "check/problems.csv").read_text()
+        found[source] = tables(cpi, replayed(cpi, records, tmp_path / f"{source}.db"))
+    assert found[form] == found["csv"] and len(found["csv"]) == 3
+    assert {it.suffix for it in (tmp_path / form).iterdir()} == {f".{form}"}
+
+
+def test_a_broken_file_of_another_kind_is_refused(cpi: Cpi, tmp_path: Path) -> None:
+    folder = written(tmp_path / "office", office())
+    (folder / "prices.csv").unlink()
+    (folder / "prices.xls").write_bytes(b"\xd0\xcf\x11\xe0\xa1\xb1\x1a\xe1" + bytes(600))
+    ran = run(cpi, "take-in", folder, "--check")
+    assert (ran.status, ran.out) == (1, "")
+    assert "prices.xls" in ran.err or "prices.xls" in {row["file"] for row in rows_of(folder / "check/problems.csv")}
+
+
 def test_cells_of_libreoffice_are_those_of_its_csv(tmp_path: Path) -> None:
     """Cell by cell, but for the zeros that a spreadsheet drops of what it takes for a number."""
     of = office()
     folder = written(tmp_path / "csv", of)
     converted(tmp_path / "home", "xlsx", tmp_path / "xlsx", sorted(folder.glob("*.csv")))
-    csv, xlsx = (Source(tmp_path / it, of) for it in ("csv", "xlsx"))
+    csv, xlsx = (Source(tmp_path / it, SHEETS) for it in ("csv", "xlsx"))
     for name in of:
         one, other = csv.sheet(name), xlsx.sheet(name)
         assert one and other and one.columns == other.columns
@@ -99,7 +124,8 @@ GERMAN = f"{SEMICOLONS},,1031,false,true"
 def told(ran: Ran, folder: Path) -> list[tuple[str, str, str]]:
     """The row, the column and the number of each problem of a check."""
     assert ran.status == 1
-    return [(row["row"], row["column"], row["number"]) for row in rows_of(folder / "check/problems.csv")]
+    rows = [row for row in rows_of(folder / "check/problems.csv") if row["kind"] == "problem"]
+    return [(row["row"], row["column"], row["number"]) for row in rows]
 
 
 def test_the_spreadsheets_of_the_guide_as_workbooks(cpi: Cpi, tmp_path: Path) -> None:
@@ -128,8 +154,8 @@ def test_a_spreadsheet_program_that_reads_decimal_commas_and_dates(cpi: Cpi, tmp
     found = told(run(cpi, "take-in", tmp_path / "books", *WORDS, "--check"), tmp_path / "books")
     assert found == [("5", "code", "10"), ("12", "code", "10"), ("4", "2026-01", "10"), ("6", "2026-01", "26")]
     rows = rows_of(tmp_path / "books/check/problems.csv")
-    assert rows[0]["because"].startswith("the plan of 2026: the cell is the date 2001-01, as a spreadsheet takes ")
-    assert rows[2]["because"] == "2.10 is no number with the decimal sign ,"
+    assert rows[0]["because"].startswith("the plan of 2026: the cell is the date 2001-01-01, as a spreadsheet takes ")
+    assert rows[2]["because"] == '"2.10" is no number with the decimal sign ,'
 
 
 def test_numbers_of_formulas_are_those_that_its_csv_shows(cpi: Cpi, tmp_path: Path) -> None:
@@ -145,7 +171,7 @@ def test_numbers_of_formulas_are_those_that_its_csv_shows(cpi: Cpi, tmp_path: Pa
         converted(tmp_path / "home", form, tmp_path / form, [tmp_path / "outlets.xlsx"], "Calc MS Excel 2007 XML")
     found = []
     for form in ("csv", "xlsx"):
-        sheet = Source(tmp_path / form, ("outlets",)).sheet("outlets")
+        sheet = Source(tmp_path / form, SHEETS).sheet("outlets")
         assert sheet
         found.append([row["outlet"] for row in sheet.rows])
     assert found[0] == found[1] == ["0.3", "231", "2.52", "1.21", "115", "435"]

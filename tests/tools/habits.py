@@ -40,6 +40,9 @@ QUOTES: Quotes = {
     (202602, 8, 2): ("price", 90),
 }
 
+NO_FLOUR: Quotes = {key: it for key, it in QUOTES.items() if key != (202601, 7, 2)}
+"""Without the price of flour in 2026-01."""
+
 Make = Callable[[Path], Sequence[str]]
 """Changes the sheets in a folder; the words that it needs beside."""
 
@@ -170,12 +173,12 @@ def put_cell(place: str, value: object, number_format: str = "") -> Callable[[An
     return change
 
 
-def computed(folder: Path, formula: str, value: str) -> Sequence[str]:
+def computed(folder: Path, value: str, kind: str = "n") -> Sequence[str]:
     """The price of flour in 2026-01 as a formula with its value, as a spreadsheet program saves it."""
     from test_sheets import SHEET, changed
 
     book(lambda _: None)(folder)
-    with_value = f'<c r="D3"><f>{formula}</f>{value}</c>'.encode()
+    with_value = f'<c r="D3" t="{kind}"><f>C3*1.05</f>{value}</c>'.encode()
     changed(folder / "prices.xlsx", SHEET, lambda data: data.replace(b'<c r="D3" t="n"><v>0.84</v></c>', with_value))
     return ()
 
@@ -270,6 +273,11 @@ def hidden(folder: Path) -> Sequence[str]:
 def hidden_row(sheet: Any) -> None:
     """Row 3 is hidden, and so is a row without a text."""
     sheet.row_dimensions[3].hidden = sheet.row_dimensions[9].hidden = True
+
+
+def struck_out(sheet: Any) -> None:
+    """A price that is struck out, as one that somebody doubts."""
+    sheet["D3"].font = openpyxl.styles.Font(strike=True)
 
 
 def hidden_columns(sheet: Any) -> None:
@@ -377,6 +385,7 @@ HABITS: dict[str, Habit] = {
     "an outlet merged over its rows": Habit(with_cell(3, 0, "")),
     "a hidden row": Habit(book(hidden_row)),
     "a hidden column": Habit(book(hidden_columns)),
+    "a price that is struck out": Habit(book(struck_out)),
     "a cell more than the heading has": Habit(row(5, "11", "RICE", "", "", "", "2.50")),
     "two rows of one series with other prices": Habit(row(5, "10", "FLOUR", "0.80", "0.85", "0.90")),
     "two rows of one series with the same prices": Habit(row(5, "10", "FLOUR", "0.80", "0.84", "0.90")),
@@ -409,7 +418,7 @@ HABITS: dict[str, Habit] = {
     "`n/a`": Habit(cell("n/a")),
     "`-`": Habit(cell("-")),
     "`..`": Habit(cell("..")),
-    "`.`, or an empty cell": Habit(cell("."), {key: it for key, it in QUOTES.items() if key != (202601, 7, 2)}),
+    "`.`, or an empty cell": Habit(cell("."), NO_FLOUR),
     "`Stock` for `stock`": Habit(with_cell(2, 4, "Stock")),
     "`0`": Habit(cell("0")),
     "`0.845`": Habit(cell("0.845")),
@@ -418,8 +427,9 @@ HABITS: dict[str, Habit] = {
     "`'0.84`": Habit(cell("'0.84")),
     "`(0.84)`": Habit(cell("(0.84)")),
     "a number that is a text in a workbook": Habit(book(put_cell("D3", "0.84"))),
-    "a formula with its value": Habit(lambda folder: computed(folder, "C3*1.05", "<v>0.84000000000000008</v>")),
-    "a formula without its value": Habit(lambda folder: computed(folder, "C3*1.05", "")),
+    "a formula with its value": Habit(lambda folder: computed(folder, "<v>0.84000000000000008</v>")),
+    "a formula whose value is an empty text": Habit(lambda folder: computed(folder, "<v></v>", "str"), NO_FLOUR),
+    "a formula without its value": Habit(lambda folder: computed(folder, "")),
     "an error, `#N/A`": Habit(book(put_cell("D3", "#N/A"))),
     "a price that a spreadsheet took for a date": Habit(book(put_cell("D3", datetime(2026, 10, 2), "d-mmm"))),
     "a number of more than 15 digits": Habit(book(put_cell("D3", 10**16))),

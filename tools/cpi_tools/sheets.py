@@ -18,7 +18,7 @@ from .converted import ADVICE, KINDS as CONVERTED
 from .csv_texts import texts_of_csv
 from .months_of_texts import month_of
 from .terminal import Fault, because_of
-from .workbooks import Title, texts_of_workbook, titles_of_workbook
+from .workbooks import Title, Workbook
 
 TEXTS = (".csv", ".tsv", ".txt")
 WORKBOOKS = (".xlsx", ".xlsm")
@@ -51,6 +51,7 @@ class Source:
         self._ignored, self._own = {name.strip().lower() for name in ignored}, {each.resolve() for each in own}
         self._workbooks = workbooks or {}
         self._found: dict[str, list[tuple[str, bool, Callable[[], Texts]]]] = {}
+        self._open: list[Workbook] = []
         self.unread: list[SheetFault] = []
         """Files and sheets that have something in them, and a name or a kind that isn't read."""
         try:
@@ -58,6 +59,11 @@ class Source:
                 self._look_at(file)
         except OSError as fault:
             raise Fault(because_of(fault)) from fault
+
+    def close(self) -> None:
+        """Closes the workbooks; no sheet is read from then on."""
+        for workbook in self._open:
+            workbook.close()
 
     def sheet(self, name: str) -> Optional[Sheet]:
         """A sheet by its name with all its rows, None if there is none. Raises BadSheet if it can't be read."""
@@ -102,14 +108,16 @@ class Source:
 
     def _look_into(self, file: Path, book: Path) -> None:
         """Notes the sheets of a workbook; if it has one of the names itself, its first sheet has that name."""
-        own, titles = self._name(file.stem), titles_of_workbook(book)
+        workbook = Workbook(book, label_of(file))
+        self._open.append(workbook)
+        own, titles = self._name(file.stem), workbook.titles()
         names = [title.text for title in titles]
         if own in self._names and own not in [self._name(name) for name in names]:
             names[:1] = [own]
         for name, title in zip(names, titles):
             if title.text.strip().lower() not in self._ignored:
                 label = label_of(file) if is_named_so(file, title, titles) else f"{label_of(file)}:{title.text}"
-                read = functools.partial(texts_of_workbook, book, title.text, label)
+                read = functools.partial(workbook.texts, title.text, label)
                 if self._name(name) in self._names or any(any(row) for row in read().rows):
                     self._note(name, label, read, title.is_hidden)
 

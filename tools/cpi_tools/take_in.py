@@ -65,9 +65,9 @@ def taken_in(
     with contextlib.ExitStack() as stack:
         copy = stack.enter_context(private_copy(onto)) if onto else None
         with converted(files_of(folder)) as workbooks, known_from(cpi, copy, onto) as known:
-            source = Source(folder, SHEETS, options.ignored, own, workbooks)
-            files = OfficeFiles(source, options, known, lambda texts: moments_of(cpi, texts, zone), onto is None)
-            taken = files.in_order()
+            with contextlib.closing(Source(folder, SHEETS, options.ignored, own, workbooks)) as source:
+                files = OfficeFiles(source, options, known, lambda texts: moments_of(cpi, texts, zone), onto is None)
+                taken = files.in_order()
         stack.callback(taken.store.close)
         now("cpi judges what was read")
         yield TakenIn(taken, Judge(cpi, zone, options.is_confirmed, known.items).judge(taken, copy))
@@ -211,13 +211,14 @@ def run(chosen: argparse.Namespace) -> int:
     cpi = Cpi(chosen.program)
     if chosen.write and os.path.lexists(chosen.write):
         raise Fault(f"{chosen.write} is there already: name a folder that isn't")
-    out = chosen.out or (chosen.folder if chosen.folder.is_dir() else chosen.folder.parent) / "check"
+    check = (chosen.folder if chosen.folder.is_dir() else chosen.folder.parent) / "check"
+    out = chosen.out or check
     over = Worded("a copy of {}", str(chosen.onto)) if chosen.onto else Worded("an office in memory that was empty")
     try:
         with contextlib.ExitStack() as stack:
             with Progress("cpi-tools take-in") as progress:
                 told = stack.enter_context(
-                    taken_in(cpi, chosen.folder, options, chosen.zone, chosen.onto, [out], progress)
+                    taken_in(cpi, chosen.folder, options, chosen.zone, chosen.onto, [out, check], progress)
                 )
             show_warnings(told.taken.warnings)
             if chosen.check or told.judged.problems:

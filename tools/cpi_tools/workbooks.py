@@ -1,38 +1,22 @@
-"""Workbooks, `.xlsx` and `.xlsm`, as cells: read by openpyxl, after a look whether they are what they say.
-
-A workbook is a ZIP archive of XML. It is unpacked once, block by block, before openpyxl sees it, since openpyxl holds
-some parts whole: an archive of a few bytes may unpack to any size. So a workbook that says that it unpacks to more than
-`MOST_UNPACKED`, or that has more than it says, is refused while it takes no memory.
-"""
+"""Workbooks, `.xlsx` and `.xlsm`, as cells: read by openpyxl, after a look whether they are what they say."""
 
 from __future__ import annotations
 
 import contextlib
 import re
 import warnings
-import zipfile
 from collections.abc import Iterator, Sequence
-from dataclasses import dataclass, field
 from datetime import date, datetime, time, timedelta
 from decimal import Decimal
 from pathlib import Path
 from typing import Any, NamedTuple
-from xml.parsers import expat
 
-from .cells import Alike, Dated, Numeral, Origin, SheetFault, Texts, label_of
+from .cells import Alike, Dated, Numeral, Origin, SheetFault, Texts
 from .terminal import Fault, counted, needs
-
-MOST_UNPACKED = 256 * 2**20
-"""Bytes of a workbook's parts all together, unpacked; a sheet of a million prices has some 100 million."""
-
-MOST_SHEET_ROWS = 1_048_576
-"""Rows of a sheet, as spreadsheet programs have them at most."""
+from .workbook_parts import Part, looked_through
 
 MOST_DIGITS = 10**15
 """The least whole number that a spreadsheet may have changed, such as a key whose characters are all digits."""
-
-BLOCK = 1 << 20
-"""Bytes that are unpacked at once."""
 
 MOST_NAMED = 5
 """Hidden rows and columns that a line names; the others are counted."""
@@ -45,11 +29,8 @@ class Title(NamedTuple):
     is_hidden: bool
 
 
-# ---- whether it is what it says
-
-
 @contextlib.contextmanager
-def reading(path: Path) -> Iterator[None]:
+def reading(label: str) -> Iterator[None]:
     """Meanwhile what openpyxl meets in a broken workbook is a Fault, and what it doesn't know of a whole one is silent.
 
     Its exceptions are those of its parsers, of many kinds.
@@ -63,179 +44,88 @@ def reading(path: Path) -> Iterator[None]:
             raise
         except Exception as fault:
             told = (str(fault) or type(fault).__name__).splitlines()[0]
-            raise Fault(f"{label_of(path)} can't be read as a workbook: {told}") from fault
+            raise Fault(f"{label} can't be read as a workbook: {told}") from fault
 
 
-def look_through(path: Path) -> None:
-    """Unpacks a workbook once, and keeps nothing of it. Raises Fault where it is none, or unpacks to too much."""
-    with reading(path), zipfile.ZipFile(path) as parts:
-        infos = parts.infolist()
-        found = sum(info.file_size for info in infos)
-        if found > MOST_UNPACKED:
-            raise Fault(f"{label_of(path)} unpacks to {found:,} bytes, and {MOST_UNPACKED:,} are the most")
-        for info in infos:
-            with parts.open(info) as part:
-                # (what is longer than it says ends in a fault of its sum here)
-                _look_through_part(part, is_xml(info.filename), label_of(path))
+class Workbook:
+    """A workbook that openpyxl has open, with the values that stand for its formulas."""
+
+    def __init__(self, path: Path, label: str):
+        """`label` names the file where it can't be read. Raises Fault then."""
+        self._label = label
+        with reading(label):
+            from openpyxl import load_workbook
+
+            self._parts = looked_through(path, label)
+            self._book: Any = load_workbook(path, read_only=True, data_only=True, keep_links=False)
+            self._has_strike = any(part.has_strike for part in self._parts.values())
+
+    def close(self) -> None:
+        """Closes its file."""
+        self._book.close()
+
+    def titles(self) -> list[Title]:
+        """Its sheets, in their order."""
+        return [Title(sheet.title, sheet.sheet_state != "visible") for sheet in self._book.worksheets]
+
+    def texts(self, title: str, label: str) -> Texts:
+        """The cells of a sheet, in which `label` names it. The rows raise Fault if it can't be read."""
+        found = Texts(iter(()))
+        found.rows = self._rows(title, label, found)
+        return found
+
+    def _rows(self, title: str, label: str, found: Texts) -> Iterator[Sequence[str]]:
+        """The rows of a sheet, from the first on, also where the file tells its size wrongly."""
+        with reading(self._label):
+            sheet = self._book[title]
+            part = self._parts.get(sheet._worksheet_path, Part())
+            odd, unlike = Alike(found.faults), _Unlike(part, self._has_strike)
+            for place in part.without_value:
+                do = "open the workbook in a spreadsheet program and save it"
+                odd.add(SheetFault(Origin(label, *place_of(place)), "the cell's formula has no value", do))
+            sheet.reset_dimensions()
+            for number, row in enumerate(sheet.iter_rows(), 1):
+                texts = [text_of_cell(cell, label, odd) for cell in row]
+                unlike.see(number, row, texts)
+                yield texts
+            odd.end()
+            found.warnings += unlike.told(label)
 
 
-def is_xml(part: str) -> bool:
-    """Whether a part is XML that openpyxl may read."""
-    return part.lower().endswith((".xml", ".rels")) or part.startswith("xl/worksheets/")
+class _Unlike:
+    """Cells with texts that a reader of the sheet doesn't see, or takes for gone."""
 
+    def __init__(self, part: Part, has_strike: bool):
+        self._part, self._has_strike = part, has_strike
+        self._rows: list[int] = []
+        self._columns: set[int] = set()
+        self._struck: list[Any] = []
 
-def _look_through_part(part: Any, is_parsed: bool, label: str) -> None:
-    parser = expat.ParserCreate()
-
-    def refuse(*_: object) -> None:
-        raise Fault(f"{label} can't be read as a workbook: a part of it declares a document type, as none has")
-
-    parser.StartDoctypeDeclHandler = refuse
-    while block := part.read(BLOCK):
-        if is_parsed:
-            parser.Parse(block)
-
-
-# ---- a look at a sheet's own text
-
-
-@dataclass
-class Looked:
-    """What openpyxl doesn't tell of a sheet: the numbers of its hidden rows, its hidden columns from the first to the
-    last, and the cells with a formula and no value."""
-
-    hidden_rows: list[int] = field(default_factory=list)
-    hidden_columns: list[tuple[int, int]] = field(default_factory=list)
-    without_value: list[str] = field(default_factory=list)
-
-
-class _Look:
-    """Reads the XML of a sheet as it comes."""
-
-    def __init__(self, label: str):
-        self.found, self._label, self._row = Looked(), label, 0
-        self._cell, self._has_formula, self._is_value, self._has_value = "", False, False, False
-
-    def start(self, name: str, given: dict[str, str]) -> None:
-        name = name.rpartition(":")[2]
-        if name == "c":
-            self._cell, self._has_formula, self._has_value = given.get("r", ""), False, False
-        elif name == "v":
-            self._is_value = True
-        elif name == "f":
-            self._has_formula = True
-        elif name == "row":
-            self._start_row(given)
-        elif name == "col" and (is_true(given.get("hidden")) or given.get("width") in ("0", "0.0")):
-            self.found.hidden_columns.append((int(given["min"]), int(given["max"])))
-
-    def _start_row(self, given: dict[str, str]) -> None:
-        self._row = int(float(given.get("r", self._row + 1)))
-        if self._row > MOST_SHEET_ROWS:
-            raise Fault(f"{self._label} has more rows than {MOST_SHEET_ROWS:,}, which are the most")
-        if is_true(given.get("hidden")):
-            self.found.hidden_rows.append(self._row)
-
-    def text(self, _: str) -> None:
-        self._has_value = self._has_value or self._is_value
-
-    def end(self, name: str) -> None:
-        name = name.rpartition(":")[2]
-        if name == "v":
-            self._is_value = False
-        elif name == "c" and self._has_formula and not self._has_value:
-            self.found.without_value.append(self._cell)
-
-
-def is_true(text: object) -> bool:
-    """Whether an attribute says yes."""
-    return text in ("1", "true")
-
-
-def looked_at(path: Path, part: str) -> Looked:
-    """What a part that is a sheet says beside its values."""
-    look, parser = _Look(label_of(path)), expat.ParserCreate()
-    parser.StartElementHandler, parser.EndElementHandler, parser.CharacterDataHandler = look.start, look.end, look.text
-    with zipfile.ZipFile(path) as parts, parts.open(part) as sheet:
-        while block := sheet.read(BLOCK):
-            parser.Parse(block)
-    return look.found
-
-
-# ---- sheets
-
-
-@contextlib.contextmanager
-def opened(path: Path) -> Iterator[Any]:
-    """A workbook of openpyxl, with the values that stand for its formulas."""
-    from openpyxl import load_workbook
-
-    with contextlib.closing(load_workbook(path, read_only=True, data_only=True, keep_links=False)) as book:
-        yield book
-
-
-def titles_of_workbook(path: Path) -> list[Title]:
-    """The sheets of a workbook, in their order. Raises Fault where it can't be read."""
-    look_through(path)
-    with reading(path), opened(path) as book:
-        return [Title(sheet.title, sheet.sheet_state != "visible") for sheet in book.worksheets]
-
-
-def texts_of_workbook(path: Path, title: str, label: str) -> Texts:
-    """The cells of a workbook's sheet, in which `label` names it. The rows raise Fault where it can't be read."""
-    faults: list[SheetFault] = []
-    told: list[SheetFault] = []
-    return Texts(_rows(path, title, label, faults, told), faults, told)
-
-
-def _rows(
-    path: Path, title: str, label: str, faults: list[SheetFault], told: list[SheetFault]
-) -> Iterator[Sequence[str]]:
-    """The rows of a sheet, from the first on, also where the file tells its size wrongly."""
-    with reading(path), opened(path) as book:
-        sheet = book[title]
-        looked = looked_at(path, sheet._worksheet_path)
-        odd = Alike(faults)
-        for place in looked.without_value:
-            origin = Origin(label, *place_of(place))
-            do = "open the workbook in a spreadsheet program and save it"
-            odd.add(SheetFault(origin, "the cell's formula has no value", do))
-        sheet.reset_dimensions()
-        hidden = _Hidden(looked)
-        for number, row in enumerate(sheet.iter_rows(), 1):
-            texts = [text_of_cell(cell, label, odd) for cell in row]
-            hidden.see(number, texts)
-            yield texts
-        odd.end()
-        told += hidden.told(label)
-
-
-class _Hidden:
-    """The hidden rows and columns that have texts."""
-
-    def __init__(self, looked: Looked):
-        self._rows, self._columns = {*looked.hidden_rows}, looked.hidden_columns
-        self.rows: list[int] = []
-        self.columns: set[int] = set()
-
-    def see(self, number: int, texts: Sequence[str]) -> None:
+    def see(self, number: int, row: Sequence[Any], texts: Sequence[str]) -> None:
         """A row of the sheet."""
-        if number in self._rows and any(texts):
-            self.rows.append(number)
-        for first, last in self._columns:
-            self.columns |= {at for at in range(first, min(last, len(texts)) + 1) if texts[at - 1]}
+        if number in self._part.hidden_rows and any(texts):
+            self._rows.append(number)
+        for first, last in self._part.hidden_columns:
+            self._columns |= {at for at in range(first, min(last, len(texts)) + 1) if texts[at - 1]}
+        if self._has_strike:
+            self._struck += [cell.coordinate for cell, text in zip(row, texts) if text and cell.font.strike]
 
     def told(self, label: str) -> Iterator[SheetFault]:
-        """A line for the rows, and one for the columns."""
-        do = "show them, and see whether they belong there"
-        columns = sorted(self.columns)
-        for kind, origin, names in (
-            ("row", Origin(label, self.rows[0] if self.rows else 0), [*map(str, self.rows)]),
-            ("column", Origin(label, 1, letters_of(columns[0]) if columns else ""), [*map(letters_of, columns)]),
-        ):
-            if names:
-                named = ", ".join(names[:MOST_NAMED]) + (", .." if len(names) > MOST_NAMED else "")
-                yield SheetFault(origin, f"{counted(len(names), f'hidden {kind}')} read like the others: {named}", do)
+        """A line for the rows, one for the columns, and one for cells that are struck out."""
+        columns = [*map(letters_of, sorted(self._columns))]
+        if self._rows:
+            yield unlike("hidden row", Origin(label, self._rows[0]), [*map(str, self._rows)])
+        if columns:
+            yield unlike("hidden column", Origin(label, 1, columns[0]), columns)
+        if self._struck:
+            yield unlike("struck-out cell", Origin(label, *place_of(self._struck[0])), self._struck)
+
+
+def unlike(kind: str, origin: Origin, names: Sequence[str]) -> SheetFault:
+    """What is told of rows, columns or cells that are read although they look otherwise."""
+    named = ", ".join(names[:MOST_NAMED]) + (", .." if len(names) > MOST_NAMED else "")
+    do = "see whether they belong there, and take them out if they don't"
+    return SheetFault(origin, f"{counted(len(names), kind)} read like the others: {named}", do)
 
 
 def place_of(cell: str) -> tuple[int, str]:
