@@ -113,14 +113,14 @@ def row(at: int, *cells: str) -> Make:
     return put_rows([*PRICES[: at - 1], cells, *PRICES[at - 1 :]])
 
 
-def weights(rice: str, flour: str, *more: Sequence[str]) -> Make:
-    """Weights in percent."""
+def weights(rice: str, flour: str, *more: Sequence[str], unit: str = "percent") -> Make:
+    """Weights in percent, or in another unit."""
 
     def make(folder: Path) -> Sequence[str]:
         rows = sheets()["classification"]
         rows[6][3], rows[8][3] = rice, flour
         written(folder, {"classification": [*rows, *([*each] for each in more)]})
-        return ("--weights", "percent")
+        return ("--weights", unit)
 
     return make
 
@@ -354,6 +354,10 @@ HABITS: dict[str, Habit] = {
     "a number `2026.1`, which was 2026.10 or 2026.01": Habit(book(put_cell("D1", 2026.1))),
     "a footnote mark, `2026-01 1)`": Habit(heading("2026-01 1)")),
     "one month twice": Habit(put_rows([[*PRICES[0], "Jan-26"], *([*own, "."] for own in PRICES[1:])])),
+    "a year, `2025`": Habit(heading("2025")),
+    "a number of a day, `46023`": Habit(book(put_cell("D1", 46023))),
+    "a month of another language, `janvier 2026`": Habit(heading("janvier 2026")),
+    "a month `Jan-99`": Habit(heading("Jan-99")),
     "a quarter `2026-Q1`": Habit(heading("2026-Q1")),
     "a day `1/2/26` in the column `month`": Habit(long_prices("1/2/26")),
     # ---- files and sheets
@@ -366,6 +370,7 @@ HABITS: dict[str, Habit] = {
     "`prices.ods` or `.xls`, with LibreOffice": Habit(of_another_kind),
     "`prices.ods` or `.xls`, without it": Habit(of_another_kind),
     "a folder in the folder": Habit(older),
+    "a workbook with a password": Habit(put_bytes(bytes.fromhex("d0cf11e0a1b11ae1") + bytes(504), name="prices.xlsx")),
     "a workbook that unpacks to 300 MB": Habit(unpacks_to_much),
     "a sheet of another name in a workbook": Habit(book(other_sheet)),
     "a hidden sheet": Habit(hidden),
@@ -382,6 +387,7 @@ HABITS: dict[str, Habit] = {
     "a second table below the first": Habit(put_rows(SECOND_TABLE)),
     "a second table beside the first": Habit(put_rows([[*own, *own[:2]] for own in PRICES])),
     "months below a merged year": Habit(put_rows(MERGED_YEARS)),
+    "a month merged over its rows": Habit(put_text("month,outlet,item,value\n2025-12,10,RICE,2.00\n,10,FLOUR,0.80\n")),
     "an outlet merged over its rows": Habit(with_cell(3, 0, "")),
     "a hidden row": Habit(book(hidden_row)),
     "a hidden column": Habit(book(hidden_columns)),
@@ -408,6 +414,8 @@ HABITS: dict[str, Habit] = {
     "`1'234.50`": thousands("1'234.50"),
     "`1,234.50`": Habit(cell("1,234.50")),
     "`1.234,50`": Habit(put_text(with_separator(";").replace("0,84", "1.234,50"), "--decimal", ",")),
+    "`1.240`, which may be 1240": Habit(put_rows([*PRICES[:2], ["10", "FLOUR", "1.240", "1.250", "1.260"], PRICES[3]])),
+    "`0.840`": Habit(cell("0.840")),
     "`8 4` for `0.84`": Habit(cell("8 4")),
     "`1 2 3`": Habit(cell("1 2 3")),
     "`€0.84`": Habit(cell("€0.84")),
@@ -424,6 +432,9 @@ HABITS: dict[str, Habit] = {
     "`0.845`": Habit(cell("0.845")),
     "`84e-2`": Habit(cell("84e-2")),
     "`0.84*`": Habit(cell("0.84*")),
+    "a blank of no width, after `0.84`": Habit(cell("0.84\u200b")),
+    "`-0.84`": Habit(cell("-0.84")),
+    "`٠.٨٤`": Habit(cell("٠.٨٤")),
     "`'0.84`": Habit(cell("'0.84")),
     "`(0.84)`": Habit(cell("(0.84)")),
     "a number that is a text in a workbook": Habit(book(put_cell("D3", "0.84"))),
@@ -436,6 +447,7 @@ HABITS: dict[str, Habit] = {
     # ---- weights, codes and times
     "weights that add up to 99.9 percent": Habit(weights("60", "39.9")),
     "weights that add up to 58.9 percent": Habit(weights("4.5", "54.4")),
+    "weights of money, `1.250` among `950`": Habit(weights("1.250", "950", unit="money")),
     "a total below the weights": Habit(weights("60", "40", ["2026", "Total", "Total", "100"])),
     "weights that are all of a percent format": Habit(lambda folder: percents(folder, are_all=True)),
     "one weight of a percent format among numbers": Habit(lambda folder: percents(folder, are_all=False)),

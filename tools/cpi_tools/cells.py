@@ -146,6 +146,11 @@ def more_of(count: int) -> str:
     return f"{count:,} more problems of this kind from here on"
 
 
+def shown(text: str) -> str:
+    """A text in quotation marks; a character that isn't seen, such as a blank of no width, by its number."""
+    return f'"{text}"' if text.isprintable() else f'"{ascii(text)[1:-1]}"'
+
+
 def label_of(path: Path) -> str:
     """The name of a file as one line of UTF-8, whatever it is to the system."""
     return path.name if is_line(path.name) else ascii(path.name)[1:-1]

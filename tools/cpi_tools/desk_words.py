@@ -8,6 +8,7 @@ from __future__ import annotations
 
 from collections.abc import Callable
 
+from .cells import shown
 from .months_of_texts import month_of, told_no_month
 from .program import Reply
 from .sent import DESK, Sent
@@ -94,9 +95,9 @@ def unread(row: Sent, column: str) -> Words:
     elif wanted.startswith(MONTH) and not month_of(text):
         because = told_no_month(text)
     elif name == "value":
-        because = f'"{text}" is no {"reason" if row.fields[3] == "missing" else "price"}'
+        because = f"{shown(text)} is no {'reason' if row.fields[3] == 'missing' else 'price'}"
     else:
-        because = f'the column {column} has "{text}"' if text else f"the cell in the column {column} is empty"
+        because = f"the column {column} has {shown(text)}" if text else f"the cell in the column {column} is empty"
     return Words(because, f"write {wanted} (docs/CHANGING-OVER.md)")
 
 

@@ -12,6 +12,8 @@ from collections import defaultdict
 from collections.abc import Iterator
 from datetime import date
 
+from .cells import shown
+
 NAMES: dict[str, tuple[str, ...]] = {
     "English": (
         "january jan",
@@ -90,11 +92,13 @@ def month_of(text: str) -> str:
 
 def told_no_month(text: str) -> str:
     """Why a text isn't read as a month."""
+    if not text:
+        return "the cell is empty, and should have a month"
     if found := months_of(text):
-        return f'"{text}" may be {" or ".join(found)}'
+        return f"{shown(text)} may be {' or '.join(found)}"
     if NO_LONG_YEAR.fullmatch(text.strip()):
-        return f'"{text}" may be a day or several months: no year of it has four digits'
-    return f'"{text}" is no month'
+        return f"{shown(text)} may be a day or several months: no year of it has four digits"
+    return f"{shown(text)} is no month"
 
 
 def _meant(plain: str) -> Iterator[tuple[int, int]]:

@@ -6,7 +6,7 @@ import re
 from fractions import Fraction
 from typing import Optional
 
-from .cells import Dated, Numeral
+from .cells import Dated, Numeral, shown
 
 OF_CELL = re.compile(r"[+-]?[0-9]+(\.[0-9]+)?(e[+-]?[0-9]{1,3})?", re.I)
 """A number of a workbook."""
@@ -40,8 +40,14 @@ class Numbers:
         if isinstance(text, Dated):
             return f"the cell is the date {text}, and no number"
         if text.endswith("%"):
-            return f'"{text}" is a percent'
-        return f'"{text}" is no number with the decimal sign {self.decimal}'
+            return f"{shown(text)} is a percent"
+        return f"{shown(text)} is no number with the decimal sign {self.decimal}"
+
+    def told_thousands(self, text: str) -> str:
+        """What is told of a text whose decimal sign may stand for a mark of thousands, as in `1.250`; else nothing."""
+        if isinstance(text, Numeral) or not re.fullmatch(f"[1-9][0-9]{{0,2}}[{self.decimal}][0-9]{{3}}", text):
+            return ""
+        return f"{shown(text)} may be {text.replace(self.decimal, '')}, with a mark of thousands"
 
 
 def decimal(number: Fraction, sign: str = "") -> str:

@@ -12,7 +12,7 @@ from collections.abc import Callable, Collection, Iterable, Iterator, Sequence
 from dataclasses import dataclass, field
 from typing import NamedTuple, Optional, Union
 
-from .cells import BadSheet, Columns, Dated, Origin, Row, Sheet, SheetFault
+from .cells import BadSheet, Columns, Dated, Origin, Row, Sheet, SheetFault, shown
 from .months_of_texts import month_of
 from .numbers_of_texts import Numbers
 from .plan_rows import PlanRows, Weighed
@@ -405,7 +405,7 @@ class OfficeFiles:
                 told = f"the price {of} is in row {it.first_row} too"
                 same = same or [SheetFault(origin, told, "leave one of the two rows")]
             else:
-                because = f'the price {of} is "{it.text}" here, and "{it.first}" in row {it.first_row}'
+                because = f"the price {of} is {shown(it.text)} here, and {shown(it.first)} in row {it.first_row}"
                 do = "leave the one that is right; the correction of a frozen month has its revision"
                 cells.faults.add(SheetFault(origin, because, do))
         return [it._replace(because=f"{it.because}; prices that are there again: {count:,}") for it in same]

@@ -8,7 +8,7 @@ from collections.abc import Iterator, Sequence
 from fractions import Fraction
 from typing import NamedTuple, Optional
 
-from .cells import Origin, Row, SheetFault
+from .cells import Origin, Row, SheetFault, shown
 from .numbers_of_texts import Numbers, decimal
 from .sent import FIELDS, Sent
 from .terminal import counted
@@ -135,6 +135,7 @@ class PlanRows:
             return {row.origin: str(number) for row, number in pairs if number.denominator == 1}
         for year, rows in sorted(given.items()):
             self._look_at_signs([row for row, _ in rows])
+            self._look_at_thousands([row for row, _ in rows])
             total = sum((number for _, number in rows), Fraction(0)) or Fraction(1)
             if year not in unread:
                 self._look_at_sum(year, rows, total)
@@ -153,6 +154,15 @@ class PlanRows:
                 because = f'the weight is "{row["weight"]}", and that of row {others[0].origin.row} is'
                 do = "give all weights of the year one format"
                 self.faults.append(SheetFault(row.origin.at("weight"), f'{because} "{others[0]["weight"]}"', do))
+
+    def _look_at_thousands(self, rows: Sequence[Row]) -> None:
+        """Tells `1.250` among whole amounts of money, which have no sum that could tell: it may be 1250."""
+        whole = [row for row in rows if row["weight"].isdigit()]
+        for row in rows if whole and self._unit == "money" else ():
+            if told := self._numbers.told_thousands(row["weight"]):
+                because = f"{told}, since row {whole[0].origin.row} has {whole[0]['weight']}"
+                do = "write it without a mark of thousands, or all weights with their decimals"
+                self.faults.append(SheetFault(row.origin.at("weight"), because, do))
 
     def _look_at_sum(self, year: str, rows: Sequence[tuple[Row, Fraction]], total: Fraction) -> None:
         """Tells weights that don't add up to all: a fault if they are far from it."""

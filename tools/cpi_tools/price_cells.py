@@ -7,7 +7,7 @@ from collections import defaultdict
 from collections.abc import Collection, Iterator, Sequence
 from typing import NamedTuple, Optional
 
-from .cells import Capped, Columns, Origin, Row, Sheet, SheetFault
+from .cells import Capped, Columns, Origin, Row, Sheet, SheetFault, shown
 from .months_of_texts import month_of, told_no_month
 from .numbers_of_texts import Numbers
 from .price_store import Price
@@ -175,7 +175,7 @@ class PriceCells:
 
     def _told_no_slot(self, cell: Cell, has_series: bool, has_several: bool) -> SheetFault:
         """Why a price isn't that of one slot: once for a row if that is so in each of its months."""
-        row, of = cell.row, f'the item "{cell.row["item"]}" in the outlet "{cell.row["outlet"]}"'
+        row, of = cell.row, f"the item {shown(cell.row['item'])} in the outlet {shown(cell.row['outlet'])}"
         do = "look at the outlet, the item and the months of its series, or give collector and slot"
         if not row["outlet"] or not row["item"]:
             missing = " and ".join(name for name in ("outlet", "item") if not row[name])
@@ -234,6 +234,8 @@ class PriceCells:
         if number is None:
             return text, self._numbers.told_none(text) if text else "the cell is empty"
         minor = number * self._minor
+        if self._minor % 1000 and (told := self._numbers.told_thousands(text)):
+            return f"{text} * {self._minor}", told
         if minor.denominator == 1:
             return str(minor.numerator), ""
         return text if self._minor == 1 else f"{text} * {self._minor}", f"{text} isn't whole in minor units (--minor)"

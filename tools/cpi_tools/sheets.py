@@ -13,7 +13,7 @@ from collections.abc import Callable, Collection, Iterator, Mapping, Sequence
 from pathlib import Path
 from typing import Optional
 
-from .cells import Alike, BadSheet, Columns, Origin, Row, Sheet, SheetFault, Texts, label_of
+from .cells import Alike, BadSheet, Columns, Origin, Row, Sheet, SheetFault, Texts, label_of, shown
 from .converted import ADVICE, KINDS as CONVERTED
 from .csv_texts import texts_of_csv
 from .months_of_texts import month_of
@@ -179,7 +179,7 @@ def look_at_heading(file: str, first: Sequence[Sequence[str]], columns: Columns)
     below = next((at for at, count in enumerate(known, 1) if count >= least), 0)
     if known and not known[0] and below:
         has = next((cell.strip() for cell in first[0] if cell.strip()), "")
-        told = f'it has "{has}"' if has else "it is empty"
+        told = f"it has {shown(has)}" if has else "it is empty"
         above = "row 1" if below == 2 else f"rows 1 to {below - 1}"
         because = f"{told}, and row {below} names the columns"
         raise BadSheet(Origin(file, 1), because, f"take {above} out, so that the first row names the columns")
@@ -206,7 +206,7 @@ def rows_of(sheet: Sheet, lines: Iterator[Sequence[str]], columns: Columns) -> I
             continue
         odd = next((cell for at, cell in enumerate(line) if cell.strip() and (at >= len(heads) or not heads[at])), "")
         if odd:
-            unnamed.add(SheetFault(origin, f'a cell stands in no named column: "{odd}"', UNNAMED))
+            unnamed.add(SheetFault(origin, f"a cell stands in no named column: {shown(odd)}", UNNAMED))
         cells = {head: cell if head in kept else trimmed(cell) for head, cell in zip(heads, line) if head}
         yield Row(origin, cells)
     unnamed.end()
@@ -226,6 +226,6 @@ def is_heading(sheet: Sheet, origin: Origin, line: Sequence[str]) -> bool:
         return True
     if same >= 2:
         other = next(cell for cell, head in pairs if cell != head)
-        because = f'the row is a heading, and not that of row 1: it has "{other}"'
+        because = f"the row is a heading, and not that of row 1: it has {shown(other)}"
         sheet.faults.append(SheetFault(origin, because, "give the second table a sheet of its own"))
     return same >= 2

@@ -18,6 +18,9 @@ from .workbook_parts import Part, looked_through
 MOST_DIGITS = 10**15
 """The least whole number that a spreadsheet may have changed, such as a key whose characters are all digits."""
 
+OLDER = bytes.fromhex("d0cf11e0a1b11ae1")
+"""The first bytes of Microsoft's compound file, by [MS-CFB]."""
+
 MOST_NAMED = 5
 """Hidden rows and columns that a line names; the others are counted."""
 
@@ -56,6 +59,7 @@ class Workbook:
         with reading(label):
             from openpyxl import load_workbook
 
+            refuse_container(path, label)
             self._parts = looked_through(path, label)
             self._book: Any = load_workbook(path, read_only=True, data_only=True, keep_links=False)
             self._has_strike = any(part.has_strike for part in self._parts.values())
@@ -90,6 +94,14 @@ class Workbook:
                 yield texts
             odd.end()
             found.warnings += unlike.told(label)
+
+
+def refuse_container(path: Path, label: str) -> None:
+    """Raises Fault for the container of older programs, in which a workbook with a password is too."""
+    with path.open("rb") as file:
+        if file.read(len(OLDER)) == OLDER:
+            do = "save it as .xlsx without a password"
+            raise Fault(f"{label} has a password, or is an .xls that is named otherwise: {do}")
 
 
 class _Unlike:
