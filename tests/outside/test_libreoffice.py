@@ -155,7 +155,7 @@ def test_a_spreadsheet_program_that_reads_decimal_commas_and_dates(cpi: Cpi, tmp
     assert found == [("5", "code", "10"), ("12", "code", "10"), ("4", "2026-01", "10"), ("6", "2026-01", "26")]
     rows = rows_of(tmp_path / "books/check/problems.csv")
     assert rows[0]["because"].startswith("the plan of 2026: the cell is the date 2001-01-01, as a spreadsheet takes ")
-    assert rows[2]["because"] == '"2.10" is no number with the decimal sign ,'
+    assert rows[2]["because"] == '"2.10" is no number with the decimal sign ","'
 
 
 def test_numbers_of_formulas_are_those_that_its_csv_shows(cpi: Cpi, tmp_path: Path) -> None:

@@ -272,7 +272,7 @@ QUOTE = dict(zip(sheets()["prices"][0], sheets()["prices"][4]))
         ("month", "1/2/26", '"1/2/26" may be a day or several months: no year of it has four digits', "write a month"),
         ("value", "0", '"0" is no price', "write a price from 1 to 100,000,000 minor units (--minor), as "),
         ("value", "", "the cell is empty", "write a price from 1 to 100,000,000 minor units"),
-        ("value", "n/a", '"n/a" is no number with the decimal sign .', "write a price from 1 to 100,000,000 minor "),
+        ("value", "n/a", '"n/a" is no number with the decimal sign "."', "write a price from 1 to 100,000,000 minor "),
         ("mark", "sale", 'the column mark has "sale"', "write price, comparable, other or missing"),
         ("mark", "missing", '"210" is no reason', "write stock, closed, gone or refused"),
         ("confirm", "yes", 'the column confirm has "yes"', "write confirm, or an empty cell"),

@@ -41,7 +41,7 @@ class Numbers:
             return f"the cell is the date {text}, and no number"
         if text.endswith("%"):
             return f"{shown(text)} is a percent"
-        return f"{shown(text)} is no number with the decimal sign {self.decimal}"
+        return f'{shown(text)} is no number with the decimal sign "{self.decimal}"'
 
     def told_thousands(self, text: str) -> str:
         """What is told of a text whose decimal sign may stand for a mark of thousands, as in `1.250`; else nothing."""

@@ -170,7 +170,7 @@ class PlanRows:
         origin = rows[-1][0].origin.at("weight")
         told = f"the weights of {year} add up to {decimal(total)}, not to {wanted}"
         if abs(total - wanted) > MOST_AWAY * wanted:
-            do = f"find the lost digit, the total, or the unit (--weights); what is {MOST_AWAY * wanted} off is scaled"
+            do = "find the lost digit, the total, or the unit (--weights)"
             self.faults.append(SheetFault(origin, told, do))
         elif total != wanted:
             do = "nothing, if that is rounding: they are scaled, and weights.csv has each"
