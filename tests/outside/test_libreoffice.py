@@ -10,7 +10,7 @@ from pathlib import Path
 
 import pytest
 
-from cpi_tools.office_files import SHEETS
+from cpi_tools.office_sheets import SHEETS
 from cpi_tools.program import Cpi
 from cpi_tools.sheets import Source
 from conftest import ROOT

@@ -13,7 +13,7 @@ from zipfile import ZIP_DEFLATED, ZipFile
 import pytest
 
 from cpi_tools.cells import MOST_TOLD
-from cpi_tools.office_files import SHEETS
+from cpi_tools.office_sheets import SHEETS
 from cpi_tools.program import Cpi
 from cpi_tools.sheets import Source
 from cpi_tools.terminal import Fault

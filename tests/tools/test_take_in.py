@@ -14,7 +14,9 @@ import pytest
 from cpi_tools.cells import Origin
 from cpi_tools.desk_words import WANTED
 from cpi_tools.judge import Judge
-from cpi_tools.office_files import NOTHING, SHEETS, OfficeFiles, Options
+from cpi_tools.known import NOTHING
+from cpi_tools.office_files import OfficeFiles, Options
+from cpi_tools.office_sheets import SHEETS
 from cpi_tools.program import Cpi, record
 from cpi_tools.sent import Bundle, Sent, bundled
 from cpi_tools.sheets import Source

@@ -181,6 +181,20 @@ def test_a_sheet_by_itself_is_passed_over_too(cpi: Cpi, office: Path, tmp_path: 
     assert (ran.status, ran.out.partition(",")[0], ran.err) == (0, "nothing new", "")
 
 
+def test_series_without_their_slots_keep_those_that_they_have(cpi: Cpi, office: Path, tmp_path: Path) -> None:
+    """Also the series that was handed over, which its first slot has no longer."""
+    assert run(cpi, "take-out", office, tmp_path / "files").status == 0
+    (tmp_path / "one").mkdir()
+    series = rows_of(tmp_path / "files/series.csv")
+    handed = rows_of(tmp_path / "files/handovers.csv")
+    assert {(it["collector"], it["slot"]) for it in handed} <= {(it["collector"], it["slot"]) for it in series}
+    columns = [name for name in series[0] if name != "slot"]
+    rows = [",".join(columns), *(",".join(row[name] for name in columns) for row in series)]
+    (tmp_path / "one/series.csv").write_text("\n".join(rows), encoding="utf-8")
+    ran = run(cpi, "take-in", tmp_path / "one", "--onto", office, "--check")
+    assert ran == (0, f"nothing new, {len(series)} rows that the office has already\n", "")
+
+
 def test_what_differs_from_what_was_taken_out_is_sent(cpi: Cpi, office: Path, tmp_path: Path) -> None:
     """One price of the month that is open again, and one freeze with another carry list, among all that stands."""
     reopened(cpi, office)

@@ -13,58 +13,21 @@ from dataclasses import dataclass, field
 from typing import NamedTuple, Optional, Union
 
 from .cells import BadSheet, Columns, Dated, Origin, Row, Sheet, SheetFault, shown
+from .known import Known, Window
 from .months_of_texts import month_of
 from .numbers_of_texts import Numbers
+from .office_sheets import DATES, MONTHS, MOVED, NEEDED, SHEETS, WINDOW
 from .plan_rows import PlanRows, Weighed
 from .price_cells import MonthRead, Place, PriceCells
-from .price_store import PriceStore, Standing
+from .price_store import PriceStore
 from .sent import DESK, FIELDS, Bundle, Problem, Sent, bundled, problem_of
 from .sheets import Source
-
-SHEETS: dict[str, Columns] = {
-    "items": Columns(FIELDS["item"], ("code",), texts=("text", "unit")),
-    "outlets": Columns(FIELDS["outlet"], texts=("name",)),
-    "collectors": Columns(("collector",), ("key",)),
-    "series": Columns(("collector", "outlet", "item", "first", "last"), ("slot",)),
-    "classification": Columns(("year", "code", "title", "weight"), texts=("title",)),
-    "places": Columns(("year", "item", "code")),
-    "plans": Columns(("year", "reference")),
-    "handovers": Columns(("month", "collector", "slot", "to", "to_slot")),
-    "calendar": Columns(FIELDS["calendar"]),
-    "prices": Columns(
-        ("month", "value"),
-        ("collector", "slot", "outlet", "item", "mark", "confirm", "revision"),
-        has_months=True,
-    ),
-    "releases": Columns(("month",), ("revision", "opens", "closes", "publishes", "frozen_at", "carry")),
-}
-"""The sheets of an office, in the order in which their rows are sent."""
-
-NEEDED = ("items", "outlets", "collectors", "series", "classification", "calendar")
-"""The sheets without which there is no office; one that is there already needs none of them."""
-
-MONTHS = {
-    "series": ("first", "last"),
-    "plans": ("reference",),
-    "handovers": ("month",),
-    "calendar": ("month",),
-    "releases": ("month",),
-}
-"""The columns that are months, beside those of prices."""
-
-WINDOW = ("opens", "closes", "publishes")
-MOVED = FIELDS["handover"]
-DATES = {*WINDOW, "frozen_at", "code", *(column for columns in MONTHS.values() for column in columns)}
-"""The columns in which a cell that is a date has words of its own."""
 
 LAST_TURN = 10
 """The revision after the last one: quotes that no freeze took."""
 
 Clock = Callable[[Iterable[str]], dict[str, int]]
 """Tells civil times in seconds since 1970 UTC; what is no civil time isn't among them."""
-
-Window = tuple[str, ...]
-"""When a window opens and closes, and when its table is published, as texts."""
 
 
 class Options(NamedTuple):
@@ -77,34 +40,6 @@ class Options(NamedTuple):
     weights: str = "ppm"
     is_confirmed: bool = False
     ignored: frozenset[str] = frozenset()
-
-
-class Frozen(NamedTuple):
-    """A release that an office has: when it is published and was frozen, in seconds as texts, and its carry list."""
-
-    publishes: str
-    frozen_at: str
-    carry: frozenset[str]
-
-
-class Known(NamedTuple):
-    """What an office has already that is being added to, all as texts: keys by collector; the fields of items and the
-    names of outlets; places as slots have them and as they were first given; windows by month; hand-overs; the rows of
-    plans by year; releases by month and revision; and what stands of the prices of a month."""
-
-    keys: dict[str, str]
-    items: dict[str, tuple[str, ...]]
-    outlets: dict[str, str]
-    places: tuple[Place, ...]
-    given: frozenset[Place]
-    windows: dict[str, Window]
-    handovers: frozenset[tuple[str, ...]]
-    plans: dict[str, frozenset[tuple[str, ...]]]
-    releases: dict[tuple[str, str], Frozen]
-    prices_of: Callable[[str], Iterable[Standing]]
-
-
-NOTHING = Known({}, {}, {}, (), frozenset(), {}, frozenset(), {}, {}, lambda _: ())
 
 
 class Bundles:
@@ -155,11 +90,11 @@ class OfficeFiles:
     def in_order(self) -> Taken:
         """All rows, as an office would have sent them."""
         before = self._before
-        before += bundled(0, DESK, self._new("items", self._registered("item", "items"), self._is_item))
-        before += bundled(0, DESK, self._new("outlets", self._registered("outlet", "outlets"), self._is_outlet))
-        before += bundled(0, DESK, self._new("collectors", self._collectors(), self._is_collector))
+        before += bundled(0, DESK, self._new("items", self._registered("item", "items")))
+        before += bundled(0, DESK, self._new("outlets", self._registered("outlet", "outlets")))
+        before += bundled(0, DESK, self._new("collectors", self._collectors()))
         slots = self._slots()
-        before += bundled(0, DESK, self._new("series", self._assigned(slots), self._is_assigned))
+        before += bundled(0, DESK, self._new("series", self._assigned(slots)))
         before += self._plans()
         self._read_prices(slots)
         self.taken.problems += map(problem_of, self._source.unread)
@@ -254,10 +189,10 @@ class OfficeFiles:
 
     # ---- what an office has already
 
-    def _new(self, name: str, rows: Iterable[Sent], stands: Callable[[Sent], bool]) -> Iterator[Sent]:
-        """The rows that don't stand in the office already; the others are counted."""
+    def _new(self, name: str, rows: Iterable[Sent]) -> Iterator[Sent]:
+        """The rows that the office doesn't have already; the others are counted."""
         for row in rows:
-            if stands(row):
+            if self._known.has(row):
                 self.taken.standing[name] += 1
             else:
                 yield row
@@ -265,27 +200,11 @@ class OfficeFiles:
     def _count_standing(self) -> None:
         """Counts the months' rows that stand in the office already."""
         standing = self.taken.standing
-        standing["handovers"] = sum(map(self._is_handed, self._rows("handovers")))
+        standing["handovers"] = sum(map(self._known.has_handover, self._rows("handovers")))
         for own in self._releases.values():
             standing["releases"] += sum(self._is_frozen(it, turn) for turn, it in enumerate(by_revision(own), 1))
         for month, row in self._windows.items():
             standing["calendar"] += self._is_same(self._window(month, row), self._known.windows.get(month))
-
-    def _is_item(self, row: Sent) -> bool:
-        return self._known.items.get(row.fields[1]) == (*row.fields[1:],)
-
-    def _is_outlet(self, row: Sent) -> bool:
-        return self._known.outlets.get(row.fields[1]) == row.fields[2]
-
-    def _is_collector(self, row: Sent) -> bool:
-        return self._known.keys.get(row.fields[1]) == row.fields[2]
-
-    def _is_assigned(self, row: Sent) -> bool:
-        place = Place(*row.fields[1:])
-        return place in self._known.given or place in self._known.places
-
-    def _is_handed(self, row: Row) -> bool:
-        return tuple(row[it] for it in MOVED) in self._known.handovers
 
     def _is_frozen(self, release: Row, turn: int) -> bool:
         """Whether a release stands so, as far as its row tells it."""
@@ -349,7 +268,7 @@ class OfficeFiles:
         self.taken.warnings += rows.warnings
         self.taken.weighed += rows.weighed
         for year, own in by_year.items():
-            if self._known.plans.get(year) == frozenset(tuple(row.fields) for row in own):
+            if self._known.has_plan(year, own):
                 self.taken.standing["plans"] += 1
             else:
                 yield Bundle(0, DESK, own, year)
@@ -358,15 +277,15 @@ class OfficeFiles:
 
     def _read_prices(self, slots: Sequence[str]) -> None:
         """Stores what was priced; what is wrong with the sheet is told."""
-        faults: list[SheetFault] = []
+        sheet, faults = None, []
         try:
             sheet = self._source.streamed("prices")
-            if sheet:
-                of_cells = self._store_prices(sheet, slots)
-                faults = [*sheet.faults, *of_cells]
-                self.taken.warnings += sheet.warnings
+            faults = self._store_prices(sheet, slots) if sheet else []
         except BadSheet as bad:
             faults = [bad.fault]
+        if sheet:
+            faults = [*sheet.faults, *faults]
+            self.taken.warnings += sheet.warnings
         self.taken.problems += map(problem_of, faults)
 
     def _store_prices(self, sheet: Sheet, slots: Sequence[str]) -> list[SheetFault]:
@@ -379,7 +298,7 @@ class OfficeFiles:
             for row, slot in zip(self._rows("series"), slots)
         ]
         handed = sorted(self._rows("handovers"), key=lambda row: row["month"])
-        cells.place([*self._known.places, *series], [it for it in handed if not self._is_handed(it)])
+        cells.place([*self._known.places, *series], [it for it in handed if not self._known.has_handover(it)])
         store = self._store
         store.file = sheet.file
         store.fill(cells.prices())
@@ -414,7 +333,7 @@ class OfficeFiles:
 
     def _month(self, month: str, handed: Sequence[Row], releases: Sequence[Row]) -> Iterator[Bundle]:
         """A month's windows, hand-overs, quotes and freezes, revision by revision, and then what came later."""
-        new = [it for it in handed if not self._is_handed(it)]
+        new = [it for it in handed if not self._known.has_handover(it)]
         moved = bundled(0, DESK, (Sent(["handover", *(row[it] for it in MOVED)], row.origin, MOVED) for row in new))
         own, now = self._windows.get(month), self._known.windows.get(month)
         for turn, release in enumerate(by_revision(releases), 1):

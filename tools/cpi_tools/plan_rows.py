@@ -8,7 +8,7 @@ from collections.abc import Iterator, Sequence
 from fractions import Fraction
 from typing import NamedTuple, Optional
 
-from .cells import Origin, Row, SheetFault, shown
+from .cells import Origin, Row, SheetFault
 from .numbers_of_texts import Numbers, decimal
 from .sent import FIELDS, Sent
 from .terminal import counted

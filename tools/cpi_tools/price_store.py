@@ -90,8 +90,10 @@ class PriceStore:
     def fill(self, prices: Iterable[Price]) -> None:
         """Stores prices, in the order of the sheet, and makes them quick to find by month."""
         rows = ((None, *it[:8], self._form(it.columns), *it[9:]) for it in prices)
-        self._link.executemany(f"INSERT INTO price VALUES (?{', ?' * 11})", rows)
-        self._link.execute("CREATE INDEX by_month ON price (month, turn, collector, slot)")
+        try:
+            self._link.executemany(f"INSERT INTO price VALUES (?{', ?' * 11})", rows)
+        finally:
+            self._link.execute("CREATE INDEX by_month ON price (month, turn, collector, slot)")
 
     def _form(self, columns: tuple[str, ...]) -> int:
         """The number of some columns; there are few of them."""

@@ -4,7 +4,8 @@ from __future__ import annotations
 
 from collections.abc import Iterator
 
-from .office_files import WINDOW, Frozen, Known, Window
+from .known import Frozen, Known, Window
+from .office_sheets import WINDOW
 from .price_cells import Place
 from .price_store import Standing
 from .stored import Quote, StoredOffice

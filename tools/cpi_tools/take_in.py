@@ -22,7 +22,9 @@ from .converted import converted
 from .copying import private_copy
 from .judge import Judge, Judged, moments_of
 from .numbers_of_texts import decimal
-from .office_files import NOTHING, SHEETS, Known, OfficeFiles, Options, Taken
+from .known import NOTHING, Known
+from .office_files import OfficeFiles, Options, Taken
+from .office_sheets import SHEETS
 from .others import Worded
 from .private_files import private_file, write_rows as write_rows
 from .program import Cpi, add_program

@@ -16,7 +16,7 @@ from collections.abc import Iterable, Iterator, Sequence
 from pathlib import Path
 
 from .copying import private_copy
-from .office_files import SHEETS
+from .office_sheets import SHEETS
 from .price_cells import COMPARABLE, MISSING, PRICE, REASONS
 from .private_files import write_rows
 from .program import Cpi, add_program
