@@ -187,9 +187,9 @@ function bringIntoSight(element, frames = 2) {
   if (frames) requestAnimationFrame(() => bringIntoSight(element, frames - 1));
 }
 
-/** Whether nothing of an element lies below the head of the page, or outside the window. */
+/** Whether nothing of a row or a button lies below the head of the page, or outside the window. */
 function isInSight(element) {
-  const { top, bottom } = element.getBoundingClientRect();
+  const { top, bottom } = (element.closest("li") ?? element).getBoundingClientRect();
   return top >= find("head").getBoundingClientRect().bottom && bottom <= innerHeight;
 }
 
