@@ -10,11 +10,14 @@ LEAST_PIXELS = 44
 """What is touched is at least so wide and high, links in a text aside."""
 
 SEEN = """
+const [sheet] = document.styleSheets, whole = "* { content-visibility: visible !important; }";
+if (![...sheet.cssRules].some((rule) => rule.cssText === whole)) sheet.insertRule(whole);
 const open = document.querySelector("dialog[open]");
 const isSeen = (element) => element.checkVisibility({ checkOpacity: true, checkVisibilityCSS: true })
   && (!open || element.closest("dialog[open]"));
 const all = (selector) => [...document.querySelectorAll(selector)].filter(isSeen);
 """
+"""What is seen, or will be once it is scrolled to: a browser needn't have laid that out by itself."""
 
 COLOURS = (
     SEEN
