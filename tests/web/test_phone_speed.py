@@ -1,0 +1,114 @@
+"""The collectors' page on a slow phone: 400 rows at a sixth of the processor's speed.
+
+The machine may be at other work, so of each step the best of three series counts.
+"""
+
+from __future__ import annotations
+
+import statistics
+from collections.abc import Iterator
+
+import pytest
+
+from long_list import give_list
+from offices import NOBODY, NOW
+from phone import Phone
+from stage import Stage
+
+ROWS, TIMES, SERIES, SAVES = 400, 6, 3, 20
+
+SAVE, MOST = 150, 300
+"""Milliseconds from Save to the next form, in the middle and at most."""
+
+STEP, START = 500, 3000
+"""Milliseconds of any other step, and from the address to the list: so much as a busy machine may need."""
+
+SAVED = """
+const field = document.getElementById("price"), entry = document.getElementById("entry"), times = [];
+const frame = () => new Promise((end) => requestAnimationFrame(end));
+for (let count = 0; count < arguments[0]; count += 1) {
+  const before = entry.dataset.entry;
+  field.value = "2.10";
+  field.dispatchEvent(new Event("input", { bubbles: true }));
+  await new Promise((end) => setTimeout(end, 120));
+  const begun = performance.now();
+  document.getElementById("entry-save").click();
+  do await frame(); while (entry.dataset.entry === before || document.activeElement !== field || field.value);
+  times.push(performance.now() - begun);
+}
+return times;
+"""
+"""Milliseconds from each click on Save to the frame in which the next row's price has the focus."""
+
+STEPS = {
+    "what is to do": "find('show-todo').click()",
+    "what is stored": "find('show-quotes').click()",
+    "all": "find('show-all').click()",
+    "a letter in the search": "type('r')",
+    "a word in the search": "type('shop 110')",
+    "nothing in the search": "type('')",
+    "an outlet is folded": "document.querySelector('summary').click()",
+    "an outlet is opened": "document.querySelector('summary').click()",
+    "a jump": "find('jump').click()",
+}
+"""What a collector does, as the page's own events."""
+
+TIMED = """
+const find = (id) => document.getElementById(id), begun = performance.now();
+const type = (text) => { find("search").value = text; find("search").dispatchEvent(new Event("input")); };
+const steps = %s;
+const times = [];
+for (const step of steps) {
+  const begun = performance.now();
+  step();
+  await new Promise((end) => requestAnimationFrame(() => setTimeout(end)));
+  times.push(performance.now() - begun);
+  await new Promise((end) => setTimeout(end, 100));
+}
+return times;
+"""
+"""Milliseconds of each step, until its frame is drawn."""
+
+
+@pytest.fixture
+def slow(phone: Phone, stage: Stage) -> Iterator[Phone]:
+    """The page with its list, on a slow phone."""
+    give_list(stage, ROWS)
+    phone.sign_in(NOBODY)
+    with phone.browser.slowed(TIMES):
+        yield phone
+
+
+def test_the_next_form_comes_at_once(slow: Phone, stage: Stage) -> None:
+    slow.edit(1)
+    found = []
+    for _ in range(SERIES):
+        times = slow.browser.run_until(SAVED, SAVES)
+        found.append((max(times), statistics.median(times)))
+        if max(times) < SAVE:
+            break  # (the machine was at rest)
+    print(
+        f"from Save to the next form: {[tuple(round(it) for it in each) for each in found]} ms at most and in the middle"
+    )
+    assert min(middle for _, middle in found) < SAVE and min(most for most, _ in found) < MOST
+    slow.browser.wait_text("#line", "All sent")
+    assert len(stage.quotes(NOBODY, NOW)) == SAVES * len(found)
+
+
+def test_no_other_step_keeps_a_collector_waiting(slow: Phone) -> None:
+    steps = ", ".join(f"() => {step}" for step in STEPS.values())
+    series = [slow.browser.run_until(TIMED % f"[{steps}]") for _ in range(SERIES)]
+    best = {name: round(min(times)) for name, times in zip(STEPS, zip(*series))}
+    print(f"at a sixth of the speed, in ms: {best}")
+    assert {name: time for name, time in best.items() if time >= STEP} == {}
+
+
+def test_the_list_is_there_soon_after_the_page_is_opened(slow: Phone) -> None:
+    """From the phone's own files and its kept list."""
+    shown = "return document.querySelectorAll('[data-slot]').length === arguments[0] ? performance.now() : 0"
+    found = []
+    for _ in range(SERIES):
+        slow.open()
+        found.append(slow.browser.wait(lambda: slow.browser.run(shown, ROWS), "the list"))
+    print(f"from the address to the list: {[round(it) for it in found]} ms")
+    assert min(found) < START
