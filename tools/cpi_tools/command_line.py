@@ -9,6 +9,7 @@ from collections.abc import Iterator, Sequence
 from typing import Optional
 
 from . import backup, calendar_file, desk, doctor, drill, explain, keys, next_year, probe, publish, take_in, take_out
+from .csv_files import formulas_told
 from .output import shown_outputs
 from .terminal import Fault, ToolWords, ends_by_signals, is_line
 from .version import ShowVersion
@@ -74,6 +75,6 @@ def _ran(chosen: argparse.Namespace, others: Sequence[str], words: Sequence[str]
     if others:
         # (told by the tool whose words they were to be, which has its own status for it)
         chosen.words.error(f"unrecognized arguments: {' '.join(others)}")
-    with ends_by_signals():
+    with ends_by_signals(), formulas_told(f"cpi-tools {chosen.tool}", getattr(chosen, "safe_csv", None)):
         status: int = chosen.run(chosen)
         return status

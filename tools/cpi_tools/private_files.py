@@ -3,12 +3,12 @@
 from __future__ import annotations
 
 import contextlib
-import csv
 import os
 from collections.abc import Iterable, Iterator, Sequence
 from pathlib import Path
 from typing import TextIO
 
+from .csv_files import Writer
 from .terminal import naming
 
 
@@ -24,6 +24,6 @@ def private_file(path: Path) -> Iterator[TextIO]:
 def write_rows(path: Path, heads: Sequence[str], rows: Iterable[Sequence[object]]) -> None:
     """Writes a CSV file of mode 0600, in place of one that is there."""
     with private_file(path) as file:
-        out = csv.writer(file, lineterminator="\n")
+        out = Writer(file)
         out.writerow(heads)
         out.writerows(rows)

@@ -13,6 +13,7 @@ from collections.abc import Callable
 from pathlib import Path
 from typing import NamedTuple, Optional
 
+from .csv_files import add_safe_csv
 from .folders import refuse_shared, written_folder
 from .pack.config import FORMS, Config, read_config
 from .pack.manifest import (
@@ -177,6 +178,7 @@ def add_words(tools: argparse._SubParsersAction[ToolWords]) -> None:
     to.add_argument("--out", type=Path, metavar="FOLDER", help="where the pack is written")
     to.add_argument("--check", type=Path, metavar="FOLDER", help="write nothing: tell which files of a pack differ")
     add("--previous", type=Path, metavar="MANIFEST", help="the manifest before, where the pack stands elsewhere")
+    add_safe_csv(words)
     add_program(words)
     words.set_defaults(run=run, tool="publish", words=words)
 

@@ -2,10 +2,11 @@
 
 from __future__ import annotations
 
-import csv
 from collections.abc import Iterable, Sequence
 from pathlib import Path
 from typing import NamedTuple, Union
+
+from . import csv_files
 
 Cell = Union[str, int, None]
 """A text, a number, or nothing."""
@@ -57,7 +58,7 @@ def write_csv(sections: Iterable[Section], folder: Path) -> None:
     """Writes each section, all its rows, as a CSV file of its key into a folder that is there."""
     for each in sections:
         with (folder / f"{each.key}.csv").open("w", encoding="utf-8", newline="") as file:
-            writer = csv.writer(file, lineterminator="\n")
+            writer = csv_files.Writer(file)
             writer.writerow([column.name for column in each.columns])
             writer.writerows(["" if cell is None else cell for cell in row] for row in each.rows)
 

@@ -17,6 +17,7 @@ from collections.abc import Iterable, Iterator, Sequence
 from pathlib import Path
 from typing import NamedTuple, Optional
 
+from . import csv_files
 from .cells import SheetFault
 from .converted import converted
 from .copying import private_copy
@@ -202,6 +203,7 @@ def add_words(tools: argparse._SubParsersAction[ToolWords]) -> None:
     words.add_argument(
         "--confirm-history", action="store_true", help="prices outside the tolerance are confirmed, and listed"
     )
+    csv_files.add_safe_csv(words)
     add_program(words)
     words.set_defaults(run=run, tool="take-in", words=words)
 

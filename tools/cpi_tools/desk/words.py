@@ -12,6 +12,7 @@ from pathlib import Path
 from typing import NamedTuple, Optional, Union
 
 from ..copying import private_copy
+from ..csv_files import add_safe_csv
 from ..folders import written_folder
 from ..program import Cpi, add_program
 from ..sections import text_of, write_csv
@@ -237,6 +238,7 @@ def _add_month(jobs: argparse._SubParsersAction[ToolWords]) -> None:
         help="how far the fences lie from the middle, in percent of the half middles' distances (%(default)s)",
     )
     add("--small", type=at_least(1), default=3, metavar="N", help="fewer series or outlets are few (%(default)s)")
+    add_safe_csv(words)
     add_program(words)
     words.set_defaults(run=run_month)
 

@@ -2,11 +2,11 @@
 
 from __future__ import annotations
 
-import csv
 from collections.abc import Iterable, Iterator, Sequence
 from pathlib import Path
 from typing import Optional
 
+from .. import csv_files
 from ..exact import Ratio, decimal, depth_of
 from .measures import (
     Contributions,
@@ -28,7 +28,7 @@ HEAD = ("month", "revision", "published", "code", "depth", "title", "weight", "i
 def write_rows(path: Path, head: Sequence[str], rows: Iterable[Sequence[object]]) -> None:
     """Writes a CSV file."""
     with path.open("w", encoding="utf-8", newline="") as file:
-        writer = csv.writer(file, lineterminator="\n")
+        writer = csv_files.Writer(file)
         writer.writerow(head)
         writer.writerows(rows)
 
