@@ -202,6 +202,112 @@ def test_a_window_and_a_freeze_with_its_carry_list(desk: Browser, stage: Stage) 
     assert stage.ask("GET", "/api/table/2011-03/text/1").status == 200
 
 
+# ---- a table that comes out before one that it is computed from
+
+EARLY = (
+    "Warning. The table of {} comes out before that of {}, which it is computed from. In between everybody can compute"
+)
+LATER = "Before {} is frozen, set a later publishing moment for it, or an earlier one for {}."
+
+
+def window(desk: Browser, month: str, publishes: str) -> str:
+    """Sets a window by the office's clock, in the month itself; what the card says besides that it stands."""
+    desk.type("#calendar-month", month)
+    times = {"opens": f"{month}-01T06:00", "closes": f"{month}-24T18:00", "publishes": publishes}
+    for name, value in times.items():
+        desk.choose(f"calendar-{name}", value)
+    sent(desk, "calendar", "The window stands.")
+    desk.wait_text("#calendar-told", "calendar")
+    return desk.text("#calendar-told")
+
+
+def test_a_window_that_lets_a_table_out_too_early_is_told(desk: Browser) -> None:
+    """Of the month before, of December and of a year before; by one clock, for what two clocks say isn't compared."""
+    months = ("2011-03", "2011-04", "2011-12")
+    rows = "".join(f"calendar,{month},6000,7000,{moment}\n" for month, moment in zip(months, (9000, 8000, 9500)))
+    desk.type("#records-text", rows)
+    sent(desk, "records", EARLY.format("April 2011", "March 2011"))
+    told = desk.text("#records-told")
+    assert "from it each level of March 2011, to about 0.05 percent: the row’s chained level, divided by 1 plus" in told
+    assert LATER.format("April 2011", "March 2011") in told and told.count("Warning.") == 1
+    desk.type("#records-text", "calendar,2012-02,6000,7000,9400\ncalendar,2012-04,6000,7000,7999\n")
+    sent(desk, "records", EARLY.format("February 2012", "December 2011"))
+    told = desk.text("#records-told")
+    assert (
+        "each level of December 2011, to a millionth or two: 100 times the row’s chained level, divided by its" in told
+    )
+    assert EARLY.format("April 2012", "December 2011") in told and EARLY.format("April 2012", "April 2011") in told
+    assert (
+        "each level of April 2011, to about 0.05 percent: the row’s chained level, divided by 1 plus its annual" in told
+    )
+    assert told.count("Warning.") == 3
+    # (neither the same moment nor one by another clock is later)
+    for moment in ("9000", "2011-04-28T09:30"):
+        desk.type("#records-text", f"calendar,2011-04,6000,7000,{moment}\ncalendar,2012-04,6000,7000,9999\n")
+        sent(desk, "records", "2 accepted, 0 refused of 2")
+        desk.wait_text("#records-told", "calendar.json")
+        assert "Warning." not in desk.text("#records-told")
+
+
+def test_a_revision_is_warned_of_as_soon_as_its_window_is_set(desk: Browser) -> None:
+    told = window(desk, "2011-02", "2011-04-30T09:30")
+    known = (
+        "A table of February 2011 is published already, so this moment is that of a further revision. If the table of"
+    )
+    assert f"Warning. {known} March 2011 comes out before it, everybody can compute the revision’s levels" in told
+    assert "This page doesn’t know the moment of March 2011." in told
+    assert EARLY.format("March 2011", "February 2011") in window(desk, "2011-03", "2011-04-28T09:30")
+    assert "Warning." not in window(desk, "2011-03", "2011-04-30T09:30")
+    told = window(desk, "2011-02", "2011-05-01T09:30")
+    assert EARLY.format("March 2011", "February 2011") in told and known not in told
+
+
+@pytest.mark.parametrize("scheme", ["light", "dark"])
+def test_a_freeze_that_lets_a_table_out_too_early_is_asked_about(desk: Browser, stage: Stage, scheme: str) -> None:
+    desk.shown_as(scheme)
+    desk.size(360, 800)
+    desk.type("#records-text", "calendar,2011-02,6000,7000,9000\ncalendar,2011-03,6000,7000,8000\n")
+    sent(desk, "records", EARLY.format("March 2011", "February 2011"))
+    desk.type("#freeze-month", "2011-03")
+    desk.type("#freeze-carry", "01.1.1.1-01 01.1.1.2-01")
+    sent(desk, "freeze", EARLY.format("March 2011", "February 2011"))
+    # (of another form than below: the front keeps for a second that there is none)
+    assert stage.ask("GET", "/api/table/2011-03/csv/1").status == 404
+    assert [*faults_of_page(desk), *faults_for_keys(desk), *faults_enlarged(desk)] == []
+    # (the button is of that month: another one that is typed meanwhile is asked about too)
+    desk.type("#freeze-month", "2011-02")
+    desk.click("#freeze-told button")
+    assert LATER.format("March 2011", "February 2011") in desk.text("#freeze-told")
+    desk.type("#freeze-month", "2011-03")
+    desk.click("#freeze button.main")
+    desk.click("#freeze-told button")
+    desk.wait_text("#freeze-told", "The month is frozen.")
+    assert stage.ask("GET", "/api/table/2011-03/text/1").status == 200
+    assert len([month for month, _, _ in stage.ask("GET", "/api/tables").reply["tables"] if month == "2011-02"]) == 2
+
+
+def test_a_file_that_freezes_says_what_cannot_be_changed_any_more(desk: Browser) -> None:
+    """February again, frozen with March after it: of February alone March could still be moved."""
+    february = "calendar,2011-02,6000,7000,9000\nfreeze,2011-02,01.1.1.1-01,01.1.1.2-01\n"
+    desk.type("#records-text", f"{february}calendar,2011-03,6000,7000,8000\n")
+    sent(desk, "records", EARLY.format("March 2011", "February 2011"))
+    told = desk.text("#records-told")
+    assert "Before March 2011 is frozen, set a later publishing moment for it." in told and "an earlier one" not in told
+    desk.type("#records-text", "freeze,2011-03,01.1.1.1-01,01.1.1.2-01\n")
+    sent(desk, "records", EARLY.format("March 2011", "February 2011"))
+    assert "That can’t be changed any more." in desk.text("#records-told")
+
+
+def test_a_freeze_after_its_window_was_put_right_is_sent_at_once(desk: Browser) -> None:
+    desk.type("#records-text", "calendar,2011-02,6000,7000,9000\ncalendar,2011-03,6000,7000,8000\n")
+    sent(desk, "records", "Warning.")
+    desk.type("#records-text", "calendar,2011-03,6000,7000,9000\n")
+    sent(desk, "records", "1 accepted, 0 refused of 1")
+    desk.type("#freeze-month", "2011-03")
+    desk.type("#freeze-carry", "01.1.1.1-01 01.1.1.2-01")
+    sent(desk, "freeze", "The month is frozen.")
+
+
 # ---- the deadline file
 
 SERVED = {

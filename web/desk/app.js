@@ -5,6 +5,7 @@ import { find, make } from "../shared/dom.js";
 import { thisMonth } from "../shared/months.js";
 import { toDesk } from "../shared/refusals.js";
 import * as calendar from "./calendar.js";
+import * as embargo from "./embargo.js";
 import { sendRecords, stop } from "./records.js";
 import { bearer, busy, bytesOf, hasKey, noAnswer, takesFiles, tell } from "./told.js";
 
@@ -60,19 +61,32 @@ async function setWindow() {
   const fields = ["month", "opens", "closes", "publishes"].map((name) => find(`calendar-${name}`).value);
   const reply = await send("calendar-told", "calendar", () => one(["calendar", ...fields]), "The window stands.");
   if (!reply?.done) return;
-  calendar.carriedOut(["calendar", ...fields]);
+  for (const part of [calendar, embargo]) part.carriedOut(["calendar", ...fields]);
+  await embargo.warn("calendar-told");
   await calendar.offer("calendar-told");
 }
 
-async function freeze() {
+/** Freezes the month that is typed. A table that comes out too early is told first, but if it is the month meant. */
+async function freeze(meantMonth = null) {
   if (!hasKey("freeze-told")) return;
+  const month = find("freeze-month").value;
+  const early = month === meantMonth ? [] : embargo.warnings(month);
+  if (early.length) {
+    const sameMonth = { type: "button", class: "warn", onclick: () => freeze(month) };
+    find("freeze-told").replaceChildren(...early.map(embargo.notice), make("button", sameMonth, "Freeze all the same"));
+    return;
+  }
   const codes = find("freeze-carry").value.split(/[\s,]+/).filter(Boolean);
-  const asked = () => one(["freeze", find("freeze-month").value, ...codes]);
+  const asked = () => one(["freeze", month, ...codes]);
   const reply = await send("freeze-told", "freeze", asked, "The month is frozen.");
+  if (reply?.done) {
+    embargo.carriedOut(["freeze", month]);
+    await embargo.warn("freeze-told");
+  }
   if (reply?.refused !== 49 || reply.fault !== 2) return;
   const carried = () => {
     find("freeze-carry").value = [...codes, reply.code].join(" ");
-    return freeze();
+    return freeze(month);
   };
   const words = `Put ${reply.code} on the carry list and freeze again`;
   find("freeze-told").append(make("button", { type: "button", class: "warn", onclick: carried }, words));

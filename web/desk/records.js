@@ -4,6 +4,7 @@ import { bodiesOf, fieldsOf, linesOf, rowsOf } from "../shared/csv.js";
 import { find, make } from "../shared/dom.js";
 import { toDesk } from "../shared/refusals.js";
 import * as calendar from "./calendar.js";
+import * as embargo from "./embargo.js";
 import { bearer, busy, bytesOf, hasKey, noAnswer, tell } from "./told.js";
 
 const ROWS = 200; // rows of one import: collectors are served between two
@@ -30,6 +31,7 @@ async function sent() {
   }
   find("records-stop").hidden = false;
   await sendBodies(bodies, linesOf(data, rows));
+  await embargo.warn(PLACE);
   await calendar.offer(PLACE);
   find("records-stop").hidden = true;
 }
@@ -59,7 +61,8 @@ async function sendBody(rows, body, told) {
       if (answer.refused) told.refused.push({ line: told.lines[told.answered + n], row: rows[n], answer });
       else {
         told.done += 1;
-        calendar.carriedOut(fieldsOf(new TextDecoder().decode(rows[n])));
+        const fields = fieldsOf(new TextDecoder().decode(rows[n]));
+        for (const part of [calendar, embargo]) part.carriedOut(fields);
       }
     }
     told.answered += rows.length;
