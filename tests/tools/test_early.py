@@ -14,6 +14,7 @@ from typing import NamedTuple
 import pytest
 
 import surveys
+from cpi_tools.desk.early import LINK, MONTH, WEIGHTS, YEAR, ways
 from cpi_tools.program import LAST_MOMENT, Cpi, record
 from ran import run
 from surveys import DAY, MONTHS, bytes_of, closes, opens, publishes
@@ -118,6 +119,14 @@ def test_what_the_warning_says_can_be_computed(cpi: Cpi, tmp_path: Path, case: C
     assert compared >= 4
     fuel = case.found(public["07.2.2.2-01"], december)
     assert abs(fuel[0] - Fraction(shown["07.2.2.2-01"][3])) > 10 * fuel[1]
+
+
+def test_of_two_ways_the_one_with_levels_is_told() -> None:
+    """January 2027 by a plan whose reference month is a year before, and one whose reference month is December."""
+    assert [*ways(202701, 202601).items()] == [(202601, YEAR), (202612, LINK)]
+    assert [*ways(202701, 202612).items()] == [(202612, LINK), (202601, YEAR)]
+    assert ways(202706, 202607) == {202607: WEIGHTS, 202606: YEAR, 202705: MONTH, 202612: LINK}
+    assert ways(202712, None) == {202711: MONTH, 202612: LINK}
 
 
 def test_a_revision_that_would_come_out_too_late_is_told_before_it_is_frozen(cpi: Cpi, tmp_path: Path) -> None:

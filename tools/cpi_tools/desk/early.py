@@ -56,10 +56,8 @@ class Early(NamedTuple):
 def ways(month: int, reference: Optional[int]) -> dict[int, str]:
     """The earlier months that the table of a month is computed from, and what can be computed of each; `reference` is
     the month whose prices the weights of the year's plan are of."""
-    found = {month - 100: YEAR, month_before(month): MONTH}
-    if reference:
-        found[reference] = WEIGHTS
-    return {**found, link_month(month): LINK}
+    found = {reference: WEIGHTS} if reference else {}
+    return {**found, month - 100: YEAR, month_before(month): MONTH, link_month(month): LINK}
 
 
 class Moments:
