@@ -6,6 +6,7 @@ import contextlib
 import socket
 import threading
 import time
+from typing import Optional
 
 
 class Relay:
@@ -13,6 +14,7 @@ class Relay:
 
     So many replies to commands as `lose` says are taken from the office and thrown away: `lost` is set once one is, and
     the front hears nothing, not even the end, while `paused` is set. While `held` is set, replies to commands wait.
+    Another answer may take the place of each reply to a command (`answers_instead`), until the office answers itself again.
     """
 
     def __init__(self, port: int, to: int):
@@ -21,13 +23,16 @@ class Relay:
         self.seen: list[tuple[bytes, bytes]] = []
         self.lost, self.paused, self.held = threading.Event(), threading.Event(), threading.Event()
         self.lose = 0
+        self.times: list[float] = []
+        self.instead: Optional[tuple[bytes, bool]] = None
         self.listener = socket.create_server(("127.0.0.1", port), backlog=256)
         threading.Thread(target=self._accept, daemon=True).start()
 
     def fresh(self) -> None:
         """As if it had just begun."""
         self.lose = 0
-        self.seen = []
+        self.seen, self.times = [], []
+        self.instead = None
         for event in (self.lost, self.paused, self.held):
             event.clear()
 
@@ -44,6 +49,14 @@ class Relay:
         """What the office was asked: method and path."""
         return [b" ".join(head.split(b" ", 2)[:2]).decode() for head, _ in self.seen]
 
+    def answers_instead(self, answer: bytes, is_stored: bool) -> None:
+        """Each reply to a command is this one, and its connection ends; the office has it if it `is_stored`."""
+        self.instead = (answer, is_stored)
+
+    def answers(self) -> None:
+        """The office answers itself."""
+        self.instead = None
+
     def _accept(self) -> None:
         while True:
             client, _ = self.listener.accept()
@@ -56,9 +69,16 @@ class Relay:
                 return
             with self.lock:
                 self.seen.append((head, body))
+                self.times.append(time.monotonic())
+            is_command = not head.startswith(b"GET")
+            instead = self.instead if is_command else None
+            if instead and not instead[1]:
+                client.sendall(instead[0])
+                return
             office.sendall(head + b"\r\n\r\n" + body)
             reply = b"".join(iter(lambda: office.recv(65536), b""))
-            is_command = not head.startswith(b"GET")
+            if instead:
+                reply = instead[0]
             if is_command and self._is_lost():
                 return
             while is_command and self.held.is_set():

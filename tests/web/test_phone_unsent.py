@@ -1,0 +1,319 @@
+"""The page of a collector counts and lists what the office hasn't stored, tries it again, and lets it be taken out."""
+
+from __future__ import annotations
+
+import time
+from pathlib import Path
+
+from selenium.webdriver.common.keys import Keys
+
+from offices import ANNA, BEFORE, NOW, month_now
+from phone import Phone
+from stage import Stage
+
+from unsent import (
+    CLOSED, NEXT, OPEN, act, clock_faster, desk, file_of, listed, press_alarm, put, rows_of, stored, tops, wait_alarm,
+    without_line,
+)  # fmt: skip
+
+CLOSED_TEXT = "The window has closed. Tell the desk; the month goes without it, unless the desk opens it again."
+
+
+def refused(phone: Phone, stage: Stage, *prices: tuple[int, str]) -> None:
+    """Signs in and enters prices of this month, whose window has closed."""
+    phone.sign_in()
+    desk(stage, CLOSED)
+    for slot, price in prices:
+        phone.enter(slot, price)
+    wait_alarm(phone, f"{len(prices)} refused")
+
+
+# ---- the head and the list
+
+
+def three_kinds(phone: Phone, stage: Stage) -> None:
+    """Entries of a window that closed, of a slot that was handed over, and of one that another device has priced."""
+    phone.sign_in()
+    phone.browser.click("#month-before")
+    phone.show("all")
+    phone.wait_told(4, "Receipt 9")
+    without_line(phone)
+    phone.enter(4, "1.10")
+    phone.browser.click("#month-after")
+    phone.enter(1, "3.10")
+    phone.enter(2, "4.90")
+    phone.browser.wait_text("#line", "No line: 3 entries kept on this phone")
+    desk(stage, f"handover,7,1,8,3,{NOW}")
+    assert put(stage, 2, "price,500") == NEXT
+    phone.browser.offline(False)
+    wait_alarm(phone, "2 refused, 1 to look at")
+
+
+def test_the_head_counts_what_isnt_stored_of_all_months_and_leads_to_it(phone: Phone, stage: Stage) -> None:
+    three_kinds(phone, stage)
+    assert phone.browser.text("#line") == ""
+    phone.send()
+    phone.browser.wait(lambda: not phone.browser.all('[data-slot="1"]'), "the slot has left the list")
+    found = press_alarm(phone)
+    assert phone.browser.run("return document.activeElement.id") == "unsent-title"
+    assert list(found) == [f"{BEFORE}/4", f"{NOW}/1", f"{NOW}/2"]
+    october, handed_over, moved = found.values()
+    assert october[0].endswith(" · <img src=x onerror=\"document.title='owned'\">")
+    assert october[1:3] == ["Milk, whole, 1 l: 1.10", CLOSED_TEXT]
+    assert handed_over[0].endswith(" · Corner shop")
+    assert handed_over[1:3] == [
+        "Rice, white, 1 kg: 3.10",
+        "The slot isn’t yours in that month, or isn’t any more. Look at the work list of the month.",
+    ]
+    assert moved[1:3] == [
+        "Flour, wheat, 1 kg: 4.90",
+        f"The office has 5.00 (receipt {NEXT}), stored since this was written. Which one is right?",
+    ]
+
+
+def test_all_sent_is_said_once_nothing_is_left_on_the_phone(phone: Phone, stage: Stage) -> None:
+    three_kinds(phone, stage)
+    press_alarm(phone)
+    for slot, month, left in ((4, BEFORE, "1 refused, 1 to look at"), (1, NOW, "1 to look at"), (2, NOW, "")):
+        assert phone.browser.text("#line") == ""
+        act(phone, "drop", slot, month)
+        phone.browser.click('#dropping [value="drop"]')
+        wait_alarm(phone, left)
+    assert phone.browser.text("#line") == "All sent"
+    assert not phone.browser.find("#unsent").is_displayed()
+    phone.open()
+    phone.browser.wait_text("#line", "All sent")
+    assert stored(stage) == [[2, 500, NEXT]]
+
+
+def test_an_entry_is_dropped_after_a_question_that_escape_answers_with_no(phone: Phone, stage: Stage) -> None:
+    refused(phone, stage, (1, "3.10"), (2, "4.90"))
+    press_alarm(phone)
+    act(phone, "drop", 1)
+    asked = phone.browser.text("#dropping-text")
+    assert asked.startswith("Rice, white, 1 kg: 3.10, ") and ", Corner shop. The office hasn’t stored it" in asked
+    phone.press(Keys.ESCAPE)
+    phone.browser.wait(lambda: not phone.browser.find("#dropping").is_displayed(), "the question is gone")
+    assert list(listed(phone)) == [f"{NOW}/1", f"{NOW}/2"]
+    act(phone, "drop", 1)
+    phone.press(Keys.ENTER)  # (what has the focus keeps it)
+    phone.browser.wait(lambda: not phone.browser.find("#dropping").is_displayed(), "the question is gone")
+    assert phone.browser.text("#alarm") == "2 refused"
+    act(phone, "drop", 1)
+    phone.browser.click('#dropping [value="drop"]')
+    wait_alarm(phone, "1 refused")
+    assert list(listed(phone)) == [f"{NOW}/2"]
+    phone.open()
+    wait_alarm(phone, "1 refused")
+    assert "To do" in phone.told(1)
+
+
+def test_a_refused_correction_shows_what_the_office_still_has(phone: Phone) -> None:
+    phone.sign_in()
+    phone.browser.click("#month-before")
+    phone.show("all")
+    phone.wait_told(1, "Receipt 7")
+    phone.enter(1, "3.10")
+    phone.wait_told(1, "Refused")
+    assert phone.told(1).split("\n") == ["3.10", "Refused", "Stored: 3.20"]
+    assert phone.browser.text("#progress").startswith("3 of 4 stored")
+
+
+# ---- tried again
+
+
+def test_what_was_refused_for_a_while_is_stored_by_itself_once_its_window_opens(phone: Phone, stage: Stage) -> None:
+    """Of this month the window has closed, of the next it isn't open yet."""
+    after = month_now(1)
+    desk(stage, f"calendar,{after},9999999997,9999999998,9999999999")
+    with clock_faster(phone.browser, 60):
+        refused(phone, stage, (1, "3.10"))
+        phone.browser.click("#month-after")
+        phone.browser.wait(lambda: phone.month() == after and slots(phone), "the list of the next month")
+        phone.enter(2, "4.90")
+        wait_alarm(phone, "2 refused")
+        desk(stage, OPEN, f"calendar,{after},5000,9999999998,9999999999")
+        phone.browser.wait_text("#line", "All sent")  # (nobody touches the page)
+    assert stored(stage) == [[1, 310, NEXT]]
+    assert stage.quotes(ANNA, after) == [[2, after, "price", 490, NEXT + 1]]
+
+
+def test_what_was_refused_for_a_while_is_tried_after_one_two_and_four_minutes(phone: Phone, stage: Stage) -> None:
+    with clock_faster(phone.browser, 120):
+        refused(phone, stage, (1, "3.10"))
+        phone.browser.wait(lambda: stage.relay.rows("quote,1,") == 4, "three more tries")
+    times = [at for at, head in zip(stage.relay.times, stage.relay.asked()) if head == "POST /import"]
+    waits = [120 * (then - now) for now, then in zip(times[-4:], times[-3:])]
+    assert all(wait > 59 * 2**n for n, wait in enumerate(waits)), waits
+
+
+def test_update_tries_at_once_what_was_refused(phone: Phone, stage: Stage) -> None:
+    refused(phone, stage, (1, "3.10"))
+    desk(stage, OPEN)
+    phone.send()
+    phone.browser.wait_text("#line", "All sent")
+    assert stored(stage) == [[1, 310, NEXT]]
+
+
+def test_update_without_a_line_tries_it_once_the_line_is_back(phone: Phone, stage: Stage) -> None:
+    refused(phone, stage, (1, "3.10"))
+    without_line(phone)
+    phone.send()
+    desk(stage, OPEN)
+    phone.browser.offline(False)
+    phone.browser.wait_text("#line", "All sent")
+    assert stored(stage) == [[1, 310, NEXT]]
+
+
+def test_a_price_that_the_office_alone_finds_far_isnt_tried_again(phone: Phone, stage: Stage) -> None:
+    """The phone's list has no last price yet, so it asks for no second look itself."""
+    phone.sign_in()
+    desk(stage, f"calendar,{BEFORE},4000,9999999998,9999999999")
+    stage.ask("PUT", f"/api/quote/3/{BEFORE}", ANNA, "price,100")
+    phone.enter(3, "9.99")
+    wait_alarm(phone, "1 to look at")
+    assert "Look again" in phone.told(3)
+    phone.send()
+    time.sleep(0.5)
+    assert stage.relay.rows("quote,3,") == 1
+    press_alarm(phone)
+    act(phone, "open", 3)
+    phone.confirm()
+    phone.browser.wait_text("#line", "All sent")
+    assert stage.quotes(ANNA)[0][2:4] == ["price", 999]
+
+
+# ---- what is shown stays in its place
+
+
+def slots(phone: Phone) -> list[str]:
+    """The slots of the rows that are shown."""
+    found: list[str] = phone.browser.run(
+        "return [...document.querySelectorAll('[data-slot]')].map((it) => it.dataset.slot)"
+    )
+    return found
+
+
+def test_nothing_moves_when_what_is_listed_gets_stored(phone: Phone, stage: Stage) -> None:
+    refused(phone, stage, (1, "3.10"), (2, "4.90"))
+    press_alarm(phone)
+    act(phone, "open", 1)
+    phone.fill("3.33")
+    phone.browser.wait(lambda: phone.edited() is None, "the form is closed")
+    before = tops(phone.browser, "[data-unsent], [data-slot]")
+    desk(stage, OPEN)
+    phone.browser.run("document.getElementById('send').click();")  # (without scrolling there)
+    phone.browser.wait_text("#line", "All sent")
+    assert tops(phone.browser, "[data-unsent], [data-slot]") == before
+    assert [lines[1:] for lines in listed(phone).values()] == [
+        ["Rice, white, 1 kg: 3.33", "Stored."],
+        ["Flour, wheat, 1 kg: 4.90", "Stored."],
+    ]
+    phone.show("todo")
+    assert listed(phone) == {}
+
+
+def test_an_entry_that_is_taken_back_from_the_list_isnt_said_to_be_stored(phone: Phone, stage: Stage) -> None:
+    refused(phone, stage, (1, "3.10"), (2, "4.90"))
+    press_alarm(phone)
+    act(phone, "open", 1)
+    phone.browser.click("#entry-drop")
+    wait_alarm(phone, "1 refused")
+    assert list(listed(phone)) == [f"{NOW}/2"]
+    assert "To do" in phone.told(1)
+
+
+def test_rows_stay_in_to_do_until_a_view_is_chosen(phone: Phone, stage: Stage) -> None:
+    phone.sign_in()
+    phone.enter(1, "3.10")
+    phone.wait_told(1, f"Receipt {NEXT}")
+    phone.send()
+    phone.browser.wait(lambda: stage.relay.asked().count("GET /items") > 1, "the lists come again")
+    phone.browser.wait_text("#line", "All sent")
+    assert slots(phone) == ["1", "2", "3", "4"]
+    phone.show("todo")
+    assert slots(phone) == ["2", "3", "4"]
+
+
+def test_rows_dont_move_when_a_correction_is_stored(phone: Phone, stage: Stage) -> None:
+    phone.sign_in()
+    phone.show("all")
+    phone.enter(1, "3.10")
+    phone.wait_told(1, f"Receipt {NEXT}")
+    stage.relay.held.set()
+    phone.enter(1, "3.15")
+    phone.wait_told(1, "Stored: 3.10")
+    before = tops(phone.browser, "[data-slot]")
+    stage.relay.held.clear()
+    phone.wait_told(1, f"Receipt {NEXT + 1}")
+    assert tops(phone.browser, "[data-slot]") == before
+
+
+# ---- taken out
+
+
+HEAD = ["month", "slot", "outlet", "item", "unit", "mark", "value", "confirmed", "written", "state"]
+
+
+def test_what_isnt_stored_is_taken_out_as_a_copy_and_as_a_file(phone: Phone, stage: Stage, tmp_path: Path) -> None:
+    """Texts with commas and quotes come out as they are."""
+    outlet, item = 'The "Blue", by the river', 'Oil, "extra virgin"'
+    twice = [text.replace('"', '""') for text in (outlet, item)]
+    desk(stage, f'outlet,20,"{twice[0]}"', f'item,OIL,"{twice[1]}","1 l, glass",700,1500')
+    desk(stage, "assign,7,5,20,OIL,2010-12,2199-12")
+    refused(phone, stage, (5, "12.34"))
+    phone.enter(2, mark="missing", reason="stock")
+    wait_alarm(phone, "2 refused")
+    press_alarm(phone)
+    head, oil, flour = file_of(phone.browser, '#unsent [data-do="save"]', tmp_path)
+    assert head == HEAD
+    assert oil[:8] == [NOW, "5", outlet, item, "1 l, glass", "price", "1234", ""]
+    assert flour[:8] == [NOW, "2", "Corner shop", "Flour, wheat", "1 kg", "missing", "stock", ""]
+    assert oil[9] == flour[9] == CLOSED_TEXT
+    assert abs(time.mktime(time.strptime(oil[8][:19], "%Y-%m-%dT%H:%M:%S")) - time.mktime(time.gmtime())) < 60
+    phone.browser.cdp("Browser.grantPermissions", permissions=["clipboardReadWrite", "clipboardSanitizedWrite"])
+    phone.browser.click('#unsent [data-do="copy"]')
+    phone.browser.wait_text('#unsent [data-do="copy"]', "Copied")
+    assert rows_of(phone.browser.run_until("return navigator.clipboard.readText()")) == [head, oil, flour]
+
+
+def waits(phone: Phone, tmp_path: Path) -> None:
+    """What waits is told in the head, stays on "Stay", and can be taken out as a file."""
+    assert phone.browser.text("#line").endswith("1 to be sent")
+    assert "To be sent" in phone.told(1)
+    phone.browser.click("#leave")
+    assert "1 entry on this phone hasn’t been stored" in phone.browser.text("#leaving")
+    _, rice = file_of(phone.browser, '#leaving [data-do="save"]', tmp_path)
+    assert rice[:7] == [NOW, "1", "Corner shop", "Rice, white", "1 kg", "price", "310"]
+    assert rice[9] == "to be sent"
+    phone.browser.click('#leaving [value="stay"]')
+    assert "To be sent" in phone.told(1)
+
+
+def test_what_waits_behind_a_key_that_is_denied_can_be_taken_out(phone: Phone, stage: Stage, tmp_path: Path) -> None:
+    phone.sign_in()
+    stage.front.stop()
+    stage.front.start(lambda text: text.replace("default 0;\n", f'default 0;\n"~*{ANNA}" 1;\n', 1))
+    phone.enter(1, "3.10")
+    phone.browser.wait_text("#notice", "Nobody bears this key")
+    waits(phone, tmp_path)
+    stage.front.stop()
+    stage.front.start()
+    phone.send()
+    phone.browser.wait_text("#line", "All sent")
+    assert stored(stage) == [[1, 310, NEXT]]
+
+
+def test_what_waits_for_an_office_without_room_can_be_taken_out(phone: Phone, stage: Stage, tmp_path: Path) -> None:
+    """It refuses the whole of an import, and then the row."""
+    phone.sign_in()
+    for status, reply in (("503 Service Unavailable", '{"refused":90}'), ("200 OK", '{"rows":[{"refused":90}]}')):
+        head = f"HTTP/1.1 {status}\r\nContent-Type: application/json\r\nContent-Length: {len(reply)}\r\n\r\n"
+        stage.relay.answers_instead((head + reply).encode(), is_stored=False)
+        if "To do" in phone.told(1):
+            phone.enter(1, "3.10")
+        phone.browser.wait_text("#notice", "Memory or the disk failed. Nothing was stored")
+        waits(phone, tmp_path)
+    stage.relay.answers()
+    phone.browser.wait_text("#line", "All sent")
+    assert stored(stage) == [[1, 310, NEXT]]
