@@ -5,6 +5,7 @@ from __future__ import annotations
 import base64
 import contextlib
 import os
+import signal
 import subprocess
 import time
 from collections.abc import Callable, Iterator
@@ -71,6 +72,13 @@ class Browser:
         self.cdp("Storage.clearDataForOrigin", origin=self.url, storageTypes="all")
         self.cdp("Network.clearBrowserCache")
         self.driver.get_log("browser")
+        self.size(360, 740)
+
+    def killed(self) -> None:
+        """Chromium is killed, and another one begins over the same profile."""
+        os.kill(self.driver.capabilities["goog:processID"], signal.SIGKILL)
+        self.close()
+        self.driver = self._started("profile")
         self.size(360, 740)
 
     def cdp(self, command: str, **words: Any) -> Any:

@@ -134,8 +134,9 @@ def test_what_was_refused_for_a_while_is_stored_by_itself_once_its_window_opens(
         wait_alarm(phone, "2 refused")
         desk(stage, OPEN, f"calendar,{after},5000,9999999998,9999999999")
         phone.browser.wait_text("#line", "All sent")  # (nobody touches the page)
-    assert stored(stage) == [[1, 310, NEXT]]
-    assert stage.quotes(ANNA, after) == [[2, after, "price", 490, NEXT + 1]]
+    found = stage.quotes(ANNA) + stage.quotes(ANNA, after)
+    assert [row[:4] for row in found] == [[1, NOW, "price", 310], [2, after, "price", 490]]
+    assert sorted(row[4] for row in found) == [NEXT, NEXT + 1]
 
 
 def test_what_was_refused_for_a_while_is_tried_after_one_two_and_four_minutes(phone: Phone, stage: Stage) -> None:

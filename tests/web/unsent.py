@@ -74,8 +74,9 @@ def without_line(phone: Phone) -> None:
 
 
 FAST = """
-const later = window.setTimeout, now = Date.now.bind(Date), begun = now();
+const later = window.setTimeout, now = Date.now.bind(Date), begun = now(), abort = AbortSignal.timeout;
 window.setTimeout = (work, wait, ...words) => later(work, wait / FACTOR, ...words);
+AbortSignal.timeout = (wait) => abort.call(AbortSignal, wait / FACTOR);
 Date.now = () => begun + (now() - begun) * FACTOR;
 """
 
@@ -96,7 +97,7 @@ def file_of(browser: Browser, button: str, folder: Path) -> list[list[str]]:
     browser.cdp("Browser.setDownloadBehavior", behavior="allow", downloadPath=str(folder))
     browser.click(button)
     begun = time.monotonic()
-    while not (found := list(folder.glob("not-stored-*.csv"))):
+    while not (found := [file for file in folder.glob("not-stored-*.csv") if file.stat().st_size]):
         assert time.monotonic() - begun < SECONDS, "a file"
         time.sleep(0.03)
     text = found[0].read_bytes().decode()
