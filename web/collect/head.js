@@ -11,7 +11,7 @@ export function showHead() {
   find("line").dataset.line = state.line === "up" && waiting ? "waiting" : state.line;
   const parts = [refused && `${refused} refused`, look && `${look} to look at`].filter(Boolean);
   find("alarm").hidden = parts.length === 0;
-  find("alarm").textContent = parts.join(", ");
+  find("alarm").replaceChildren(make("span", {}, ...parts.flatMap((part, n) => [n ? ", " : "", make("span", {}, part)])));
 }
 
 function wordsOf(waiting) {
@@ -19,8 +19,9 @@ function wordsOf(waiting) {
   if (state.line === "down") return `No line${kept}`;
   if (state.line === "busy") return `The office is busy${kept}`;
   if (state.line === "odd") {
-    const unknown = waiting ? `: not known if ${counted(waiting, "entry is", "entries are")} stored` : "";
-    return `The answer made no sense${unknown}. The page asks again.`;
+    // (two lines of a small phone, so that the head doesn't grow)
+    return `${waiting ? `Not known if ${counted(waiting, "entry is", "entries are")} stored` : "The answer made no sense"}. `
+      + "The page asks again.";
   }
   if (waiting) return `${waiting} to be sent`;
   return state.entries.length === 0 ? "All sent" : "";
