@@ -119,6 +119,47 @@ def test_a_refused_correction_shows_what_the_office_still_has(phone: Phone) -> N
     assert phone.browser.text("#progress").startswith("3 of 4 stored")
 
 
+FOCUSED = "const it = document.activeElement; return it.closest('[data-unsent]')?.dataset.unsent ?? it.id;"
+
+
+def test_one_goes_through_the_list_without_losing_ones_place(phone: Phone, stage: Stage) -> None:
+    refused(phone, stage, (1, "3.10"), (2, "4.90"))
+    press_alarm(phone)
+    for keys in ((Keys.ESCAPE,), ("3.33", Keys.ENTER)):
+        act(phone, "open", 1)
+        phone.press(*keys)
+        phone.browser.wait(lambda: phone.edited() is None, "the form is closed")
+        assert phone.browser.run(FOCUSED) == f"{NOW}/1"
+    for slot, focused in ((1, "unsent-title"), (2, "show-todo")):
+        act(phone, "drop", slot)
+        phone.browser.click('#dropping [value="drop"]')
+        phone.browser.wait_text("#alarm" if slot == 1 else "#line", "1 refused" if slot == 1 else "All sent")
+        assert phone.browser.run(FOCUSED) == focused
+
+
+def test_what_waits_without_a_row_in_the_list_is_listed(phone: Phone, stage: Stage) -> None:
+    """The slot leaves the list before its price is sent."""
+    phone.sign_in()
+    without_line(phone)
+    phone.enter(1, "3.10")
+    desk(stage, f"handover,7,1,8,3,{NOW}")
+    stage.relay.answers_instead(b"", is_stored=False)
+    phone.browser.offline(False)
+    phone.browser.wait_text("#line", "The office is busy: 1 entry")
+    assert listed(phone) == {}
+    work = stage.ask("GET", f"/api/work/{NOW}", ANNA).body.decode()
+    phone.browser.run_until(LIST_COMES, work)
+    phone.open()
+    phone.browser.wait_text("#unsent-list", "It waits to be sent.")
+    assert list(listed(phone)) == [f"{NOW}/1"]
+
+
+LIST_COMES = """
+const { keepList } = await import("/collect/store.js"), { state } = await import("/collect/state.js");
+await keepList(state, state.month, { work: JSON.parse(arguments[0]).work, quotes: [], at: Date.now() });
+"""
+"""As another tab keeps a list that has come."""
+
 # ---- tried again
 
 

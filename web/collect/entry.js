@@ -16,12 +16,15 @@ let isSaving = false;
 
 const UNKNOWN = (slot) => [slot, null, "", "", `Slot ${slot}`, "", null, null, null];
 
-/** Opens the form of a slot, or fills it in anew; of another month than the one shown, from its entry. */
-export function edit(slot, month = state.month) {
+/**
+ * Opens the form of a slot, or fills it in anew; of another month than the one shown, from its entry. As it closes, the
+ * focus goes to the row of the slot, or back to the list of what isn't stored (`isUnsent`).
+ */
+export function edit(slot, month = state.month, isUnsent = false) {
   const isShown = month === state.month, entry = entryAt(month, slot);
   const row = (isShown && rowOf(slot)) || entry?.row || UNKNOWN(slot);
   const stored = isShown ? storedOf(slot) : undefined;
-  const isListed = isShown && Boolean(rowOf(slot));
+  const isListed = isShown && !isUnsent && Boolean(rowOf(slot));
   const seen = Math.max(entry?.seen ?? 0, stored?.[4] ?? 0, entry?.state === "moved" ? entry.reply.receipt : 0);
   editing = { month, slot, row, entry, stored, seen, isListed, wasToDo: isListed && isToDo(slot) };
   form.fill(editing);
@@ -124,7 +127,7 @@ export async function dropped(entry) {
   unsent.leaveOut(entry);
   tabs.tell("entries");
   touch([entry.slot]);
-  if (entry.state === "waiting") refresh(true); // (the office may have stored it, and its reply been lost)
+  if (entry.state !== "refused") refresh(true); // (the office may have this one, or a later one of another device)
 }
 
 /** Sends an entry in the place of the one that another device has stored since. */

@@ -2,7 +2,7 @@
 // What is listed is chosen with the view, so that nothing moves under a finger; the head counts them at any moment.
 import { becomes, find, make } from "../shared/dom.js";
 import { inWords } from "../shared/months.js";
-import { entryAt, keyOfEntry, kindOf, state } from "./state.js";
+import { entryAt, keyOfEntry, kindOf, rowOf, state } from "./state.js";
 import * as store from "./store.js";
 import { inMarks, whyNotStored } from "./told.js";
 
@@ -13,10 +13,11 @@ let dropping = null; // the entry of the question
 /** The page sets both: what opens the form of an entry, and what is done when one was dropped. */
 export const on = { open: () => {}, dropped: () => {} };
 
-/** Lists what isn't stored now: what was refused or is to be looked at, and what waits in another month. */
+/** Lists what isn't stored now: what was refused or is to be looked at, and what waits without a row below. */
 export function choose() {
   stored.clear();
-  listed = state.entries.filter((entry) => kindOf(entry) !== "waiting" || entry.month !== state.month);
+  const hasRow = ({ month, slot }) => month === state.month && rowOf(slot);
+  listed = state.entries.filter((entry) => kindOf(entry) !== "waiting" || !hasRow(entry));
   listed.sort((a, b) => (a.month === b.month ? a.at - b.at : a.month < b.month ? -1 : 1));
 }
 
@@ -83,7 +84,8 @@ async function dropped() {
   dropping = null;
   if (find("dropping").returnValue !== "drop" || !entry || entry.who !== state.who) return;
   await store.dropEntry(entry);
-  on.dropped(entry);
+  await on.dropped(entry);
+  find(listed.length ? "unsent-title" : "show-todo").focus({ preventScroll: true });
 }
 
 /** Takes an entry out of the list that was dropped; not one that the office has stored meanwhile. */
@@ -107,7 +109,7 @@ export function listen() {
   find("unsent-list").addEventListener("click", ({ target }) => {
     const [month, slot] = target.closest("[data-unsent]")?.dataset.unsent.split("/") ?? [];
     const entry = month && entryAt(month, Number(slot));
-    if (entry && target.dataset.do === "open") on.open(entry.slot, entry.month);
+    if (entry && target.dataset.do === "open") on.open(entry.slot, entry.month, true);
     if (entry && target.dataset.do === "drop") askToDrop(entry);
   });
   find("dropping").addEventListener("close", dropped);
