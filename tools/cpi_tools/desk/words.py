@@ -159,12 +159,13 @@ exit status: 0 where the job is done; 1 with one line why it isn't; 2 where the 
 
 MONTH = """\
 Writes month.html and a CSV file a section into FOLDER, and a text to standard output: who answered
-and who is silent, what is missing and why, prices to look at again, small and imputed aggregates,
-the carry list, the provisional table with what each node adds, the quotes that move all items
-most, and Dutot beside Jevons. provisional.csv has the bytes that will be published if no quote
-changes. The month is frozen on the copy when its window closes, or at --at where that is later;
-where it can't be, the rest is written, and the line on standard error says why. Nothing of it is
-published: FOLDER can be read by its owner alone.
+and who is silent, what is missing and why, what is priced too seldom to be compared, prices to
+look at again, small and imputed aggregates, the carry list, the provisional table with what each
+node adds, the quotes that move all items most, and Dutot beside Jevons. A warning comes first if a
+table is published before a revision that it is computed from. provisional.csv has the bytes that
+will be published if no quote changes. The month is frozen on the copy when its window closes, or
+at --at if that is later. If it can't be frozen, the rest is written, and the line on standard
+error says why. Nothing of it is published: only its owner can read FOLDER.
 """
 
 MONTH_EPILOG = """\
@@ -190,7 +191,8 @@ exit status: 0 with the record; 1 with one line why there is none; 2 where the w
 
 WHAT_IF = """\
 Freezes the month on two copies, as it stands and with other quotes, and prints the nodes of the
-table that differ. Of the last frozen month it is what a further revision would change.
+table that differ. Of the last frozen month it is what a further revision would change, and by
+when that has to be published.
 """
 
 WHAT_IF_EPILOG = """\
