@@ -277,3 +277,15 @@ def test_the_form_can_be_read_touched_and_enlarged(phone: Phone, stage: Stage, w
     phone.edit(20)
     found["stored"] = looked_at(browser)
     assert found == {name: [] for name in found}
+
+
+def test_a_kind_of_mark_is_chosen_by_a_tap_on_its_words(phone: Phone, stage: Stage) -> None:
+    phone.sign_in()
+    phone.edit(1)
+    phone.browser.tap('label:has([value="missing"]) span')
+    phone.browser.wait_shown("#entry-reason")
+    phone.browser.tap('label:has([value="stock"]) span')
+    phone.browser.tap("#entry-save")
+    phone.wait_edited(2)
+    assert [row[:4] for row in stage.wait_for_quotes(ANNA)] == [[1, NOW, "missing", "stock"]]
+    assert phone.focused() == "price"

@@ -92,3 +92,47 @@ def test_a_price_that_is_changed_after_the_question_isnt_confirmed(phone: Phone,
     phone.retype("4.90", Keys.ENTER)
     assert [row[:1] + row[3:4] for row in stage.wait_for_quotes(ANNA)] == [[2, 490]]
     assert stage.relay.quotes(NOW) == [f"quote,2,{NOW},price,490"]
+
+
+TAPPED_TWICE = """
+const [id, x] = arguments, entry = document.getElementById("entry"), before = entry.dataset.entry;
+const { top, height } = document.getElementById(id).getBoundingClientRect(), y = top + height / 2;
+const tap = (detail) => {
+  const element = document.elementFromPoint(x, y), found = [element.closest("button, label, dialog").textContent.trim()];
+  for (const type of ["mousedown", "click"]) {
+    const event = new MouseEvent(type, { bubbles: true, cancelable: true, clientX: x, clientY: y, detail });
+    element.dispatchEvent(event);
+    found.push(event.defaultPrevented);
+  }
+  return found;
+};
+tap(1);
+while (entry.dataset.entry === before) await new Promise((end) => setTimeout(end, 5));
+const second = tap(2);
+document.getElementById("entry-form").requestSubmit();  // (as Enter, pressed twice)
+return [...second, document.getElementById("price-fault").textContent, document.activeElement.id,
+  document.getElementById("entry-form").mark.value];
+"""
+"""Taps a button twice, the second time as soon as the next form is there: what it meets, whether it is kept away, what is
+told then, and what has the focus and the mark."""
+
+
+@pytest.mark.parametrize("x", [60, 270])
+def test_a_second_tap_on_confirm_is_not_the_next_rows(phone: Phone, x: int) -> None:
+    """Where Confirm was the next form has the kinds of mark."""
+    phone.sign_in()
+    phone.edit(1)
+    phone.fill("9.99")
+    phone.browser.wait_shown("#entry-confirm")
+    met, *found = phone.browser.run_until(TAPPED_TWICE, "entry-confirm", x)
+    assert met in ("The article", "No price", "Another, as good as the same", "Another, not comparable"), met
+    assert found == [True, True, "", "price", "price"]
+
+
+def test_a_second_tap_on_save_is_no_fault_of_the_next_row(phone: Phone) -> None:
+    phone.sign_in()
+    phone.edit(1)
+    phone.press("3.21")
+    assert phone.browser.run_until(TAPPED_TWICE, "entry-save", 270) == ["Save", True, True, "", "price", "price"]
+    phone.press("x", Keys.ENTER)
+    phone.browser.wait_text("#price-fault", "Write the price with figures")

@@ -13,6 +13,7 @@ import * as unsent from "./unsent.js";
 
 let editing = null; // { month, slot, row, entry, stored, seen, isListed, wasToDo }
 let isSaving = false;
+let cameAt = -Infinity; // when the form of the next row came
 
 const UNKNOWN = (slot) => [slot, null, "", "", `Slot ${slot}`, "", null, null, null];
 
@@ -52,7 +53,8 @@ function chosen() {
 
 /** Keeps what the form says on the phone, and sends it; the form of the next row comes in its place. */
 async function save(isConfirmed) {
-  const choice = isSaving ? null : chosen();
+  const isTwice = performance.now() - cameAt < form.TWICE && !find("price").value && form.markOf() !== "missing";
+  const choice = isSaving || isTwice ? null : chosen();
   if (!choice) return;
   const far = isConfirmed ? null : farFrom(choice, editing.row);
   // (the focus stays with the price, so that a key that is pressed twice confirms nothing)
@@ -88,6 +90,7 @@ function goOn(kept, edited, text) {
     edit(next);
     form.tellSaved(kept, row[1] !== rowOf(next)[1]);
     form.goOnTyping(text);
+    cameAt = performance.now();
   } else if (editing === edited) {
     close();
   }

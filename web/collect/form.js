@@ -153,8 +153,30 @@ export function empty() {
   form().reset();
 }
 
+// ---- What is tapped twice
+
+/** Milliseconds, and pixels, within which a second tap is the first one's, if nothing was typed between them. */
+export const TWICE = 500;
+const NEAR = 24;
+
+let tapped = null; // the tap before: { at, x, y }
+
+/** Keeps a second tap on Save or Confirm from what the form of the next row has in the same place. */
+function keepTwiceAway(event) {
+  const { type, detail, timeStamp: at, clientX: x, clientY: y } = event;
+  if (detail === 0) return; // (a key's, or the page's own)
+  if (tapped && at - tapped.at < TWICE && Math.hypot(x - tapped.x, y - tapped.y) < NEAR) {
+    event.preventDefault();
+    event.stopPropagation();
+  } else if (type === "click") {
+    setTimeout(() => { tapped = { at, x, y }; }); // (behind the click that a label hands on)
+  }
+}
+
 /** The events within the form; `edited` tells what it is filled in for. */
 export function listen(edited) {
+  for (const type of ["mousedown", "click"]) find("entry").addEventListener(type, keepTwiceAway, true);
+  form().addEventListener("input", () => { tapped = null; });
   form().addEventListener("change", ({ target }) => {
     if (target.name === "mark") showFields(edited().row);
     if (target.name) showQuestion(null);
