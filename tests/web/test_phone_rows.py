@@ -134,6 +134,24 @@ def test_a_row_that_is_out_of_sight_is_brought_there_as_the_form_closes(many: Ph
     assert 110 < top < 740 - 68 and many.focused() == "30"
 
 
+FORGOTTEN = """
+const change = (await new Promise((end) => { indexedDB.open("cpi-collect").onsuccess = ({ target }) => end(target.result); }))
+  .transaction("lists", "readwrite");
+change.objectStore("lists").clear();
+await new Promise((end) => { change.oncomplete = end; });
+"""
+"""The phone has no list any more."""
+
+
+def test_a_list_that_is_on_its_way_isnt_said_to_be_missing(phone: Phone, stage: Stage) -> None:
+    phone.sign_in()
+    phone.browser.run_until(FORGOTTEN)
+    with stage.standing_still():
+        phone.open()
+        phone.browser.wait_text("#list", "Asking the office for the list of this month…")
+    phone.browser.wait_text("#list", "Rice, white")
+
+
 # ---- from row to row
 
 

@@ -81,12 +81,16 @@ export function showCounts() {
   showHead();
 }
 
+const WITHOUT_LIST = {
+  unknown: "Asking the office for the list of this month…",
+  down: "The list of this month isn’t on this phone yet, and there is no line.",
+};
+
 const empty = (text) => make("p", { class: "empty" }, text);
 
 function listed() {
   if (!state.list) {
-    return [empty(state.line === "down" ? "The list of this month isn’t on this phone yet, and there is no line."
-      : "No list of this month.")];
+    return [empty(WITHOUT_LIST[state.line] ?? "No list of this month yet.")];
   }
   if (state.view === "quotes") return [quotesTable()];
   const sections = outletSections();
