@@ -61,6 +61,18 @@ def stored(stage: Stage) -> list[list[Any]]:
     return [[slot, value, receipt] for slot, _, _, value, receipt in stage.quotes(ANNA)]
 
 
+CLOSED_TEXT = "The window has closed. Tell the desk; the month goes without it, unless the desk opens it again."
+
+
+def refused(phone: Phone, stage: Stage, *prices: tuple[int, str]) -> None:
+    """Signs in and enters prices of this month, whose window has closed."""
+    phone.sign_in()
+    desk(stage, CLOSED)
+    for slot, price in prices:
+        phone.enter(slot, price)
+    wait_alarm(phone, f"{len(prices)} refused")
+
+
 def put(stage: Stage, slot: int, value: str, key: str = ANNA) -> int:
     """Another device of the collector stores a mark with its value, such as `price,250`; its receipt."""
     found: int = stage.ask("PUT", f"/api/quote/{slot}/{NOW}", key, value).reply["receipt"]
