@@ -40,7 +40,7 @@ def table() -> list[Told]:
 STAND_IN = """\
 #!/usr/bin/env python3
 import shutil, sys
-shutil.copy({made!r}, sys.argv[sys.argv.index("--outdir") + 1] + "/sheet.xlsx")
+shutil.copy({made!r}, sys.argv[sys.argv.index("--outdir") + 1] + "/0.xlsx")
 """
 """A program that makes a certain workbook of whatever it gets; tests/outside has LibreOffice itself."""
 

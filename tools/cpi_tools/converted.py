@@ -18,15 +18,10 @@ KINDS = (".ods", ".xls", ".xlsb")
 PROGRAM = "soffice"
 
 MOST_SECONDS = 300
-"""Seconds that LibreOffice may take for one file."""
+"""Seconds that LibreOffice may take for all files."""
 
 ADVICE = "save it as .xlsx or CSV, or install libreoffice-calc-nogui"
-"""What to do with such a file where LibreOffice isn't installed."""
-
-
-def has_libreoffice() -> bool:
-    """Whether LibreOffice is installed."""
-    return shutil.which(PROGRAM) is not None
+"""What to do with such a file if LibreOffice isn't installed."""
 
 
 @contextlib.contextmanager
@@ -35,30 +30,30 @@ def converted(files: Sequence[Path]) -> Iterator[dict[Path, Path]]:
 
     Raises Fault if LibreOffice makes no workbook of a file, or takes too long.
     """
-    wanted = [file for file in files if file.suffix.lower() in KINDS]
-    if not wanted or not has_libreoffice():
+    wanted = [file for file in files if file.suffix.lower() in KINDS and file.is_file()]
+    if not wanted or not shutil.which(PROGRAM):
         yield {}
         return
     with tempfile.TemporaryDirectory(prefix="cpi-tools-") as room:
-        yield {file: _workbook_of(file, Path(room), at) for at, file in enumerate(wanted)}
+        yield _workbooks_of(wanted, Path(room))
 
 
-def _workbook_of(file: Path, room: Path, at: int) -> Path:
-    """Runs LibreOffice with a profile of its own, in which no macro runs, over a copy with a plain name."""
-    own = room / str(at)
-    own.mkdir()
+def _workbooks_of(files: Sequence[Path], room: Path) -> dict[Path, Path]:
+    """Runs LibreOffice with a profile of its own, in which no macro runs, over copies with plain names."""
     words = [PROGRAM, f"-env:UserInstallation={(room / 'profile').as_uri()}", "--headless", "--norestore"]
+    words += ["--convert-to", "xlsx:Calc MS Excel 2007 XML", "--outdir", str(room)]
     try:
-        source = Path(shutil.copyfile(file, own / f"sheet{file.suffix.lower()}"))
-        words += ["--convert-to", "xlsx:Calc MS Excel 2007 XML", "--outdir", str(own), str(source)]
-        ran = subprocess.run(words, capture_output=True, timeout=MOST_SECONDS, check=False)
+        copies = [shutil.copyfile(file, room / f"{at}{file.suffix.lower()}") for at, file in enumerate(files)]
+        ran = subprocess.run([*words, *map(str, copies)], capture_output=True, timeout=MOST_SECONDS, check=False)
     except OSError as fault:
         raise Fault(because_of(fault)) from fault
     except subprocess.TimeoutExpired as fault:
-        raise Fault(f"{label_of(file)}: LibreOffice took longer than {MOST_SECONDS} seconds; {ADVICE}") from fault
-    made = own / "sheet.xlsx"
-    if not made.is_file():
-        lines = ran.stderr.decode(errors="replace").strip().splitlines()
-        told = f": {lines[-1]}" if lines else ""
-        raise Fault(f"{label_of(file)} can't be read: LibreOffice made no workbook of it{told}")
+        names = ", ".join(map(label_of, files))
+        raise Fault(f"{names}: LibreOffice took longer than {MOST_SECONDS} seconds; {ADVICE}") from fault
+    made = {file: room / f"{at}.xlsx" for at, file in enumerate(files)}
+    for file, book in made.items():
+        if not book.is_file():
+            lines = ran.stderr.decode(errors="replace").strip().splitlines()
+            told = f": {lines[-1]}" if lines else ""
+            raise Fault(f"{label_of(file)} can't be read: LibreOffice made no workbook of it{told}")
     return made
