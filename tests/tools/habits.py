@@ -370,6 +370,7 @@ HABITS: dict[str, Habit] = {
     "`prices.ods` or `.xls`, with LibreOffice": Habit(of_another_kind),
     "`prices.ods` or `.xls`, without it": Habit(of_another_kind),
     "a folder in the folder": Habit(older),
+    "`prices.xlsm`": Habit(book(lambda _: None, name="prices.xlsm")),
     "a workbook with a password": Habit(put_bytes(bytes.fromhex("d0cf11e0a1b11ae1") + bytes(504), name="prices.xlsx")),
     "a workbook that unpacks to 300 MB": Habit(unpacks_to_much),
     "a sheet of another name in a workbook": Habit(book(other_sheet)),
@@ -378,6 +379,7 @@ HABITS: dict[str, Habit] = {
     # ---- rows and columns
     "a column of another name": Habit(put_rows([[*own[:2], "x", *own[2:]] for own in PRICES])),
     "a title above the heading": Habit(put_text(f"Consumer prices\n\n{PLAIN}")),
+    "a month as a title above the heading": Habit(put_text(f"January 2026\n{PLAIN}")),
     "`sep=;` above the heading": Habit(put_text(f"sep=;\n{text_of(PRICES, ';')}")),
     "a row of units below the heading": Habit(row(2, "", "", "EUR", "EUR", "EUR")),
     "a row of totals": Habit(row(5, "Total", "", "5.20", "5.40", "0.90")),

@@ -21,7 +21,7 @@ from cpi_tools.terminal import Fault
 
 NAMES = {
     "outlets": Columns(("outlet", "name"), texts=("name",)),
-    "prices": Columns(("month", "value"), has_months=True),
+    "prices": Columns(("month", "value")),
 }
 
 

@@ -719,6 +719,23 @@ def test_what_an_office_has_is_done_again(cpi: Cpi, standing: Path, tmp_path: Pa
     assert sums(standing) == before
 
 
+def test_a_price_goes_to_the_slot_that_has_its_series_now(cpi: Cpi, standing: Path, tmp_path: Path) -> None:
+    """The sheet of series says what a slot was first given, also of one that was handed over since."""
+    of = sheets()
+    of = {
+        "series": of["series"],
+        "calendar": [*of["calendar"], ["2026-03", "4000", "5000", "6000"]],
+        "prices": [["outlet", "item", "2026-02", "2026-03"], ["10", "FLOUR", "90", "92"]],
+    }
+    folder = written(tmp_path / "more", of)
+    ran = run(cpi, "take-in", folder, "--onto", standing, "--write", tmp_path / "added")
+    assert (ran.status, ran.err) == (0, "")
+    # (three series, three windows and the price of February are there)
+    assert ran.out.splitlines()[0] == "1 window, 1 quote, 7 rows that the office has already"
+    with stored_office(replayed(cpi, tmp_path / "added", standing)) as stored:
+        assert stored.quotes(202603) == {(8, 2): ("price", 92)}
+
+
 def test_two_series_that_are_alike_keep_their_slots(cpi: Cpi, standing: Path, tmp_path: Path) -> None:
     """An office may have two prices of one item in one outlet."""
     alike = ["8", "11", "FLOUR", "2026-03", "2026-12"]

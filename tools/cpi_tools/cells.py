@@ -52,12 +52,11 @@ class Dated(str):
 
 class Columns(NamedTuple):
     """The columns that a sheet has to have, and those that it may have; `texts` are those in which a blank before or
-    behind a text counts. `has_months` says that a column may be named by a month."""
+    after a text counts."""
 
     needed: tuple[str, ...]
     others: tuple[str, ...] = ()
     texts: tuple[str, ...] = ()
-    has_months: bool = False
 
 
 @dataclass(frozen=True)

@@ -297,6 +297,8 @@ class OfficeFiles:
             Place(row["collector"], slot, *(row[it] for it in ("outlet", "item", "first", "last")))
             for row, slot in zip(self._rows("series"), slots)
         ]
+        # (what was handed over since isn't the slot's any more, as long as it was given to it)
+        series = [it for it in series if it not in self._known.given]
         handed = sorted(self._rows("handovers"), key=lambda row: row["month"])
         cells.place([*self._known.places, *series], [it for it in handed if not self._known.has_handover(it)])
         store = self._store

@@ -18,7 +18,6 @@ SHEETS: dict[str, Columns] = {
     "prices": Columns(
         ("month", "value"),
         ("collector", "slot", "outlet", "item", "mark", "confirm", "revision"),
-        has_months=True,
     ),
     "releases": Columns(("month",), ("revision", "opens", "closes", "publishes", "frozen_at", "carry")),
 }

@@ -16,7 +16,6 @@ from typing import Optional
 from .cells import Alike, BadSheet, Columns, Origin, Row, Sheet, SheetFault, Texts, label_of, shown
 from .converted import ADVICE, KINDS as CONVERTED
 from .csv_texts import texts_of_csv
-from .months_of_texts import month_of
 from .terminal import Fault, because_of
 from .workbooks import Title, Workbook
 
@@ -174,10 +173,11 @@ def sheet_of(file: str, texts: Texts, columns: Columns) -> Sheet:
 
 def look_at_heading(file: str, first: Sequence[Sequence[str]], columns: Columns) -> None:
     """Raises BadSheet if the first row names no column, or a row below it is the heading."""
-    known = [sum(is_head(cell, columns) for cell in row) for row in first]
+    names = {*columns.needed, *columns.others}
+    known = [sum(cell.strip().lower() in names for cell in row) for row in first]
     least = min(2, len(columns.needed))
     below = next((at for at, count in enumerate(known, 1) if count >= least), 0)
-    if known and not known[0] and below:
+    if known and known[0] < least and below:
         has = next((cell.strip() for cell in first[0] if cell.strip()), "")
         told = f"it has {shown(has)}" if has else "it is empty"
         above = "row 1" if below == 2 else f"rows 1 to {below - 1}"
@@ -185,12 +185,6 @@ def look_at_heading(file: str, first: Sequence[Sequence[str]], columns: Columns)
         raise BadSheet(Origin(file, 1), because, f"take {above} out, so that the first row names the columns")
     if not first or not any(cell.strip() for cell in first[0]):
         raise BadSheet(Origin(file, 1), "the first row is empty", "name the columns in the first row")
-
-
-def is_head(cell: str, columns: Columns) -> bool:
-    """Whether a cell names a column that is read."""
-    name = cell.strip().lower()
-    return name in columns.needed or name in columns.others or (columns.has_months and bool(month_of(name)))
 
 
 def rows_of(sheet: Sheet, lines: Iterator[Sequence[str]], columns: Columns) -> Iterator[Row]:
