@@ -268,7 +268,7 @@ QUOTE = dict(zip(sheets()["prices"][0], sheets()["prices"][4]))
     ("column", "text", "because", "do"),
     [
         ("collector", "6", "the collector 6 isn't known", "add it to the sheet collectors"),
-        ("slot", "9", "no series has slot 7/9", "look at the sheet series"),
+        ("slot", "9", "no series has slot 7/9", "check the sheet series"),
         ("month", "2026-05", "2026-05 has no window", "add the month to the sheet calendar"),
         ("month", "2026-13", '"2026-13" is no month', "write a month like 2026-01"),
         ("month", "1/2/26", '"1/2/26" may be a day or several months: no year of it has four digits', "write a month"),

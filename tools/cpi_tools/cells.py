@@ -11,7 +11,7 @@ from .terminal import is_line
 
 
 class Origin(NamedTuple):
-    """Where a text stands: the file, the row as a spreadsheet counts it (the heading is 1), the column's name.
+    """Where a text is: the file, the row as a spreadsheet counts it (the heading is 1), the column's name.
 
     Row 0 is the file as a whole.
     """
@@ -82,7 +82,7 @@ class Texts:
 
 @dataclass
 class Sheet:
-    """A sheet: its file; its columns in small letters, and as they are written; and its rows that aren't empty. Where
+    """A sheet: its file; its columns in small letters, and as they are written; and its rows that aren't empty. If
     the rows are an iterator, faults and warnings are found while they are read."""
 
     file: str

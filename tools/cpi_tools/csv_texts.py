@@ -26,7 +26,7 @@ UTF_8 = "save it as CSV in UTF-8"
 
 
 def texts_of_csv(path: Path) -> Texts:
-    """The cells of a file. Raises BadSheet where the file or its first line can't be read; so do the rows."""
+    """The cells of a file. The rows raise BadSheet if it can't be read."""
     return Texts(_rows(path))
 
 

@@ -70,7 +70,7 @@ REASON = "stock, closed, gone or refused"
 
 
 def words_of(row: Sent, reply: Reply, column: str) -> Words:
-    """Why a row was refused at a column, with what the reply tells beside, and what to do."""
+    """Why a row was refused at a column, with what else the reply has, and what to do."""
     own = OWN.get((row.word, reply["refused"]))
     because, do = own(row) if own else refusal_words(reply, DESK, row.word)
     if reply["refused"] == 10:
@@ -115,8 +115,8 @@ def _unknown(what: str, sheet: str, at: int) -> Callable[[Sent], Words]:
     return lambda row: Words(f"the {what} {row.fields[at]} isn't known", f"add it to the sheet {sheet}")
 
 
-def _stands(what: str, do: str) -> Callable[[Sent], Words]:
-    return lambda row: Words(f"the {what} {row.fields[1]} stands with other content, and is never changed", do)
+def _registered(what: str, do: str) -> Callable[[Sent], Words]:
+    return lambda row: Words(f"the {what} {row.fields[1]} is registered with other content, and can't be changed", do)
 
 
 def _slot(row: Sent) -> str:
@@ -125,21 +125,23 @@ def _slot(row: Sent) -> str:
 
 
 OWN: dict[tuple[str, int], Callable[[Sent], Words]] = {
-    ("item", 40): _stands("item", "write its row as it stands, or take another code for another item"),
-    ("outlet", 40): _stands("outlet", "write its row as it stands, or take another number for another outlet"),
+    ("item", 40): _registered("item", "write its row as it was registered, or take another code for another item"),
+    ("outlet", 40): _registered(
+        "outlet", "write its row as it was registered, or take another number for another outlet"
+    ),
     ("collector", 40): lambda row: Words(
         f"the collector {row.fields[1]} has another key, or the key is another collector's",
-        "write the key that stands, or leave it empty; a new collector takes the next free number",
+        "write the key that it has, or leave it empty; a new collector takes the next free number",
     ),
     ("assign", 40): lambda row: Words(
-        f"slot {row.fields[1]}/{row.fields[2]} stands with another series, or was handed over since",
+        f"slot {row.fields[1]}/{row.fields[2]} has another series, or was handed over since",
         "take the next free slot, or leave the slot empty",
     ),
     ("assign", 41): _unknown("item", "items", 4),
     ("assign", 42): _unknown("outlet", "outlets", 3),
     ("assign", 43): _unknown("collector", "collectors", 1),
     ("handover", 20): lambda row: Words(
-        f"the collector {row.fields[1]} has no slot {row.fields[2]}", "look at the collector and the slot in series"
+        f"the collector {row.fields[1]} has no slot {row.fields[2]}", "check the collector and the slot in series"
     ),
     ("handover", 40): lambda row: Words(
         f"slot {row.fields[3]}/{row.fields[4]} is taken", "take a free slot of the new collector"
@@ -150,14 +152,14 @@ OWN: dict[tuple[str, int], Callable[[Sent], Words]] = {
     ("quote", 11): lambda row: Words(
         f"the collector {row.collector} isn't known", "add it to the sheet collectors, or mend its key there"
     ),
-    ("quote", 20): lambda row: Words(f"no series has {_slot(row)}", "look at the sheet series, or mend the slot"),
+    ("quote", 20): lambda row: Words(f"no series has {_slot(row)}", "check the sheet series, or mend the slot"),
     ("quote", 21): lambda row: Words(f"{row.fields[2]} has no window", "add the month to the sheet calendar"),
     ("quote", 22): lambda row: Words(
         f"{_slot(row)} has no series in {row.fields[2]}",
-        "look at its first and its last month in series, and at the hand-overs",
+        "check its first and its last month in series, and the hand-overs",
     ),
-    ("quote", 23): lambda row: Words(f"the window of {row.fields[2]} isn't open", "look at its row in calendar"),
-    ("quote", 24): lambda row: Words(f"the window of {row.fields[2]} has closed", "look at its row in calendar"),
+    ("quote", 23): lambda row: Words(f"the window of {row.fields[2]} isn't open", "check its row in calendar"),
+    ("quote", 24): lambda row: Words(f"the window of {row.fields[2]} has closed", "check its row in calendar"),
     ("quote", 25): lambda row: Words(
         f"a {row.fields[3]} replaces a price, and {_slot(row)} has none before {row.fields[2]}", "write it as a price"
     ),
@@ -166,4 +168,4 @@ OWN: dict[tuple[str, int], Callable[[Sent], Words]] = {
     ),
     ("quote", 90): lambda _: Words("memory or the disk failed", "nothing was changed; run it again"),
 }
-"""The words of refusals that the guides tell otherwise, by the record's word and the number."""
+"""The words of refusals that the guides say otherwise, by the record's word and the number."""

@@ -7,8 +7,8 @@ from typing import NamedTuple
 
 from .cells import Row
 from .office_sheets import MOVED
-from .price_store import Standing
 from .price_cells import Place
+from .price_store import StoredPrice
 from .sent import Sent
 
 Window = tuple[str, ...]
@@ -26,7 +26,7 @@ class Frozen(NamedTuple):
 class Known(NamedTuple):
     """What an office has already, all as texts: keys by collector; the fields of items and the names of outlets; places
     as slots have them and as they were first given; windows by month; hand-overs; the rows of plans by year; releases by
-    month and revision; and what stands of the prices of a month."""
+    month and revision; and the prices that it has of a month."""
 
     keys: dict[str, str]
     items: dict[str, tuple[str, ...]]
@@ -37,7 +37,7 @@ class Known(NamedTuple):
     handovers: frozenset[tuple[str, ...]]
     plans: dict[str, frozenset[tuple[str, ...]]]
     releases: dict[tuple[str, str], Frozen]
-    prices_of: Callable[[str], Iterable[Standing]]
+    prices_of: Callable[[str], Iterable[StoredPrice]]
 
     def has(self, row: Sent) -> bool:
         """Whether a row of items, outlets, collectors or series is there exactly so."""

@@ -13,7 +13,7 @@ OF_CELL = re.compile(r"[+-]?[0-9]+(\.[0-9]+)?(e[+-]?[0-9]{1,3})?", re.I)
 
 PLAIN = re.compile(r"[+-]?[0-9]+(\.[0-9]+)?")
 GROUPED = re.compile(r"([+-]?[0-9]{1,3}(?:([ \u00a0\u202f\u2009'\u2019])[0-9]{3})(?:\2[0-9]{3})*)(\.[0-9]+)?")
-"""Blanks of several widths, and the sign of Switzerland, stand only between groups of three digits, one kind a number."""
+"""Blanks of several widths, and the mark of Switzerland, are only between groups of three digits, one kind a number."""
 
 
 class Numbers:
@@ -44,7 +44,7 @@ class Numbers:
         return f'{shown(text)} is no number with the decimal sign "{self.decimal}"'
 
     def told_thousands(self, text: str) -> str:
-        """What is told of a text whose decimal sign may stand for a mark of thousands, as in `1.250`; else nothing."""
+        """The doubt about a text whose decimal sign may be a mark of thousands, as in `1.250`; empty if there is none."""
         if isinstance(text, Numeral) or not re.fullmatch(f"[1-9][0-9]{{0,2}}[{self.decimal}][0-9]{{3}}", text):
             return ""
         return f"{shown(text)} may be {text.replace(self.decimal, '')}, with a mark of thousands"

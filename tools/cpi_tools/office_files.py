@@ -56,7 +56,7 @@ class Bundles:
 class Taken:
     """What the files say: what is sent, in its order; what is wrong with the files themselves, and what else a reader
     should look at; the months that were read from other spellings; drawn keys by the collector's number; scaled
-    weights; how many rows of each sheet stand in the office already; and the prices."""
+    weights; how many rows of each sheet the office has already; and the prices."""
 
     bundles: Bundles
     problems: list[Problem] = field(default_factory=list)
@@ -64,7 +64,7 @@ class Taken:
     readings: list[MonthRead] = field(default_factory=list)
     drawn: dict[str, str] = field(default_factory=dict)
     weighed: list[Weighed] = field(default_factory=list)
-    standing: Counter[str] = field(default_factory=Counter)
+    passed_over: Counter[str] = field(default_factory=Counter)
     store: PriceStore = field(default_factory=lambda: PriceStore(""))
 
 
@@ -99,7 +99,7 @@ class OfficeFiles:
         self._read_prices(slots)
         self.taken.problems += map(problem_of, self._source.unread)
         self._handed, self._releases = self._by_month("handovers"), self._by_month("releases")
-        self._count_standing()
+        self._count_passed_over()
         months = {*self._windows, *self._store.months(), *self._handed, *self._releases}
         self._months = sorted(months)
         singles = sum(map(len, (self._rows("releases"), self._rows("handovers"), self._windows)))
@@ -193,21 +193,21 @@ class OfficeFiles:
         """The rows that the office doesn't have already; the others are counted."""
         for row in rows:
             if self._known.has(row):
-                self.taken.standing[name] += 1
+                self.taken.passed_over[name] += 1
             else:
                 yield row
 
-    def _count_standing(self) -> None:
-        """Counts the months' rows that stand in the office already."""
-        standing = self.taken.standing
-        standing["handovers"] = sum(map(self._known.has_handover, self._rows("handovers")))
+    def _count_passed_over(self) -> None:
+        """Counts the months' rows that the office has already."""
+        count = self.taken.passed_over
+        count["handovers"] = sum(map(self._known.has_handover, self._rows("handovers")))
         for own in self._releases.values():
-            standing["releases"] += sum(self._is_frozen(it, turn) for turn, it in enumerate(by_revision(own), 1))
+            count["releases"] += sum(self._is_frozen(it, turn) for turn, it in enumerate(by_revision(own), 1))
         for month, row in self._windows.items():
-            standing["calendar"] += self._is_same(self._window(month, row), self._known.windows.get(month))
+            count["calendar"] += self._is_same(self._window(month, row), self._known.windows.get(month))
 
     def _is_frozen(self, release: Row, turn: int) -> bool:
-        """Whether a release stands so, as far as its row tells it."""
+        """Whether a release was frozen so, as far as its row tells it."""
         known = self._known.releases.get((release["month"], release["revision"] or str(turn)))
         if known is None or {*release["carry"].split()} != known.carry:
             return False
@@ -260,7 +260,7 @@ class OfficeFiles:
             yield Sent(["assign", *fields], row.origin, tuple(columns))
 
     def _plans(self) -> Iterator[Bundle]:
-        """The plan of each year, but for those that stand so."""
+        """The plan of each year, but for those that the office has."""
         rows = PlanRows(self._numbers, self._options.weights)
         places = self._rows("places") if self._sheets["places"] else None
         by_year = rows.by_year(self._rows("classification"), places, self._rows("items"), self._rows("plans"))
@@ -269,7 +269,7 @@ class OfficeFiles:
         self.taken.weighed += rows.weighed
         for year, own in by_year.items():
             if self._known.has_plan(year, own):
-                self.taken.standing["plans"] += 1
+                self.taken.passed_over["plans"] += 1
             else:
                 yield Bundle(0, DESK, own, year)
 
@@ -289,7 +289,7 @@ class OfficeFiles:
         self.taken.problems += map(problem_of, faults)
 
     def _store_prices(self, sheet: Sheet, slots: Sequence[str]) -> list[SheetFault]:
-        """Stores the prices of a sheet, but for those that stand; what is wrong with them."""
+        """Stores the prices of a sheet, but for those that the office has; what is wrong with them."""
         cells = PriceCells(sheet, SHEETS["prices"], self._numbers, self._options.minor, self._options.ignored)
         if missing := [*missing_columns(sheet, cells.needed)]:
             return [*cells.faults.all(), *missing]
@@ -306,7 +306,7 @@ class OfficeFiles:
         store.fill(cells.prices())
         same = self._tell_repeated(cells)
         for month in store.months():
-            self.taken.standing["prices"] += store.take_standing(self._known.prices_of(month))
+            self.taken.passed_over["prices"] += store.take_stored(self._known.prices_of(month))
         if not cells.count and not cells.faults.all():
             do = "write its prices below the columns, or take the sheet out"
             cells.faults.add(SheetFault(cells.heading, "the sheet has no price", do))
@@ -357,9 +357,9 @@ class OfficeFiles:
         yield from self._quoted(now, month, len(releases) + 1, LAST_TURN)
 
     def _window(self, month: str, row: Row) -> Window:
-        """The window that a row tells; what a release doesn't tell is the calendar's, or that which stands."""
+        """The window that a row tells; what a release doesn't tell is the calendar's, or the office's."""
         own, known = self._windows.get(month), self._known.windows.get(month, ("", "", ""))
-        return tuple(row[it] or (own[it] if own else "") or stands for it, stands in zip(WINDOW, known))
+        return tuple(row[it] or (own[it] if own else "") or stored for it, stored in zip(WINDOW, known))
 
     def _is_same(self, window: Window, other: Optional[Window]) -> bool:
         return other is not None and [*map(self._moment, window)] == [*map(self._moment, other)]

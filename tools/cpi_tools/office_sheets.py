@@ -33,7 +33,7 @@ MONTHS = {
     "calendar": ("month",),
     "releases": ("month",),
 }
-"""The columns that are months, beside those of prices."""
+"""The columns that are months, besides those of prices."""
 
 WINDOW = ("opens", "closes", "publishes")
 MOVED = FIELDS["handover"]

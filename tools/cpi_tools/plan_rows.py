@@ -88,7 +88,7 @@ class PlanRows:
     # ---- codes
 
     def _code(self, row: Row) -> str:
-        """A code of the classification; where a spreadsheet took `01.1` for a number, its first zero is lost."""
+        """A code of the classification; if a spreadsheet took `01.1` for a number, its first zero is lost."""
         code = row["code"]
         if code[:1].isdigit() and (len(code) == 1 or code[1] == "."):
             self._mended[row.origin] = code

@@ -176,7 +176,7 @@ class PriceCells:
     def _told_no_slot(self, cell: Cell, has_series: bool, has_several: bool) -> SheetFault:
         """Why a price isn't that of one slot: once for a row if that is so in each of its months."""
         row, of = cell.row, f"the item {shown(cell.row['item'])} in the outlet {shown(cell.row['outlet'])}"
-        do = "look at the outlet, the item and the months of its series, or give collector and slot"
+        do = "check the outlet, the item and the months of its series, or give collector and slot"
         if not row["outlet"] or not row["item"]:
             missing = " and ".join(name for name in ("outlet", "item") if not row[name])
             do = "write it in each row with a price; a unit, a total or a note isn't read: take it out"

@@ -17,12 +17,12 @@ CREATE TABLE price (
   id INTEGER PRIMARY KEY, month TEXT, turn INT, collector TEXT, slot TEXT, mark TEXT, value TEXT, confirm TEXT,
   row INT, form INT, given TEXT, hint TEXT
 );
-CREATE TABLE standing (month TEXT, collector TEXT, slot TEXT, turn INT, mark TEXT, value TEXT);
-CREATE INDEX by_slot ON standing (collector, slot);
+CREATE TABLE stored (month TEXT, collector TEXT, slot TEXT, turn INT, mark TEXT, value TEXT);
+CREATE INDEX by_slot ON stored (collector, slot);
 """
 
-STANDS = """
-SELECT 1 FROM standing AS it WHERE it.month = price.month AND it.collector = price.collector AND it.slot = price.slot
+IS_STORED = """
+SELECT 1 FROM stored AS it WHERE it.month = price.month AND it.collector = price.collector AND it.slot = price.slot
   AND it.turn IN (price.turn, 0) AND it.mark = price.mark AND it.value = price.value
 """
 
@@ -59,7 +59,7 @@ class Repeated(NamedTuple):
     column: str
 
 
-class Standing(NamedTuple):
+class StoredPrice(NamedTuple):
     """A quote that an office has: frozen with the revision `turn`, or the stored one (0)."""
 
     month: str
@@ -119,12 +119,12 @@ class PriceStore:
             column = self._columns[form][3]
             yield Repeated(month, collector, slot, first_row, first, row, text, bool(is_same), column)
 
-    def take_standing(self, standing: Iterable[Standing]) -> int:
-        """Takes out each price that stands in an office exactly so; how many these are."""
-        self._link.executemany("INSERT INTO standing VALUES (?, ?, ?, ?, ?, ?)", standing)
-        months = "SELECT DISTINCT month FROM standing"
-        count = self._link.execute(f"DELETE FROM price WHERE month IN ({months}) AND EXISTS ({STANDS})").rowcount
-        self._link.execute("DELETE FROM standing")
+    def take_stored(self, stored: Iterable[StoredPrice]) -> int:
+        """Takes out each price that an office has exactly so; how many these are."""
+        self._link.executemany("INSERT INTO stored VALUES (?, ?, ?, ?, ?, ?)", stored)
+        months = "SELECT DISTINCT month FROM stored"
+        count = self._link.execute(f"DELETE FROM price WHERE month IN ({months}) AND EXISTS ({IS_STORED})").rowcount
+        self._link.execute("DELETE FROM stored")
         return count
 
     def confirm(self, number: int) -> None:

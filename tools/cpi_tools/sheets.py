@@ -24,7 +24,7 @@ WORKBOOKS = (".xlsx", ".xlsm")
 """Files that are read, by their endings."""
 
 OF_SYSTEMS = ("desktop.ini", "thumbs.db")
-"""Files that a system puts beside others; so are those that begin with `.` or `~$`."""
+"""Files that a system puts next to others; so are those that begin with `.` or `~$`."""
 
 LOOKED_AT = 20
 """Rows among which the heading is looked for, if the first row is none."""
@@ -94,7 +94,7 @@ class Source:
         if name in self._ignored or file.resolve() in self._own:
             return
         if file.is_dir():
-            self._tell(label_of(file), "the folder isn't read", "put its files beside the others, or")
+            self._tell(label_of(file), "the folder isn't read", "put its files next to the others, or")
         elif kind in TEXTS:
             self._note(file.stem, label_of(file), functools.partial(texts_of_csv, file))
         elif kind in WORKBOOKS:
@@ -200,14 +200,14 @@ def rows_of(sheet: Sheet, lines: Iterator[Sequence[str]], columns: Columns) -> I
             continue
         odd = next((cell for at, cell in enumerate(line) if cell.strip() and (at >= len(heads) or not heads[at])), "")
         if odd:
-            unnamed.add(SheetFault(origin, f"a cell stands in no named column: {shown(odd)}", UNNAMED))
+            unnamed.add(SheetFault(origin, f"a cell is in no named column: {shown(odd)}", UNNAMED))
         cells = {head: cell if head in kept else trimmed(cell) for head, cell in zip(heads, line) if head}
         yield Row(origin, cells)
     unnamed.end()
 
 
 def trimmed(cell: str) -> str:
-    """A text without the blanks before and behind it; what a workbook has as a number or a date is as it is."""
+    """A text without the blanks before and after it; what a workbook has as a number or a date is as it is."""
     return cell.strip() if type(cell) is str else cell
 
 

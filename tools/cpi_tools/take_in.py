@@ -31,7 +31,7 @@ from .private_files import private_file, write_rows as write_rows
 from .program import Cpi, add_program
 from .sent import MOST_RECORDS, Bundle
 from .sheets import Source, files_of
-from .standing import known_of
+from .known_rows import known_of
 from .stored import stored_office
 from .taken_page import page, place, summary
 from .terminal import Fault, Progress, ToolWords, at_least, because_of, counted
@@ -111,7 +111,7 @@ def write_check(out: Path, name: str, over: str, told: TakenIn) -> None:
 def write_records(out: Path, taken: Taken, most: int = MOST_RECORDS) -> list[Path]:
     """Writes a new folder of records, `most` a file, whole or not at all; the files, none if nothing is to be sent.
 
-    A key that was drawn is in `keys.csv` beside them, and in no other place but the records.
+    A key that was drawn is in `keys.csv` next to them, and in no other place but the records.
     """
     out.parent.mkdir(parents=True, exist_ok=True)
     with tempfile.TemporaryDirectory(prefix=".cpi-take-in-", dir=out.parent) as room:
@@ -238,7 +238,7 @@ def run(chosen: argparse.Namespace) -> int:
 
 
 def show_warnings(warnings: Sequence[SheetFault]) -> None:
-    """Tells the first warnings on standard error."""
+    """Prints the first warnings on standard error."""
     for it in warnings[:MOST_SHOWN]:
         print(f"cpi-tools take-in: warning: {place(it.origin)}: {it.because}", file=sys.stderr)
     if len(warnings) > MOST_SHOWN:

@@ -65,8 +65,8 @@ def named(word: str, count: int) -> str:
 def summary(taken: Taken, judged: Judged) -> str:
     """How many rows of each kind are taken, and how many the office has already, in one line."""
     told = [named(word, judged.taken[word]) for word in NAMES if judged.taken[word]]
-    standing = sum(taken.standing.values())
-    known = [f"{counted(standing, 'row')} that the office has already"] if standing else []
+    count = sum(taken.passed_over.values())
+    known = [f"{counted(count, 'row')} that the office has already"] if count else []
     return ", ".join([*(told or ["nothing new"] if known else told), *known]) or "nothing"
 
 

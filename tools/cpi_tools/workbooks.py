@@ -51,10 +51,10 @@ def reading(label: str) -> Iterator[None]:
 
 
 class Workbook:
-    """A workbook that openpyxl has open, with the values that stand for its formulas."""
+    """A workbook that openpyxl has open, with the values of its formulas."""
 
     def __init__(self, path: Path, label: str):
-        """`label` names the file where it can't be read. Raises Fault then."""
+        """`label` names the file if it can't be read. Raises Fault then."""
         self._label = label
         with reading(label):
             from openpyxl import load_workbook
@@ -79,7 +79,7 @@ class Workbook:
         return found
 
     def _rows(self, title: str, label: str, found: Texts) -> Iterator[Sequence[str]]:
-        """The rows of a sheet, from the first on, also where the file tells its size wrongly."""
+        """The rows of a sheet, from the first on, also if the file has its size wrongly."""
         with reading(self._label):
             sheet = self._book[title]
             part = self._parts.get(sheet._worksheet_path, Part())
@@ -182,7 +182,7 @@ def text_of_cell(cell: Any, label: str, odd: Alike) -> str:
 
 
 def number_of_cell(cell: Any, label: str, odd: Alike) -> str:
-    """The text of a number, with a percent sign where its cell shows one."""
+    """The text of a number, with a percent sign if its cell shows one."""
     value = cell.value
     if abs(value) >= MOST_DIGITS:
         because = f"the cell is the number {value!r}, and a spreadsheet keeps 15 digits of it"
@@ -196,12 +196,12 @@ def number_of_cell(cell: Any, label: str, odd: Alike) -> str:
 
 
 def signs_of(number_format: str) -> str:
-    """A number format without the texts in it, and without what stands in brackets."""
+    """A number format without the texts in it, and without the parts in brackets."""
     return re.sub(r'"[^"]*"|\\.|\[[^]]*\]', "", number_format)
 
 
 def time_of_cell(value: datetime, has_hours: bool) -> Dated:
-    """A date as a day, `2026-01-31`, or as a time where its cell shows one."""
+    """A date as a day, `2026-01-31`, or as a time if its cell shows one."""
     if not has_hours and (value.hour, value.minute, value.second) == (0, 0, 0):
         return Dated(value.strftime("%Y-%m-%d"))
     return Dated(value.strftime("%Y-%m-%dT%H:%M:%S" if value.second else "%Y-%m-%dT%H:%M"))

@@ -7,13 +7,13 @@ from collections.abc import Iterator
 from .known import Frozen, Known, Window
 from .office_sheets import WINDOW
 from .price_cells import Place
-from .price_store import Standing
+from .price_store import StoredPrice
 from .stored import Quote, StoredOffice
 from .take_out import Held, held_by, rows_of_handovers, rows_of_series, slot_in, told_quote
 from .terminal import month_text
 
 STORED = 0
-"""The revision that is told of a quote as it stands, whichever freeze took it."""
+"""The revision of a quote as it is stored, whichever freeze took it."""
 
 
 def known_of(stored: StoredOffice) -> Known:
@@ -60,19 +60,19 @@ def releases_of(stored: StoredOffice) -> Iterator[tuple[tuple[str, str], Frozen]
         yield (month_text(month), str(revision)), Frozen(str(publishes), str(frozen_at), frozenset(carry))
 
 
-def prices_of(stored: StoredOffice, held: Held, month: str) -> Iterator[Standing]:
+def prices_of(stored: StoredOffice, held: Held, month: str) -> Iterator[StoredPrice]:
     """What each freeze of a month took, and what is stored of it."""
     number = int(month.replace("-", ""))
     for release in stored.releases():
         if release.month == number:
             for series, frozen in stored.frozen(release).items():
                 slot = slot_in(held[series], number)
-                yield standing(month, slot, release.revision, Quote(frozen.mark, frozen.value))
+                yield stored_price(month, slot, release.revision, Quote(frozen.mark, frozen.value))
     for slot, quote in stored.quotes(number).items():
-        yield standing(month, slot, STORED, quote)
+        yield stored_price(month, slot, STORED, quote)
 
 
-def standing(month: str, slot: tuple[int, int], turn: int, quote: Quote) -> Standing:
+def stored_price(month: str, slot: tuple[int, int], turn: int, quote: Quote) -> StoredPrice:
     """A quote as it is compared with what is taken in."""
     mark, value = told_quote(quote)
-    return Standing(month, str(slot[0]), str(slot[1]), turn, mark, str(value))
+    return StoredPrice(month, str(slot[0]), str(slot[1]), turn, mark, str(value))
