@@ -181,7 +181,11 @@ def test_nothing_is_started_by_it(package: Path, members: dict[str, tarfile.TarI
         "deb-systemd-invoke stop cpi-backup.timer cpi.service",
     }
     needs = re.findall(r"^(?:Depends|Recommends|Suggests): (.*)$", (tmp_path / "told/control").read_text(), re.M)
-    assert needs == ["libc6 (>= 2.34), python3 (>= 3.9)", "python3-jinja2, python3-segno", "python3-openpyxl"]
+    assert needs == [
+        "libc6 (>= 2.34), python3 (>= 3.9)",
+        "python3-jinja2, python3-segno",
+        "python3-openpyxl, libreoffice-calc-nogui",
+    ]
 
 
 def test_the_versions_are_one(package: Path, cpi: Cpi) -> None:
