@@ -54,6 +54,14 @@ def test_as_it_was_taken_out(cpi: Cpi, nation: Path, wanted: Tables, tmp_path: P
     assert tables_of(cpi, tmp_path / "records", wanted) == wanted
 
 
+def test_onto_the_office_that_it_is_of(cpi: Cpi, nation: Path, tmp_path: Path) -> None:
+    """Hand-overs and 25 freezes among it: nothing is refused, and nothing is to be sent."""
+    assert run(cpi, "take-out", nation, tmp_path / "files").status == 0
+    ran = run(cpi, "take-in", tmp_path / "files", "--onto", nation, "--write", tmp_path / "records")
+    assert (ran.status, ran.err, ran.out.partition(",")[0]) == (0, "", "nothing new")
+    assert [*(tmp_path / "records").iterdir()] == []
+
+
 def test_as_wide_spreadsheets(cpi: Cpi, nation: Path, wanted: Tables, tmp_path: Path) -> None:
     """Decimal prices in a column a month, weights in percent; by a decimal comma and semicolons."""
     assert run(cpi, "take-out", nation, tmp_path / "files").status == 0

@@ -6,6 +6,7 @@ import csv
 import struct
 import subprocess
 import sys
+import tempfile
 from collections.abc import Callable
 from pathlib import Path
 from zipfile import ZIP_DEFLATED, ZipFile
@@ -14,6 +15,7 @@ import pytest
 
 from cpi_tools.cells import MOST_TOLD
 from cpi_tools.office_sheets import SHEETS
+from cpi_tools.price_store import PriceStore
 from cpi_tools.program import Cpi
 from cpi_tools.sheets import Source
 from cpi_tools.terminal import Fault
@@ -167,3 +169,19 @@ def test_problems_are_told_up_to_a_number_and_counted(cpi: Cpi, tmp_path: Path) 
     told = rows_of(folder / "check/problems.csv")
     assert ran.status == 1 and len(told) == MOST_TOLD + 1
     assert told[-1]["because"] == "2,000 more problems of this kind from here on"
+
+
+def test_a_disk_without_room_for_the_prices_is_one_line(
+    cpi: Cpi, tmp_path: Path, monkeypatch: pytest.MonkeyPatch
+) -> None:
+    """As SQLite tells it, when its file grows no more."""
+    before = PriceStore.__init__
+
+    def small(self: PriceStore, file: str) -> None:
+        before(self, file)
+        self._link.execute("PRAGMA max_page_count = 12")
+
+    monkeypatch.setattr(PriceStore, "__init__", small)
+    ran = run(cpi, "take-in", national(tmp_path / "office", 40, 60), "--check")
+    told = f"cpi-tools take-in: the prices can't be stored in {tempfile.gettempdir()}: database or disk is full\n"
+    assert ran == (1, "", told)

@@ -9,7 +9,7 @@ import sqlite3
 from collections.abc import Iterable, Iterator
 from typing import NamedTuple
 
-from .cells import Origin
+from .cells import BadSheet, Origin
 from .sent import Sent
 
 TABLES = """
@@ -20,6 +20,8 @@ CREATE TABLE price (
 CREATE TABLE stored (month TEXT, collector TEXT, slot TEXT, turn INT, mark TEXT, value TEXT);
 CREATE INDEX by_slot ON stored (collector, slot);
 """
+
+INDEX = "CREATE INDEX by_month ON price (month, turn, collector, slot)"
 
 IS_STORED = """
 SELECT 1 FROM stored AS it WHERE it.month = price.month AND it.collector = price.collector AND it.slot = price.slot
@@ -92,8 +94,11 @@ class PriceStore:
         rows = ((None, *it[:8], self._form(it.columns), *it[9:]) for it in prices)
         try:
             self._link.executemany(f"INSERT INTO price VALUES (?{', ?' * 11})", rows)
-        finally:
-            self._link.execute("CREATE INDEX by_month ON price (month, turn, collector, slot)")
+        except BadSheet:
+            # (those above the row that can't be read are stored, and are judged like the others)
+            self._link.execute(INDEX)
+            raise
+        self._link.execute(INDEX)
 
     def _form(self, columns: tuple[str, ...]) -> int:
         """The number of some columns; there are few of them."""

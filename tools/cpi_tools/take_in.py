@@ -11,6 +11,7 @@ import contextlib
 import itertools
 import os
 import shlex
+import sqlite3
 import sys
 import tempfile
 from collections.abc import Iterable, Iterator, Sequence
@@ -234,6 +235,8 @@ def run(chosen: argparse.Namespace) -> int:
                 print(command(files, chosen.zone, chosen.onto))
     except OSError as fault:
         raise Fault(because_of(fault)) from fault
+    except sqlite3.Error as fault:
+        raise Fault(f"the prices can't be stored in {tempfile.gettempdir()}: {fault}") from fault
     return 0
 
 
