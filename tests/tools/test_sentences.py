@@ -120,6 +120,61 @@ def test_a_revision_says_what_became_of_the_level(cpi: Cpi, tmp_path: Path) -> N
     assert before == "This is revision 1; revision 2 took its place, with the level 102.7."
 
 
+def two_years() -> Iterator[str]:
+    """Rice costs 1.00 and 3.00 in two shops until November, 10 percent more in December 2026; in January one of them
+    rises by 10 percent once more, and the other goes to another collector. Flour costs 0.80 throughout."""
+    head, rest = surveys.SMALL.split("0,desk,calendar,2025-12", 1)
+    plan = "0,desk,plan,2026," + rest.partition("0,desk,plan,2026,")[2].partition("10,a")[0].rstrip()
+    yield head.replace(",2026-12\n", ",2027-12\n").rstrip()
+    yield f"0,desk,collector,9,{key_of(9)}"
+    yield plan
+    for at, month in enumerate(surveys.MONTHS[:14]):
+        opens, closes = at * 1000 + 10, at * 1000 + 500
+        first, second = {"2026-12": (110, 330), "2027-01": (121, 330)}.get(month, (100, 300))
+        yield f"{opens},desk,calendar,{month},{opens},{closes},{closes}"
+        if month == "2027-01":
+            yield plan.replace("plan,2026", "plan,2027").replace("0,desk", f"{opens},desk", 1)
+            yield f"{opens},desk,handover,8,1,9,1,2027-01"
+        who = 9 if month == "2027-01" else 8
+        for collector, slot, price in ((7, 1, first), (7, 2, 80), (who, 1, second)):
+            yield f"{opens},{key_of(collector)},quote,{slot},{month},price,{price}"
+        yield f"{closes},desk,freeze,{month}"
+
+
+def test_over_a_link_month_and_a_hand_over(cpi: Cpi, tmp_path: Path) -> None:
+    """December: 4.40 / 4.00 = 1.1. January: 4.51 / 4.40 = 1.025, and 110 * 1.025 = 112.75, after 100 a year before.
+    All items: 0.6 * 110 + 0.4 * 100 = 106 in December; 0.6 * 102.5 + 0.4 * 100 = 101.5 within the new year, and
+    106 * 1.015 = 107.59, which is 7.59 percent above 100."""
+    path = tmp_path / "office.db"
+    assert [reply for reply in cpi.replay(two_years(), db=path) if "refused" in reply] == []
+    assert sentences(path, "2026-12", "01.1.1.1-01", *EUR) == [
+        "Rice, packed: prices rose by 10.0 percent from November 2026 to December 2026, and by 10.0 percent in a year.",
+        "2 prices in 2 shops (Corner shop; Market hall) could be compared: 2 rose and 0 fell; Rice, 1 kg at Corner shop"
+        " changed most, from 1.00 EUR to 1.10 EUR.",
+        "Together the 2 prices count as 4.40 EUR, after 4.00 EUR in December 2025, so the level, 100.0 then, is 110.0.",
+    ]
+    assert sentences(path, "2027-01", "01.1.1.1-01", *EUR) == [
+        "Rice, packed: prices rose by 2.5 percent from December 2026 to January 2027, and by 12.8 percent in a year.",
+        "2 prices in 2 shops (Corner shop; Market hall) could be compared: 1 rose and 0 fell; Rice, 1 kg at Corner shop"
+        " changed most, from 1.10 EUR to 1.21 EUR.",
+        "Together the 2 prices count as 4.51 EUR, after 4.40 EUR in December 2026, so the level, 110.0 then, is 112.8.",
+        "From January 2027 on collector 9 prices Rice, 1 kg at Market hall, in place of collector 8.",
+    ]
+    assert sentences(path, "2027-01", "00", *EUR) == [
+        "All items: prices rose by 1.5 percent from December 2026 to January 2027, and by 7.6 percent in a year.",
+        "All of the month's change comes from Rice, packed: +1.50 percentage points.",
+        "It rests on 3 prices in 2 shops, and all of them were found.",
+        "By their weights, the indices of its 2 aggregates have the mean 101.5 (December 2026 is 100), so the level,"
+        " 106.0 then, is 107.6.",
+    ]
+    assert sentences(path, "2027-01", "01.1.1.2-01")[0] == (
+        "Flour, wheat: prices didn't change, neither from December 2026 to January 2027 nor in a year."
+    )
+    assert sentences(path, "2026-05", "01.1.1.1-01")[1] == (
+        "2 prices in 2 shops (Corner shop; Market hall) could be compared, and none of them changed."
+    )
+
+
 # ---- against the lines
 
 PATTERNS = {
