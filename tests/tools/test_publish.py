@@ -222,6 +222,21 @@ def test_the_structure_has_each_id_that_the_data_use(pack: Path) -> None:
     assert titles["CP01112-01"] == "Flour & <meal>"
 
 
+def test_no_structure_is_final(published: list[Published], pack: Path, tmp_path: Path) -> None:
+    """The list of items of the first year and that of the last one differ, in the same version: a registry takes the
+    second one only if the first isn't final (SDMX 2.1, section 3, versioning)."""
+    publish(published[:3], CONFIG, tmp_path / "first", None, quiet)
+    kinds = ("Dataflow", "Codelist", "ConceptScheme", "DataStructure")
+    lists = []
+    for folder in (tmp_path / "first", pack):
+        root = ElementTree.parse(folder / "data/structure.sdmx.xml")
+        kept = [it for kind in kinds for it in root.iter(STRUCTURE + kind)]
+        assert len(kept) == 11 and {(it.get("version"), it.get("isFinal")) for it in kept} == {("1.0", "false")}
+        (items,) = [it for it in kept if it.get("id") == "CL_COICOP18"]
+        lists.append(ElementTree.tostring(items))
+    assert lists[0] != lists[1]
+
+
 def test_a_series_has_the_base_of_its_item(pack: Path, tmp_path: Path) -> None:
     """December before it came; of one that left and came again both."""
     publish([*two_years(), tea_again()], CONFIG._replace(reference="2026"), tmp_path / "again", None, quiet)

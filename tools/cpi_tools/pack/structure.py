@@ -31,6 +31,10 @@ from .tables import Series
 ENUMERATED = (*LISTS, "REF_AREA", "COICOP18")
 """The concepts that have a code list."""
 
+CHANGES = {"isFinal": "false"}
+"""What an agency maintains here has one version and isn't final: items come, and titles change with the year's plan. SDMX
+lets a final artefact never change, so a registry would refuse the next year's."""
+
 
 def write_structure(series: Series, config: Config, path: Path) -> None:
     """Writes the message."""
@@ -66,7 +70,7 @@ def _kept(config: Config, name: str) -> dict[str, str]:
 def _dataflow(config: Config) -> str:
     reference = element("Ref", **_kept(config, DEFINITION), **{"class": "DataStructure"})
     body = element("str:Structure", reference)
-    return _named("str:Dataflow", config.title, body, **_kept(config, FLOW), isFinal="true")
+    return _named("str:Dataflow", config.title, body, **_kept(config, FLOW), **CHANGES)
 
 
 def _lists(series: Series, config: Config) -> Mapping[str, tuple[str, Mapping[str, str]]]:
@@ -86,13 +90,13 @@ def _list_id(config: Config, name: str) -> str:
 def _code_lists(series: Series, config: Config) -> Iterator[str]:
     for name, (title, codes) in _lists(series, config).items():
         body = "".join(_named("str:Code", text, id=code) for code, text in codes.items())
-        kept = {"id": _list_id(config, name), "agencyID": config.agency, "version": VERSION, "isFinal": "true"}
-        yield _named("str:Codelist", title, body, **kept)
+        kept = {"id": _list_id(config, name), "agencyID": config.agency, "version": VERSION}
+        yield _named("str:Codelist", title, body, **kept, **CHANGES)
 
 
 def _concepts(config: Config) -> str:
     body = "".join(_named("str:Concept", title, id=config.id(name)) for name, title in CONCEPTS.items())
-    return _named("str:ConceptScheme", "Concepts", body, **_kept(config, SCHEME), isFinal="true")
+    return _named("str:ConceptScheme", "Concepts", body, **_kept(config, SCHEME), **CHANGES)
 
 
 def _identity(config: Config, name: str) -> str:
@@ -124,7 +128,7 @@ def _definition(config: Config) -> str:
         + element("str:AttributeList", "".join(attributes), id="AttributeDescriptor")
         + element("str:MeasureList", measure, id="MeasureDescriptor"),
     )
-    return _named("str:DataStructure", config.title, body, **_kept(config, DEFINITION), isFinal="true")
+    return _named("str:DataStructure", config.title, body, **_kept(config, DEFINITION), **CHANGES)
 
 
 def _attribute(config: Config, name: str) -> str:
