@@ -73,7 +73,10 @@ def test_of_a_pack(cpi: Cpi, office: Path, tmp_path: Path) -> None:
     for name in ("data/cpi.sdmx.csv", "data/tables/2026-01-r1.csv", "data/contributions.csv"):
         assert (tmp_path / "plain" / name).read_bytes() == (tmp_path / "safe" / name).read_bytes()
     words = (*words[:-1], "--check", tmp_path / "safe")
-    assert (run(cpi, *words, "--safe-csv").status, run(cpi, *words).status) == (0, 1)
+    same, other = run(cpi, *words, "--safe-csv"), run(cpi, *words)
+    assert (same.status, same.err, other.status) == (0, "", 1)
+    # (nothing is left that could be opened)
+    assert other.err.endswith("files not as written now\n") and other.err.count("\n") == 1
 
 
 def test_of_a_report(cpi: Cpi, office: Path, tmp_path: Path) -> None:
@@ -102,13 +105,13 @@ def test_of_files_that_are_taken_in_again(cpi: Cpi, office: Path, tmp_path: Path
 
 
 def test_of_problems(cpi: Cpi, office: Path, tmp_path: Path) -> None:
-    """A message that begins with what a cell has."""
+    """A heading of a sheet is another's text, and is the cell that a warning names."""
     sheets = tmp_path / "sheets"
     sheets.mkdir()
-    (sheets / "prices.csv").write_text("month,collector,slot,mark,value\n2026-02,7,1,price,=1+1\n")
+    (sheets / "outlets.csv").write_text(f"outlet,name,{TITLE}\n99,Shop,2\n")
     words = ("take-in", sheets, "--onto", office, "--check")
     plain, found = run(cpi, *words), (sheets / "check/problems.csv").read_text("utf-8")
     safe, safely = run(cpi, *words, "--safe-csv"), (sheets / "check/problems.csv").read_text("utf-8")
-    assert (plain.status, safe.status) == (1, 1)
-    assert ",=1+1 " in found and ",'=1+1 " in safely and found == safely.replace("'=1+1 ", "=1+1 ")
-    assert "a spreadsheet would compute 1 text, such as '=1+1 " in plain.err and "compute" not in safe.err
+    assert (plain.status, safe.status) == (0, 0)
+    assert f",1,{TITLE}," in found and f",1,'{TITLE}," in safely and found == safely.replace(f"'{TITLE}", TITLE)
+    assert "a spreadsheet would compute 1 text, such as '=1+1'" in plain.err and "compute" not in safe.err

@@ -258,7 +258,7 @@ NOT_TAKEN = [
     ("collector\n1\n", "row 1: there is no column name, only collector: name a column name in the first row"),
     ("", "row 1: the first row is empty: name the columns in the first row"),
     ("collector,name,name\n", "row 1: the column name is there twice: rename one of the two; a second table needs a sheet of its own"),
-    ("collector,name\n1,Lovelace, Ada\n", "row 2: a cell stands in no named column: \" Ada\": name the column in the first row, or"
+    ("collector,name\n1,Lovelace, Ada\n", "row 2: a cell is in no named column: \" Ada\": name the column in the first row, or"
      " put quotation marks round a text that has the separator in it"),
     ('collector,name\n1,"A\n', "row 2: the row is no CSV: unexpected end of data: look at its quotes"),
 ]  # fmt: skip

@@ -97,6 +97,16 @@ def formulas_told(tool: str, is_safe: Optional[bool]) -> Iterator[None]:
     _tell(tool, is_safe, formulas.texts)
 
 
+@contextlib.contextmanager
+def compared_only() -> Iterator[None]:
+    """Meanwhile files are written to be compared and thrown away, so that nobody opens them: their texts aren't told."""
+    before = _of_run.set(Formulas(_of_run.get().is_safe))
+    try:
+        yield
+    finally:
+        _of_run.reset(before)
+
+
 def _tell(tool: str, is_safe: Optional[bool], texts: set[str]) -> None:
     if not texts or is_safe:
         return

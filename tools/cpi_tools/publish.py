@@ -13,7 +13,7 @@ from collections.abc import Callable
 from pathlib import Path
 from typing import NamedTuple, Optional
 
-from .csv_files import add_safe_csv
+from .csv_files import add_safe_csv, compared_only
 from .folders import refuse_shared, written_folder
 from .pack.config import FORMS, Config, read_config
 from .pack.manifest import (
@@ -129,7 +129,8 @@ def check(published: list[Published], config: Config, out: Path, before: Optiona
         with tempfile.TemporaryDirectory(prefix="cpi-pack-") as folder:
             new = Path(folder) / "pack"
             new.mkdir()
-            write_pack(Pack(series, config, previous), new, now)
+            with compared_only():
+                write_pack(Pack(series, config, previous), new, now)
             now(f"comparing with {out}")
             return list(differences(out, new))
     except OSError as fault:
