@@ -16,6 +16,7 @@ import pytest
 
 import surveys
 from cpi_tools.explain import wording
+from cpi_tools.explain.spoken import count_words
 from cpi_tools.program import Cpi
 from ran import run
 from surveys import key_of
@@ -97,6 +98,24 @@ def test_all_items(small: Path) -> None:
         "By their weights, the indices of its 2 aggregates have the mean 105.7 (December 2025 is 100), so the level,"
         " 100.0 then, is 105.7.",
     ]
+
+
+def test_a_node_of_one_price(small: Path) -> None:
+    """Flour by itself: 0.84 / 0.80 = 1.05."""
+    assert sentences(small, "2026-01", "01.1.1.2")[1:] == [
+        "All of the month's change comes from Flour, wheat: +5.00 percentage points.",
+        "It rests on one price, which was found at Corner shop.",
+        "Its one aggregate has the index 105.0 (December 2025 is 100), so the level, 100.0 then, is 105.0.",
+    ]
+    assert sentences(small, "2026-02", "01.1.1.2")[1:3] == [
+        "None of its aggregates changed the index in the month.",
+        "It rests on one price, that of Corner shop, and this is imputed (closed: 1; nothing to compare, so carried by the"
+        " desk: Flour, wheat).",
+    ]
+
+
+def test_a_great_count_is_grouped() -> None:
+    assert (count_words(5892), count_words(12)) == ("5,892", "12")
 
 
 @pytest.mark.parametrize(("words", "amount"), [((), "2.00"), (("--minor", 1, *EUR), "200 EUR"),

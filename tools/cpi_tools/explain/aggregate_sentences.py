@@ -13,6 +13,7 @@ from . import wording
 from .sources import WHOLE_SCALE, Sources
 from .spoken import (
     chained_places,
+    count_words,
     item_words,
     month_words,
     names,
@@ -72,11 +73,11 @@ def of_compared(sources: Sources, matched: Sequence[Series]) -> Worded:
     outlets = [*dict.fromkeys(outlet_words(sources, it) for it in matched)]
     return worded(
         compared_form(sources, matched, most),
-        count=len(matched),
-        shops=len(outlets_of(sources, matched)),
+        count=count_words(len(matched)),
+        shops=count_words(len(outlets_of(sources, matched))),
         outlets=names(outlets),
-        rose=rose,
-        fell=fell,
+        rose=count_words(rose),
+        fell=count_words(fell),
         item=item_words(sources, most),
         outlet=outlet_words(sources, most),
         **span(sources, most),
@@ -108,7 +109,7 @@ def of_imputed(sources: Sources, sample: Sample) -> Worded:
     }
     if len(sample.imputed) > 1:
         reasons = reasons_by_name(sources, sample.imputed)
-        return worded(wording.IMPUTED, count=len(sample.imputed), reasons=reasons, **moved)
+        return worded(wording.IMPUTED, count=count_words(len(sample.imputed)), reasons=reasons, **moved)
     (only,) = sample.imputed
     named = {"item": item_words(sources, only), "outlet": outlet_words(sources, only)}
     return worded(wording.ONE_IMPUTED[reason_of(sources, only)], **named, **moved, **span(sources, only))
@@ -118,7 +119,7 @@ def of_carried(sources: Sources, imputed: Sequence[Series]) -> Worded:
     """What the desk decided to carry."""
     before, reasons = month_words(month_before(sources.month)), reasons_by_name(sources, imputed)
     if len(imputed) > 1:
-        return worded(wording.CARRIED, count=len(imputed), reasons=reasons, before=before)
+        return worded(wording.CARRIED, count=count_words(len(imputed)), reasons=reasons, before=before)
     named = {"item": item_words(sources, imputed[0]), "outlet": outlet_words(sources, imputed[0])}
     now = span(sources, imputed[0])["now"]
     return worded(wording.ONE_CARRIED, reasons=reasons, before=before, now=now, **named)
@@ -134,8 +135,8 @@ def of_level(sources: Sources, code: str, sample: Sample) -> Worded:
     base, now = map(sources.money.of_ticks, sums)
     return worded(
         level_form(len(sample.all), returned),
-        count=len(sample.all),
-        returned=returned,
+        count=count_words(len(sample.all)),
+        returned=count_words(returned),
         base=base,
         now=now,
         **chained_places(sources, code),

@@ -11,7 +11,16 @@ from . import wording
 from .lines import Line, Part, summed
 from .node import below, contributions
 from .sources import Sources
-from .spoken import MOST_NAMES, chained_places, counted_reasons, level_words, names, outlet_words, outlets_of
+from .spoken import (
+    MOST_NAMES,
+    chained_places,
+    count_words,
+    counted_reasons,
+    level_words,
+    names,
+    outlet_words,
+    outlets_of,
+)
 
 
 def sentences_of_aggregates(sources: Sources, node: str) -> Iterator[Worded]:
@@ -21,7 +30,7 @@ def sentences_of_aggregates(sources: Sources, node: str) -> Iterator[Worded]:
     codes = below(sources, node)
     yield worded(
         wording.AGGREGATES_MAKE if len(codes) > 1 else wording.ONE_AGGREGATE_MAKES,
-        count=len(codes),
+        count=count_words(len(codes)),
         index=level_words(sources.own.levels[node].within),
         **chained_places(sources, node),
     )
@@ -69,10 +78,10 @@ def of_prices(sources: Sources, node: str) -> Worded:
     imputed, shops = imputed_of(sources, sample), len(outlets_of(sources, sample))
     return worded(
         prices_form(len(sample), shops, len(imputed)),
-        prices=len(sample),
-        shops=shops,
+        prices=count_words(len(sample)),
+        shops=count_words(shops),
         outlet=outlet_words(sources, sample[0]),
-        imputed=len(imputed),
+        imputed=count_words(len(imputed)),
         reasons=reasons_below(sources, node, imputed),
     )
 

@@ -13,7 +13,7 @@ from . import wording
 from .aggregate_sentences import sentences_of_prices
 from .node_sentences import sentences_of_aggregates
 from .sources import AGGREGATE, Sources
-from .spoken import level_words, month_words
+from .spoken import count_words, level_words, month_words
 
 
 def sentences_of(sources: Sources, code: str) -> list[Worded]:
@@ -78,7 +78,7 @@ def of_events(sources: Sources, code: str) -> Iterator[Worded]:
         item = sources.items[now.item]
         places["item"] = worded(wording.ITEM, text=of_others(item.text), unit=of_others(item.unit))
         places["outlet"] = of_others(sources.outlets[now.outlet])
-        places.update(count=len(away), collector=now.collector, former=former.collector)
+        places.update(count=count_words(len(away)), collector=now.collector, former=former.collector)
     yield worded(form, **places)
 
 

@@ -21,6 +21,11 @@ def month_words(month: int) -> str:
     return month_name(month_text(month))
 
 
+def count_words(count: int) -> str:
+    """`5,892`."""
+    return f"{count:,}"
+
+
 def level_words(millionths: int) -> str:
     """A level or an index as it is published, `103.6`."""
     return points(millionths, 1)
@@ -66,7 +71,9 @@ def counted_reasons(sources: Sources, imputed: Iterable[Series]) -> Worded:
     """Why some series are imputed, the most frequent reason first."""
     counts = Counter(wording.REASONS[reason_of(sources, it)] for it in imputed)
     ordered = sorted(counts.items(), key=lambda it: (-it[1], it[0]))
-    return listed([worded(wording.COUNTED_REASON, reason=reason, count=count) for reason, count in ordered])
+    return listed(
+        [worded(wording.COUNTED_REASON, reason=reason, count=count_words(count)) for reason, count in ordered]
+    )
 
 
 def chained_places(sources: Sources, code: str) -> dict[str, str]:
