@@ -7,6 +7,7 @@ The figures are read with the standard library and openpyxl, which the tool does
 from __future__ import annotations
 
 import csv
+import errno
 import hashlib
 import io
 import json
@@ -25,7 +26,7 @@ import openpyxl
 import pytest
 
 from cpi_tools.command_line import main
-from cpi_tools.folders import NotPlaced
+from cpi_tools.folders import NotPlaced, written_folder
 from cpi_tools.pack.config import BadConfig, Config, read_config
 from cpi_tools.pack.manifest import manifest_text, previous_of, read_manifest
 from cpi_tools.pack.public import Listed, Published, from_file
@@ -431,6 +432,14 @@ def test_a_folder_that_is_no_pack_is_left_alone(published: list[Published], tmp_
     with pytest.raises(NotPlaced, match="is there already, and isn't a folder that this tool wrote"):
         publish(published[:2], CONFIG, tmp_path / "mine", None, quiet)
     assert [it.name for it in (tmp_path / "mine").iterdir()] == ["letter"]
+
+
+def test_a_fault_of_the_disk_names_the_folder(tmp_path: Path) -> None:
+    """A write doesn't say which file it was of."""
+    with pytest.raises(NotPlaced, match=f"^{tmp_path}/public: No space left on device$"):
+        with written_folder(tmp_path / "public", "manifest.json"):
+            raise OSError(errno.ENOSPC, os.strerror(errno.ENOSPC))
+    assert os.listdir(tmp_path) == []
 
 
 def test_a_link_is_followed_and_stays(published: list[Published], tmp_path: Path) -> None:

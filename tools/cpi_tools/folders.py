@@ -8,7 +8,7 @@ import tempfile
 from collections.abc import Iterator
 from pathlib import Path
 
-from .terminal import Fault, because_of
+from .terminal import Fault, because_of, naming
 
 
 class NotPlaced(Fault):
@@ -47,7 +47,7 @@ def written_folder(out: Path, known_by: str, is_private: bool = True) -> Iterato
         raise NotPlaced(f"{out} is there already, and isn't a folder that this tool wrote: it has no {known_by}")
     try:
         out.parent.mkdir(parents=True, exist_ok=True)
-        with tempfile.TemporaryDirectory(prefix=f".{out.name}-", dir=out.parent) as beside:
+        with naming(out), tempfile.TemporaryDirectory(prefix=f".{out.name}-", dir=out.parent) as beside:
             new = Path(beside) / "new"
             new.mkdir(mode=0o700 if is_private else 0o777)
             yield new
