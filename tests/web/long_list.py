@@ -6,6 +6,7 @@ import time
 
 from cpi_tools.program import record
 from offices import BEFORE, DESK, MONTH_SECONDS, NOBODY, NOW
+from phone import Phone
 from stage import Stage
 
 ROWS_AN_OUTLET = 20
@@ -14,8 +15,8 @@ FIRST_OUTLET = 100
 LAST = 200
 """The last price of each slot: 1.40 to 3.00 are taken without a second look."""
 
-LONG_ITEM = "Rice, long grain, parboiled, of the shop's own brand, in a box with a window, for six people or more, not organic, "
-LONG_ITEM += "as near to the door as can be found"
+LONG_ITEM = "Rice, long grain, parboiled, of the shop's own brand, in a box with a window, for six people or more, "
+LONG_ITEM += "not organic, as near to the door as can be found"
 LONG_OUTLET = (
     "The supermarket at the corner of the long street and the market place, opposite the old town hall, second "
 )
@@ -39,3 +40,11 @@ def give_list(
     assert len(stage.ask("POST", "/api/import", NOBODY, quotes).reply["rows"]) == slots
     work = stage.ask("GET", f"/api/work/{NOW}", NOBODY).reply["work"]
     assert [row[6] for row in work] == [LAST] * slots
+
+
+def open_list(phone: Phone, stage: Stage, slots: int) -> None:
+    """Opens the page with such a list, without the notice that the browser may clear its storage."""
+    give_list(stage, slots)
+    phone.sign_in(NOBODY)
+    phone.browser.click("#storage-read")
+    phone.browser.run("scrollTo(0, 0)")

@@ -175,3 +175,10 @@ class Phone:
         """Types a text in the place of the price that is there, and presses keys."""
         self.browser.run("document.getElementById('price').select()")
         self.press(text or Keys.DELETE, *keys)
+
+    def update(self) -> None:
+        """Taps Update, and waits until the list came again."""
+        came = "return (await import('/collect/state.js')).state.list.at"
+        before = self.browser.run_until(came)
+        self.browser.tap("#send")
+        self.browser.wait(lambda: self.browser.run_until(came) > before, "the list came again")

@@ -1,4 +1,4 @@
-"""The collectors' form: save and next, what is seen of it on a small screen, and digits of any keyboard."""
+"""The collectors' form: save and next, a small screen, and digits of any keyboard."""
 
 from __future__ import annotations
 
@@ -139,7 +139,7 @@ return [...document.querySelectorAll("#entry :is(input, button)")].filter((it) =
     return !(it.closest("label") ?? it).contains(document.elementFromPoint(left + width / 2, top + height / 2));
   }).map((it) => it.outerHTML);
 """
-"""What is covered as it has the focus."""
+"""Fields and buttons that something covers as they have the focus."""
 
 
 def test_what_has_the_focus_isnt_covered(phone: Phone, stage: Stage) -> None:
@@ -168,7 +168,7 @@ CHANGES = {
     "2": ("±0.0 %", False), "2.1": ("+5.0 %", False), "1.40": ("−30.0 %", False), "1.39": ("−30.5 %", True),
     "3.00": ("+50.0 %", False), "3.01": ("+50.5 %", True), "2.001": ("", False), "x": ("", False), "": ("", False),
 }  # fmt: skip
-"""What is typed over a last price of 2.00, the change in percent, and whether it is outside the tolerances."""
+"""Texts over a last price of 2.00, the change in percent, and whether it is outside the tolerances."""
 
 
 def test_the_change_in_percent_is_told_at_once(phone: Phone, stage: Stage) -> None:

@@ -113,8 +113,8 @@ document.getElementById("entry-form").requestSubmit();  // (as Enter, pressed tw
 return [...second, document.getElementById("price-fault").textContent, document.activeElement.id,
   document.getElementById("entry-form").mark.value];
 """
-"""Taps a button twice, the second time as soon as the next form is there: what it meets, whether it is kept away, what is
-told then, and what has the focus and the mark."""
+"""Taps a button twice, the second time as soon as the next form is there: the words of the element there, whether the tap is
+stopped, the fault that the form shows then, the element that has the focus, and the mark."""
 
 
 @pytest.mark.parametrize("x", [60, 270])

@@ -7,7 +7,7 @@ from typing import Any
 import pytest
 
 from browser import Browser
-from long_list import LONG_ITEM, LONG_OUTLET, give_list
+from long_list import LONG_ITEM, LONG_OUTLET, give_list, open_list
 from offices import ANNA, ARABIC, DESK, LEAVING, NOBODY, NOW, OVERRIDE
 from phone import Phone
 from readable import faults_enlarged, faults_for_keys, faults_of_page, faults_of_texts
@@ -17,21 +17,8 @@ from stage import Stage
 @pytest.fixture
 def many(phone: Phone, stage: Stage) -> Phone:
     """The page with 45 rows in three outlets, each with a last price of 2.00."""
-    give_list(stage, 45)
-    phone.sign_in(NOBODY)
-    phone.browser.click("#storage-read")
-    phone.browser.run("scrollTo(0, 0)")
+    open_list(phone, stage, 45)
     return phone
-
-
-def searched(phone: Phone, text: str) -> list[str]:
-    """The slots that a search finds, in the order of the list."""
-    phone.browser.type("#search", text)
-    found: list[str] = phone.browser.run(
-        "return [...document.querySelectorAll('[data-slot]')].filter((it) => it.checkVisibility())"
-        ".map((it) => it.dataset.slot)"
-    )
-    return found
 
 
 # ---- rows keep their places
@@ -48,18 +35,10 @@ def test_a_saved_row_stays_until_the_view_is_chosen_again(many: Phone) -> None:
     many.wait_told(2, "Receipt")
     many.browser.wait_text("#line", "All sent")
     assert many.places() == before
-    many.browser.tap("#send")
-    many.browser.wait(lambda: many.browser.run(UPDATED, 1), "the list came again")
+    many.update()
     assert many.places() == before
     many.show("todo")
     assert "2" not in many.places()
-
-
-UPDATED = """
-const lists = performance.getEntriesByType("resource").filter(({ name }) => name.includes("/api/work/"));
-return lists.length > arguments[0] + 1;
-"""
-"""Whether the work list was asked for more often than so many times after signing in, which takes two."""
 
 
 def test_a_tap_where_a_row_was_before_opens_that_row(many: Phone) -> None:
@@ -169,104 +148,6 @@ def test_the_next_row_is_the_next_one_that_is_shown(phone: Phone, stage: Stage) 
         phone.wait_edited(slot)
 
 
-def test_a_jump_goes_to_the_next_row_that_is_to_do(many: Phone) -> None:
-    many.edit(21)
-    many.fill("2.10")
-    many.wait_edited(22)
-    many.close()
-    for slot in (23, 24):
-        many.browser.run("scrollTo(0, 0)")
-        many.browser.tap("#jump")
-        many.browser.wait(lambda: many.focused() == str(slot), f"slot {slot}")
-        assert 110 < many.places()[str(slot)] < 740 - 68
-    many.edit(20)
-    many.close()
-    many.browser.click("#jump")
-    assert many.focused() == "22"  # (21 has its price)
-    many.edit(45)
-    many.close()
-    many.browser.click("#jump")
-    assert many.focused() == "1"
-
-
-def test_a_jump_unfolds_the_outlet_of_its_row(many: Phone) -> None:
-    many.browser.tap("summary")
-    assert not many.browser.run("return document.getElementById('slot-1').checkVisibility()")
-    many.browser.tap("#jump")
-    many.browser.wait(lambda: many.focused() == "1", "slot 1")
-    assert many.browser.run("return document.getElementById('slot-1').checkVisibility()")
-
-
-# ---- finding
-
-
-@pytest.fixture
-def mixed(phone: Phone, stage: Stage) -> Phone:
-    """The page with rows whose texts have accents, capitals and letters with a stroke."""
-    items = ("Crème fraîche", "CAFÉ moulu", "Łosoś wędzony", "Tea")
-    units = ("200 g", "500 g", "1 kg", "1 kg")
-    outlets = {90: "Épicerie du Marché", 91: "Ørsted & Søn"}
-    rows = [f"outlet,{number},{name}" for number, name in outlets.items()] + [f"collector,9,{NOBODY}"]
-    for slot, (item, unit) in enumerate(zip(items, units), 1):
-        rows += [f"item,M{slot},{item},{unit},700,1500", f"assign,9,{slot},{90 + (slot > 2)},M{slot},2010-12,2199-12"]
-    assert stage.ask("POST", "/api/import", DESK, "\n".join(rows)).reply == {"rows": [{"done": True}] * len(rows)}
-    phone.sign_in(NOBODY)
-    return phone
-
-
-FOUND = {
-    "creme": "1", "FRAICHE": "1", "café": "2", "cafe\u0301": "2", "losos": "3", "1 kg": "34", "epicerie": "12",
-    "orsted son": "34", "marche 500": "2", "tea epicerie": "", "  ": "1234", "g": "1234", "x": "",
-}  # fmt: skip
-"""What is searched for, and the slots that are found."""
-
-
-def test_a_row_is_found_by_item_unit_and_outlet(mixed: Phone) -> None:
-    for text, slots in FOUND.items():
-        assert "".join(searched(mixed, text)) == slots, text
-        assert mixed.browser.text("#found") == (f"{len(slots)} found" if text.strip() else "")
-
-
-def test_what_is_stored_is_found_too(mixed: Phone) -> None:
-    mixed.enter(1, "2.10")
-    mixed.enter(3, "2.30")
-    mixed.browser.wait_text("#line", "All sent")
-    mixed.show("quotes")
-    mixed.browser.type("#search", "losos")
-    assert [row.is_displayed() for row in mixed.browser.all("[data-quote]")] == [False, True]
-    assert mixed.browser.text("#found") == "1 found"
-
-
-def test_save_and_next_stays_within_what_is_found(mixed: Phone) -> None:
-    assert searched(mixed, "1 kg") == ["3", "4"]
-    mixed.tap_row(3)
-    mixed.tap_save("2.30")
-    mixed.wait_edited(4)
-    mixed.tap_save("2.40")
-    mixed.wait_edited(None)
-    assert mixed.focused() == "4"
-    mixed.browser.click("#jump")
-    assert mixed.browser.text("#found") == "Nothing of what is found is to do."
-
-
-def test_an_outlet_folds_and_a_search_opens_it(many: Phone) -> None:
-    def rows() -> int:
-        return int(
-            many.browser.run("return [...document.querySelectorAll('li')].filter((it) => it.checkVisibility()).length")
-        )
-
-    many.browser.tap("summary")
-    many.browser.wait(lambda: rows() == 25, "the first outlet is folded")
-    many.browser.tap("#send")
-    many.browser.wait(lambda: many.browser.run(UPDATED, 1), "the list came again")
-    assert rows() == 25
-    assert len(searched(many, "shop 100")) == 20
-    many.browser.run(
-        "const it = document.getElementById('search'); it.value = ''; it.dispatchEvent(new Event('input'))"
-    )
-    many.browser.wait(lambda: rows() == 25, "it is folded again")
-
-
 # ---- texts of others
 
 
@@ -325,15 +206,3 @@ def test_the_list_can_be_read_touched_and_enlarged(phone: Phone, stage: Stage, w
     browser.click("summary")
     found["folded"] = looked_at(browser)
     assert found == {name: [] for name in found}
-
-
-def test_by_keyboard_one_finds_a_row_and_enters_it(many: Phone, stage: Stage) -> None:
-    many.browser.run("document.getElementById('search').focus()")
-    many.press("102", "\ue004", "\ue007")  # (Tab, Enter: the jump)
-    many.browser.wait(lambda: many.focused() == "41", "the first row that is found")
-    many.press("\ue007")
-    many.wait_edited(41)
-    many.press("2.41", "\ue007")
-    many.wait_edited(42)
-    assert [row[:1] + row[3:4] for row in stage.wait_for_quotes(NOBODY)] == [[41, 241]]
-    assert stage.quotes(ANNA) == []

@@ -1,4 +1,4 @@
-"""Signing in to the collectors' page: by a link, by a key that is typed with its check character, and what is told."""
+"""Signing in to the collectors' page: by a link, and by a key that is typed, with its check character."""
 
 from __future__ import annotations
 
@@ -37,7 +37,7 @@ const urls = arguments[0].map(({ url }) => url);
 return JSON.stringify([document.URL, document.cookie, {...localStorage}, {...sessionStorage}, history.state, urls])
   + document.body.outerHTML + [...document.querySelectorAll("input")].map(({ value }) => value);
 """
-"""What a page shows and keeps of a link, but for its database; `urls` are the pages that Back and Forward lead to."""
+"""The page itself and all that it keeps but its database; `urls` are the pages that Back and Forward lead to."""
 
 
 # ---- by a link
@@ -62,7 +62,7 @@ NAMES = {
     SCRIPT: SCRIPT, "\u202eannA": "\u202eannA", LEAVING: LEAVING, "\U0001f9fa" * 200: "\U0001f9fa" * 60,
     " A&B=C+D% ": "A&B=C+D%",
 }  # fmt: skip
-"""Names of links, and what is kept of them: at most 60 characters."""
+"""Names of links as the page keeps them: at most 60 characters."""
 
 
 def test_a_name_is_shown_as_a_text(phone: Phone) -> None:
@@ -83,7 +83,7 @@ def test_a_link_of_another_collector_throws_nothing_away(phone: Phone, stage: St
     phone.enter(1, "3.21")
     phone.browser.wait_text("#line", "No line: 1 entry")
     words = "Another collector is signed in on this phone. Sign out first, then open the code again."
-    for key, told in ((checked(BENO), words), (BENO[:20], "The code that was opened isn’t whole. A key has 32")):
+    for key, told in ((checked(BENO), words), (BENO[:20], "The code you opened isn’t a key. A key has 32")):
         phone.browser.run("location.hash = arguments[0]", link(key, "Beno").partition("#")[2])
         phone.browser.wait_text("#notice", told)
         assert "To be sent" in phone.told(1) and phone.browser.run("return location.hash") == ""
@@ -91,7 +91,7 @@ def test_a_link_of_another_collector_throws_nothing_away(phone: Phone, stage: St
     phone.send()
     phone.browser.wait_text("#line", "All sent")
     assert [row[:1] + row[3:4] for row in stage.quotes(ANNA)] == [[1, 321]] and stage.quotes(BENO) == []
-    assert "isn’t whole" in phone.browser.text("#notice")  # (until it was read)
+    assert "isn’t a key" in phone.browser.text("#notice")  # (until it was read)
     phone.browser.click("#notice button")
     assert phone.browser.text("#notice") == "" and phone.browser.text("#who") == ""
 

@@ -42,8 +42,8 @@ export function currentMonth() {
 }
 
 /**
- * Shows when the window of the month closes. If it does so soon, another line warns of what isn't stored, or says that all
- * is: it has its room before there is anything to warn of, so that no row moves.
+ * Shows when the window of the month closes. If it does so soon, a second line counts the entries that aren't stored: it is
+ * there from the beginning, so that no row moves as one is saved.
  */
 export function showDeadline() {
   const window = state.windows.find(({ month }) => month === state.month);

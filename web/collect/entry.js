@@ -13,7 +13,7 @@ import * as unsent from "./unsent.js";
 
 let editing = null; // { month, slot, row, entry, stored, seen, isListed, wasToDo }
 let isSaving = false;
-let cameAt = -Infinity; // when the form of the next row came
+let cameAt = -Infinity; // when the form of the next row came, as performance.now() tells it
 
 const UNKNOWN = (slot) => [slot, null, "", "", `Slot ${slot}`, "", null, null, null];
 
@@ -31,6 +31,7 @@ export function edit(slot, month = state.month, isUnsent = false) {
   form.fill(editing);
   if (!isOpen()) {
     form.tellSaved(null);
+    form.forgetTaps();
     find("entry").showModal();
   }
   if (form.markOf() !== "missing") form.focusPrice();

@@ -75,16 +75,16 @@ export function focusPrice() {
   find("price").select();
 }
 
-let isTyped = false; // since the last entry was saved
+let isTyped = false; // since Save was pressed
 
-/** What is typed while an entry is being kept takes the place of its price; the price. */
+/** Lets the next figure take the place of the price while its entry is being kept; the price. */
 export function awaitTyping() {
   if (document.activeElement === find("price")) find("price").select();
   isTyped = false;
   return find("price").value;
 }
 
-/** What was typed since, for the next row; nothing is lost of what a fast hand types ahead. */
+/** The text that a fast hand has typed since, for the next row. */
 export const typedSince = () => (isTyped ? find("price").value : "");
 
 /** Puts what was typed ahead into the form. */
@@ -101,7 +101,7 @@ export function tellFault(text) {
   return null;
 }
 
-/** Says what was saved last, and if the next row is in another shop; nothing when the form opens. */
+/** Names the entry that was saved last, and says if the next row is in another shop; null for none. */
 export function tellSaved(kept, isElsewhere = false) {
   find("entry").classList.toggle("elsewhere", isElsewhere);
   if (isElsewhere) find("entry-outlet").prepend("Next shop: ");
@@ -153,15 +153,15 @@ export function empty() {
   form().reset();
 }
 
-// ---- What is tapped twice
+// ---- Double taps
 
-/** Milliseconds, and pixels, within which a second tap is the first one's, if nothing was typed between them. */
+/** Milliseconds and pixels within which two taps are one, if nothing was typed between them. */
 export const TWICE = 500;
 const NEAR = 24;
 
 let tapped = null; // the tap before: { at, x, y }
 
-/** Keeps a second tap on Save or Confirm from what the form of the next row has in the same place. */
+/** Stops the second of two taps: the next row's form may have another button in the same place by then. */
 function keepTwiceAway(event) {
   const { type, detail, timeStamp: at, clientX: x, clientY: y } = event;
   if (detail === 0) return; // (a key's, or the page's own)
@@ -173,10 +173,15 @@ function keepTwiceAway(event) {
   }
 }
 
+/** Begins anew: the next tap is the first one. */
+export function forgetTaps() {
+  tapped = null;
+}
+
 /** The events within the form; `edited` tells what it is filled in for. */
 export function listen(edited) {
   for (const type of ["mousedown", "click"]) find("entry").addEventListener(type, keepTwiceAway, true);
-  form().addEventListener("input", () => { tapped = null; });
+  form().addEventListener("input", forgetTaps);
   form().addEventListener("change", ({ target }) => {
     if (target.name === "mark") showFields(edited().row);
     if (target.name) showQuestion(null);

@@ -27,7 +27,7 @@ function wordsOf(waiting) {
   return state.entries.length === 0 ? "All sent" : "";
 }
 
-let lasting = ""; // the text that stays until it was read, or none
+let lasting = ""; // a text that stays until the collector has read it, or none
 
 /** A text about all of the page, until it is over; or none. */
 export function notice(text) {

@@ -3,7 +3,7 @@ import { find } from "../shared/dom.js";
 import { rowOf } from "./state.js";
 
 const folded = new Set(); // the numbers of the outlets that are folded
-let words = []; // of what is searched for
+let words = []; // of the search
 
 /** Letters whose stroke or ligature has no decomposition (Unicode Standard Annex 15), as one types them without it. */
 const LETTERS = { ł: "l", ø: "o", đ: "d", ð: "d", ħ: "h", ŧ: "t", ı: "i", ß: "ss", æ: "ae", œ: "oe" };
@@ -14,7 +14,7 @@ const plain = (text) => text.normalize("NFKD").replace(/\p{M}/gu, "").toLowerCas
 
 export const isFolded = (outlet) => folded.has(outlet) && words.length === 0;
 
-/** Whether a row has each word of what is searched for. */
+/** Whether a row has each word of the search. */
 export function isFound([, , outlet = "", , text = "", unit = ""]) {
   if (words.length === 0) return true;
   const all = plain(`${outlet} ${text} ${unit}`);
@@ -49,9 +49,9 @@ export function searchFor(text) {
   filter();
 }
 
-/** Says that no row of those that are found is to do. */
+/** Says that no row that was found is to do. */
 export function tellNone() {
-  find("found").textContent = "Nothing of what is found is to do.";
+  find("found").textContent = "All of these are entered.";
 }
 
 /** Nothing is searched for, and nothing is folded. */

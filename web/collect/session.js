@@ -29,7 +29,7 @@ export async function start() {
 async function follow(link) {
   const { key, fault } = readKey(link.text);
   if (state.key && fault) {
-    noticeUntilRead(`The code that was opened isn’t whole. ${fault}`);
+    noticeUntilRead(`The code you opened isn’t a key. ${fault}`);
   } else if (state.key && state.key !== key) {
     noticeUntilRead("Another collector is signed in on this phone. Sign out first, then open the code again.");
   } else if (state.key) {
