@@ -132,14 +132,15 @@ def test_price_and_save_are_seen_above_the_keyboard(phone: Phone, stage: Stage) 
 
 
 COVERED = """
-return [...document.querySelectorAll("#entry :is(input, button)")].filter((it) => it.checkVisibility() && !it.disabled)
+const all = [...document.querySelectorAll("#entry :is(input, button)")].filter((it) => it.checkVisibility() && !it.disabled);
+return [...all, ...all.toReversed()]
   .filter((it) => {
     it.focus();
     const { left, top, width, height } = it.getBoundingClientRect();
     return !(it.closest("label") ?? it).contains(document.elementFromPoint(left + width / 2, top + height / 2));
   }).map((it) => it.outerHTML);
 """
-"""Fields and buttons that something covers as they have the focus."""
+"""Fields and buttons that something covers as they have the focus, from the first to the last and back."""
 
 
 def test_what_has_the_focus_isnt_covered(phone: Phone, stage: Stage) -> None:
