@@ -133,6 +133,7 @@ def test_price_and_save_are_seen_above_the_keyboard(phone: Phone, stage: Stage) 
 
 COVERED = """
 const all = [...document.querySelectorAll("#entry :is(input, button)")].filter((it) => it.checkVisibility() && !it.disabled);
+document.activeElement.blur();
 return [...all, ...all.toReversed()]
   .filter((it) => {
     it.focus();
@@ -149,6 +150,23 @@ def test_what_has_the_focus_isnt_covered(phone: Phone, stage: Stage) -> None:
     phone.browser.size(360, 400)
     phone.edit(1)
     assert phone.browser.run(COVERED) == []
+    phone.browser.size(360, 640)
+    phone.browser.run("document.documentElement.style.fontSize = '200%'")
+    assert phone.browser.run(COVERED) == []
+
+
+def test_a_question_comes_into_sight_wherever_one_has_scrolled(phone: Phone, stage: Stage) -> None:
+    give_list(stage, 2, LONG_ITEM, LONG_OUTLET)
+    phone.sign_in(NOBODY)
+    phone.browser.size(360, 400)
+    phone.edit(1)
+    phone.press("9.99")
+    for text, asked in (("9.99", "#entry-confirm"), ("2,100", "[data-reading]"), ("x", "#price-fault")):
+        phone.retype(text)
+        phone.browser.run("document.getElementById('entry').scrollTop = 9999")
+        phone.browser.tap("#entry-save")
+        phone.browser.wait_shown(asked)
+        assert phone.browser.run(UNSEEN, ["#price", asked]) == [], asked
 
 
 def test_the_same_shop_isnt_named_as_another_one(phone: Phone) -> None:

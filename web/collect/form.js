@@ -40,6 +40,11 @@ export function fill({ month, slot, row, entry, stored }) {
   find("entry").scrollTop = 0;
 }
 
+/** Scrolls the form to some of its parts, the first one last, if they are out of sight. */
+function bringIntoSight(...ids) {
+  for (const id of ids.reverse()) find(id).scrollIntoView({ block: "nearest" });
+}
+
 function toldLast(row) {
   if (row[6] === null) return "There is no last price.";
   const found = boundsOf(row);
@@ -73,6 +78,7 @@ function percent(tenths) {
 export function focusPrice() {
   find("price").focus();
   find("price").select();
+  bringIntoSight("price");
 }
 
 let isTyped = false; // since Save was pressed
@@ -97,6 +103,7 @@ export function goOnTyping(text) {
 /** Says that something is wrong with what was typed; null. */
 export function tellFault(text) {
   find("price-fault").textContent = text;
+  if (text) bringIntoSight("price-fault");
   find("price").setAttribute("aria-invalid", String(Boolean(text)));
   return null;
 }
@@ -117,6 +124,7 @@ export function askReading(readings) {
   find("entry-refusal").replaceChildren(make("p", {}, "This can be read in more than one way. Which price is it?"),
     make("div", { class: "actions" }, ...readings.map((price) =>
       make("button", { type: "button", "data-reading": price, onclick: () => on.reading(price) }, shown(price)))));
+  bringIntoSight("entry-refusal");
   return null;
 }
 
@@ -133,6 +141,7 @@ export function showQuestion(entry) {
     find("entry-theirs").textContent = `The stored one: ${inMarks(entry.reply.mark, entry.reply.value)}`;
   }
   find("entry-refusal").replaceChildren(...(entry ? question(entry, isFar, isMoved) : []));
+  if (entry) bringIntoSight("entry-refusal", isMoved ? "entry-mine" : "entry-confirm");
 }
 
 function question(entry, isFar, isMoved) {
