@@ -10,8 +10,9 @@ LEAST_PIXELS = 44
 """What is touched is at least so wide and high, links in a text aside."""
 
 SEEN = """
-const [sheet] = document.styleSheets, whole = "* { content-visibility: visible !important; }";
-if (![...sheet.cssRules].some((rule) => rule.cssText === whole)) sheet.insertRule(whole);
+const sheet = new CSSStyleSheet();
+sheet.replaceSync("* { content-visibility: visible !important; }");
+document.adoptedStyleSheets = [sheet];
 const open = document.querySelector("dialog[open]");
 const isSeen = (element) => element.checkVisibility({ checkOpacity: true, checkVisibilityCSS: true })
   && (!open || element.closest("dialog[open]"));
