@@ -29,10 +29,16 @@ def test_what_isnt_stored_is_taken_out_as_a_copy_and_as_a_file(phone: Phone, sta
     assert flour[:8] == [NOW, "2", "Corner shop", "Flour, wheat", "1 kg", "missing", "stock", ""]
     assert oil[9] == flour[9] == CLOSED_TEXT
     assert abs(time.mktime(time.strptime(oil[8][:19], "%Y-%m-%dT%H:%M:%S")) - time.mktime(time.gmtime())) < 60
+    assert copied(phone, "#unsent") == [head, oil, flour]
+
+
+def copied(phone: Phone, where: str) -> list[list[str]]:
+    """The rows that the button of a part of the page copies."""
+    button = f'{where} [data-do="copy"]'
     phone.browser.cdp("Browser.grantPermissions", permissions=["clipboardReadWrite", "clipboardSanitizedWrite"])
-    phone.browser.click('#unsent [data-do="copy"]')
-    phone.browser.wait_text('#unsent [data-do="copy"]', "Copied")
-    assert rows_of(phone.browser.run_until("return navigator.clipboard.readText()")) == [head, oil, flour]
+    phone.browser.click(button)
+    phone.browser.wait_text(button, "Copied")
+    return rows_of(phone.browser.run_until("return navigator.clipboard.readText()"))
 
 
 def waits(phone: Phone, tmp_path: Path) -> None:
@@ -44,6 +50,7 @@ def waits(phone: Phone, tmp_path: Path) -> None:
     _, rice = file_of(phone.browser, '#leaving [data-do="save"]', tmp_path)
     assert rice[:7] == [NOW, "1", "Corner shop", "Rice, white", "1 kg", "price", "310"]
     assert rice[9] == "to be sent"
+    assert copied(phone, "#leaving")[1] == rice
     phone.browser.click('#leaving [value="stay"]')
     assert "To be sent" in phone.told(1)
 
