@@ -200,6 +200,7 @@ def test_update_without_a_line_tries_it_once_the_line_is_back(phone: Phone, stag
     refused(phone, stage, (1, "3.10"))
     without_line(phone)
     phone.send()
+    time.sleep(0.5)  # (the page has tried, and nothing came)
     desk(stage, OPEN)
     phone.browser.offline(False)
     phone.browser.wait_text("#line", "All sent")
@@ -264,13 +265,17 @@ def test_an_entry_that_is_taken_back_from_the_list_isnt_said_to_be_stored(phone:
     assert "To do" in phone.told(1)
 
 
+LIST_CAME = "return (await import('/collect/state.js')).state.list.at"
+"""When the list came that the page shows."""
+
+
 def test_rows_stay_in_to_do_until_a_view_is_chosen(phone: Phone, stage: Stage) -> None:
     phone.sign_in()
     phone.enter(1, "3.10")
     phone.wait_told(1, f"Receipt {NEXT}")
+    before = phone.browser.run_until(LIST_CAME)
     phone.send()
-    phone.browser.wait(lambda: stage.relay.asked().count("GET /items") > 1, "the lists come again")
-    phone.browser.wait_text("#line", "All sent")
+    phone.browser.wait(lambda: phone.browser.run_until(LIST_CAME) > before, "the list comes again")
     assert slots(phone) == ["1", "2", "3", "4"]
     phone.show("todo")
     assert slots(phone) == ["2", "3", "4"]
