@@ -61,6 +61,17 @@ def test_the_collector_chooses_the_price_of_this_device(phone: Phone, stage: Sta
     assert stored(stage) == [[1, 315, NEXT + 1]]
 
 
+def test_a_choice_asks_again_if_the_other_device_has_stored_a_third_price(phone: Phone, stage: Stage) -> None:
+    overtaken(phone, stage)
+    press_alarm(phone)
+    act(phone, "open", 1)
+    assert put(stage, 1, "price,360") == NEXT + 1
+    phone.browser.click("#entry-mine")
+    phone.wait_told(1, "Stored: 3.60")
+    assert "Look again" in phone.told(1)
+    assert stored(stage) == [[1, 360, NEXT + 1]]
+
+
 def test_the_collector_chooses_the_stored_price(phone: Phone, stage: Stage) -> None:
     overtaken(phone, stage)
     press_alarm(phone)

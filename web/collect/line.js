@@ -21,10 +21,13 @@ let tries = 0, timer = 0;
 /** What is done when another tab has signed out, and with entries that were answered; the page sets both. */
 export const on = { gone: () => {}, settled: () => {} };
 
-/** Sends an entry that was just made. It is looked up before that if the list knows more than its form did. */
+/**
+ * Sends an entry that was just made. It is looked up before that if it takes the place of one that wasn't stored, or if
+ * the list knows more than its form did.
+ */
 export function send(entry) {
-  const isKnown = entry.month === state.month && (storedOf(entry.slot)?.[4] ?? 0) <= entry.seen;
-  if (state.line === "up" && isKnown) made(entry);
+  const isFirst = !entry.mine && entry.month === state.month && (storedOf(entry.slot)?.[4] ?? 0) <= entry.seen;
+  if (state.line === "up" && isFirst) made(entry);
   return again();
 }
 
