@@ -400,7 +400,9 @@ HABITS: dict[str, Habit] = {
     "blanks before and after": Habit(put_rows(WITH_BLANKS)),
     # ---- texts
     "a byte order mark": Habit(put_text(PLAIN, encoding="utf-8-sig")),
-    "UTF-16 with tabs, as \"Unicode text\"": Habit(put_text(text_of(PRICES, "\t"), name="prices.txt", encoding="utf-16")),
+    'UTF-16 with tabs, as "Unicode text"': Habit(
+        put_text(text_of(PRICES, "\t"), name="prices.txt", encoding="utf-16"),
+    ),
     "UTF-16 without its mark": Habit(put_text(PLAIN, encoding="utf-16-le")),
     "Windows-1252": Habit(put_bytes(PLAIN.replace("FLOUR", "FLOÜR").encode("cp1252"))),
     "rows that end in CR LF": Habit(put_text(PLAIN.replace("\n", "\r\n"))),

@@ -14,7 +14,7 @@ from zipfile import ZipFile
 import openpyxl
 import pytest
 
-from cpi_tools.cells import BadSheet, Columns, Numeral, Origin, Sheet, SheetFault
+from cpi_tools.cells import BadSheet, Columns, Numeral, Origin, Sheet, SheetFault, shown
 from cpi_tools.numbers_of_texts import Numbers, decimal
 from cpi_tools.sheets import Source
 from cpi_tools.terminal import Fault
@@ -286,6 +286,8 @@ def test_a_number_of_which_digits_are_lost_is_told(tmp_path: Path) -> None:
         (".", "1\u202f234", Fraction(1234)),
         (".", "12 345 678", Fraction(12_345_678)),
         (".", "2 40", None),
+        (".", "9" * 5000, None),
+        (".", Numeral("0." + "9" * 5000), None),
         (".", "1 2 3", None),
         (".", "1234 567", None),
         (".", "1 234'567", None),
@@ -310,6 +312,20 @@ def test_a_number_of_which_digits_are_lost_is_told(tmp_path: Path) -> None:
 )
 def test_numbers_with_a_decimal_sign(sign: str, text: str, wanted: Optional[Fraction]) -> None:
     assert Numbers(sign).of(text) == wanted
+
+
+@pytest.mark.parametrize(
+    ("text", "wanted"),
+    [
+        ("n/a", '"n/a"'),
+        ("0.84\u200b", '"0.84\\u200b"'),
+        ("2\u00a040", '"2\\xa040"'),
+        ("\u0663\u0664", '"\u0663\u0664"'),
+        ("x" * 81, '"' + "x" * 80 + '.."'),
+    ],
+)
+def test_a_cell_is_shown_as_it_is(text: str, wanted: str) -> None:
+    assert shown(text) == wanted
 
 
 def test_numbers_as_texts() -> None:

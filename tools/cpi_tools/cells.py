@@ -145,9 +145,15 @@ def more_of(count: int) -> str:
     return f"{count:,} more problems of this kind from here on"
 
 
+LONG = 80
+"""Characters of a cell that a line shows."""
+
+
 def shown(text: str) -> str:
-    """A text in quotation marks; a character that isn't seen, such as a blank of no width, by its number."""
-    return f'"{text}"' if text.isprintable() else f'"{ascii(text)[1:-1]}"'
+    """A text in quotation marks, its beginning if it is long; a character that isn't seen, such as a blank of no width,
+    is told by its number."""
+    first = text if len(text) <= LONG else f"{text[:LONG]}.."
+    return f'"{first}"' if first.isprintable() else f'"{ascii(first)[1:-1]}"'
 
 
 def label_of(path: Path) -> str:

@@ -25,8 +25,8 @@ class Frozen(NamedTuple):
 
 class Known(NamedTuple):
     """What an office has already, all as texts: keys by collector; the fields of items and the names of outlets; places
-    as slots have them and as they were first given; windows by month; hand-overs; the rows of plans by year; releases by
-    month and revision; and the prices that it has of a month."""
+    as slots have them and as they were first given; windows by month; hand-overs; the rows of plans by year; releases
+    by month and revision; and the prices that it has of a month."""
 
     keys: dict[str, str]
     items: dict[str, tuple[str, ...]]

@@ -16,6 +16,10 @@ GROUPED = re.compile(r"([+-]?[0-9]{1,3}(?:([ \u00a0\u202f\u2009'\u2019])[0-9]{3}
 """Blanks of several widths, and the mark of Switzerland, are only between groups of three digits, one kind a number."""
 
 
+MOST_CHARACTERS = 100
+"""No number of an office takes more; Python reads none of more than 4,300 digits."""
+
+
 class Numbers:
     """Reads numbers with a decimal sign, `.` or `,`."""
 
@@ -24,6 +28,10 @@ class Numbers:
 
     def of(self, text: str) -> Optional[Fraction]:
         """The number of a text, None if it is none. A number of a workbook has a point, whatever the sign is."""
+        if len(text) > MOST_CHARACTERS:
+            return None
+        if text.isascii() and text.isdigit():
+            return Fraction(int(text))
         if isinstance(text, Numeral):
             return Fraction(text) if OF_CELL.fullmatch(text) else None
         plain = text.strip()
@@ -44,7 +52,7 @@ class Numbers:
         return f'{shown(text)} is no number with the decimal sign "{self.decimal}"'
 
     def told_thousands(self, text: str) -> str:
-        """The doubt about a text whose decimal sign may be a mark of thousands, as in `1.250`; empty if there is none."""
+        """The doubt about a text whose decimal sign may be a mark of thousands, as in `1.250`; else nothing."""
         if isinstance(text, Numeral) or not re.fullmatch(f"[1-9][0-9]{{0,2}}[{self.decimal}][0-9]{{3}}", text):
             return ""
         return f"{shown(text)} may be {text.replace(self.decimal, '')}, with a mark of thousands"

@@ -191,6 +191,7 @@ def rows_of(sheet: Sheet, lines: Iterator[Sequence[str]], columns: Columns) -> I
     """The rows that aren't empty, but for those that are the heading again."""
     heads, kept = sheet.columns, {*columns.texts}
     named = next(at for at, head in enumerate(heads) if head)
+    gaps = [at for at, head in enumerate(heads) if not head]
     unnamed = Alike(sheet.faults)
     for number, line in enumerate(lines, 2):
         if not any(line) or not any(cell.strip() for cell in line):
@@ -198,7 +199,8 @@ def rows_of(sheet: Sheet, lines: Iterator[Sequence[str]], columns: Columns) -> I
         origin = Origin(sheet.file, number)
         if len(line) > named and line[named].strip().lower() == heads[named] and is_heading(sheet, origin, line):
             continue
-        odd = next((cell for at, cell in enumerate(line) if cell.strip() and (at >= len(heads) or not heads[at])), "")
+        others = itertools.chain((line[at] for at in gaps if at < len(line)), line[len(heads) :])
+        odd = next((cell for cell in others if cell.strip()), "")
         if odd:
             unnamed.add(SheetFault(origin, f"a cell is in no named column: {shown(odd)}", UNNAMED))
         cells = {head: cell if head in kept else trimmed(cell) for head, cell in zip(heads, line) if head}

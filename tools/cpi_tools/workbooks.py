@@ -82,7 +82,8 @@ class Workbook:
         """The rows of a sheet, from the first on, also if the file has its size wrongly."""
         with reading(self._label):
             sheet = self._book[title]
-            part = self._parts.get(sheet._worksheet_path, Part())
+            # (the only name that openpyxl has for the part of a sheet; a part that wasn't looked through isn't read)
+            part = self._parts[sheet._worksheet_path]
             odd, unlike = Alike(found.faults), _Unlike(part, self._has_strike)
             for place in part.without_value:
                 do = "open the workbook in a spreadsheet program and save it"
