@@ -275,6 +275,13 @@ def hidden_row(sheet: Any) -> None:
     sheet.row_dimensions[3].hidden = sheet.row_dimensions[9].hidden = True
 
 
+def two_currencies(sheet: Any) -> None:
+    """Prices in the formats of one currency, and one in that of another."""
+    for place in ("C2", "D2", "C3", "E3", "C4"):
+        sheet[place].number_format = '#,##0.00\\ "EUR"'
+    sheet["D3"].number_format = "[$$-409]#,##0.00"
+
+
 def struck_out(sheet: Any) -> None:
     """A price that is struck out, as one that somebody doubts."""
     sheet["D3"].font = openpyxl.styles.Font(strike=True)
@@ -426,6 +433,7 @@ HABITS: dict[str, Habit] = {
     "`0.84 EUR`": Habit(cell("0.84 EUR")),
     "`EUR 0.84`": Habit(cell("EUR 0.84")),
     "a number that its cell shows with a currency": Habit(book(put_cell("D3", 0.84, '"EUR" #,##0.00'))),
+    "a number that its cell shows with `$`, among others with `EUR`": Habit(book(two_currencies)),
     "a number that its cell shows as a percent": Habit(book(put_cell("D3", 0.84, "0%"))),
     "`n/a`": Habit(cell("n/a")),
     "`-`": Habit(cell("-")),

@@ -18,6 +18,7 @@ from cpi_tools.cells import BadSheet, Columns, Numeral, Origin, Sheet, SheetFaul
 from cpi_tools.numbers_of_texts import Numbers, decimal
 from cpi_tools.sheets import Source
 from cpi_tools.terminal import Fault
+from cpi_tools.workbooks import currency_of
 
 NAMES = {
     "outlets": Columns(("outlet", "name"), texts=("name",)),
@@ -246,6 +247,24 @@ def test_a_number_has_the_digits_that_a_spreadsheet_keeps(tmp_path: Path) -> Non
     texts = ["2.52", "0.3", "231", "2.515", "0.333333333333333", "999999999999.25"]
     assert [repr(cell) for cell in cells[:3]] == ["2.52", "0.30000000000000004", "231.00000000000003"]
     assert [*row.cells.values()] == texts
+
+
+@pytest.mark.parametrize(
+    ("number_format", "wanted"),
+    [
+        ("General", ""),
+        ("#,##0.00", ""),
+        ('0.00;[Red]-0.00" CR"', ""),
+        ('#,##0.00\\ "EUR"', "EUR"),
+        ("[$$-409]#,##0.00", "$"),
+        ("#,##0.00 [$K\u010d-405]", "K\u010d"),
+        ('_-"\u00a3"* #,##0.00_-', "\u00a3"),
+        ("\u20ac#,##0.00", "\u20ac"),
+        ("[h]:mm", ""),
+    ],
+)
+def test_the_currency_of_a_format(number_format: str, wanted: str) -> None:
+    assert currency_of(number_format) == wanted
 
 
 def test_seconds_are_not_lost_without_a_word(tmp_path: Path) -> None:

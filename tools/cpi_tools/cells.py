@@ -43,7 +43,10 @@ class BadSheet(Exception):
 
 class Numeral(str):
     """The text of a cell that a workbook has as a number: with a point, whatever the decimal sign of texts is. A cell
-    of a percent format has what it shows, `45.5%`."""
+    of a percent format has what it shows, `45.5%`. `currency` is what the cell shows next to the number, `EUR` or `$`.
+    """
+
+    currency: str = ""
 
 
 class Dated(str):

@@ -7,7 +7,7 @@ from collections import defaultdict
 from collections.abc import Collection, Iterator, Sequence
 from typing import NamedTuple, Optional
 
-from .cells import Capped, Columns, Origin, Row, Sheet, SheetFault, shown
+from .cells import Capped, Columns, Numeral, Origin, Row, Sheet, SheetFault, shown
 from .months_of_texts import month_of, told_no_month
 from .numbers_of_texts import Numbers
 from .price_store import Price
@@ -76,6 +76,7 @@ class PriceCells:
         self._sheet, self._numbers, self._minor = sheet, numbers, minor
         self._places: dict[tuple[str, str], list[Held]] = {}
         self._read: dict[str, str] = {}
+        self._currency: Optional[tuple[str, Cell]] = None
         self.faults = Capped()
         self.count = 0
         self.is_wide = "value" not in sheet.columns
@@ -218,7 +219,7 @@ class PriceCells:
                 value = value.strip()[len(first) :].strip() if others and word in MARKS else value
         hint = ""
         if mark != MISSING:
-            value, hint = self._minor_units(value)
+            value, hint = self._minor_units(cell, value)
         own = "collector" if column == "slot" else "item"
         columns = (column, cell.month_column, mark_column, cell.text_column, "confirm", own)
         confirm = cell.row["confirm"]
@@ -227,10 +228,21 @@ class PriceCells:
             cell.month, turn, collector, slot, mark, value.strip(), confirm, row, columns, str(cell.text), hint
         )
 
-    def _minor_units(self, text: str) -> tuple[str, str]:
+    def _look_at_currency(self, cell: Cell, currency: str) -> None:
+        """Tells a price that its cell shows in another currency than the first price that has one."""
+        first = self._currency = self._currency or (currency, cell)
+        if first[0] != currency:
+            place = f"row {first[1].row.origin.row}, {first[1].text_column}"
+            because = f"the price is shown in {shown(currency)}, and that of {place} in {shown(first[0])}"
+            do = "give all prices in one currency, and all cells its format"
+            self.faults.add(SheetFault(cell.row.origin.at(cell.text_column), because, do))
+
+    def _minor_units(self, cell: Cell, text: str) -> tuple[str, str]:
         """A price in minor units; what is no whole number of them goes to the program as it is, which refuses it, with
         what is known of it."""
         number = self._numbers.of(text)
+        if isinstance(text, Numeral) and text.currency:
+            self._look_at_currency(cell, text.currency)
         if number is None:
             return text, self._numbers.told_none(text) if text else "the cell is empty"
         minor = number * self._minor

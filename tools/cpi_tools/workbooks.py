@@ -3,7 +3,9 @@
 from __future__ import annotations
 
 import contextlib
+import functools
 import re
+import unicodedata
 import warnings
 from collections.abc import Iterator, Sequence
 from datetime import date, datetime, time, timedelta
@@ -190,12 +192,26 @@ def number_of_cell(cell: Any, label: str, odd: Alike) -> str:
         do = "give the column the format of text, and write the cell again"
         odd.add(SheetFault(Origin(label, cell.row, cell.column_letter), because, do))
         return ""
-    text = f"{value:.15g}"
-    if "%" in cell.number_format and "%" in signs_of(cell.number_format):
+    text, number_format = f"{value:.15g}", cell.number_format
+    if number_format == "General":
+        return Numeral(text)
+    if "%" in signs_of(number_format):
         return Numeral(f"{(Decimal(text) * 100).normalize():f}%")
-    return Numeral(text)
+    numeral = Numeral(text)
+    numeral.currency = currency_of(number_format)
+    return numeral
 
 
+@functools.lru_cache(maxsize=1000)
+def currency_of(number_format: str) -> str:
+    """What a cell of a format shows next to a number that isn't negative: `EUR` of `"EUR" 0.00`, `$` of `[$$-409]0`."""
+    first = number_format.partition(";")[0]
+    named = [quoted or of_place for quoted, of_place in re.findall(r'"([^"]*)"|\[\$([^]-]+)[^]]*\]', first)]
+    signs = [sign for sign in signs_of(first) if unicodedata.category(sign) == "Sc"]
+    return " ".join(each.strip() for each in (*named, *signs) if each.strip())
+
+
+@functools.lru_cache(maxsize=1000)
 def signs_of(number_format: str) -> str:
     """A number format without the texts in it, and without the parts in brackets."""
     return re.sub(r'"[^"]*"|\\.|\[[^]]*\]', "", number_format)
