@@ -164,21 +164,22 @@ export function empty() {
 
 // ---- Double taps
 
-/** Milliseconds and pixels within which two taps are one, if nothing was typed between them. */
+/** Milliseconds and pixels within which two taps are one. */
 export const TWICE = 500;
 const NEAR = 24;
 
-let tapped = null; // the tap before: { at, x, y }
+let tapped = null; // the tap before, and whose form it was in: { at, x, y, shown }
 
-/** Stops the second of two taps: the next row's form may have another button in the same place by then. */
+/** Stops the second of two taps if the next row came between them: its form may have another button in that place. */
 function keepTwiceAway(event) {
-  const { type, detail, timeStamp: at, clientX: x, clientY: y } = event;
+  const { type, detail, timeStamp: at, clientX: x, clientY: y } = event, shown = find("entry").dataset.entry;
   if (detail === 0) return; // (a key's, or the page's own)
-  if (tapped && at - tapped.at < TWICE && Math.hypot(x - tapped.x, y - tapped.y) < NEAR) {
+  const isNext = tapped && tapped.shown !== shown && at - tapped.at < TWICE;
+  if (isNext && Math.hypot(x - tapped.x, y - tapped.y) < NEAR) {
     event.preventDefault();
     event.stopPropagation();
   } else if (type === "click") {
-    setTimeout(() => { tapped = { at, x, y }; }); // (behind the click that a label hands on)
+    setTimeout(() => { tapped = { at, x, y, shown }; }); // (after the click that a label hands on)
   }
 }
 
