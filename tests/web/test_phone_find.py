@@ -30,24 +30,31 @@ def searched(phone: Phone, text: str) -> list[str]:
 # ---- a jump
 
 
+def jump(phone: Phone) -> None:
+    """Taps the jump, at the top of the page, once that has come to rest after a row was brought into sight."""
+    frame = "await new Promise((end) => requestAnimationFrame(end));"
+    phone.browser.run_until(frame * 4)
+    phone.browser.run("scrollTo(0, 0)")
+    phone.browser.tap("#jump")
+
+
 def test_a_jump_goes_to_the_next_row_that_is_to_do(many: Phone) -> None:
     many.edit(21)
     many.fill("2.10")
     many.wait_edited(22)
     many.close()
     for slot in (23, 24):
-        many.browser.run("scrollTo(0, 0)")
-        many.browser.tap("#jump")
+        jump(many)
         many.browser.wait(lambda: many.focused() == str(slot), f"slot {slot}")
         assert 110 < many.places()[str(slot)] < 740 - 68
     many.edit(20)
     many.close()
-    many.browser.click("#jump")
-    assert many.focused() == "22"  # (21 has its price)
+    jump(many)
+    many.browser.wait(lambda: many.focused() == "22", "slot 22, since 21 has its price")
     many.edit(45)
     many.close()
-    many.browser.click("#jump")
-    assert many.focused() == "1"
+    jump(many)
+    many.browser.wait(lambda: many.focused() == "1", "the first one, after the last")
 
 
 def test_a_jump_unfolds_the_outlet_of_its_row(many: Phone) -> None:
