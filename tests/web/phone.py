@@ -19,6 +19,8 @@ return !document.getElementById("entry-refusal").hidden || document.getElementBy
 """Whether the form asks something, or says what is wrong."""
 
 PLACES = """
+const frame = () => new Promise((end) => requestAnimationFrame(end));
+for (let n = 0; n < 3; n += 1) await frame(); // (rows that came into sight have their heights by then)
 const rows = [...document.querySelectorAll("[data-slot]")];
 return Object.fromEntries(rows.map((row) => [row.dataset.slot, row.getBoundingClientRect().top]));
 """
@@ -164,7 +166,7 @@ class Phone:
 
     def places(self) -> dict[str, float]:
         """Where each row begins, in pixels from the top of the window."""
-        found: dict[str, float] = self.browser.run(PLACES)
+        found: dict[str, float] = self.browser.run_until(PLACES)
         return found
 
     def focused(self) -> str:

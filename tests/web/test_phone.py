@@ -424,7 +424,7 @@ def test_what_finds_no_room_at_the_office_waits_and_the_rest_is_settled(phone: P
     phone.send()
     phone.browser.wait_text("#notice", "Memory or the disk failed. Nothing was stored; send the same again.")
     assert [phone.told(slot).split("\n")[1] for slot in (2, 4)] == ["To be sent"] * 2
-    assert "2 to be sent" in phone.browser.text("#line")
+    assert phone.browser.text("#line") == "Not taken: 2 entries kept on this phone"
     phone.open()  # (the office has room again)
     phone.browser.wait_text("#line", "All sent")
     phone.browser.wait(lambda: phone.browser.text("#notice") == "", "the notice is gone")

@@ -308,3 +308,33 @@ def test_a_kind_of_mark_is_chosen_by_a_tap_on_its_words(phone: Phone, stage: Sta
     phone.wait_edited(2)
     assert [row[:4] for row in stage.wait_for_quotes(ANNA)] == [[1, NOW, "missing", "stock"]]
     assert phone.focused() == "price"
+
+
+# ---- a form that is closed before it is saved
+
+
+def test_what_was_written_is_there_again_when_the_form_is_opened(phone: Phone, stage: Stage) -> None:
+    phone.sign_in()
+    phone.show("all")
+    phone.edit(1)
+    phone.browser.type("#price", "3.1")
+    phone.press(Keys.ESCAPE)
+    phone.browser.wait(lambda: phone.edited() is None, "the form is closed")
+    assert "Written, not saved" in phone.told(1)
+    phone.edit(1)
+    assert phone.browser.find("#price").get_attribute("value") == "3.1"
+    assert phone.browser.text("#price-fault") == "You wrote this before, and didn’t save it."
+    phone.save()
+    phone.wait_told(1, "Receipt")
+    assert "not saved" not in phone.told(1)
+    phone.edit(1)
+    assert phone.browser.text("#price-fault") == ""
+    assert [row[3] for row in stage.quotes(ANNA)] == [310]
+
+
+def test_a_form_that_is_closed_as_it_was_leaves_nothing(phone: Phone) -> None:
+    phone.sign_in()
+    phone.show("all")
+    phone.edit(1)
+    phone.close()
+    assert "not saved" not in phone.told(1)

@@ -41,15 +41,18 @@ def copied(phone: Phone, where: str) -> list[list[str]]:
     return rows_of(phone.browser.run_until("return navigator.clipboard.readText()"))
 
 
-def waits(phone: Phone, tmp_path: Path) -> None:
-    """What waits is told in the head, stays on "Stay", and can be taken out as a file."""
-    assert phone.browser.text("#line").endswith("1 to be sent")
+def waits(phone: Phone, why: str, tmp_path: Path) -> None:
+    """The head and the list name what isn't taken; it stays on "Stay", and can be taken out as a file."""
+    phone.browser.wait_text("#line", "Not taken: 1 entry kept on this phone")
+    assert phone.browser.text("#alarm") == "1 not taken"
     assert "To be sent" in phone.told(1)
+    press_alarm(phone)
+    assert why in phone.browser.text("#unsent-list")
     phone.browser.click("#leave")
     assert "1 entry on this phone hasn’t been stored" in phone.browser.text("#leaving")
     _, rice = file_of(phone.browser, '#leaving [data-do="save"]', tmp_path)
     assert rice[:7] == [NOW, "1", "Corner shop", "Rice, white", "1 kg", "price", "310"]
-    assert rice[9] == "to be sent"
+    assert rice[9].startswith(why)
     assert copied(phone, "#leaving")[1] == rice
     phone.browser.click('#leaving [value="stay"]')
     assert "To be sent" in phone.told(1)
@@ -61,7 +64,7 @@ def test_what_waits_behind_a_key_that_is_denied_can_be_taken_out(phone: Phone, s
     stage.front.start(lambda text: text.replace("default 0;\n", f'default 0;\n"~*{ANNA}" 1;\n', 1))
     phone.enter(1, "3.10")
     phone.browser.wait_text("#notice", "Nobody bears this key")
-    waits(phone, tmp_path)
+    waits(phone, "Nobody bears this key. Look at the key; if it is right, ask the desk.", tmp_path)
     stage.front.stop()
     stage.front.start()
     phone.send()
@@ -78,7 +81,7 @@ def test_what_waits_for_an_office_without_room_can_be_taken_out(phone: Phone, st
         if "To do" in phone.told(1):
             phone.enter(1, "3.10")
         phone.browser.wait_text("#notice", "Memory or the disk failed. Nothing was stored")
-        waits(phone, tmp_path)
+        waits(phone, "Memory or the disk failed. Nothing was stored; send the same again.", tmp_path)
     stage.relay.answers()
     phone.browser.wait_text("#line", "All sent")
     assert stored(stage) == [[1, 310, NEXT]]

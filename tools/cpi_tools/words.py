@@ -153,7 +153,7 @@ REFUSALS: tuple[Refusal, ...] = (
         because="the record has no such form, or a price or number is outside its limits",
         do="look at the fields, send again",
     ),
-    collector(11, because="nobody bears this key", do="look at the key"),
+    collector(11, because="nobody bears this key", do="look at the key; if it is right, ask the desk"),
     collector(12, because="only the desk may ask that", do="ask the desk"),
     collector(20, because="you have no such slot", do="look at the work list"),
     collector(21, because="the month has no window yet", do="ask the desk"),

@@ -10,10 +10,11 @@ const MINUTE = 60, HOUR = 3600, DAY = 86_400;
 /** A window that closes within so many seconds is told as a warning if entries aren't sent. */
 const SOON = 2 * DAY;
 
-/** The published windows by month, or null if there is no such file, or none can be had now. */
+/** The published windows by month, none if the desk publishes none; null if they can't be had now, or make no sense. */
 export async function readWindows() {
   try {
     const response = await fetch(FILE, { cache: "no-cache", credentials: "omit", redirect: "error" });
+    if (response.status === 404) return [];
     if (!response.ok) return null;
     const { months } = await response.json();
     return months.every(isWindow) ? months.sort((a, b) => (a.month < b.month ? -1 : 1)) : null;

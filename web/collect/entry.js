@@ -1,6 +1,7 @@
 // The form of one entry: what was found, its price or why there is none, and the second look before it closes.
 import { find } from "../shared/dom.js";
 import { figures, typed } from "../shared/money.js";
+import * as drafts from "./drafts.js";
 import * as form from "./form.js";
 import { refresh, send } from "./line.js";
 import { focusOn, nextToDo, touch } from "./list.js";
@@ -11,7 +12,7 @@ import * as tabs from "./tabs.js";
 import { whyNotKept } from "./told.js";
 import * as unsent from "./unsent.js";
 
-let editing = null; // { month, slot, row, entry, stored, seen, isListed, wasToDo }
+let editing = null; // { month, slot, row, entry, stored, seen, isListed, wasToDo, filled }
 let isSaving = false;
 let cameAt = -Infinity; // when the form of the next row came, as performance.now() tells it
 
@@ -29,11 +30,13 @@ export function edit(slot, month = state.month, isUnsent = false) {
   const seen = Math.max(entry?.seen ?? 0, stored?.[4] ?? 0, entry?.state === "moved" ? entry.reply.receipt : 0);
   editing = { month, slot, row, entry, stored, seen, isListed, wasToDo: isListed && isToDo(slot) };
   form.fill(editing);
+  editing.filled = form.content();
   if (!isOpen()) {
     form.tellSaved(null);
     form.forgetTaps();
     find("entry").showModal();
   }
+  if (drafts.draftOf(editing)) form.putDraft(drafts.draftOf(editing), row);
   if (form.markOf() !== "missing") form.focusPrice();
 }
 
@@ -84,6 +87,7 @@ async function keep(choice) {
 function goOn(kept, edited, text) {
   if (kept.who !== state.who) return; // (signed out meanwhile, in another tab)
   takeEntry(kept);
+  drafts.keepDraft(kept, null);
   tabs.tell("entries");
   const { slot, row, wasToDo } = edited;
   const next = wasToDo && isOpen() && editing === edited ? nextToDo(slot) : null;
@@ -106,6 +110,14 @@ export function settled(answered) {
   }
 }
 
+/** Closes the form without saving it. */
+function leave() {
+  const content = form.content();
+  drafts.keepDraft(editing, content === editing.filled ? null : content);
+  close();
+  touch([editing.slot]);
+}
+
 function close() {
   const { slot, isListed } = editing;
   find("entry").close();
@@ -118,6 +130,7 @@ async function drop() {
   const isDropped = await store.dropEntry(entry);
   await dropped(entry);
   if (isDropped) {
+    drafts.keepDraft(entry, null);
     close();
   } else {
     edit(slot, month);
@@ -144,6 +157,7 @@ function sendMine() {
 export function forget() {
   find("entry").close();
   editing = null;
+  drafts.forget();
   form.empty();
 }
 
@@ -164,9 +178,9 @@ export function listen() {
   find("entry-mine").addEventListener("click", sendMine);
   find("entry-theirs").addEventListener("click", drop);
   find("entry-drop").addEventListener("click", drop);
-  find("entry-cancel").addEventListener("click", close);
+  find("entry-cancel").addEventListener("click", leave);
   find("entry").addEventListener("cancel", (event) => {
     event.preventDefault();
-    close();
+    leave();
   });
 }

@@ -12,7 +12,7 @@ export function asCsv() {
   const rows = state.entries.map((entry) => {
     const [, , outlet = "", , text = "", unit = ""] = entry.row ?? [];
     return [entry.month, entry.slot, outlet, text, unit, entry.mark, entry.value, entry.confirm ? "yes" : "",
-      new Date(entry.at).toISOString(), entry.state === "waiting" ? "to be sent" : whyNotStored(entry)];
+      new Date(entry.at).toISOString(), entry.state === "waiting" && !state.refusal ? "to be sent" : whyNotStored(entry)];
   });
   return [COLUMNS, ...rows].map((row) => `${row.map((value) => written(String(value))).join(",")}\r\n`).join("");
 }

@@ -40,6 +40,24 @@ export function fill({ month, slot, row, entry, stored }) {
   find("entry").scrollTop = 0;
 }
 
+/** What the form has: mark, reason, and price as it is written; null if nothing is written in it. */
+export function content() {
+  const mark = markOf(), reason = reasonOf(), price = find("price").value.trim();
+  return (mark === "missing" ? reason : price) ? JSON.stringify([mark, reason, price]) : null;
+}
+
+/** Puts what was written before into the form of a row. */
+export function putDraft(written, row) {
+  const [mark, reason, price] = JSON.parse(written);
+  form().mark.value = mark;
+  form().reason.value = reason;
+  find("price").value = price;
+  showQuestion(null);
+  showFields(row);
+  showChange(row);
+  find("price-fault").textContent = "You wrote this before, and didn’t save it.";
+}
+
 /** Scrolls the form to some of its parts, the first one last, if they are out of sight. */
 function bringIntoSight(...ids) {
   for (const id of ids.reverse()) find(id).scrollIntoView({ block: "nearest" });

@@ -9,7 +9,8 @@ export function showHead() {
   find("who").replaceChildren(state.name);
   find("line").textContent = state.who ? wordsOf(waiting) : "";
   find("line").dataset.line = state.line === "up" && waiting ? "waiting" : state.line;
-  const parts = [refused && `${refused} refused`, look && `${look} to look at`].filter(Boolean);
+  const left = state.refusal ? waiting : 0;
+  const parts = [left && `${left} not taken`, refused && `${refused} refused`, look && `${look} to look at`].filter(Boolean);
   find("alarm").hidden = parts.length === 0;
   find("alarm").replaceChildren(make("span", {}, ...parts.flatMap((part, n) => [n ? ", " : "", make("span", {}, part)])));
 }
@@ -23,6 +24,7 @@ function wordsOf(waiting) {
     return `${waiting ? `Not known if ${counted(waiting, "entry is", "entries are")} stored` : "The answer made no sense"}. `
       + "The page asks again.";
   }
+  if (waiting && state.refusal) return `Not taken${kept}`;
   if (waiting) return `${waiting} to be sent`;
   return state.entries.length === 0 ? "All sent" : "";
 }

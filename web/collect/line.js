@@ -126,6 +126,7 @@ async function exchanged() {
 /** Shows a refusal of all; seconds to wait then, or null. */
 function toldWait({ who }, refusal) {
   if (state.who !== who || !refusal) return null;
+  state.refusal = refusal;
   notice(toCollector(refusal));
   return refusal.refused === 11 ? LONGEST_WAIT : 0;
 }
@@ -133,7 +134,7 @@ function toldWait({ who }, refusal) {
 /** Takes what was answered, and shows it in its place. */
 async function settled({ who }, answered) {
   if (state.who !== who) return;
-  state.line = "up";
+  Object.assign(state, { line: "up", refusal: null });
   notice("");
   const [list, entries] = await Promise.all([store.listOf(who, state.month), store.entries(who)]);
   if (state.who !== who) return;
@@ -151,6 +152,7 @@ async function listed(collector) {
   state.line = "up";
   if (state.month !== month) return null; // (that month's list is wanted still)
   if (wanted === asked) wanted = "";
+  if (!refusal) state.refusal = null;
   await show();
   notice(refusal ? toCollector(refusal) : "");
   return refusal?.refused === 11 ? LONGEST_WAIT : null;

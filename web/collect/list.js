@@ -4,6 +4,7 @@ import { becomes, find, make } from "../shared/dom.js";
 import { shown } from "../shared/money.js";
 import { clockOf, dayOf, inWords } from "../shared/months.js";
 import { showDeadline } from "./deadline.js";
+import { draftOf } from "./drafts.js";
 import { showHead } from "./head.js";
 import * as search from "./search.js";
 import { entryOf, isToDo, rowOf, state, storedOf, takeKept } from "./state.js";
@@ -141,9 +142,9 @@ function slotButton([slot, , , , text, unit, last]) {
       make("span", { class: "still" }, lineOf(slot))));
 }
 
-/** What the office still has of a slot; a row that had such a line keeps it, so that those below don't move. */
+/** Whether a draft is kept of a slot, or what the office still has of it. A row that had such a line keeps it. */
 function lineOf(slot) {
-  const told = stillStored(slot);
+  const told = draftOf({ month: state.month, slot }) ? "Written, not saved" : stillStored(slot);
   if (told) tall.add(slot);
   return told || (tall.has(slot) ? "\u00a0" : "");
 }

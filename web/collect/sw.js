@@ -1,9 +1,9 @@
 // Keeps the files of the collectors' page, so that it opens without a line. It never touches the office's interface.
 // VERSION is the hash of FILES: tools/pages writes it. What an office sets itself (SET) is kept too, and read anew
 // behind each start, so that the next one has it.
-const VERSION = "b8aff922d3f5d441";
+const VERSION = "098ff938b7da22a9";
 const FILES = [
-  "./", "app.js", "collect.css", "deadline.js", "entry.js", "export.js", "form.js", "head.js",
+  "./", "app.js", "collect.css", "deadline.js", "drafts.js", "entry.js", "export.js", "form.js", "head.js",
   "icon.svg", "key.js", "line.js", "list.js", "lists.js",
   "look.js", "manifest.webmanifest", "quotes.js", "search.js", "send.js", "session.js", "shown-month.js", "state.js",
   "store.js", "tabs.js", "told.js", "unsent.js", "../shared/api.js", "../shared/base.css", "../shared/csv.js",

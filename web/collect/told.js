@@ -1,7 +1,7 @@
 // What is said of slots and entries, in words.
 import { shown } from "../shared/money.js";
 import { toCollector } from "../shared/refusals.js";
-import { entryOf, kindOf, storedOf } from "./state.js";
+import { entryOf, kindOf, state, storedOf } from "./state.js";
 
 const MARKS = { price: "Price", comparable: "Comparable article", other: "Other article" };
 const REASONS = { stock: "Sold out", closed: "Shop closed", gone: "No longer sold", refused: "Shop doesn’t tell" };
@@ -31,7 +31,7 @@ export function stillStored(slot) {
 
 /** Why an entry isn't stored, and what to do, in a sentence or two. */
 export function whyNotStored(entry) {
-  if (entry.state === "waiting") return "It waits to be sent.";
+  if (entry.state === "waiting") return state.refusal ? toCollector(state.refusal) : "It waits to be sent.";
   if (entry.state === "moved") {
     const { mark, value, receipt } = entry.reply;
     const theirs = `${inMarks(mark, value)} (receipt ${receipt})`;

@@ -13,11 +13,11 @@ let dropping = null; // the entry of the question
 /** The page sets both: what opens the form of an entry, and what is done when one was dropped. */
 export const on = { open: () => {}, dropped: () => {} };
 
-/** Lists what isn't stored now: what was refused or is to be looked at, and what waits without a row below. */
+/** Lists what isn't stored now: what was refused or needs a look, and what waits without a row below, or isn't taken. */
 export function choose() {
   stored.clear();
   const hasRow = ({ month, slot }) => month === state.month && rowOf(slot);
-  listed = state.entries.filter((entry) => kindOf(entry) !== "waiting" || !hasRow(entry));
+  listed = state.entries.filter((entry) => kindOf(entry) !== "waiting" || !hasRow(entry) || state.refusal);
   listed.sort((a, b) => (a.month === b.month ? a.at - b.at : a.month < b.month ? -1 : 1));
 }
 

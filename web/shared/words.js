@@ -25,7 +25,7 @@ export const REFUSALS = [
   {"to": "desk", "numbers": [51], "fault": null, "word": null, "because": "the former slot has a quote of that month or of a later one", "do": "take the month after its last quote"},
   {"to": "desk", "numbers": [90], "fault": null, "word": null, "because": "memory or the disk failed", "do": "nothing was changed; run it again"},
   {"to": "collector", "numbers": [10], "fault": null, "word": null, "because": "the record has no such form, or a price or number is outside its limits", "do": "look at the fields, send again"},
-  {"to": "collector", "numbers": [11], "fault": null, "word": null, "because": "nobody bears this key", "do": "look at the key"},
+  {"to": "collector", "numbers": [11], "fault": null, "word": null, "because": "nobody bears this key", "do": "look at the key; if it is right, ask the desk"},
   {"to": "collector", "numbers": [12], "fault": null, "word": null, "because": "only the desk may ask that", "do": "ask the desk"},
   {"to": "collector", "numbers": [20], "fault": null, "word": null, "because": "you have no such slot", "do": "look at the work list"},
   {"to": "collector", "numbers": [21], "fault": null, "word": null, "because": "the month has no window yet", "do": "ask the desk"},
