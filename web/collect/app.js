@@ -10,8 +10,8 @@ import * as search from "./search.js";
 import * as session from "./session.js";
 import * as shownMonth from "./shown-month.js";
 import { state } from "./state.js";
-import { whyNotKept } from "./told.js";
 import * as unsent from "./unsent.js";
+import { whyNotKept } from "./wording.js";
 
 const MINUTE = 60_000; // milliseconds
 
@@ -75,7 +75,7 @@ async function passed() {
   await shownMonth.follow();
 }
 
-/** An error that nothing else has told: the browser's, which keeps nothing, or the page's own. */
+/** An error that nothing else has reported: of a browser that keeps nothing, or of the page itself. */
 function told(fault) {
   return fault instanceof DOMException ? `The page can’t keep what it needs here: ${whyNotKept(fault)}`
     : `The page met an error: ${fault?.message ?? fault}. Load it anew.`;

@@ -1,13 +1,13 @@
-// When the window of a month opens and closes, as the desk has published it beside the pages, and which month is worked
-// on by that. Moments are in seconds since 1970 UTC, as in the file; the page shows them by the phone's clock.
-import { inWords, timeOf, thisMonth } from "../shared/months.js";
+// When the window of a month opens and closes, as the desk has published it in calendar.json, and which month is open
+// by that. Moments are in seconds since 1970 UTC, as in the file; the page shows them by the phone's clock.
 import { find } from "../shared/dom.js";
+import { inWords, timeOf, thisMonth } from "../shared/months.js";
 import { state } from "./state.js";
 
 const FILE = new URL("../calendar.json", import.meta.url);
 const MINUTE = 60, HOUR = 3600, DAY = 86_400;
 
-/** A window that closes within so many seconds is told as a warning if entries aren't sent. */
+/** If a window closes within so many seconds, the page warns of entries that aren't stored. */
 const SOON = 2 * DAY;
 
 /** The published windows by month, none if the desk publishes none; null if they can't be had now, or make no sense. */
@@ -32,8 +32,8 @@ const isWindow = ({ month, opens, closes }) =>
 const seconds = () => Date.now() / 1000;
 
 /**
- * The month that is worked on: the one whose window is open, of several the one that closes first; else the next one to
- * open; else the month of the phone's clock.
+ * The month that collectors work on: the one whose window is open, of several the one that closes first; else the next
+ * one to open; else the month of the phone's clock.
  */
 export function currentMonth() {
   const now = seconds(), first = (name) => (a, b) => a[name] - b[name];
@@ -43,8 +43,8 @@ export function currentMonth() {
 }
 
 /**
- * Shows when the window of the month closes. If it does so soon, a second line counts the entries that aren't stored: it is
- * there from the beginning, so that no row moves as one is saved.
+ * Shows when the window of the month closes. If it does so soon, a second line counts the entries that aren't stored:
+ * it is there from the beginning, so that no row moves as one is saved.
  */
 export function showDeadline() {
   const window = state.windows.find(({ month }) => month === state.month);

@@ -9,12 +9,12 @@ import { farFrom } from "./look.js";
 import { entryAt, isToDo, rowOf, state, storedOf, takeEntries, takeEntry } from "./state.js";
 import * as store from "./store.js";
 import * as tabs from "./tabs.js";
-import { whyNotKept } from "./told.js";
 import * as unsent from "./unsent.js";
+import { whyNotKept } from "./wording.js";
 
 let editing = null; // { month, slot, row, entry, stored, seen, isListed, wasToDo, filled }
 let isSaving = false;
-let cameAt = -Infinity; // when the form of the next row came, as performance.now() tells it
+let cameAt = -Infinity; // when the form of the next row came, by performance.now()
 
 const UNKNOWN = (slot) => [slot, null, "", "", `Slot ${slot}`, "", null, null, null];
 
@@ -32,7 +32,7 @@ export function edit(slot, month = state.month, isUnsent = false) {
   form.fill(editing);
   editing.filled = form.content();
   if (!isOpen()) {
-    form.tellSaved(null);
+    form.showSaved(null);
     form.forgetTaps();
     find("entry").showModal();
   }
@@ -40,19 +40,19 @@ export function edit(slot, month = state.month, isUnsent = false) {
   if (form.markOf() !== "missing") form.focusPrice();
 }
 
-/** The mark that the form shows, or null with what is wrong with it, or asked about it, shown. */
+/** The mark in the form; null, after the form shows a fault or a question, if it can't be kept so. */
 function chosen() {
   const mark = form.markOf();
-  if (!mark) return form.tellFault("Choose what you found.");
+  if (!mark) return form.showFault("Choose what you found.");
   if (mark === "missing") {
     const value = form.reasonOf();
-    return value ? { mark, value } : form.tellFault("Choose a reason.");
+    return value ? { mark, value } : form.showFault("Choose a reason.");
   }
   const read = typed(find("price").value);
   if (read?.price) return { mark, value: read.price };
   if (read?.readings) return form.askReading(read.readings);
   form.focusPrice();
-  return form.tellFault(`Write the price with figures, such as ${figures(210)}.`);
+  return form.showFault(`Write the price with figures, such as ${figures(210)}.`);
 }
 
 /** Keeps what the form says on the phone, and sends it; the form of the next row comes in its place. */
@@ -66,10 +66,10 @@ async function save(isConfirmed) {
   else await keep({ ...choice, confirm: isConfirmed });
 }
 
-/** Puts an entry on the phone's disk, and goes on. If there is no room, say, the form stays and tells so. */
+/** Puts an entry on the phone's disk, and goes on. If there is no room, say, the form stays and says so. */
 async function keep(choice) {
   const edited = editing, { month, slot, row, seen } = edited;
-  form.tellFault("");
+  form.showFault("");
   const price = form.awaitTyping();
   isSaving = true;
   try {
@@ -77,7 +77,7 @@ async function keep(choice) {
     if (kept) goOn(kept, edited, form.typedSince());
   } catch (fault) {
     if (editing === edited) find("price").value = price; // (whatever was typed ahead)
-    form.tellFault(`This entry isn’t kept: ${whyNotKept(fault)}`);
+    form.showFault(`This entry isn’t kept: ${whyNotKept(fault)}`);
   } finally {
     isSaving = false;
   }
@@ -93,7 +93,7 @@ function goOn(kept, edited, text) {
   const next = wasToDo && isOpen() && editing === edited ? nextToDo(slot) : null;
   if (next !== null) {
     edit(next);
-    form.tellSaved(kept, row[1] !== rowOf(next)[1]);
+    form.showSaved(kept, row[1] !== rowOf(next)[1]);
     form.goOnTyping(text);
     cameAt = performance.now();
   } else if (editing === edited) {
@@ -134,7 +134,7 @@ async function drop() {
     close();
   } else {
     edit(slot, month);
-    form.tellFault("The office has answered meanwhile, so it can’t be taken back. Look at it again.");
+    form.showFault("The office has answered meanwhile, so it can’t be taken back. Look at it again.");
   }
 }
 

@@ -1,9 +1,9 @@
 // Takes the entries that aren't stored out of the phone, as a copy or a file, for a collector whose key or phone can't
 // send them: the desk can enter them then.
+import { written } from "../shared/csv.js";
 import { make } from "../shared/dom.js";
 import { state } from "./state.js";
-import { whyNotStored } from "./told.js";
-import { written } from "../shared/csv.js";
+import { whyNotStored } from "./wording.js";
 
 const COLUMNS = ["month", "slot", "outlet", "item", "unit", "mark", "value", "confirmed", "written", "state"];
 
@@ -12,17 +12,19 @@ export function asCsv() {
   const rows = state.entries.map((entry) => {
     const [, , outlet = "", , text = "", unit = ""] = entry.row ?? [];
     return [entry.month, entry.slot, outlet, text, unit, entry.mark, entry.value, entry.confirm ? "yes" : "",
-      new Date(entry.at).toISOString(), entry.state === "waiting" && !state.refusal ? "to be sent" : whyNotStored(entry)];
+      new Date(entry.at).toISOString(), stateOf(entry)];
   });
   return [COLUMNS, ...rows].map((row) => `${row.map((value) => written(String(value))).join(",")}\r\n`).join("");
 }
 
-const TOLD = 5000; // milliseconds for which the button tells what became of a copy
+const SHOWN = 5000; // milliseconds for which the button says what became of a copy
+
+const stateOf = (entry) => (entry.state === "waiting" && !state.refusal ? "to be sent" : whyNotStored(entry));
 
 async function copy({ target }) {
   const isCopied = await navigator.clipboard.writeText(asCsv()).then(() => true, () => false);
   target.textContent = isCopied ? "Copied" : "The browser refuses it: save a file";
-  setTimeout(() => { target.textContent = "Copy all"; }, TOLD);
+  setTimeout(() => { target.textContent = "Copy all"; }, SHOWN);
 }
 
 function save() {

@@ -4,9 +4,9 @@ import { changeOf, figures, shown, typed } from "../shared/money.js";
 import { inWords } from "../shared/months.js";
 import { boundsOf, isOutside } from "./look.js";
 import { keyOfEntry, state } from "./state.js";
-import { inMarks, whyNotStored } from "./told.js";
+import { inMarks, whyNotStored } from "./wording.js";
 
-/** What is done with a reading of the price that the collector has chosen; the page sets it. */
+/** Is called with the reading of a price that the collector has chosen; the page sets it. */
 export const on = { reading: () => {} };
 
 const form = () => find("entry-form");
@@ -22,7 +22,7 @@ export function fill({ month, slot, row, entry, stored }) {
   find("entry").dataset.entry = keyOfEntry({ month, slot });
   find("entry-outlet").replaceChildren(make("bdi", {}, outlet), month === state.month ? "" : ` · ${inWords(month)}`);
   find("entry-item").replaceChildren(make("bdi", {}, text), unit && ", ", make("bdi", {}, unit));
-  find("entry-last").textContent = toldLast(row);
+  find("entry-last").textContent = lastInWords(row);
   find("entry-stored").textContent = stored
     ? `The office has: ${inMarks(stored[2], stored[3])}, receipt ${stored[4]}.` : "";
   for (const radio of form().mark) {
@@ -33,7 +33,7 @@ export function fill({ month, slot, row, entry, stored }) {
   find("price").value = mark === "missing" || value === "" ? "" : figures(value);
   find("entry-drop").hidden = !entry;
   find("entry-withdraw").hidden = !stored || stored[2] === "missing";
-  tellFault("");
+  showFault("");
   showQuestion(entry && entry.state !== "waiting" ? entry : null);
   showFields(row);
   showChange(row);
@@ -63,7 +63,7 @@ function bringIntoSight(...ids) {
   for (const id of ids.reverse()) find(id).scrollIntoView({ block: "nearest" });
 }
 
-function toldLast(row) {
+function lastInWords(row) {
   if (row[6] === null) return "There is no last price.";
   const found = boundsOf(row);
   const between = found ? ` Taken without a second look: ${shown(found.low)} to ${shown(found.high)}.` : "";
@@ -119,7 +119,7 @@ export function goOnTyping(text) {
 }
 
 /** Says that something is wrong with what was typed; null. */
-export function tellFault(text) {
+export function showFault(text) {
   find("price-fault").textContent = text;
   if (text) bringIntoSight("price-fault");
   find("price").setAttribute("aria-invalid", String(Boolean(text)));
@@ -127,7 +127,7 @@ export function tellFault(text) {
 }
 
 /** Names the entry that was saved last, and says if the next row is in another shop; null for none. */
-export function tellSaved(kept, isElsewhere = false) {
+export function showSaved(kept, isElsewhere = false) {
   find("entry").classList.toggle("elsewhere", isElsewhere);
   if (isElsewhere) find("entry-outlet").prepend("Next shop: ");
   const [, , , , text = ""] = kept?.row ?? [];
@@ -150,7 +150,7 @@ export function askReading(readings) {
 export function showQuestion(entry) {
   const isFar = entry?.reply.refused === 26, isMoved = entry?.state === "moved";
   find("entry-refusal").hidden = !entry;
-  find("entry-last").hidden = isFar; // (the refusal tells the same)
+  find("entry-last").hidden = isFar; // (the refusal says the same)
   find("entry-confirm").hidden = !isFar;
   find("entry-save").disabled = isFar || isMoved; // until something is changed
   find("entry-mine").hidden = find("entry-theirs").hidden = !isMoved;
@@ -176,7 +176,7 @@ export function empty() {
   for (const name of ["outlet", "item", "last", "stored", "refusal", "hint", "saved", "change", "mine", "theirs"]) {
     find(`entry-${name}`).textContent = "";
   }
-  tellFault("");
+  showFault("");
   form().reset();
 }
 
@@ -206,7 +206,7 @@ export function forgetTaps() {
   tapped = null;
 }
 
-/** The events within the form; `edited` tells what it is filled in for. */
+/** The events within the form; `edited` gives what it is filled in for. */
 export function listen(edited) {
   for (const type of ["mousedown", "click"]) find("entry").addEventListener(type, keepTwiceAway, true);
   form().addEventListener("input", forgetTaps);
@@ -217,7 +217,7 @@ export function listen(edited) {
   });
   find("price").addEventListener("input", () => {
     isTyped = true;
-    tellFault("");
+    showFault("");
     showQuestion(null);
     showChange(edited().row);
   });

@@ -1,7 +1,7 @@
 // The head of the page: who is signed in, the connection to the office, and how much isn't stored. It is seen always.
 import { find, make } from "../shared/dom.js";
 import { countOf, state } from "./state.js";
-import { counted } from "./told.js";
+import { counted } from "./wording.js";
 
 /** Shows all of it. "All sent" appears only when nothing is left on the phone. */
 export function showHead() {
@@ -9,10 +9,14 @@ export function showHead() {
   find("who").replaceChildren(state.name);
   find("line").textContent = state.who ? wordsOf(waiting) : "";
   find("line").dataset.line = state.line === "up" && waiting ? "waiting" : state.line;
-  const left = state.refusal ? waiting : 0;
-  const parts = [left && `${left} not taken`, refused && `${refused} refused`, look && `${look} to look at`].filter(Boolean);
+  showAlarm([[state.refusal ? waiting : 0, "not taken"], [refused, "refused"], [look, "to look at"]]);
+}
+
+/** The red button: how many entries need the collector, [count, words] of each kind. */
+function showAlarm(counts) {
+  const parts = counts.filter(([count]) => count).map(([count, words]) => make("span", {}, `${count} ${words}`));
   find("alarm").hidden = parts.length === 0;
-  find("alarm").replaceChildren(make("span", {}, ...parts.flatMap((part, n) => [n ? ", " : "", make("span", {}, part)])));
+  find("alarm").replaceChildren(make("span", {}, ...parts.flatMap((part, n) => [n ? ", " : "", part])));
 }
 
 function wordsOf(waiting) {
@@ -21,8 +25,8 @@ function wordsOf(waiting) {
   if (state.line === "busy") return `The office is busy${kept}`;
   if (state.line === "odd") {
     // (two lines of a small phone, so that the head doesn't grow)
-    return `${waiting ? `Not known if ${counted(waiting, "entry is", "entries are")} stored` : "The answer made no sense"}. `
-      + "The page asks again.";
+    if (waiting === 0) return "The answer made no sense. The page asks again.";
+    return `Not known if ${counted(waiting, "entry is", "entries are")} stored. The page asks again.`;
   }
   if (waiting && state.refusal) return `Not taken${kept}`;
   if (waiting) return `${waiting} to be sent`;

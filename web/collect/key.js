@@ -1,5 +1,5 @@
 // A collector's key as it is typed, or as a printed code brings it. A key has 32 characters, 0 to 9 and a to f. On
-// paper a check character comes behind them, so that a slip is told before anything is sent.
+// paper a check character comes after them, so that the page finds a slip before anything is sent.
 
 const LENGTH = 32;
 const ALPHABET = "0123456789abcdefghijklmnopqrstuvwxyz";
@@ -33,7 +33,7 @@ const LONGEST_NAME = 60;
 
 export const nameIn = (text) => [...text.trim()].slice(0, LONGEST_NAME).join("");
 
-/** Takes the key and the name out of the address, where a printed code has put them; null if there is none. */
+/** Takes the key and the name of a printed code out of the address; null if there is none. */
 export function takeLink() {
   const found = new URLSearchParams(location.hash.slice(1));
   if (!found.has("key")) return null;

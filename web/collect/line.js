@@ -18,7 +18,7 @@ let isAll = false; // what was refused for a while is to be sent too
 let wanted = ""; // the lists that are wanted: "", "lists", or "whole" with the items
 let tries = 0, timer = 0;
 
-/** What is done when another tab has signed out, and with entries that were answered; the page sets both. */
+/** Are called when another tab has signed out, and with entries that the office has answered; the page sets both. */
 export const on = { gone: () => {}, settled: () => {} };
 
 /**
@@ -67,7 +67,7 @@ export function rest() {
   wanted = "";
 }
 
-/** One tab at a time: what it hears of the lists is never older than what another one has sent. */
+/** One tab at a time: the lists that it gets are never older than the entries that another one has sent. */
 const byItself = (work) => navigator.locks.request("cpi-collect-line", work);
 
 async function once() {
@@ -117,14 +117,14 @@ async function exchanged() {
     isAll ||= isWhole;
     throw fault;
   });
-  const wait = toldWait({ who }, refusal);
+  const wait = waitAfter({ who }, refusal);
   if (state.who !== who) return null;
   takeEntries(await store.entries(who));
   return wait === null && wanted ? listed({ key, who }) : wait;
 }
 
 /** Shows a refusal of all; seconds to wait then, or null. */
-function toldWait({ who }, refusal) {
+function waitAfter({ who }, refusal) {
   if (state.who !== who || !refusal) return null;
   state.refusal = refusal;
   notice(toCollector(refusal));

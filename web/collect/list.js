@@ -1,5 +1,5 @@
-// The work list of a month by outlet, and what the office has stored. Rows don't move while one works: what is shown is
-// chosen with the view, and then a row changes in its place.
+// The work list of a month by outlet, and the stored quotes. Rows don't move while a collector works: the view chooses
+// the rows, and after that each row changes in its place.
 import { becomes, find, make } from "../shared/dom.js";
 import { shown } from "../shared/money.js";
 import { clockOf, dayOf, inWords } from "../shared/months.js";
@@ -9,8 +9,8 @@ import { showHead } from "./head.js";
 import * as search from "./search.js";
 import { entryOf, isToDo, rowOf, state, storedOf, takeKept } from "./state.js";
 import * as store from "./store.js";
-import { inMarks, stillStored, toldOf } from "./told.js";
 import * as unsent from "./unsent.js";
+import { inMarks, stillStored, statusOf } from "./wording.js";
 
 let open = new Set(); // the slots that To do shows; a row stays there until the view is chosen again
 let tall = new Set(); // those with a line of what the office still has, which stays as long
@@ -34,7 +34,7 @@ export function choose() {
 
 /** Whether To do shows a slot. */
 function isOpen(slot) {
-  if (toldOf(slot)[0] !== "good") open.add(slot);
+  if (statusOf(slot)[0] !== "good") open.add(slot);
   return open.has(slot);
 }
 
@@ -65,7 +65,7 @@ export function touch(slots) {
   showCounts();
 }
 
-/** What is counted, above the list and in the head. */
+/** Shows the counts, above the list and in the head. */
 export function showCounts() {
   const { work = [], at } = state.list ?? {};
   const stored = work.filter(([slot]) => storedOf(slot)).length;
@@ -126,12 +126,12 @@ function outletSection(number, rows) {
 }
 
 function countSpan(rows) {
-  const count = rows.filter(([slot]) => ["todo", "bad"].includes(toldOf(slot)[0])).length;
+  const count = rows.filter(([slot]) => ["todo", "bad"].includes(statusOf(slot)[0])).length;
   return make("span", { class: "count" }, count ? `${count} to do` : "all entered");
 }
 
 function slotButton([slot, , , , text, unit, last]) {
-  const [kind, told] = toldOf(slot), entry = entryOf(slot), stored = storedOf(slot);
+  const [kind, told] = statusOf(slot), entry = entryOf(slot), stored = storedOf(slot);
   const mark = entry ? inMarks(entry.mark, entry.value) : stored ? inMarks(stored[2], stored[3]) : "";
   return make("button", { class: "slot", type: "button", "data-slot": slot },
     make("span", { class: "what" },
@@ -186,7 +186,7 @@ export function focusOn(slot) {
   at = slot;
 }
 
-/** Scrolls to an element, if it isn't in sight; again in the next frames, as rows that come into sight get their heights. */
+/** Scrolls to an element, if it isn't in sight; again in the next frames, as rows in sight get their heights. */
 function bringIntoSight(element, frames = 2) {
   if (!isInSight(element)) element.scrollIntoView({ block: "center" });
   if (frames) requestAnimationFrame(() => bringIntoSight(element, frames - 1));
@@ -202,5 +202,5 @@ function isInSight(element) {
 export function jump() {
   const next = nextToDo(at);
   if (next !== null) focusOn(next);
-  else search.tellNone();
+  else search.sayNone();
 }

@@ -1,7 +1,8 @@
 // The quotes of a month as the office has them: [slot, month, mark, value, receipt] each, by slot.
 
 /** Whether something is a list of rows that begin with a slot, as quotes and work lists are. */
-export const areRows = (rows) => Array.isArray(rows) && rows.every((row) => Array.isArray(row) && Number.isInteger(row[0]));
+export const areRows = (rows) =>
+  Array.isArray(rows) && rows.every((row) => Array.isArray(row) && Number.isInteger(row[0]));
 
 /** A list with the receipt of an entry, as the office would send it now. */
 export function marked(list, { slot, month, mark, value }, receipt) {

@@ -50,7 +50,7 @@ export function searchFor(text) {
 }
 
 /** Says that no row that was found is to do. */
-export function tellNone() {
+export function sayNone() {
   find("found").textContent = "All of these are entered.";
 }
 

@@ -37,9 +37,10 @@ export function dueIn({ state, reply, tried, times = 0 }, now = Date.now()) {
 }
 
 /**
- * Sends what is due, and tells which entries were answered, [entry, reply] each; the reply is empty if the collector is
- * asked instead. With `isAll` what was refused for a while is due. Null once all of it was answered; a refusal of all if
- * the office took no more, and the rest waits; or throws NoAnswer. Sending again what was stored gives its receipt again.
+ * Sends what is due, and hands on the entries that were answered, [entry, reply] each; the reply is empty if the page
+ * asks the collector instead. With `isAll` what was refused for a while is due. Null once all of it was answered; a
+ * refusal of all if the office took no more, and the rest waits; or throws NoAnswer. An entry that the office stored
+ * before gets its receipt again.
  */
 export async function sendAll(collector, isAll, onSettled) {
   const isDue = (entry) => dueIn(entry, isAll ? Infinity : undefined) === 0;

@@ -13,8 +13,8 @@ import * as shownMonth from "./shown-month.js";
 import { signedOut, state, takeKept } from "./state.js";
 import * as store from "./store.js";
 import * as tabs from "./tabs.js";
-import { counted } from "./told.js";
 import * as unsent from "./unsent.js";
+import { counted } from "./wording.js";
 
 /** Begins with the key that is kept, or with the one of the link by which the page was opened. */
 export async function start() {

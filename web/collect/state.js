@@ -1,4 +1,4 @@
-// What the page knows at the moment, and what is asked of it.
+// The state of the page: the collector, the month, its list, and the entries that aren't stored.
 import { thisMonth } from "../shared/months.js";
 
 export const signedOut = () => ({

@@ -4,16 +4,16 @@ import { becomes, find, make } from "../shared/dom.js";
 import { inWords } from "../shared/months.js";
 import { entryAt, keyOfEntry, kindOf, rowOf, state } from "./state.js";
 import * as store from "./store.js";
-import { inMarks, whyNotStored } from "./told.js";
+import { inMarks, whyNotStored } from "./wording.js";
 
 let listed = []; // entries, as they were when they were listed
 const stored = new Map(); // of those: what the office has stored since, as it was sent
 let dropping = null; // the entry of the question
 
-/** The page sets both: what opens the form of an entry, and what is done when one was dropped. */
+/** Are called to open the form of an entry, and when one was dropped; the page sets both. */
 export const on = { open: () => {}, dropped: () => {} };
 
-/** Lists what isn't stored now: what was refused or needs a look, and what waits without a row below, or isn't taken. */
+/** Lists what isn't stored now: what was refused or needs a look, and what waits if it has no row or isn't taken. */
 export function choose() {
   stored.clear();
   const hasRow = ({ month, slot }) => month === state.month && rowOf(slot);

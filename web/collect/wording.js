@@ -1,4 +1,4 @@
-// What is said of slots and entries, in words.
+// The words for slots and entries.
 import { shown } from "../shared/money.js";
 import { toCollector } from "../shared/refusals.js";
 import { entryOf, kindOf, state, storedOf } from "./state.js";
@@ -14,8 +14,8 @@ export function inMarks(mark, value) {
   return mark === "price" ? shown(value) : `${MARKS[mark]}, ${shown(value)}`;
 }
 
-/** What a slot tells: [kind, text]. */
-export function toldOf(slot) {
+/** The status of a slot: [kind, text]. */
+export function statusOf(slot) {
   const entry = entryOf(slot), stored = storedOf(slot);
   if (entry) return [["look", "refused"].includes(kindOf(entry)) ? "bad" : "waiting", STATES[kindOf(entry)]];
   return stored ? ["good", `Receipt ${stored[4]}`] : ["todo", "To do"];
@@ -23,7 +23,7 @@ export function toldOf(slot) {
 
 const STATES = { waiting: "To be sent", look: "Look again", refused: "Refused" };
 
-/** What the office has of a slot whose entry says something else, or no text. */
+/** The office's quote of a slot whose entry says something else; or no text. */
 export function stillStored(slot) {
   const stored = storedOf(slot);
   return entryOf(slot) && stored ? `Stored: ${inMarks(stored[2], stored[3])}` : "";
