@@ -624,6 +624,9 @@ def test_collectors_see_their_own(phone: Phone, other_phone: Phone, stage: Stage
         assert [text for text in ("999", *others) if stands_in(text, seen)] == []
 
 
+NOTHING_LEFT = {"lists": ["items", "windows"], "queue": [], "session": []}
+"""Of what a phone keeps, by keys: the lists that everybody may have."""
+
 LEFT = """
 return await new Promise((end) => {
   const open = indexedDB.open("cpi-collect");
@@ -651,7 +654,7 @@ return await new Promise((end) => {
     const change = open.result.transaction(["session", "lists"], "readwrite");
     change.objectStore("session").clear();
     const lists = change.objectStore("lists"), all = lists.getAllKeys();
-    all.onsuccess = () => { for (const key of all.result) if (key !== "items") lists.delete(key); };
+    all.onsuccess = () => { for (const key of all.result) if (Array.isArray(key)) lists.delete(key); };
     change.oncomplete = () => end();
   };
 });
@@ -690,7 +693,7 @@ def test_signing_out_removes_all_and_asks_before(phone: Phone, stage: Stage) -> 
     assert "Everything has been sent" in phone.browser.text("#leaving")
     phone.browser.click("#leaving-go")
     phone.browser.wait_shown("#sign-in")
-    phone.browser.wait(lambda: phone.browser.run_until(LEFT) == {"lists": ["items"], "queue": [], "session": []})
+    phone.browser.wait(lambda: phone.browser.run_until(LEFT) == NOTHING_LEFT)
     phone.give_key(BENO)
     phone.browser.wait_text("#list", "Market hall")
     assert "Corner shop" not in phone.browser.text("body")
@@ -716,7 +719,7 @@ def test_a_tab_beside_one_that_signs_out_goes_with_it(phone: Phone) -> None:
         browser.wait(lambda: browser.find("#sign-in").is_displayed())
         assert [text for text in ("Corner", "Rice", ANNA) if text in browser.run(WHOLE)] == []
     assert browser.run("return window.left") < looked  # (not because somebody looks at it)
-    assert browser.run_until(LEFT) == {"lists": ["items"], "queue": [], "session": []}
+    assert browser.run_until(LEFT) == NOTHING_LEFT
     phone.give_key(BENO)
     for tab in reversed(browser.driver.window_handles):
         browser.driver.switch_to.window(tab)
@@ -735,7 +738,7 @@ def test_lists_that_come_behind_a_sign_out_arent_kept(phone: Phone, stage: Stage
     phone.browser.wait(lambda: len(stage.relay.seen) >= before + 2, "both lists are asked for")
     phone.send()
     phone.browser.wait_shown("#sign-in")
-    assert phone.browser.run_until(LEFT) == {"lists": ["items"], "queue": [], "session": []}
+    assert phone.browser.run_until(LEFT) == NOTHING_LEFT
 
 
 def test_escape_in_the_question_signs_nobody_out(phone: Phone, stage: Stage) -> None:

@@ -58,11 +58,12 @@ def test_a_jump_goes_to_the_next_row_that_is_to_do(many: Phone) -> None:
 
 
 def test_a_jump_unfolds_the_outlet_of_its_row(many: Phone) -> None:
+    is_shown = "return document.getElementById('slot-1').checkVisibility()"
     many.browser.tap("summary")
-    assert not many.browser.run("return document.getElementById('slot-1').checkVisibility()")
+    many.browser.wait(lambda: not many.browser.run(is_shown), "the outlet is folded")
     many.browser.tap("#jump")
     many.browser.wait(lambda: many.focused() == "1", "slot 1")
-    assert many.browser.run("return document.getElementById('slot-1').checkVisibility()")
+    assert many.browser.run(is_shown)
 
 
 # ---- a search
