@@ -90,11 +90,11 @@ async function enter(key, name) {
   await takeShared();
   Object.assign(state, { who: await store.nameOf(key), key, name: name ?? "" });
   shownMonth.begin();
+  await showStorage(); // (before the rows come, so that it moves none)
   find("sign-in").hidden = true;
   find("work").hidden = find("leave").hidden = false;
   await show();
   choose();
-  await showStorage();
 }
 
 /** Asks for the lists; the month may be another one by them. */
