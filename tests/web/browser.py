@@ -31,6 +31,21 @@ WORDS = (
 )  # fmt: skip
 
 
+MIDDLE = """
+const frame = () => new Promise((end) => requestAnimationFrame(end));
+const middle = () => {
+  const { left, top, width, height } = document.querySelector(arguments[0]).getBoundingClientRect();
+  return [left + width / 2, top + height / 2];
+};
+let before = null, now = middle();
+for (let n = 0; n < 60 && String(before) !== String(now); n += 1) {
+  [before] = [now, await frame(), await frame()];
+  now = middle();
+}
+return now;
+"""
+
+
 class Browser:
     """A Chromium of its own, with a home of its own."""
 
@@ -132,15 +147,14 @@ class Browser:
         self.cdp("Input.dispatchTouchEvent", type="touchEnd", touchPoints=[])
 
     def tap(self, selector: str) -> tuple[float, float]:
-        """A tap in the middle of an element, which is in sight; the place."""
+        """A tap in the middle of an element, which is in sight, once it has come to rest; the place."""
         x, y = self.middle(selector)
         self.touch(x, y)
         return x, y
 
     def middle(self, selector: str) -> tuple[float, float]:
-        """The middle of an element, in pixels of the window."""
-        script = "const { left, top, width, height } = document.querySelector(arguments[0]).getBoundingClientRect();"
-        x, y = self.run(f"{script} return [left + width / 2, top + height / 2]", selector)
+        """The middle of an element, in pixels of the window, once it is where it was two frames before."""
+        x, y = self.run_until(MIDDLE, selector)
         return x, y
 
     # ---- the page
