@@ -698,6 +698,26 @@ def test_more_is_added_to_an_office_whose_file_keeps_its_bytes(cpi: Cpi, standin
         assert stored.keys()[8] == KEY_8
 
 
+def test_a_revision_is_frozen_with_its_corrections(cpi: Cpi, standing: Path, tmp_path: Path) -> None:
+    """The sheets have revision 2 and its price only; the office has revision 1."""
+    release = ["2026-02", "2", "4000", "4500", "6000", "4500", "01.1.1.1-01"]
+    quote = ["2026-02", "8", "2", "price", "95", "", "2"]
+    of = {"releases": [sheets()["releases"][0], release], "prices": [[*sheets()["prices"][0], "revision"], quote]}
+    folder = written(tmp_path / "more", of)
+    assert run(cpi, "take-in", folder, "--onto", standing, "--write", tmp_path / "added").status == 0
+    told = tables(cpi, replayed(cpi, tmp_path / "added", standing))
+    # rice carried, flour 95 / 80: 103.636364 * 0.6 + 118.75 * 0.4
+    assert told["2026-02", 2].startswith("00,1000000,109.681818,")
+
+
+def test_a_revision_of_a_release_that_is_none_is_told(cpi: Cpi, tmp_path: Path) -> None:
+    of = sheets()
+    put("releases", 3, "revision", "first")(of)
+    folder = written(tmp_path / "office", of)
+    assert run(cpi, "take-in", folder, "--check").status == 1
+    assert because(folder) == {("releases.csv", "3", "revision"): '"first" is no revision'}
+
+
 def test_prices_alone_are_sent_within_the_window_that_the_office_has(cpi: Cpi, standing: Path, tmp_path: Path) -> None:
     assert cpi.replay([record(0, "desk", "calendar", "2026-03", 4000, 5000, 6000)], db=standing) == [{"done": True}]
     of = {"prices": [["outlet", "item", "2026-03"], ["10", "RICE", "220"]]}

@@ -98,6 +98,7 @@ class OfficeFiles:
         before += self._plans()
         self._read_prices(slots)
         self.taken.problems += map(problem_of, self._source.unread)
+        self._look_for_revisions()
         self._handed, self._releases = self._by_month("handovers"), self._by_month("releases")
         self._count_passed_over()
         months = {*self._windows, *self._store.months(), *self._handed, *self._releases}
@@ -166,6 +167,14 @@ class OfficeFiles:
         sheet = self._sheets[name]
         return tuple(sheet.rows) if sheet else ()
 
+    def _look_for_revisions(self) -> None:
+        """Tells releases whose revision is none."""
+        for row in self._rows("releases"):
+            text = row["revision"]
+            if text and not is_revision(text):
+                because, do = f"{shown(text)} is no revision", "give 1 to 9, or leave it empty"
+                self.taken.problems.append(problem_of(SheetFault(row.origin.at("revision"), because, do)))
+
     def _by_month(self, name: str) -> dict[str, list[Row]]:
         found: dict[str, list[Row]] = defaultdict(list)
         for row in self._rows(name):
@@ -202,13 +211,13 @@ class OfficeFiles:
         count = self.taken.passed_over
         count["handovers"] = sum(map(self._known.has_handover, self._rows("handovers")))
         for own in self._releases.values():
-            count["releases"] += sum(self._is_frozen(it, turn) for turn, it in enumerate(by_revision(own), 1))
+            count["releases"] += sum(self._is_frozen(it, turn) for turn, it in by_revision(own))
         for month, row in self._windows.items():
             count["calendar"] += self._is_same(self._window(month, row), self._known.windows.get(month))
 
     def _is_frozen(self, release: Row, turn: int) -> bool:
         """Whether a release was frozen so, as far as its row tells it."""
-        known = self._known.releases.get((release["month"], release["revision"] or str(turn)))
+        known = self._known.releases.get((release["month"], str(turn)))
         if known is None or {*release["carry"].split()} != known.carry:
             return False
         told = ((release[name], getattr(known, name)) for name in ("publishes", "frozen_at"))
@@ -338,23 +347,25 @@ class OfficeFiles:
         new = [it for it in handed if not self._known.has_handover(it)]
         moved = bundled(0, DESK, (Sent(["handover", *(row[it] for it in MOVED)], row.origin, MOVED) for row in new))
         own, now = self._windows.get(month), self._known.windows.get(month)
-        for turn, release in enumerate(by_revision(releases), 1):
+        first = 1
+        for turn, release in by_revision(releases):
             window = self._window(month, release)
+            quoted, first = (first, turn), turn + 1
             if self._is_frozen(release, turn):
-                yield from self._quoted(window, month, turn, turn)
+                yield from self._quoted(window, month, *quoted)
                 continue
             if not self._is_same(window, now):
                 yield self._calendar(month, release, window)
                 now = window
             yield from moved
             moved = []
-            yield from self._quoted(window, month, turn, turn)
+            yield from self._quoted(window, month, *quoted)
             yield self._freeze(release, window)
         if own is not None and not self._is_same(self._window(month, own), now):
             now = self._window(month, own)
             yield self._calendar(month, own, now)
         yield from moved
-        yield from self._quoted(now, month, len(releases) + 1, LAST_TURN)
+        yield from self._quoted(now, month, first, LAST_TURN)
 
     def _window(self, month: str, row: Row) -> Window:
         """The window that a row tells; what a release doesn't tell is the calendar's, or the office's."""
@@ -395,9 +406,18 @@ class OfficeFiles:
         return self._seconds.get(text, text)
 
 
-def by_revision(releases: Sequence[Row]) -> list[Row]:
-    """The releases of a month in their order."""
-    return sorted(releases, key=lambda row: row["revision"])
+def by_revision(releases: Sequence[Row]) -> list[tuple[int, Row]]:
+    """The releases of a month in their order, each with its revision: as its row has it, or else the next one."""
+    found: list[tuple[int, Row]] = []
+    for row in sorted(releases, key=lambda it: it["revision"]):
+        turn = found[-1][0] + 1 if found else 1
+        found.append((int(row["revision"]) if is_revision(row["revision"]) else turn, row))
+    return found
+
+
+def is_revision(text: str) -> bool:
+    """Whether a text is the number of a revision."""
+    return len(text) == 1 and text in "123456789"
 
 
 def missing_columns(sheet: Sheet, needed: Iterable[str]) -> Iterator[SheetFault]:
