@@ -311,6 +311,13 @@ MERGED_YEARS = [["outlet", "item", "2025", "2026", ""], ["", "", "Dec", "Jan", "
 SECOND_TABLE = [*PRICES, ["", "", ""], ["outlet", "item", "2026-03"], ["10", "RICE", "2.20"]]
 """Another table below the first."""
 
+OTHER_SLOT = [
+    ["collector", "slot", "outlet", "item", "2025-12", "2026-01"],
+    ["7", "1", "10", "RICE", "2.00", "2.10"],
+    ["7", "1", "10", "FLOUR", "", "0.84"],
+]
+"""Prices in which slot 7/1, which prices rice, is next to flour."""
+
 WITH_BLANKS = [*PRICES[:2], ["10", " FLOUR ", "0.80 ", " 0.84\u00a0", "0.90"], PRICES[3]]
 
 
@@ -404,6 +411,7 @@ HABITS: dict[str, Habit] = {
     "a cell more than the heading has": Habit(row(5, "11", "RICE", "", "", "", "2.50")),
     "two rows of one series with other prices": Habit(row(5, "10", "FLOUR", "0.80", "0.85", "0.90")),
     "two rows of one series with the same prices": Habit(row(5, "10", "FLOUR", "0.80", "0.84", "0.90")),
+    "a slot beside an item that it doesn't price": Habit(put_rows(OTHER_SLOT)),
     "blanks before and after": Habit(put_rows(WITH_BLANKS)),
     # ---- texts
     "a byte order mark": Habit(put_text(PLAIN, encoding="utf-8-sig")),

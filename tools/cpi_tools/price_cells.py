@@ -75,6 +75,7 @@ class PriceCells:
         aren't read on purpose."""
         self._sheet, self._numbers, self._minor = sheet, numbers, minor
         self._places: dict[tuple[str, str], list[Held]] = {}
+        self._of_slots: dict[tuple[str, str], Place] = {}
         self._read: dict[str, str] = {}
         self._currency: Optional[tuple[str, Cell]] = None
         self.faults = Capped()
@@ -157,6 +158,7 @@ class PriceCells:
                 new = former.place._replace(collector=row["to"], slot=row["to_slot"], first=row["month"])
                 held[row["collector"], row["slot"]] = former._replace(until=row["month"])
                 held[row["to"], row["to_slot"]] = Held(new)
+        self._of_slots = {slot: it.place for slot, it in held.items()}
         self._places = defaultdict(list)
         for it in held.values():
             self._places[it.place.outlet, it.place.item].append(it)
@@ -165,7 +167,7 @@ class PriceCells:
         """Collector and slot of a price, as told or by its outlet and item; and the column that tells."""
         row = cell.row
         if row["collector"] and row["slot"] or "item" not in self._sheet.columns:
-            return row["collector"], row["slot"], "slot"
+            return None if self._is_of_another(row) else (row["collector"], row["slot"], "slot")
         of_series = self._places.get((row["outlet"], row["item"]), [])
         found = [it.place for it in of_series if it.is_in(cell.month)]
         found = [it for it in found if row["collector"] in ("", it.collector)]
@@ -173,6 +175,18 @@ class PriceCells:
             return found[0].collector, found[0].slot, "item"
         self.faults.add(self._told_no_slot(cell, bool(of_series), bool(found)))
         return None
+
+    def _is_of_another(self, row: Row) -> bool:
+        """Tells a row whose slot prices another item, or in another outlet, than the row names too."""
+        of = self._of_slots.get((row["collector"], row["slot"]))
+        for name in ("outlet", "item") if of else ():
+            if row[name] and row[name] != getattr(of, name):
+                slot = f"slot {row['collector']}/{row['slot']}"
+                because = f"the row has the {name} {shown(row[name])}, and {slot} prices {shown(getattr(of, name))}"
+                do = f"mend the slot or the {name}, or leave one of the two out"
+                self.faults.add(SheetFault(row.origin.at(name), because, do))
+                return True
+        return False
 
     def _told_no_slot(self, cell: Cell, has_series: bool, has_several: bool) -> SheetFault:
         """Why a price isn't that of one slot: once for a row if that is so in each of its months."""
