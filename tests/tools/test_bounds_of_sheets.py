@@ -19,7 +19,7 @@ from cpi_tools.price_store import PriceStore
 from cpi_tools.program import Cpi
 from cpi_tools.sheets import Source
 from cpi_tools.terminal import Fault
-from cpi_tools.workbook_parts import MOST_SHEET_ROWS, MOST_TEXT, MOST_UNPACKED
+from cpi_tools.workbook_parts import MOST_CELLS, MOST_HELD, MOST_SHEET_ROWS, MOST_TEXT, MOST_UNPACKED
 from conftest import ROOT
 from habits import base, book, unpacks_to_much
 from ran import rows_of, run
@@ -101,6 +101,10 @@ ROWS = b"</sheetData>"
             f"prices.xlsx has more rows than {MOST_SHEET_ROWS:,}, which are the most",
         ),
         (
+            lambda data: data.replace(ROWS, b'<row r="9">' + b"<c/>" * (MOST_CELLS + 1) + b"</row>" + ROWS),
+            f"prices.xlsx has a row of more than {MOST_CELLS:,} cells, which are the most",
+        ),
+        (
             lambda data: b'<!DOCTYPE x [<!ENTITY a "x"><!ENTITY b "&a;&a;">]>' + data,
             "prices.xlsx can't be read as a workbook: a part of it declares a document type",
         ),
@@ -113,6 +117,15 @@ def test_a_sheet_that_no_spreadsheet_program_writes(
     book(lambda _: None)(folder)
     path = changed(folder / "prices.xlsx", SHEET, change)
     assert fault_of(path) == told
+
+
+def test_more_styles_than_a_spreadsheet_program_writes(tmp_path: Path) -> None:
+    """openpyxl would hold 1.5 KB of each."""
+    folder = base(tmp_path / "office")
+    book(lambda _: None)(folder)
+    many = b"<xf/>" * (MOST_HELD + 1) + b"</cellXfs>"
+    path = changed(folder / "prices.xlsx", "xl/styles.xml", lambda data: data.replace(b"</cellXfs>", many))
+    assert fault_of(path) == f"prices.xlsx has more styles and names than {MOST_HELD:,}, which are the most"
 
 
 def test_a_part_that_is_no_sheet_may_be_of_any_kind(tmp_path: Path) -> None:

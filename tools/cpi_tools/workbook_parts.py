@@ -22,6 +22,15 @@ MOST_UNPACKED = 256 * 2**20
 MOST_TEXT = 1_000_000
 """Characters of one text in a part; spreadsheet programs have at most 32,767 in a cell."""
 
+MOST_CELLS = 16_384
+"""Cells of a row, as spreadsheet programs have them at most; openpyxl holds a row whole."""
+
+HELD = frozenset(("xf", "font", "fill", "border", "dxf", "numFmt", "cellStyle", "definedName"))
+"""Elements of styles and names, which openpyxl holds in some 1.5 KB each."""
+
+MOST_HELD = 100_000
+"""Of these in a part; spreadsheet programs have at most 65,490 formats of cells."""
+
 MOST_SHEET_ROWS = 1_048_576
 """Rows of a sheet, as spreadsheet programs have them at most."""
 
@@ -74,6 +83,7 @@ class _Look:
     def __init__(self, label: str):
         self._found, self._label, self._length, self._row = Part(), label, 0, 0
         self._cell, self._kind, self._has_formula, self._has_value = "", "", False, False
+        self._held = self._cells = 0
 
     def read(self, part: Any) -> Part:
         """What a part says."""
@@ -95,6 +105,9 @@ class _Look:
         if name == "c":
             self._cell, self._kind = given.get("r", ""), given.get("t", "")
             self._has_formula = self._has_value = False
+            self._cells += 1
+            if self._cells > MOST_CELLS:
+                raise Fault(f"{self._label} has a row of more than {MOST_CELLS:,} cells, which are the most")
         elif name == "v":
             # (a formula whose value is an empty text has an empty value)
             self._has_value = self._kind == "str"
@@ -106,9 +119,13 @@ class _Look:
             self._found.hidden_columns.append((int(given["min"]), int(given["max"])))
         elif name == "strike":
             self._found.has_strike = self._found.has_strike or given.get("val") not in ("0", "false")
+        elif name in HELD:
+            self._held += 1
+            if self._held > MOST_HELD:
+                raise Fault(f"{self._label} has more styles and names than {MOST_HELD:,}, which are the most")
 
     def _start_row(self, given: dict[str, str]) -> None:
-        self._row = int(float(given.get("r", self._row + 1)))
+        self._row, self._cells = int(float(given.get("r", self._row + 1))), 0
         if self._row > MOST_SHEET_ROWS:
             raise Fault(f"{self._label} has more rows than {MOST_SHEET_ROWS:,}, which are the most")
         if is_true(given.get("hidden")):
