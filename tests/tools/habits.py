@@ -408,10 +408,11 @@ HABITS: dict[str, Habit] = {
     "a hidden row": Habit(book(hidden_row)),
     "a hidden column": Habit(book(hidden_columns)),
     "a price that is struck out": Habit(book(struck_out)),
+    "a price merged over two months": Habit(book(lambda sheet: sheet.merge_cells("C3:D3")), NO_FLOUR),
     "a cell more than the heading has": Habit(row(5, "11", "RICE", "", "", "", "2.50")),
     "two rows of one series with other prices": Habit(row(5, "10", "FLOUR", "0.80", "0.85", "0.90")),
     "two rows of one series with the same prices": Habit(row(5, "10", "FLOUR", "0.80", "0.84", "0.90")),
-    "a slot beside an item that it doesn't price": Habit(put_rows(OTHER_SLOT)),
+    "a slot next to an item that it doesn't price": Habit(put_rows(OTHER_SLOT)),
     "blanks before and after": Habit(put_rows(WITH_BLANKS)),
     # ---- texts
     "a byte order mark": Habit(put_text(PLAIN, encoding="utf-8-sig")),

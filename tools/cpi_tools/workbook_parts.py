@@ -41,11 +41,12 @@ BLOCK = 1 << 20
 @dataclass
 class Part:
     """What openpyxl doesn't tell of a part: the numbers of its hidden rows, its hidden columns from the first to the
-    last, the first cells with a formula and no value, and whether a font of it is struck out."""
+    last, the first cells with a formula and no value, its merged ranges, and whether a font of it is struck out."""
 
     hidden_rows: set[int] = field(default_factory=set)
     hidden_columns: list[tuple[int, int]] = field(default_factory=list)
     without_value: list[str] = field(default_factory=list)
+    merged: list[str] = field(default_factory=list)
     has_strike: bool = False
 
 
@@ -117,6 +118,8 @@ class _Look:
             self._start_row(given)
         elif name == "col" and (is_true(given.get("hidden")) or given.get("width") in ("0", "0.0")):
             self._found.hidden_columns.append((int(given["min"]), int(given["max"])))
+        elif name == "mergeCell" and len(self._found.merged) < MOST_TOLD:
+            self._found.merged.append(given.get("ref", ""))
         elif name == "strike":
             self._found.has_strike = self._found.has_strike or given.get("val") not in ("0", "false")
         elif name in HELD:

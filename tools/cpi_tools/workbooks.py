@@ -115,6 +115,8 @@ class _Unlike:
         self._rows: list[int] = []
         self._columns: set[int] = set()
         self._struck: list[Any] = []
+        self._merged = {it.partition(":")[0]: it for it in part.merged}
+        self._filled: list[str] = []
 
     def see(self, number: int, row: Sequence[Any], texts: Sequence[str]) -> None:
         """A row of the sheet."""
@@ -122,11 +124,14 @@ class _Unlike:
             self._rows.append(number)
         for first, last in self._part.hidden_columns:
             self._columns |= {at for at in range(first, min(last, len(texts)) + 1) if texts[at - 1]}
+        if self._merged:
+            places = (cell.coordinate for cell, text in zip(row, texts) if text)
+            self._filled += [self._merged[place] for place in places if place in self._merged]
         if self._has_strike:
             self._struck += [cell.coordinate for cell, text in zip(row, texts) if text and cell.font.strike]
 
     def told(self, label: str) -> Iterator[SheetFault]:
-        """A line for the rows, one for the columns, and one for cells that are struck out."""
+        """A line for the rows, one for the columns, one for cells that are struck out, and one for merged ranges."""
         columns = [*map(letters_of, sorted(self._columns))]
         if self._rows:
             yield unlike("hidden row", Origin(label, self._rows[0]), [*map(str, self._rows)])
@@ -134,13 +139,21 @@ class _Unlike:
             yield unlike("hidden column", Origin(label, 1, columns[0]), columns)
         if self._struck:
             yield unlike("struck-out cell", Origin(label, *place_of(self._struck[0])), self._struck)
+        if self._filled:
+            because = f"{counted(len(self._filled), 'merged range')}, first cell only: {listed(self._filled)}"
+            do = "write the text into each cell that it is meant for; the other cells are empty here"
+            yield SheetFault(Origin(label, *place_of(self._filled[0].partition(":")[0])), because, do)
 
 
 def unlike(kind: str, origin: Origin, names: Sequence[str]) -> SheetFault:
     """What is told of rows, columns or cells that are read although they look otherwise."""
-    named = ", ".join(names[:MOST_NAMED]) + (", .." if len(names) > MOST_NAMED else "")
     do = "see whether they belong there, and take them out if they don't"
-    return SheetFault(origin, f"{counted(len(names), kind)} read like the others: {named}", do)
+    return SheetFault(origin, f"{counted(len(names), kind)} read like the others: {listed(names)}", do)
+
+
+def listed(names: Sequence[str]) -> str:
+    """Some names, and a sign if there are more."""
+    return ", ".join(names[:MOST_NAMED]) + (", .." if len(names) > MOST_NAMED else "")
 
 
 def place_of(cell: str) -> tuple[int, str]:
