@@ -261,6 +261,8 @@ def test_a_number_has_the_digits_that_a_spreadsheet_keeps(tmp_path: Path) -> Non
         ('_-"\u00a3"* #,##0.00_-', "\u00a3"),
         ("\u20ac#,##0.00", "\u20ac"),
         ("[h]:mm", ""),
+        # (a sign after `_` is a blank of its width)
+        ("_-* #,##0.00\\ _€_-;\\-* #,##0.00\\ _€_-", ""),
     ],
 )
 def test_the_currency_of_a_format(number_format: str, wanted: str) -> None:

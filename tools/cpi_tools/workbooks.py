@@ -226,8 +226,9 @@ def currency_of(number_format: str) -> str:
 
 @functools.lru_cache(maxsize=1000)
 def signs_of(number_format: str) -> str:
-    """A number format without the texts in it, and without the parts in brackets."""
-    return re.sub(r'"[^"]*"|\\.|\[[^]]*\]', "", number_format)
+    """A number format without the texts in it and the parts in brackets, and without blanks as wide as a sign (`_€`) and
+    what fills a cell (`*-`)."""
+    return re.sub(r'"[^"]*"|\\.|_.|[*].|\[[^]]*\]', "", number_format)
 
 
 def time_of_cell(value: datetime, has_hours: bool) -> Dated:
