@@ -393,6 +393,9 @@ HABITS: dict[str, Habit] = {
     # ---- rows and columns
     "a column of another name": Habit(put_rows([[*own[:2], "x", *own[2:]] for own in PRICES])),
     "a title above the heading": Habit(put_text(f"Consumer prices\n\n{PLAIN}")),
+    "a title with a comma above a heading with semicolons": Habit(
+        put_text(f"Consumer prices, January 2026\n\n{text_of(PRICES, ';')}")
+    ),
     "a month as a title above the heading": Habit(put_text(f"January 2026\n{PLAIN}")),
     "`sep=;` above the heading": Habit(put_text(f"sep=;\n{text_of(PRICES, ';')}")),
     "a row of units below the heading": Habit(row(2, "", "", "EUR", "EUR", "EUR")),

@@ -1,4 +1,7 @@
-"""Files of text as cells: CSV and its like, with commas, semicolons or tabs, whichever the first row has most of.
+"""Files of text as cells: CSV and its like, with commas, semicolons or tabs: whichever the heading has most of.
+
+The heading is the first row that names two columns of an office's sheets, or else the first row. Rows above a heading are
+refused later, by a line that says which row it is.
 
 They are UTF-8, with or without a byte order mark, or UTF-16 with one, as a spreadsheet program saves "Unicode text". A
 first line like `sep=;` names the separator to some spreadsheet programs, which don't show it as a row.
@@ -13,6 +16,7 @@ from pathlib import Path
 from typing import TextIO
 
 from .cells import BadSheet, Origin, Texts, label_of
+from .office_sheets import SHEETS
 from .terminal import because_of
 
 SEPARATORS = ",;\t"
@@ -23,6 +27,12 @@ MARKS_OF_UTF_16 = (b"\xff\xfe", b"\xfe\xff")
 """The byte order marks of UTF-16."""
 
 UTF_8 = "save it as CSV in UTF-8"
+
+NAMES = frozenset(name for columns in SHEETS.values() for name in (*columns.needed, *columns.others))
+"""The names of all columns."""
+
+ROWS_LOOKED_AT, LOOKED_AT = 20, 1 << 16
+"""Rows, and characters after the first row, in which the heading is looked for."""
 
 
 def texts_of_csv(path: Path) -> Texts:
@@ -56,8 +66,18 @@ def _separator(file: TextIO, label: str) -> str:
         raise BadSheet(Origin(label, 1), "the file isn't UTF-8: it has bytes of zero, as UTF-16 has", UTF_8)
     if named := NAMED_SEPARATOR.fullmatch(first):
         return named[1]
+    lines = re.split("\r\n|[\r\n]", first + file.read(LOOKED_AT))[:ROWS_LOOKED_AT]
     file.seek(0)
-    return max(SEPARATORS, key=re.split("[\r\n]", first, maxsplit=1)[0].count)
+    for line in lines:
+        named = max(SEPARATORS, key=lambda each: _names_in(line, each))
+        if _names_in(line, named) > 1:
+            return named
+    return max(SEPARATORS, key=lines[0].count)
+
+
+def _names_in(line: str, separator: str) -> int:
+    """How many cells of a line are names of columns."""
+    return sum(cell.strip().strip('"').lower() in NAMES for cell in line.split(separator))
 
 
 def _no_utf_8(path: Path) -> BadSheet:
