@@ -7,6 +7,7 @@ from collections.abc import Iterator
 from pathlib import Path
 
 import pytest
+from selenium.webdriver.common.keys import Keys
 
 from browser import Browser
 from offices import NOW
@@ -114,6 +115,25 @@ def test_a_form_that_was_open_meanwhile_doesnt_overwrite_it_either(phone: Phone,
     phone.edit(1)
     asked(phone)
     assert stored(stage) == [[1, 350, NEXT]]
+
+
+def test_what_was_written_before_it_and_not_saved_doesnt_overwrite_it_either(phone: Phone, stage: Stage) -> None:
+    phone.sign_in()
+    without_line(phone)
+    phone.enter(1, "3.15")
+    phone.edit(1)
+    phone.retype("3.17")
+    phone.close()
+    assert put(stage, 1, "price,350") == NEXT
+    phone.browser.offline(False)
+    wait_alarm(phone, "1 to look at")
+    phone.edit(1)
+    asked(phone)
+    phone.press(Keys.ENTER)
+    assert phone.browser.find("#price").get_attribute("value") == "3.17" and phone.edited() == f"{NOW}/1"
+    phone.retype("3.18", Keys.ENTER)
+    phone.browser.wait_text("#line", "All sent")
+    assert stage.relay.quotes(NOW) == [f"quote,1,{NOW},price,318"]
 
 
 def test_a_price_that_both_devices_have_asks_nothing(phone: Phone, stage: Stage) -> None:

@@ -37,6 +37,7 @@ export function edit(slot, month = state.month, isUnsent = false) {
     find("entry").showModal();
   }
   if (drafts.draftOf(editing)) form.putDraft(drafts.draftOf(editing), row);
+  if (entry?.state === "moved") form.showQuestion(entry); // (what was written before it answers nothing)
   if (form.markOf() !== "missing") form.focusPrice();
 }
 
