@@ -332,6 +332,31 @@ def test_what_was_written_is_there_again_when_the_form_is_opened(phone: Phone, s
     assert [row[3] for row in stage.quotes(ANNA)] == [310]
 
 
+TWICE = """
+const entry = document.getElementById("entry"), before = entry.dataset.entry, form = document.getElementById("entry-form");
+form.requestSubmit();
+while (entry.dataset.entry === before) await new Promise((end) => setTimeout(end, 5));
+form.requestSubmit();
+"""
+"""Saves, and once more as soon as the next form is there, as Enter does that is pressed twice."""
+
+
+def test_what_was_written_isnt_saved_by_a_second_enter_of_the_row_before(phone: Phone, stage: Stage) -> None:
+    phone.sign_in()
+    phone.edit(2)
+    phone.retype("4.8")
+    phone.close()
+    phone.edit(1)
+    phone.retype("3.21")
+    phone.browser.run_until(TWICE)
+    phone.wait_told(1, "Receipt")
+    assert (phone.edited(), phone.browser.find("#price").get_attribute("value")) == (f"{NOW}/2", "4.8")
+    phone.retype("4.80")
+    phone.save()
+    phone.wait_told(2, "Receipt")
+    assert [row[:1] + row[3:4] for row in stage.quotes(ANNA)] == [[1, 321], [2, 480]]
+
+
 def test_a_form_that_is_closed_as_it_was_leaves_nothing(phone: Phone) -> None:
     phone.sign_in()
     phone.show("all")

@@ -12,7 +12,7 @@ import * as tabs from "./tabs.js";
 import * as unsent from "./unsent.js";
 import { whyNotKept } from "./wording.js";
 
-let editing = null; // { month, slot, row, entry, stored, seen, isListed, wasToDo, filled }
+let editing = null; // { month, slot, row, entry, stored, seen, isListed, wasToDo, filled, came }
 let isSaving = false;
 let cameAt = -Infinity; // when the form of the next row came, by performance.now()
 
@@ -38,6 +38,7 @@ export function edit(slot, month = state.month, isUnsent = false) {
   }
   if (drafts.draftOf(editing)) form.putDraft(drafts.draftOf(editing), row);
   if (entry?.state === "moved") form.showQuestion(entry); // (what was written before it answers nothing)
+  editing.came = form.content(); // with what was written before
   if (form.markOf() !== "missing") form.focusPrice();
 }
 
@@ -58,7 +59,7 @@ function chosen() {
 
 /** Keeps what the form says on the phone, and sends it; the form of the next row comes in its place. */
 async function save(isConfirmed) {
-  const isTwice = performance.now() - cameAt < form.TWICE && !find("price").value && form.markOf() !== "missing";
+  const isTwice = performance.now() - cameAt < form.TWICE && form.content() === editing.came;
   const choice = isSaving || isTwice ? null : chosen();
   if (!choice) return;
   const far = isConfirmed ? null : farFrom(choice, editing.row);
