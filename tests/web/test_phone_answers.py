@@ -196,6 +196,18 @@ def test_lists_that_make_no_sense_arent_kept(phone: Phone, stage: Stage) -> None
     assert phone.browser.faults() == []
 
 
+def test_a_list_that_an_office_without_room_refuses_is_asked_for_again(phone: Phone) -> None:
+    with clock_faster(phone.browser, 10):
+        phone.sign_in()
+        phone.browser.run(GETS, '{"refused":90}', "/api/work/")
+        phone.browser.click("#month-before")
+        phone.browser.wait_text("#notice", "Memory or the disk failed.")
+        assert phone.browser.text("#list") == "No list of this month yet."
+        phone.browser.run("window.fetch = window.real;")
+        phone.browser.wait_text("#progress", "3 of 4 stored")  # (nobody touches the page)
+    assert phone.browser.text("#notice") == ""
+
+
 def test_a_look_at_what_is_stored_that_makes_no_sense_is_asked_again(phone: Phone, stage: Stage) -> None:
     """The page looks before it sends an entry that has waited."""
     phone.sign_in()

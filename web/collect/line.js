@@ -151,9 +151,9 @@ async function listed(collector) {
   if (state.who !== collector.who) return null;
   state.line = "up";
   if (state.month !== month) return null; // (that month's list is wanted still)
-  if (wanted === asked) wanted = "";
+  if (wanted === asked && refusal?.refused !== 90) wanted = "";
   if (!refusal) state.refusal = null;
   await show();
   notice(refusal ? toCollector(refusal) : "");
-  return refusal?.refused === 11 ? LONGEST_WAIT : null;
+  return { 11: LONGEST_WAIT, 90: 0 }[refusal?.refused] ?? null;
 }
