@@ -94,6 +94,20 @@ def test_a_figure_that_is_typed_ahead_of_a_full_disk_costs_no_price(phone: Phone
     assert phone.browser.find("#price").get_attribute("value") == "3.21"
 
 
+def test_a_full_disk_isnt_told_in_the_form_of_another_row(phone: Phone) -> None:
+    phone.sign_in()
+    phone.edit(1)
+    phone.browser.run(FULL_DISK)
+    phone.press("3.21", Keys.ENTER, Keys.ESCAPE)
+    phone.edit(2)
+    phone.browser.wait_text("#notice", "An entry isn’t kept: there is no room left.")
+    assert (phone.edited(), phone.browser.text("#price-fault")) == (f"{NOW}/2", "")
+    assert "Written, not saved" in phone.told(1)
+    phone.close()
+    phone.edit(1)
+    assert phone.browser.find("#price").get_attribute("value") == "3.21"
+
+
 # ---- what is seen on a small screen
 
 UNSEEN = """

@@ -3,6 +3,7 @@ import { find } from "../shared/dom.js";
 import { figures, typed } from "../shared/money.js";
 import * as drafts from "./drafts.js";
 import * as form from "./form.js";
+import { noticeUntilRead } from "./head.js";
 import { refresh, send } from "./line.js";
 import { focusOn, nextToDo, touch } from "./list.js";
 import { farFrom } from "./look.js";
@@ -78,7 +79,11 @@ async function keep(choice) {
     const kept = await store.keepEntry(state, { month, slot, row, seen, ...choice, state: "waiting" });
     if (kept) goOn(kept, edited, form.typedSince());
   } catch (fault) {
-    if (editing === edited) find("price").value = price; // (whatever was typed ahead)
+    if (editing !== edited || !isOpen()) { // (its row says that it isn't saved)
+      noticeUntilRead(`An entry isn’t kept: ${whyNotKept(fault)}`);
+      return;
+    }
+    find("price").value = price; // (whatever was typed ahead)
     form.showFault(`This entry isn’t kept: ${whyNotKept(fault)}`);
   } finally {
     isSaving = false;
