@@ -690,7 +690,7 @@ def test_signing_out_removes_all_and_asks_before(phone: Phone, stage: Stage) -> 
     phone.send()
     phone.browser.wait_text("#line", "All sent")
     phone.browser.click("#leave")
-    assert "Everything has been sent" in phone.browser.text("#leaving")
+    assert "Everything you saved has been sent" in phone.browser.text("#leaving")
     phone.browser.click("#leaving-go")
     phone.browser.wait_shown("#sign-in")
     phone.browser.wait(lambda: phone.browser.run_until(LEFT) == NOTHING_LEFT)

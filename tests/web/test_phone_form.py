@@ -371,6 +371,17 @@ def test_what_was_written_isnt_saved_by_a_second_enter_of_the_row_before(phone: 
     assert [row[:1] + row[3:4] for row in stage.quotes(ANNA)] == [[1, 321], [2, 480]]
 
 
+def test_sign_out_says_that_what_was_written_and_not_saved_is_lost(phone: Phone) -> None:
+    phone.sign_in()
+    phone.edit(1)
+    phone.retype("3.1")
+    phone.close()
+    phone.browser.click("#leave")
+    told = phone.browser.text("#leaving-text")
+    assert told.startswith("Everything you saved has been sent.")
+    assert told.endswith(" What you wrote into 1 form and didn’t save is lost.")
+
+
 def test_a_form_that_is_closed_as_it_was_leaves_nothing(phone: Phone) -> None:
     phone.sign_in()
     phone.show("all")

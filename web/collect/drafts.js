@@ -1,5 +1,5 @@
 // What a collector wrote into a form and didn't save: it is there again when the form is opened, until it is saved, the
-// entry is dropped, or the page is left.
+// entry is taken back in its form, or the page is closed or loaded anew.
 import { keyOfEntry } from "./state.js";
 
 const drafts = new Map(); // by month and slot: what form.content() gave
@@ -12,5 +12,7 @@ export function keepDraft(entry, content) {
   if (content === null) drafts.delete(keyOfEntry(entry));
   else drafts.set(keyOfEntry(entry), content);
 }
+
+export const count = () => drafts.size;
 
 export const forget = () => drafts.clear();

@@ -2,6 +2,7 @@
 import { ask, NoAnswer } from "../shared/api.js";
 import { find } from "../shared/dom.js";
 import { toCollector } from "../shared/refusals.js";
+import * as drafts from "./drafts.js";
 import * as entry from "./entry.js";
 import { noticeUntilRead } from "./head.js";
 import { nameIn, readKey, takeLink } from "./key.js";
@@ -112,11 +113,12 @@ async function showStorage() {
 // ---- Signing out
 
 function askToLeave() {
-  const count = state.entries.length;
-  find("leaving-text").textContent = count
+  const count = state.entries.length, written = drafts.count();
+  find("leaving-text").textContent = (count
     ? `${counted(count, "entry", "entries")} on this phone ${count === 1 ? "hasn’t" : "haven’t"} been stored by the `
       + "office. Signing out throws them away."
-    : "Everything has been sent. The key and the lists are removed from this phone.";
+    : "Everything you saved has been sent. The key and the lists are removed from this phone.")
+    + (written ? ` What you wrote into ${counted(written, "form", "forms")} and didn’t save is lost.` : "");
   find("leaving-taken").hidden = count === 0;
   find("leaving-go").textContent = count ? "Throw away and sign out" : "Sign out";
   find("leaving").returnValue = "stay";
