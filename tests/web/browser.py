@@ -13,7 +13,11 @@ from pathlib import Path
 from typing import Any, Optional
 
 from selenium import webdriver
-from selenium.common.exceptions import InvalidSessionIdException, WebDriverException
+from selenium.common.exceptions import (
+    ElementClickInterceptedException,
+    InvalidSessionIdException,
+    WebDriverException,
+)
 from selenium.webdriver.chrome.options import Options
 from selenium.webdriver.chrome.service import Service
 from selenium.webdriver.common.by import By
@@ -171,10 +175,16 @@ class Browser:
         return found
 
     def click(self, selector: str) -> None:
-        """A click, with what is clicked in the middle of the window, where what sticks to its edges doesn't hide it."""
+        """A click, with what is clicked in the middle of the window, where what sticks to its edges doesn't hide it. If
+        the page was still scrolling, it is tried once more."""
         found = self.find(selector)
         self.run("arguments[0].scrollIntoView({ block: 'center' })", found)
-        found.click()
+        try:
+            found.click()
+        except ElementClickInterceptedException:
+            self.middle(selector)
+            self.run("arguments[0].scrollIntoView({ block: 'center' })", found)
+            found.click()
 
     def type(self, selector: str, text: str) -> None:
         """Puts a text in the place of what stands in a field."""

@@ -53,6 +53,7 @@ CASES = (
     Case("a text", answer(b"stored", of="text/plain"), UNKNOWN),
     Case("a redirect", answer(b"", "302 Found", "text/html", "Location: https://example.org/login\r\n"), NO_LINE),
     Case("a cut body", answer(b'{"rows":[{"receipt":7', length=40), NO_LINE),
+    Case("no such page", answer(b"<h1>404</h1>", "404 Not Found", "text/html"), UNKNOWN),
     Case("binary", answer(bytes(range(256)), of="application/octet-stream"), UNKNOWN),
     Case("the end", b"", BUSY),
 )

@@ -6,7 +6,7 @@ import time
 
 from selenium.webdriver.common.keys import Keys
 
-from offices import ANNA, BEFORE, NOW, month_now
+from offices import ANNA, BEFORE, BENO, NOW, month_now
 from phone import Phone
 from stage import Stage
 from unsent import (
@@ -293,3 +293,17 @@ def test_rows_dont_move_when_a_correction_is_stored(phone: Phone, stage: Stage) 
     stage.relay.held.clear()
     phone.wait_told(1, f"Receipt {NEXT + 1}")
     assert tops(phone.browser, "[data-slot]") == before
+
+
+def test_the_next_collector_doesnt_wait_for_a_line_that_hangs(phone: Phone, stage: Stage) -> None:
+    phone.sign_in()
+    stage.relay.held.set()
+    phone.enter(1, "3.10")
+    phone.browser.wait(lambda: stage.relay.rows("quote,1,") == 1, "the price is under way")
+    phone.browser.click("#leave")
+    phone.browser.click("#leaving-go")
+    phone.browser.wait_shown("#sign-in")
+    phone.give_key(BENO)
+    phone.browser.wait_text("#list", "Market hall")
+    assert stage.relay.held.is_set()
+    stage.relay.held.clear()

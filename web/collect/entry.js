@@ -136,6 +136,7 @@ async function drop() {
   const { entry, slot, month } = editing;
   const isDropped = await store.dropEntry(entry);
   await dropped(entry);
+  if (editing === null) return; // (signed out meanwhile, in another tab)
   if (isDropped) {
     drafts.keepDraft(entry, null);
     close();
@@ -147,7 +148,9 @@ async function drop() {
 
 /** Shows that an entry was dropped. */
 export async function dropped(entry) {
-  takeEntries(await store.entries(entry.who));
+  const entries = await store.entries(entry.who);
+  if (state.who !== entry.who) return; // (signed out meanwhile, in another tab)
+  takeEntries(entries);
   unsent.leaveOut(entry);
   tabs.tell("entries");
   touch([entry.slot]);

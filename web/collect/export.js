@@ -8,7 +8,7 @@ import { whyNotStored } from "./wording.js";
 const COLUMNS = ["month", "slot", "outlet", "item", "unit", "mark", "value", "confirmed", "written", "state"];
 
 /** All entries that aren't stored, as CSV (RFC 4180): prices in minor units, the moment of writing in UTC. */
-export function asCsv() {
+function asCsv() {
   const rows = state.entries.map((entry) => {
     const [, , outlet = "", , text = "", unit = ""] = entry.row ?? [];
     return [entry.month, entry.slot, outlet, text, unit, entry.mark, entry.value, entry.confirm ? "yes" : "",

@@ -5,7 +5,7 @@ const LENGTH = 32;
 const ALPHABET = "0123456789abcdefghijklmnopqrstuvwxyz";
 
 /** Whether a text ends in its check character (ISO/IEC 7064, MOD 37,36). */
-export function isChecked(text) {
+function isChecked(text) {
   const size = ALPHABET.length;
   const added = (sum, each) => (((sum || size) * 2) % (size + 1) + ALPHABET.indexOf(each)) % size;
   return [...text].reduce(added, size / 2) === 1;

@@ -17,6 +17,7 @@ let isAsked = false; // another one was asked for meanwhile
 let isAll = false; // what was refused for a while is to be sent too
 let wanted = ""; // the lists that are wanted: "", "lists", or "whole" with the items
 let tries = 0, timer = 0;
+let giving = new AbortController(); // gives up what is under way
 
 /** Are called when another tab has signed out, and with entries that the office has answered; the page sets both. */
 export const on = { gone: () => {}, settled: () => {} };
@@ -60,9 +61,11 @@ export async function again() {
   }
 }
 
-/** No more tries by itself. */
+/** No more tries by itself, and what is under way is given up: the next collector doesn't wait for it. */
 export function rest() {
   clearTimeout(timer);
+  giving.abort();
+  giving = new AbortController();
   isAsked = isAll = false;
   wanted = "";
 }
@@ -113,14 +116,15 @@ async function exchanged() {
     await on.gone();
     return null;
   }
-  const refusal = await sendAll({ key, who }, isWhole, (answered) => settled({ key, who }, answered)).catch((fault) => {
-    isAll ||= isWhole;
+  const collector = { key, who, signal: giving.signal };
+  const refusal = await sendAll(collector, isWhole, (answered) => settled(collector, answered)).catch((fault) => {
+    isAll ||= isWhole && state.who === who;
     throw fault;
   });
-  const wait = waitAfter({ who }, refusal);
+  const wait = waitAfter(collector, refusal), entries = await store.entries(who);
   if (state.who !== who) return null;
-  takeEntries(await store.entries(who));
-  return wait === null && wanted ? listed({ key, who }) : wait;
+  takeEntries(entries);
+  return wait === null && wanted ? listed(collector) : wait;
 }
 
 /** Shows a refusal of all; seconds to wait then, or null. */
@@ -151,7 +155,7 @@ async function listed(collector) {
   if (state.who !== collector.who) return null;
   state.line = "up";
   if (state.month !== month) return null; // (that month's list is wanted still)
-  if (wanted === asked && refusal?.refused !== 90) wanted = "";
+  if (wanted === asked && ![11, 90].includes(refusal?.refused)) wanted = "";
   if (!refusal) state.refusal = null;
   await show();
   notice(refusal ? toCollector(refusal) : "");

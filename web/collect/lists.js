@@ -21,10 +21,10 @@ export async function takeShared() {
 
 /** Asks for all lists, and keeps them; a refusal, or null. With `isWhole` the items are asked for, however new. */
 export async function fetchLists(collector, isWhole) {
-  const { key, who } = collector, { month } = state;
-  await Promise.all([fetchItems(isWhole), fetchWindows()]);
+  const { key, who, signal } = collector, { month } = state;
+  await Promise.all([fetchItems(isWhole, signal), fetchWindows()]);
   const [work, quotes] = await Promise.all([`/work/${month}`, `/quotes/${month}/${month}`]
-    .map((path) => ask("GET", path, { key })));
+    .map((path) => ask("GET", path, { key, signal })));
   if (state.who !== who) return null;
   const refused = [work, quotes].find((reply) => Number.isInteger(reply.refused));
   if (refused) return refused;
@@ -33,11 +33,11 @@ export async function fetchLists(collector, isWhole) {
   return null;
 }
 
-async function fetchItems(isWhole) {
+async function fetchItems(isWhole, signal) {
   const kept = await store.shared("items");
   const hasAll = (state.list?.work ?? []).every((row) => state.tolerance.has(row[3]));
   if (!isWhole && hasAll && kept?.at && Date.now() - kept.at < NEW_ITEMS) return;
-  const { items } = await ask("GET", "/items");
+  const { items } = await ask("GET", "/items", { signal });
   if (!Array.isArray(items) || !items.every(Array.isArray)) throw new NoAnswer("odd");
   await store.keepShared("items", items);
   takeItems(items);

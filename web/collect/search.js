@@ -44,7 +44,7 @@ export function filter() {
 }
 
 /** Searches for a text, from now on. */
-export function searchFor(text) {
+function searchFor(text) {
   words = plain(text).split(/\s+/).filter(Boolean);
   filter();
 }

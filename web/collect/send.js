@@ -23,7 +23,7 @@ export const made = ({ version }) => fresh.add(version);
 const isFresh = ({ version, at }) => fresh.has(version) && Date.now() - at < FRESH;
 
 /** The row of an import that an entry is. */
-export function recordOf({ slot, month, mark, value, confirm }) {
+function recordOf({ slot, month, mark, value, confirm }) {
   return `quote,${slot},${month},${mark},${value}${confirm ? ",confirm" : ""}`;
 }
 
@@ -63,10 +63,11 @@ export async function sendAll(collector, isAll, onSettled) {
 }
 
 /** The replies to the rows of an import, or the refusal of all of it. Throws NoAnswer, also if it makes no sense. */
-async function imported({ key }, sent) {
+async function imported({ key, signal }, sent) {
+  const body = sent.map((entry) => `${recordOf(entry)}\n`).join("");
   try {
-    const reply = await ask("POST", "/import", { key, body: sent.map((entry) => `${recordOf(entry)}\n`).join("") });
-    if (isRefusal(reply)) return reply;
+    const reply = await ask("POST", "/import", { key, body, signal });
+    if (isOfAll(reply)) return reply;
     if (!isReplyTo(sent, reply)) throw new NoAnswer("odd");
     for (const { version } of sent) fresh.delete(version);
     return reply.rows;
@@ -74,6 +75,12 @@ async function imported({ key }, sent) {
     fresh.clear(); // (what waits from now on may be overtaken)
     throw fault;
   }
+}
+
+/** Whether a reply refuses all that was sent. The office finds no fault in a whole import of this page: a front did. */
+function isOfAll(reply) {
+  if (reply.refused === 10) throw new NoAnswer("odd");
+  return isRefusal(reply);
 }
 
 const isRefusal = (reply) => Number.isInteger(reply?.refused);
@@ -91,8 +98,8 @@ const isOwn = ({ refused }) => refused !== 11 && refused !== 90;
 async function lookUp(collector, isDue, onSettled) {
   const late = (await store.entries(collector.who)).filter((entry) => isDue(entry) && !isFresh(entry));
   for (const month of new Set(late.map((entry) => entry.month))) {
-    const reply = await ask("GET", `/quotes/${month}/${month}`, { key: collector.key });
-    if (isRefusal(reply)) return reply;
+    const reply = await ask("GET", `/quotes/${month}/${month}`, collector);
+    if (isOfAll(reply)) return reply;
     if (!areRows(reply.quotes)) throw new NoAnswer("odd");
     const quotes = new Map(reply.quotes.map((row) => [row[0], row]));
     const moved = late.filter((entry) => entry.month === month)

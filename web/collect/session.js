@@ -127,9 +127,9 @@ function askToLeave() {
 
 async function left() {
   if (find("leaving").returnValue !== "leave") return;
-  const { who } = state;
+  line.rest();
+  await store.forget(state.who); // (if the browser refuses that, the page says so, and all stays)
   cleared();
-  await store.forget(who);
   tabs.tell("key");
   showSignIn();
 }

@@ -2,7 +2,7 @@
 // What is listed is chosen with the view, so that nothing moves under a finger; the head counts them at any moment.
 import { becomes, find, make } from "../shared/dom.js";
 import { inWords } from "../shared/months.js";
-import { entryAt, keyOfEntry, kindOf, rowOf, state } from "./state.js";
+import { entryAt, keyOfEntry, kindOf, rowOf, state, storedOf } from "./state.js";
 import * as store from "./store.js";
 import { inMarks, whyNotStored } from "./wording.js";
 
@@ -28,7 +28,7 @@ export function render() {
 }
 
 /** Lists what isn't stored, brings it into sight and gives it the focus. */
-export function showAll() {
+function showAll() {
   choose();
   render();
   find("unsent").scrollIntoView({ block: "start" });
@@ -41,7 +41,7 @@ export function settled(answered) {
 }
 
 function item(then) {
-  const now = entryAt(then.month, then.slot), sent = now ? null : stored.get(keyOfEntry(then));
+  const now = entryAt(then.month, then.slot), sent = now ? null : stored.get(keyOfEntry(then)) ?? storedAs(then);
   const entry = now ?? sent ?? then;
   const [, , outlet, , text, unit] = entry.row ?? [null, null, "", null, `Slot ${entry.slot}`, ""];
   const where = [make("span", {}, inWords(entry.month)), outlet && " · ", outlet && make("bdi", {}, outlet)];
@@ -53,6 +53,12 @@ function item(then) {
     make("div", { class: now ? "actions" : "actions gone" },
       make("button", { type: "button", "data-do": "open" }, "Open"),
       make("button", { type: "button", "data-do": "drop" }, "Drop")));
+}
+
+/** An entry, if the office has what it says: another tab may have sent it. */
+function storedAs(entry) {
+  const [, , mark, value] = (entry.month === state.month && storedOf(entry.slot)) || [];
+  return mark === entry.mark && value === entry.value ? entry : null;
 }
 
 /** Why an entry isn't stored; if that has changed since it was listed, a few words in the room that it had. */
@@ -68,7 +74,7 @@ const CHANGED = { waiting: "It waits to be sent.", refused: "Refused: open it.",
 // ---- Dropping one
 
 /** Asks whether an entry is to be dropped. */
-export function askToDrop(entry) {
+function askToDrop(entry) {
   dropping = entry;
   const [, , outlet, , text, unit] = entry.row ?? [null, null, "", null, `Slot ${entry.slot}`, ""];
   find("dropping-text").replaceChildren(make("bdi", {}, [text, unit].filter(Boolean).join(", ")),

@@ -22,15 +22,15 @@ export function keyOf(text) {
 
 export const NO_KEY = "A key is 32 characters, each 0 to 9 or a to f.";
 
-/** The reply as an object, or a table as { text }. */
-export async function ask(method, path, { key, body, seconds = 60 } = {}) {
+/** The reply as an object, or a table as { text }. What is asked is given up after so many seconds, or by a signal. */
+export async function ask(method, path, { key, body, seconds = 60, signal } = {}) {
   const headers = key ? { Authorization: `CPI-Key ${key}` } : {};
   if (body !== undefined) headers["Content-Type"] = "text/csv; charset=utf-8";
   let response, text;
   try {
     response = await fetch(`/api${path}`, {
       method, headers, body, cache: key ? "no-store" : "default", credentials: "omit", redirect: "error",
-      referrerPolicy: "no-referrer", signal: AbortSignal.timeout?.(seconds * 1000),
+      referrerPolicy: "no-referrer", signal: endOf(seconds, signal),
     });
     text = await response.text();
   } catch {
@@ -48,6 +48,12 @@ export async function ask(method, path, { key, body, seconds = 60 } = {}) {
   if (response.status === 400 || response.status === 404 || response.status === 413) return { refused: 10 };
   const kind = response.ok ? "odd" : response.status === 429 || response.status === 503 ? "busy" : "lost";
   throw new NoAnswer(kind, Number(response.headers.get("Retry-After")) || 0);
+}
+
+/** A signal that ends after so many seconds, or with another one, as far as the browser can join them. */
+function endOf(seconds, signal) {
+  const late = AbortSignal.timeout?.(seconds * 1000);
+  return signal && late ? AbortSignal.any?.([signal, late]) ?? late : signal ?? late;
 }
 
 function parsed(text) {
