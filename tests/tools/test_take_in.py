@@ -710,6 +710,21 @@ def test_a_revision_is_frozen_with_its_corrections(cpi: Cpi, standing: Path, tmp
     assert told["2026-02", 2].startswith("00,1000000,109.681818,")
 
 
+def test_a_price_of_a_frozen_month_that_is_another_one_is_a_warning(cpi: Cpi, standing: Path, tmp_path: Path) -> None:
+    """It is stored, and no table changes until the month is reopened. The price that was frozen is passed over."""
+    of = {"prices": [["outlet", "item", "2026-02"], ["10", "FLOUR", "95"]]}
+    folder = written(tmp_path / "more", of)
+    ran = run(cpi, "take-in", folder, "--onto", standing, "--write", tmp_path / "added")
+    assert (ran.status, ran.out.splitlines()[0]) == (0, "1 quote")
+    told = "prices.csv, row 2: 2026-02 is frozen: 1 price of it, from here on, changes no table by itself"
+    assert ran.err == f"cpi-tools take-in: warning: {told}\n"
+    before = tables(cpi, standing)
+    assert tables(cpi, replayed(cpi, tmp_path / "added", standing)) == before
+    of["prices"][1][2] = "90"
+    ran = run(cpi, "take-in", written(tmp_path / "same", of), "--onto", standing, "--check")
+    assert (ran.status, ran.err) == (0, "")
+
+
 def test_a_revision_of_a_release_that_is_none_is_told(cpi: Cpi, tmp_path: Path) -> None:
     of = sheets()
     put("releases", 3, "revision", "first")(of)

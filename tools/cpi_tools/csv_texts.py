@@ -69,9 +69,9 @@ def _separator(file: TextIO, label: str) -> str:
     lines = re.split("\r\n|[\r\n]", first + file.read(LOOKED_AT))[:ROWS_LOOKED_AT]
     file.seek(0)
     for line in lines:
-        named = max(SEPARATORS, key=lambda each: _names_in(line, each))
-        if _names_in(line, named) > 1:
-            return named
+        count, separator = max((_names_in(line, each), each) for each in SEPARATORS)
+        if count > 1:
+            return separator
     return max(SEPARATORS, key=lines[0].count)
 
 

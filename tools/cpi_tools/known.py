@@ -49,6 +49,10 @@ class Known(NamedTuple):
             return place in self.given or place in self.places
         return [(self.outlets if row.word == "outlet" else self.keys).get(first)] == others
 
+    def revision_of(self, month: str) -> int:
+        """The latest revision of a month, or 0."""
+        return max((int(revision) for released, revision in self.releases if released == month), default=0)
+
     def has_handover(self, row: Row) -> bool:
         """Whether a hand-over was done."""
         return tuple(row[it] for it in MOVED) in self.handovers

@@ -22,6 +22,7 @@ from .price_cells import MonthRead, Place, PriceCells
 from .price_store import PriceStore
 from .sent import DESK, FIELDS, Bundle, Problem, Sent, bundled, problem_of
 from .sheets import Source
+from .terminal import counted
 
 LAST_TURN = 10
 """The revision after the last one: quotes that no freeze took."""
@@ -352,6 +353,7 @@ class OfficeFiles:
             window = self._window(month, release)
             quoted, first = (first, turn), turn + 1
             if self._is_frozen(release, turn):
+                self._warn_of_late(month, *quoted)
                 yield from self._quoted(window, month, *quoted)
                 continue
             if not self._is_same(window, now):
@@ -365,7 +367,17 @@ class OfficeFiles:
             now = self._window(month, own)
             yield self._calendar(month, own, now)
         yield from moved
+        self._warn_of_late(month, first, self._known.revision_of(month))
         yield from self._quoted(now, month, first, LAST_TURN)
+
+    def _warn_of_late(self, month: str, first: int, last: int) -> None:
+        """Warns of prices that differ from those with which the office froze these revisions of a month."""
+        late = self._store.of_month(month, first, last)
+        if not late:
+            return
+        because = f"{month} is frozen: {counted(len(late), 'price')} of it, from here on, changes no table by itself"
+        do = "reopen the month and freeze it again, with a row of releases, or take the price out"
+        self.taken.warnings.append(SheetFault(late[0][1].origin, because, do))
 
     def _window(self, month: str, row: Row) -> Window:
         """The window that a row tells; what a release doesn't tell is the calendar's, or the office's."""
