@@ -130,14 +130,15 @@ def test_a_december_that_was_revised_is_told_beside_the_figures(tmp_path: Path) 
     february = hidden[-1].table.replace(b"110.240000,4.0,10.5", b"110.240000,0.0,7.3")
     later = [*shown, Published(Listed("2027-02", 1, 160), february.replace(b",4.0,", b",0.0,"))]
 
-    untold = (
-        "December 2026 was revised, and that revision isn't published yet. It already counts in the index, the change"
-    )
+    untold = "December 2026 was revised, and that revision isn't published yet. It already counts in"
     site = site_of(hidden, tmp_path / "hidden")
-    for page in ("index.html", "node/00.html", "node/01.html"):
+    for page in ("index.html", "node/00.html"):
         told = words_of(site / page)
-        assert f"{untold} on the month before and the change on the year before, so the published levels don't" in told
+        # (105 * 1.04 is 109.2 and 110.24 / 105 is 1.05, in place of 110.24 and 1.04; 110.24 / 99.75 is the 1.105 told)
+        assert f"{untold} the index and the change on the month before, so the published levels don't give the" in told
         assert "was revised on" not in told
+    for page in ("node/01.html", "node/03.html"):
+        assert "was revised" not in words_of(site / page)
 
     begun = (
         "December 2026 was revised on 1 January 1970, 00:02 UTC: its index is 106.0, and was 105.0 before. The revised"
@@ -151,6 +152,34 @@ def test_a_december_that_was_revised_is_told_beside_the_figures(tmp_path: Path) 
     assert f"{begun} one counts in the index ( revisions )." in words_of(
         site_of(later, tmp_path / "later") / "index.html"
     )
+
+
+def test_a_hidden_revision_is_told_beside_what_the_published_levels_do_not_give(tmp_path: Path) -> None:
+    """A hidden revision of January 2026 changed one node: all items before January 2027, or tea (02) before February
+    2026. Only the page of that node says so."""
+    tables = two_years()[:14]
+    by_month = {it.listed.month: it for it in tables}
+    annual, monthly = "the change on the year before", "the change on the month before"
+
+    def told(last: str, was: bytes, now: bytes, page: str) -> str:
+        changed = by_month[last].table.replace(was, now)
+        assert changed != by_month[last].table
+        kept = [it for it in tables if it.listed.month < last]
+        out = tmp_path / f"{last}-{page}-{now.decode()}"
+        return words_of(site_of([*kept, by_month[last]._replace(table=changed)], out) / f"node/{page}.html")
+
+    # all items were at 99.75 a year before, and at 100.00 by a hidden revision: 109.2 / 100 is 9.2 percent
+    for page, is_told in (("00", True), ("01", False), ("03", False)):
+        page_told = told("2027-01", b"109.200000,4.0,9.5", b"109.200000,4.0,9.2", page)
+        assert (f"January 2026 was revised, and that revision isn't published yet. It already counts in {annual}, so"
+                in page_told) == is_told  # fmt: skip
+        assert ("was revised" in page_told) == is_told
+    # tea was at 105 in January, and at 100 by a hidden revision: 105 / 100 is 5.0 percent
+    for page, is_told in (("00", False), ("01", False), ("02", True)):
+        page_told = told("2026-02", b"105.000000,105.000000,0.0", b"105.000000,105.000000,5.0", page)
+        assert (f"January 2026 was revised, and that revision isn't published yet. It already counts in {monthly}, so"
+                in page_told) == is_told  # fmt: skip
+        assert ("was revised" in page_told) == is_told
 
 
 def test_a_month_before_that_was_revised_is_told_beside_the_change(published: list[Published], tmp_path: Path) -> None:

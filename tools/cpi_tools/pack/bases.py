@@ -33,23 +33,28 @@ def in_words(figures: list[str]) -> str:
     return " and ".join([*filter(None, [", ".join(figures[:-1])]), figures[-1]])
 
 
-def hidden_bases(series: Series, unexplained: frozenset[tuple[str, bool]]) -> dict[str, str]:
-    """By month, the figures of the last month that are computed from a revision of it that isn't published yet;
-    `unexplained` has the months whose changes aren't those of the published levels, and whether on the year."""
+def hidden_bases(series: Series, row: Row) -> dict[str, str]:
+    """By month, the figures of a row of the last month that are computed from a revision of it that isn't published
+    yet: figures that the published levels don't give, each computed again as the office computes and rounds it."""
     month = series.months[-1]
     found: Figures = defaultdict(list)
-    if not series.is_linked(month):
+    if not series.is_row_linked(month, row):
         found[link_of(month)].append(INDEX)
-    if (month, False) in unexplained:
+    if not series.is_change_shown(month, row, False):
         found[before(month)].append(ON_MONTH)
-    if (month, True) in unexplained:
-        found[before(month, 12) if series.is_linked(month) else link_of(month)].append(ON_YEAR)
+    if not series.is_change_shown(month, row, True):
+        found[before(month, 12)].append(ON_YEAR)
     return {earlier: in_words(figures) for earlier, figures in found.items()}
 
 
-def revised_bases(series: Series, row: Row, hidden: dict[str, str]) -> Iterator[Base]:
+def hidden_months(series: Series) -> frozenset[str]:
+    """The months that figures of any row of the last month are computed from in a revision that isn't published yet."""
+    return frozenset(month for row in series.last.rows.values() for month in hidden_bases(series, row))
+
+
+def revised_bases(series: Series, row: Row, hidden: frozenset[str]) -> Iterator[Base]:
     """The months that the figures of a node in the last month are computed from whose latest revision, which is
-    published, changed the node's level."""
+    published, changed the node's level; `hidden` has the months with a revision that isn't published."""
     month = series.months[-1]
     figures: Figures = defaultdict(list)
     figures[link_of(month)].append(INDEX)

@@ -18,7 +18,7 @@ from ..charts import month_name
 from ..exact import ALL_ITEMS, HUNDRED, Ratio, depth_of
 from ..others import isolated
 from ..pages import TEMPLATES, environment, write_page
-from .bases import hidden_bases, revised_bases
+from .bases import hidden_bases, hidden_months, revised_bases
 from .config import Config
 from .measures import Contributions, reference_level
 from .pictures import of_imputed, of_node
@@ -77,7 +77,7 @@ class Site:
         self.month = series.months[-1]
         # (in the month before all others each item that begins there has 100, which a contract can count from)
         self.clause_months = [*([series.base] if series.base in series.latest else []), *series.months]
-        self.hidden = hidden_bases(series, contributions.unexplained)
+        self.hidden = hidden_months(series)
         self.pages = environment(HERE / "templates")
         self.pages.filters.update(FILTERS)
         self.pages.globals.update(
@@ -87,7 +87,6 @@ class Site:
             table=series.last,
             whole=series.last.rows[ALL_ITEMS],
             base=series.base,
-            hidden=self.hidden,
             share=share,
             depth_of=depth_of,
         )
@@ -153,6 +152,7 @@ class Site:
             "most": most[0] if most else None,
             "against": against[0] if against else None,
             "total": total,
+            "hidden": hidden_bases(self.series, whole),
             "revised": [*revised_bases(self.series, whole, self.hidden)],
             "charts": of_node(self.series, ALL_ITEMS),
             "imputed": of_imputed(self.series),
@@ -173,6 +173,7 @@ class Site:
             "rows": rows,
             "zero": zero,
             "is_untold": bool(self.series.children(code)) and (self.month, is_annual) in self.contributions.unexplained,
+            "hidden": hidden_bases(self.series, row) if row else {},
             "revised": [*revised_bases(self.series, row, self.hidden)] if row else [],
             "path": self.series.path(code),
             "history": history[::-1],

@@ -217,6 +217,12 @@ class Series:
         row = self.row(before(month, 12), code)
         return row.chained if row else None
 
+    def is_change_shown(self, month: str, row: Row, is_annual: bool) -> bool:
+        """Whether a row's change, if it has one, is that of the published levels."""
+        change = row.year_change if is_annual else row.month_change
+        base = (self.year_base if is_annual else self.month_base)(month, row.code)
+        return change is None or (base is not None and change == _rounded_change(base, row.chained))
+
     def is_shown(self, month: str, is_annual: bool) -> bool:
         """Whether the changes of a month are those of the published levels.
 
@@ -226,18 +232,15 @@ class Series:
         """
         if is_annual and not self.is_linked(month):
             return False
-        base_of = self.year_base if is_annual else self.month_base
-        for row in self.latest[month].rows.values():
-            change = row.year_change if is_annual else row.month_change
-            base = base_of(month, row.code)
-            if change is not None and (base is None or change != _rounded_change(base, row.chained)):
-                return False
-        return True
+        return all(self.is_change_shown(month, row, is_annual) for row in self.latest[month].rows.values())
+
+    def is_row_linked(self, month: str, row: Row) -> bool:
+        """Whether a row's level is its index within the year on the published level of December before."""
+        return row.chained == rounded(self.link_level(month, row.code) * row.within, HUNDRED)
 
     def is_linked(self, month: str) -> bool:
-        """Whether the levels of a month are its indices within the year on the published levels of December before."""
-        rows = self.latest[month].rows.values()
-        return all(row.chained == rounded(self.link_level(month, row.code) * row.within, HUNDRED) for row in rows)
+        """Whether each level of a month is its index within the year on the published level of December before."""
+        return all(self.is_row_linked(month, row) for row in self.latest[month].rows.values())
 
     def unexplained(self) -> Iterator[tuple[str, bool]]:
         """The months, and whether it is the annual change, whose changes aren't those of the published levels."""
