@@ -163,7 +163,8 @@ def test_a_frozen_month_says_what_has_come_out_too_early(cpi: Cpi, tmp_path: Pat
     # (of two frozen months the later one can be moved as long as it isn't frozen)
     assert "Before 2027-01 is frozen, set a later publishing moment for it.\n" in text("2026-12", closes("2027-01"))
     assert "Warning" not in text("2026-12", late)
-    assert cpi.replay([run(cpi, "desk", "close", path, "2027-01", "--at", closes("2027-01")).out], db=path)
+    closed = run(cpi, "desk", "close", path, "2027-01", "--at", closes("2027-01"))
+    assert cpi.replay([closed.out], db=path) == [{"done": True}]
     assert "Warning" not in text("2026-12", closes("2027-01"))
     told = text("2027-01", late - 1)
     assert "Warning: The table of 2027-01 comes out" in told and "That can't be changed any more.\n" in told
