@@ -11,11 +11,13 @@ from collections.abc import Iterator
 from decimal import ROUND_HALF_UP, Decimal
 from pathlib import Path
 from string import Formatter
+from typing import Optional
 
 import pytest
 
 import surveys
 from cpi_tools.explain import wording
+from cpi_tools.explain.sentences import way
 from cpi_tools.explain.spoken import count_words
 from cpi_tools.program import Cpi
 from ran import run
@@ -139,7 +141,13 @@ def test_a_revision_says_what_became_of_the_level(cpi: Cpi, tmp_path: Path) -> N
     assert before == "This is revision 1; revision 2 took its place, with the level 102.7."
 
 
-def two_years() -> Iterator[str]:
+Prices = dict[str, tuple[int, int]]
+"""By month, the prices of rice in two shops, in minor units."""
+
+TENTHS: Prices = {"2026-12": (110, 330), "2027-01": (121, 330)}
+
+
+def two_years(dearer: Prices = TENTHS, usual: tuple[int, int] = (100, 300)) -> Iterator[str]:
     """Rice costs 1.00 and 3.00 in two shops until November, 10 percent more in December 2026; in January one of them
     rises by 10 percent once more, and the other goes to another collector. Flour costs 0.80 throughout."""
     head, rest = surveys.SMALL.split("0,desk,calendar,2025-12", 1)
@@ -149,7 +157,7 @@ def two_years() -> Iterator[str]:
     yield plan
     for at, month in enumerate(surveys.MONTHS[:14]):
         opens, closes = at * 1000 + 10, at * 1000 + 500
-        first, second = {"2026-12": (110, 330), "2027-01": (121, 330)}.get(month, (100, 300))
+        first, second = dearer.get(month, usual)
         yield f"{opens},desk,calendar,{month},{opens},{closes},{closes}"
         if month == "2027-01":
             yield plan.replace("plan,2026", "plan,2027").replace("0,desk", f"{opens},desk", 1)
@@ -194,6 +202,48 @@ def test_over_a_link_month_and_a_hand_over(cpi: Cpi, tmp_path: Path) -> None:
     )
 
 
+# ---- changes that are 0.0 percent when they are rounded
+
+
+def test_a_small_change_is_one(cpi: Cpi, tmp_path: Path) -> None:
+    """Rice: 2000.00 and 2400.00, and 2000.10 in January: 4400.10 / 4400.00 is 0.0023 percent more, which gives all items
+    0.6 * 0.0023 = 0.0014 percentage points. Flour: 0.80 and 0.84 give 0.4 * 5 = 2."""
+    for flour, moved in ((80, "None of its aggregates moved the index by 0.005 percentage points or more in the month."),
+                         (84, "Flour, wheat moved the index most in the month: +2.00 percentage points.")):  # fmt: skip
+        path, text = tmp_path / f"{flour}.db", surveys.SMALL.partition("3500,")[0]
+        for then, now in ((",200\n", ",200000\n"), (",240\n", ",240000\n"), (",210\n", ",200010\n"),
+                          (",246\n", ",240000\n"), (",price,84\n", f",price,{flour}\n")):  # fmt: skip
+            text = text.replace(then, now)
+        assert [reply for reply in cpi.replay([text], db=path) if "refused" in reply] == []
+        assert sentences(path, "2026-01", "01.1.1.1-01", *EUR)[:2] == [
+            "Rice, packed: prices changed by less than 0.05 percent from December 2025 to January 2026; January 2025 has no"
+            " figure, so there is no change in a year.",
+            "2 prices in 2 shops (Corner shop; Market hall) could be compared: 1 rose and 0 fell; Rice, 1 kg at Corner shop"
+            " changed most, from 2000.00 EUR to 2000.10 EUR.",
+        ]
+        assert sentences(path, "2026-01", "00")[1] == moved
+
+
+def test_small_changes_in_a_year(cpi: Cpi, tmp_path: Path) -> None:
+    """4000.00 became 4000.10 in December 2026, which is 0.0025 percent more, and stayed so."""
+    path = tmp_path / "office.db"
+    dearer = {"2026-12": (100_010, 300_000), "2027-01": (100_010, 300_000)}
+    sent = two_years(dearer, (100_000, 300_000))
+    assert [reply for reply in cpi.replay(sent, db=path) if "refused" in reply] == []
+    assert [sentences(path, month, "01.1.1.1-01")[0].partition(": ")[2] for month in ("2026-12", "2027-01")] == [
+        "prices changed by less than 0.05 percent, both from November 2026 to December 2026 and in a year.",
+        "prices didn't change from December 2026 to January 2027; in a year they changed by less than 0.05 percent.",
+    ]
+
+
+@pytest.mark.parametrize(("change", "then", "now", "wanted"), [
+    (0, 10**8, 10**8, wording.SAME), (0, 10**8, 10**8 + 1, wording.SMALL), (0, 10**8, 10**8 - 49_999, wording.SMALL),
+    (1, 10**8, 10**8 + 50_000, wording.ROSE), (-1, 10**8, 10**8 - 50_000, wording.FELL), (None, None, 10**8, wording.NONE),
+])  # fmt: skip
+def test_which_way_prices_went(change: Optional[int], then: Optional[int], now: int, wanted: str) -> None:
+    assert way(change, then, now) == wanted
+
+
 # ---- against the lines
 
 PATTERNS = {
@@ -211,8 +261,10 @@ PATTERNS = {
     "level": r"Together the (\d+) prices (?:\(found again after a month without a price: (\d+)\) )?count as (\S+) EUR, after"
     r" (\S+) EUR in \w+ \d+, so the level, (\S+) then, is (\S+)\.",
     "contributions": r"These moved the index most in the month, in percentage points: (.*)\.",
-    "contribution": r"All of the month's change comes from .*: (\S+) percentage points\.",
-    "unchanged": r"None of its aggregates changed the index in the month\.",
+    "contribution": r"(?:All of the month's change comes from .*|.* moved the index most in the month): (\S+) percentage"
+    r" points\.",
+    "unchanged": r"None of its aggregates (?:changed the index|moved the index by 0\.005 percentage points or more) in the"
+    r" month\.",
     "prices": r"It rests on (\d+) prices (?:in (\d+) shops|at .*)(?:, and all of them were found|; (\d+) of these"
     r" prices (?:is|are) imputed .*)\.",
     "mean": r"By their weights, the indices of its (\d+) aggregates have the mean (\S+) .* so the level, (\S+) then, is"
@@ -283,14 +335,21 @@ def look_at_change(text: str, lines: Lines) -> None:
     for change, said in ((month, part), (year, rest)):
         if change:
             assert f"by {rounded(abs(change), 10, 1)} percent" in said, text
-    words = {1: "rose", -1: "fell", 0: "didn't change"}
-    assert f"prices {words[(month > 0) - (month < 0)]}" in part, text
+    now, before, year_before = (lines.values.get(it) for it in ("chained level", "level before", "level a year before"))
+    words = {1: "rose by", -1: "fell by", 0: "changed by less than 0.05 percent"}
+    of_month, of_year = (
+        "didn't change" if now == then else words[(change > 0) - (change < 0)]
+        for change, then in ((month, before), (year or 0, year_before))
+    )
+    assert f"prices {of_month}" in part, text
     if year is None:
         assert "has no figure, so there is no change in a year" in rest
     elif (year > 0) == (month > 0) and (year < 0) == (month < 0) and year:
         assert ", and by " in rest and rest.endswith("in a year.")
-    elif month or year:
-        assert f"in a year they {words[(year > 0) - (year < 0)]}" in rest
+    elif of_month != of_year:
+        assert f"in a year they {of_year}" in rest
+    else:
+        assert rest.endswith(" in a year.") and " they " not in rest
 
 
 def figures(kind: str, lines: Lines) -> tuple[object, ...]:
@@ -299,7 +358,8 @@ def figures(kind: str, lines: Lines) -> tuple[object, ...]:
     moved = money(values.get("moved from", 0)), money(values.get("moved to", 0))
     imputed = [it for it in lines.names if re.match("carried price of", it) and f"{it} imputed" in lines.values]
     chained = level(values["link level"]), level(values["chained level"])
-    adds = [points(value) for name, value in values.items() if name.startswith("contribution of ") and value]
+    adds = [points(value) for name, value in values.items() if name.startswith("contribution of ")]
+    adds = [it for it in adds if it != "0.00"]
     changes = sorted(lines.changes(), key=lambda it: -abs(Decimal(it[1] - it[0]) / it[0]))
     most = tuple(map(money, changes[0])) if changes else ()
     rose, fell = (sum((now - then) * sign > 0 for then, now in changes) for sign in (1, -1))
@@ -387,10 +447,11 @@ def test_each_sentence_is_whole_and_has_named_places() -> None:
 
 
 def test_the_change_of_each_kind_names_what_it_says() -> None:
-    ways = (wording.ROSE, wording.FELL, wording.SAME)
+    ways = (wording.ROSE, wording.FELL, wording.SMALL, wording.SAME)
     assert {*wording.CHANGES} == {(month, year) for month in ways for year in (*ways, wording.NONE)}
     for (month, year), form in wording.CHANGES.items():
-        assert ("{change}" in form) == (month != wording.SAME)
+        assert ("{change}" in form) == (month in (wording.ROSE, wording.FELL))
+        assert form.count("less than 0.05 percent") == (wording.SMALL in (month, year))
         assert ("{year_change}" in form) == (year in (wording.ROSE, wording.FELL))
         assert ("{year_before}" in form) == (year == wording.NONE)
 

@@ -35,11 +35,15 @@ def weight_line(sources: Sources, code: str) -> Line:
     return Line(name, expression, now, Worded(f"{{}}; moved by its prices {span}", title), row)
 
 
+def index_before(sources: Sources, code: str) -> int:
+    """The index within the year in the month before: in January 100."""
+    return HUNDRED if sources.is_january else sources.before.levels[code].within
+
+
 def adds_line(sources: Sources, node: str, code: str) -> Line:
     """What an aggregate adds to the monthly change of a node's index, in millionths of a percentage point."""
     own, whole = sources.own.levels[code], sources.own.levels[node]
-    then = HUNDRED if sources.is_january else sources.before.levels[code].within
-    whole_then = HUNDRED if sources.is_january else sources.before.levels[node].within
+    then, whole_then = index_before(sources, code), index_before(sources, node)
     change = f"({own.within} - {then})" if own.within >= then else f"({then} - {own.within})"
     expression = f"round({HUNDRED} * {own.weight} * {change} / ({whole.weight} * {whole_then}))"
     expression = expression if own.within >= then else f"-{expression}"

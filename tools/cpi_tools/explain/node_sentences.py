@@ -9,7 +9,7 @@ from ..others import Worded, listed, of_others, worded
 from ..stored import Series
 from . import wording
 from .lines import Line, Part, summed
-from .node import below, contributions
+from .node import below, contributions, index_before
 from .sources import Sources
 from .spoken import (
     MOST_NAMES,
@@ -36,17 +36,22 @@ def sentences_of_aggregates(sources: Sources, node: str) -> Iterator[Worded]:
     )
 
 
+def has_moved(sources: Sources, code: str) -> bool:
+    """Whether an aggregate moved what is above it in the month."""
+    own = sources.own.levels[code]
+    return own.weight > 0 and own.within != index_before(sources, code)
+
+
 def of_contributions(sources: Sources, node: str) -> Worded:
-    """What adds most to the change of the month, or takes most away."""
-    parts = [
-        (of_others(sources.plan.titles[code]), with_sign(decimal(added.numerator, 10**6, 2)))
-        for added, code, _ in contributions(sources, node)
-        if added
-    ]
+    """What adds most to the change of the month, or takes most away; no contribution that is 0.00 when it is rounded."""
+    moved = sum(has_moved(sources, code) for code in below(sources, node))
+    found = ((code, decimal(added.numerator, 10**6, 2)) for added, code, _ in contributions(sources, node))
+    parts = [(of_others(sources.plan.titles[code]), with_sign(text)) for code, text in found if text != "0.00"]
     if not parts:
-        return worded(wording.NO_CONTRIBUTION)
+        return worded(wording.SMALL_CONTRIBUTIONS if moved else wording.NO_CONTRIBUTION)
     if len(parts) == 1:
-        return worded(wording.ONE_CONTRIBUTION, title=parts[0][0], points=parts[0][1])
+        form = wording.ONE_CONTRIBUTION if moved == 1 else wording.MOST_CONTRIBUTION
+        return worded(form, title=parts[0][0], points=parts[0][1])
     told = [worded(wording.CONTRIBUTION, title=title, points=points) for title, points in parts[:MOST_NAMES]]
     return worded(wording.CONTRIBUTIONS, contributions=listed(told))
 

@@ -11,6 +11,7 @@ from ..stored import Assignment, Release
 from ..terminal import month_before
 from . import wording
 from .aggregate_sentences import sentences_of_prices
+from .level import level_before, level_year_before
 from .node_sentences import sentences_of_aggregates
 from .sources import AGGREGATE, Sources
 from .spoken import count_words, level_words, month_words
@@ -22,18 +23,22 @@ def sentences_of(sources: Sources, code: str) -> list[Worded]:
     return [of_changes(sources, code), *parts(sources, code), *of_events(sources, code)]
 
 
-def way(change: Optional[int]) -> str:
-    """Which way prices went, by a change in tenths of a percent."""
-    if change is None:
+def way(change: Optional[int], then: Optional[int], now: int) -> str:
+    """Which way prices went, by a change in tenths of a percent and the two levels that it is between."""
+    if change is None or then is None:
         return wording.NONE
-    return wording.SAME if not change else wording.ROSE if change > 0 else wording.FELL
+    if not change:
+        return wording.SAME if now == then else wording.SMALL
+    return wording.ROSE if change > 0 else wording.FELL
 
 
 def of_changes(sources: Sources, code: str) -> Worded:
     """What prices did on the month, and on the year."""
     own = sources.own.levels[code]
+    on_month = way(own.month_change, level_before(sources, code), own.chained)
+    on_year = way(own.year_change, level_year_before(sources, code), own.chained)
     return worded(
-        wording.CHANGES[way(own.month_change), way(own.year_change)],
+        wording.CHANGES[on_month, on_year],
         title=of_others(sources.plan.titles[code]),
         change=tenths(abs(own.month_change)),
         year_change=tenths(abs(own.year_change or 0)),

@@ -5,11 +5,12 @@ from __future__ import annotations
 from collections import Counter
 from collections.abc import Iterable, Sequence
 
-from ..exact import HUNDRED, points
+from ..exact import points
 from ..others import Worded, listed, of_others, worded
 from ..stored import COMPARABLE, Series
 from ..terminal import link_month, month_name, month_text
 from . import wording
+from .level import link_level
 from .sources import Sources
 
 MOST_NAMES = 3
@@ -78,7 +79,5 @@ def counted_reasons(sources: Sources, imputed: Iterable[Series]) -> Worded:
 
 def chained_places(sources: Sources, code: str) -> dict[str, str]:
     """The places `december`, `link` and `level` of a node: its level then and now."""
-    links = sources.link.levels
-    link = links[code].chained if code in links else HUNDRED
-    level = level_words(sources.own.levels[code].chained)
-    return {"december": month_words(link_month(sources.month)), "link": level_words(link), "level": level}
+    link, level = level_words(link_level(sources, code)), level_words(sources.own.levels[code].chained)
+    return {"december": month_words(link_month(sources.month)), "link": link, "level": level}

@@ -8,14 +8,17 @@ from __future__ import annotations
 
 from collections.abc import Mapping
 
-ROSE, FELL, SAME, NONE = "rose", "fell", "same", "none"
-"""Which way prices went, to a tenth of a percent; NONE if there is nothing to compare with."""
+ROSE, FELL, SMALL, SAME, NONE = "rose", "fell", "small", "same", "none"
+"""Which way prices went: SMALL if the change is 0.0 percent but the levels differ, SAME if they don't; NONE if there is
+nothing to compare with."""
 
 CHANGES: Mapping[tuple[str, str], str] = {
     (ROSE, ROSE): "{title}: prices rose by {change} percent from {before} to {month}, and by {year_change} percent in a"
     " year.",
     (ROSE, FELL): "{title}: prices rose by {change} percent from {before} to {month}; in a year they fell by"
     " {year_change} percent.",
+    (ROSE, SMALL): "{title}: prices rose by {change} percent from {before} to {month}; in a year they changed by less"
+    " than 0.05 percent.",
     (ROSE, SAME): "{title}: prices rose by {change} percent from {before} to {month}; in a year they didn't change.",
     (ROSE, NONE): "{title}: prices rose by {change} percent from {before} to {month}; {year_before} has no figure, so"
     " there is no change in a year.",
@@ -23,12 +26,25 @@ CHANGES: Mapping[tuple[str, str], str] = {
     " {year_change} percent.",
     (FELL, FELL): "{title}: prices fell by {change} percent from {before} to {month}, and by {year_change} percent in a"
     " year.",
+    (FELL, SMALL): "{title}: prices fell by {change} percent from {before} to {month}; in a year they changed by less"
+    " than 0.05 percent.",
     (FELL, SAME): "{title}: prices fell by {change} percent from {before} to {month}; in a year they didn't change.",
     (FELL, NONE): "{title}: prices fell by {change} percent from {before} to {month}; {year_before} has no figure, so"
     " there is no change in a year.",
+    (SMALL, ROSE): "{title}: prices changed by less than 0.05 percent from {before} to {month}; in a year they rose by"
+    " {year_change} percent.",
+    (SMALL, FELL): "{title}: prices changed by less than 0.05 percent from {before} to {month}; in a year they fell by"
+    " {year_change} percent.",
+    (SMALL, SMALL): "{title}: prices changed by less than 0.05 percent, both from {before} to {month} and in a year.",
+    (SMALL, SAME): "{title}: prices changed by less than 0.05 percent from {before} to {month}; in a year they didn't"
+    " change.",
+    (SMALL, NONE): "{title}: prices changed by less than 0.05 percent from {before} to {month}; {year_before} has no"
+    " figure, so there is no change in a year.",
     (SAME, ROSE): "{title}: prices didn't change from {before} to {month}; in a year they rose by {year_change}"
     " percent.",
     (SAME, FELL): "{title}: prices didn't change from {before} to {month}; in a year they fell by {year_change}"
+    " percent.",
+    (SAME, SMALL): "{title}: prices didn't change from {before} to {month}; in a year they changed by less than 0.05"
     " percent.",
     (SAME, SAME): "{title}: prices didn't change, neither from {before} to {month} nor in a year.",
     (SAME, NONE): "{title}: prices didn't change from {before} to {month}; {year_before} has no figure, so there is no"
@@ -134,7 +150,11 @@ PRICES_WITH_RETURNED_MAKE = (
 
 NO_CONTRIBUTION = "None of its aggregates changed the index in the month."
 
+SMALL_CONTRIBUTIONS = "None of its aggregates moved the index by 0.005 percentage points or more in the month."
+
 ONE_CONTRIBUTION = "All of the month's change comes from {title}: {points} percentage points."
+
+MOST_CONTRIBUTION = "{title} moved the index most in the month: {points} percentage points."
 
 CONTRIBUTIONS = "These moved the index most in the month, in percentage points: {contributions}."
 
