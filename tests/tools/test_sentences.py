@@ -202,6 +202,91 @@ def test_over_a_link_month_and_a_hand_over(cpi: Cpi, tmp_path: Path) -> None:
     )
 
 
+# ---- prices that come back
+
+
+def in_march(cpi: Cpi, path: Path, february: tuple[str, str], march: tuple[int, int], january: str = "") -> None:
+    """The small office up to March: rice in February in two shops, a price or why there is none, then its prices. Flour,
+    which was closed and carried in February, costs 0.88."""
+    sent = surveys.SMALL.partition("3500,")[0].replace("price,210", january or "price,210")
+    asked = [(key_of(7), 1, february[0]), (key_of(7), 2, "missing,closed"), (key_of(8), 1, february[1])]
+    lines = [f"3500,{key},quote,{slot},2026-02,{what}" for key, slot, what in asked]
+    rice = [] if "price" in "".join(february) else ["01.1.1.1-01"]
+    lines += [",".join(["4000,desk,freeze,2026-02", *rice, "01.1.1.2-01"]), "0,desk,calendar,2026-03,4000,6000,7000"]
+    prices = [(key_of(7), 1, march[0]), (key_of(7), 2, 88), (key_of(8), 1, march[1])]
+    lines += [f"5000,{key},quote,{slot},2026-03,price,{price}" for key, slot, price in prices]
+    replies = cpi.replay([sent, *lines, "6000,desk,freeze,2026-03"], db=path)
+    assert [reply for reply in replies if "refused" in reply] == []
+
+
+def test_a_price_that_comes_back_is_named(cpi: Cpi, tmp_path: Path) -> None:
+    """Rice counted as 2.10 * 2.52 / 2.46 = 2.1512 in February and is found at 2.30, the other became 2.50 after 2.52:
+    4.80 / 4.6712 = 1.0276, and 4.80 / 4.40 = 1.0909. Flour counted as 0.84, and 0.88 / 0.80 = 1.1."""
+    path = tmp_path / "office.db"
+    in_march(cpi, path, ("missing,stock", "price,252"), (230, 250))
+    changed, compared, level = sentences(path, "2026-03", "01.1.1.1-01", *EUR)
+    assert changed.startswith("Rice, packed: prices rose by 2.8 percent from February 2026 to March 2026; ")
+    assert compared == "One price could be compared: Rice, 1 kg at Market hall went from 2.52 EUR to 2.50 EUR."
+    assert level == (
+        "Together the 2 prices (Rice, 1 kg at Corner shop was found again after at least one month without a price: counted"
+        " as 2.15 EUR, found at 2.30 EUR) count as 4.80 EUR, after 4.40 EUR in December 2025, so the level, 100.0 then, is"
+        " 109.1."
+    )
+    assert sentences(path, "2026-03", "01.1.1.2-01", *EUR)[1:] == [
+        "No price could be compared, since none was found in February 2026: those of March 2026 count as they are.",
+        "The only price, that of Flour, <b>wheat</b>, 1 kg at Corner shop, was found again after at least one month without"
+        " a price (counted as 0.84 EUR, found at 0.88 EUR): after 0.80 EUR in December 2025 it counts as 0.88 EUR, so the"
+        " level, 100.0 then, is 110.0.",
+    ]
+
+
+def test_of_prices_that_come_back_the_one_that_changed_most_is_named(cpi: Cpi, tmp_path: Path) -> None:
+    """Nothing was found in February, so 2.10 and 2.46 were carried. 2.30 is 9.5 percent more than 2.10, and 2.40 is 2.4
+    percent less than 2.46: 4.70 / 4.40 = 1.0682."""
+    for at, (march, named, now) in enumerate([
+        ((230, 240), "; of these Rice, 1 kg at Corner shop changed most: counted as 2.10 EUR, found at 2.30 EUR",
+         "4.70 EUR, after 4.40 EUR in December 2025, so the level, 100.0 then, is 106.8."),
+        ((210, 246), ", each at what it had counted as",
+         "4.56 EUR, after 4.40 EUR in December 2025, so the level, 100.0 then, is 103.6."),
+    ]):  # fmt: skip
+        path = tmp_path / f"{at}.db"
+        in_march(cpi, path, ("missing,stock", "missing,closed"), march)
+        assert sentences(path, "2026-03", "01.1.1.1-01", *EUR)[1:] == [
+            "No price could be compared, since none was found in February 2026: those of March 2026 count as they are.",
+            f"Together the 2 prices (2 were found again after at least one month without a price{named}) count as {now}",
+        ]
+
+
+def test_a_replacement_that_comes_back_counts_as_what_it_replaced(cpi: Cpi, tmp_path: Path) -> None:
+    """4.00 of another quality counted as 2.00 * 2.46 / 2.40 = 2.05 in January, and as 2.05 * 2.52 / 2.46 = 2.10 in
+    February, without a price. 4.20 is 5 percent more than 4.00, so it counts as 2.1525 in March."""
+    path = tmp_path / "office.db"
+    in_march(cpi, path, ("missing,stock", "price,252"), (420, 252), "other,400")
+    assert sentences(path, "2026-03", "01.1.1.1-01", *EUR)[2].startswith(
+        "Together the 2 prices (Rice, 1 kg at Corner shop was found again after at least one month without a price: counted"
+        " as 2.10 EUR, found at 2.15 EUR in terms of what it replaced) count as 4.67 EUR, after 4.40 EUR"
+    )
+
+
+def test_a_price_that_comes_back_in_an_aggregate_that_is_carried_is_named(cpi: Cpi, tmp_path: Path) -> None:
+    """Nothing of rice was found in February. In March one of them is found at 2.30, and the other is closed once more."""
+    path = tmp_path / "office.db"
+    in_march(cpi, path, ("missing,stock", "missing,closed"), (230, 240))
+    again = [
+        "0,desk,calendar,2026-03,7000,8000,9000",
+        f"7500,{key_of(8)},quote,1,2026-03,missing,closed",
+        "8000,desk,freeze,2026-03,01.1.1.1-01",
+    ]
+    assert [reply for reply in cpi.replay(again, db=path) if "refused" in reply] == []
+    assert sentences(path, "2026-03", "01.1.1.1-01", *EUR)[1:3] == [
+        "Nothing could be compared (Market hall: closed), so the desk decided to carry the price of Rice, 1 kg at Market"
+        " hall: it counts as 2.46 EUR, as it did in February 2026.",
+        "Together the 2 prices (Rice, 1 kg at Corner shop was found again after at least one month without a price: counted"
+        " as 2.10 EUR, found at 2.30 EUR) count as 4.76 EUR, after 4.40 EUR in December 2025, so the level, 100.0 then, is"
+        " 108.2.",
+    ]
+
+
 # ---- changes that are 0.0 percent when they are rounded
 
 
@@ -258,8 +343,10 @@ PATTERNS = {
     "one carried": r"Nothing could be compared .* decided to carry the price of .*: it counts as (\S+) EUR, as it did in"
     r" .*",
     "carried": r"Nothing could be compared .* decided to carry (\d+) prices: they count as they did in .*",
-    "level": r"Together the (\d+) prices (?:\(found again after a month without a price: (\d+)\) )?count as (\S+) EUR, after"
-    r" (\S+) EUR in \w+ \d+, so the level, (\S+) then, is (\S+)\.",
+    "level": r"Together the (\d+) prices count as (\S+) EUR, after (\S+) EUR in \w+ \d+, so the level, (\S+) then, is (\S+)\.",
+    "returned": r"Together the (\d+) prices \((?:(\d+) were|.* was) found again after at least one month without a price"
+    r"(?:; of these .* changed most)?: counted as (\S+) EUR, found at (\S+) EUR(?: in terms of what it replaced)?\)"
+    r" count as (\S+) EUR, after (\S+) EUR in \w+ \d+, so the level, (\S+) then, is (\S+)\.",
     "contributions": r"These moved the index most in the month, in percentage points: (.*)\.",
     "contribution": r"(?:All of the month's change comes from .*|.* moved the index most in the month): (\S+) percentage"
     r" points\.",
@@ -294,19 +381,20 @@ class Lines:
                 self.values[name] = int(value)
             self.terms[name] = (middle or "").count(" + ") + 1
 
-    def changes(self) -> Iterator[tuple[int, int]]:
-        """What each series counted as and counts as, of those that were compared."""
-        for name in self.names:
-            series = name.partition("carried price of ")[2]
-            if name == f"carried price of {series}" and series in self.matched:
-                yield self.values[f"earlier {name}"], self.values[name]
+    def changes(self, of: frozenset[str]) -> list[tuple[int, int]]:
+        """What each of some series counted as and counts as, the greatest change first."""
+        names = [name for name in self.names if name.startswith("carried price of ") and name[17:] in of]
+        found = [(self.values[f"earlier {name}"], self.values[name]) for name in names]
+        return sorted(found, key=lambda it: -abs(Decimal(it[1] - it[0]) / it[0]))
 
     matched: frozenset[str] = frozenset()
+    returned: frozenset[str] = frozenset()
 
 
 def lines_of(text: str) -> Lines:
     found = Lines(text)
     found.matched = frozenset(re.findall(r"  carried price of (\S+) = .*    # matched$", text, re.M))
+    found.returned = frozenset(re.findall(r"  carried price of (\S+) = .*    # comparable; not observed", text))
     return found
 
 
@@ -360,7 +448,7 @@ def figures(kind: str, lines: Lines) -> tuple[object, ...]:
     chained = level(values["link level"]), level(values["chained level"])
     adds = [points(value) for name, value in values.items() if name.startswith("contribution of ")]
     adds = [it for it in adds if it != "0.00"]
-    changes = sorted(lines.changes(), key=lambda it: -abs(Decimal(it[1] - it[0]) / it[0]))
+    changes, returned = lines.changes(lines.matched), lines.changes(lines.returned)
     most = tuple(map(money, changes[0])) if changes else ()
     rose, fell = (sum((now - then) * sign > 0 for then, now in changes) for sign in (1, -1))
     then = [values[f"earlier {it}"] for it in imputed]
@@ -373,7 +461,14 @@ def figures(kind: str, lines: Lines) -> tuple[object, ...]:
         "imputed": (len(imputed), *moved),
         "one carried": tuple(carried[:1]),
         "carried": (len(imputed),),
-        "level": (lines.terms["sum of carried prices"], None, *of_prices, *chained),
+        "level": (lines.terms["sum of carried prices"], *of_prices, *chained),
+        "returned": (
+            lines.terms["sum of carried prices"],
+            len(returned) if len(returned) > 1 else None,
+            *map(money, (returned or [(0, 0)])[0]),
+            *of_prices,
+            *chained,
+        ),
         "contributions": ("; ".join(adds[:3]),),
         "contribution": tuple(adds[:1]),
         "prices": (values.get("prices below"), None, None),
@@ -396,6 +491,7 @@ def look_at_sentence(text: str, lines: Lines) -> str:
         assert int(found[2] or 1) == lines.values["outlets below"]
         assert int(found[3] or 0) == lines.values["imputed below"]
     else:
+        assert kind not in ("level", "returned") or (kind == "returned") == bool(lines.returned)
         wanted = figures(kind, lines)
         pairs = [(it, want) for it, want in zip(found.groups(), wanted) if want is not None]
         assert [it for it, _ in pairs] == [str(want) for _, want in pairs], text
@@ -433,7 +529,7 @@ ALL_FORMS += [*wording.CHANGES.values(), *wording.ONE_IMPUTED.values()]
 
 PLACES = {
     "title", "change", "year_change", "before", "month", "year_before", "item", "outlet", "outlets", "then", "now",
-    "count", "shops", "rose", "fell", "earlier", "later", "reasons", "base", "december", "link", "level", "returned",
+    "count", "shops", "rose", "fell", "earlier", "later", "reasons", "base", "december", "link", "level", "returned", "found",
     "points", "contributions", "prices", "imputed", "index", "revision", "other", "collector", "former",
 }  # fmt: skip
 

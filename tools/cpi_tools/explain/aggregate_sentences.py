@@ -128,23 +128,44 @@ def of_carried(sources: Sources, imputed: Sequence[Series]) -> Worded:
 # ---- what it adds up to
 
 
+def returned_of(sources: Sources, sample: Sample) -> list[Series]:
+    """The series that were found again after a month without a price, those that changed most first."""
+    found = [it for it in sample.all if sources.is_comparable(it) and it not in sample.matched]
+    return sorted(found, key=lambda it: (-abs(change_of(sources, it)), it))
+
+
 def of_level(sources: Sources, code: str, sample: Sample) -> Worded:
-    """How the prices make the level."""
-    returned = len(sample.all) - len(sample.matched) - len(sample.imputed) if sample.matched else 0
+    """How the prices make the level, and which of them was found again, since no sentence before this one names it."""
+    returned = returned_of(sources, sample)
     sums = sum(sources.base(it)[0] for it in sample.all), sum(sources.own.carried[it].ticks for it in sample.all)
     base, now = map(sources.money.of_ticks, sums)
     return worded(
-        level_form(len(sample.all), returned),
+        level_form(sources, len(sample.all), returned),
         count=count_words(len(sample.all)),
-        returned=count_words(returned),
         base=base,
         now=now,
+        **(returned_places(sources, returned) if returned else {}),
         **chained_places(sources, code),
     )
 
 
-def level_form(count: int, returned: int) -> str:
+def returned_places(sources: Sources, returned: Sequence[Series]) -> dict[str, object]:
+    """How many prices were found again, and the one that changed most: what it counted as, and counts as."""
+    most = returned[0]
+    then, found = span(sources, most).values()
+    named = {"item": item_words(sources, most), "outlet": outlet_words(sources, most)}
+    return {"returned": count_words(len(returned)), "then": then, "found": found, **named}
+
+
+def level_form(sources: Sources, count: int, returned: Sequence[Series]) -> str:
     """The sentence of so many prices, of which some were found again."""
+    if not returned:
+        return wording.ONE_PRICE_MAKES if count == 1 else wording.PRICES_MAKE
+    is_replaced = sources.then(returned[0])[1] != WHOLE_SCALE
     if count == 1:
-        return wording.ONE_PRICE_MAKES
-    return wording.PRICES_WITH_RETURNED_MAKE if returned else wording.PRICES_MAKE
+        return wording.ONE_RETURNED_REPLACED_PRICE_MAKES if is_replaced else wording.ONE_RETURNED_PRICE_MAKES
+    if len(returned) == 1:
+        return wording.PRICES_WITH_ONE_RETURNED_REPLACED_MAKE if is_replaced else wording.PRICES_WITH_ONE_RETURNED_MAKE
+    if not change_of(sources, returned[0]):
+        return wording.PRICES_WITH_RETURNED_UNCHANGED_MAKE
+    return wording.PRICES_WITH_RETURNED_REPLACED_MAKE if is_replaced else wording.PRICES_WITH_RETURNED_MAKE

@@ -141,9 +141,42 @@ PRICES_MAKE = (
     "Together the {count} prices count as {now}, after {base} in {december}, so the level, {link} then, is {level}."
 )
 
+ONE_RETURNED_PRICE_MAKES = (
+    "The only price, that of {item} at {outlet}, was found again after at least one month without a price (counted as"
+    " {then}, found at {found}): after {base} in {december} it counts as {now}, so the level, {link} then, is {level}."
+)
+
+ONE_RETURNED_REPLACED_PRICE_MAKES = (
+    "The only price, that of {item} at {outlet}, was found again after at least one month without a price (counted as"
+    " {then}, found at {found} in terms of what it replaced): after {base} in {december} it counts as {now}, so the level, {link} then, is {level}."
+)
+
+PRICES_WITH_ONE_RETURNED_MAKE = (
+    "Together the {count} prices ({item} at {outlet} was found again after at least one month without a price: counted as"
+    " {then}, found at {found}) count as {now}, after {base} in {december}, so the level, {link} then, is {level}."
+)
+
+PRICES_WITH_ONE_RETURNED_REPLACED_MAKE = (
+    "Together the {count} prices ({item} at {outlet} was found again after at least one month without a price: counted as"
+    " {then}, found at {found} in terms of what it replaced) count as {now}, after {base} in {december}, so the level,"
+    " {link} then, is {level}."
+)
+
 PRICES_WITH_RETURNED_MAKE = (
-    "Together the {count} prices (found again after a month without a price: {returned}) count as {now}, after {base} in"
-    " {december}, so the level, {link} then, is {level}."
+    "Together the {count} prices ({returned} were found again after at least one month without a price; of these {item} at"
+    " {outlet} changed most: counted as {then}, found at {found}) count as {now}, after {base} in {december}, so the"
+    " level, {link} then, is {level}."
+)
+
+PRICES_WITH_RETURNED_REPLACED_MAKE = (
+    "Together the {count} prices ({returned} were found again after at least one month without a price; of these {item} at"
+    " {outlet} changed most: counted as {then}, found at {found} in terms of what it replaced) count as {now}, after"
+    " {base} in {december}, so the level, {link} then, is {level}."
+)
+
+PRICES_WITH_RETURNED_UNCHANGED_MAKE = (
+    "Together the {count} prices ({returned} were found again after at least one month without a price, each at what it"
+    " had counted as) count as {now}, after {base} in {december}, so the level, {link} then, is {level}."
 )
 
 # ---- a node above
