@@ -287,6 +287,44 @@ def test_a_price_that_comes_back_in_an_aggregate_that_is_carried_is_named(cpi: C
     ]
 
 
+# ---- a series that has ended
+
+NO_LONGER = (
+    "so its price is imputed: it moves with what could be compared (2.10 EUR to 2.20 EUR), from 2.46 EUR to 2.58 EUR."
+)
+
+
+@pytest.mark.parametrize(("last", "of_lines", "why", "reason"), [
+    ("2026-01", "no longer priced: the last month of collector 8, slot 1 was 2026-01",
+     "Rice, 1 kg at Market hall is no longer priced,", "no longer priced"),
+    ("2026-02", "nothing was sent by collector 8, slot 1", "Nothing was sent of Rice, 1 kg at Market hall,",
+     "nothing was sent"),
+])  # fmt: skip
+def test_a_series_that_has_ended_is_no_longer_priced(
+    cpi: Cpi, tmp_path: Path, last: str, of_lines: str, why: str, reason: str
+) -> None:
+    """Of the second shop there is no price in February: 2.10 became 2.20 in the first one, so 2.46 counts as 2.46 * 2.20
+    / 2.10 = 2.5771. If there is none in both, rice is carried."""
+    path, head = tmp_path / "office.db", surveys.SMALL.partition("3500,")[0]
+    head = head.replace("assign,8,1,11,RICE,2025-12,2026-12", f"assign,8,1,11,RICE,2025-12,{last}")
+    found = f"3500,{key_of(7)},quote,1,2026-02,price,220\n3500,{key_of(7)},quote,2,2026-02,price,84\n"
+    frozen = "4000,desk,freeze,2026-02"
+    assert [it for it in cpi.replay([head, found, frozen], db=path) if "refused" in it] == []
+    assert sentences(path, "2026-02", "01.1.1.1-01", *EUR)[2] == f"{why} {NO_LONGER}"
+    assert f"  price of 8/1    # {of_lines}\n" in run(None, "explain", path, "2026-02", "01.1.1.1-01").out
+    assert f"1 of these prices is imputed ({reason}: 1)." in sentences(path, "2026-02", "00")[2]
+    life = run(None, "explain", path, "2026-02", "--series", "8/1").out
+    assert re.search(f"2026-02 .*{reason}", life) and not re.search(f"2026-01 .*{reason}", life)
+
+    other = tmp_path / "carried.db"
+    sent = [head, found.replace("price,220", "missing,stock"), f"{frozen},01.1.1.1-01"]
+    assert [it for it in cpi.replay(sent, db=other) if "refused" in it] == []
+    assert sentences(other, "2026-02", "01.1.1.1-01")[1] == (
+        f"Nothing could be compared (Corner shop: out of stock; Market hall: {reason}), so the desk decided to carry 2"
+        " prices: they count as they did in January 2026."
+    )
+
+
 # ---- changes that are 0.0 percent when they are rounded
 
 

@@ -103,6 +103,10 @@ class Assignment(NamedTuple):
     last_month: int
     series: Series
 
+    def has_ended(self, month: int) -> bool:
+        """Whether its last month is past in a month, so that the collector was to send nothing for it."""
+        return self.last_month < month
+
 
 class Plan(NamedTuple):
     """A year's plan: by code the titles of its nodes and their weights in parts per million, as sent and added up;

@@ -15,10 +15,10 @@ from .lines import Line, Part, summed
 from .sources import WHOLE_SCALE, Sources
 
 
-def mark_text(quote: Optional[Frozen]) -> str:
-    """`price 210`, `missing, stock`, or `nothing was sent`."""
+def mark_text(quote: Optional[Frozen], has_ended: bool = False) -> str:
+    """`price 210`, `missing, stock`, or `nothing was sent`; `no longer priced` if the series has ended."""
     if quote is None:
-        return "nothing was sent"
+        return "no longer priced" if has_ended else "nothing was sent"
     return f"{quote.mark} {quote.value}" if quote.mark in OBSERVED else f"missing, {quote.mark}"
 
 
@@ -63,6 +63,9 @@ def quote_line(sources: Sources, series: Series) -> Line:
     quote, name = sources.own.frozen.get(series), f"price of {slot_text(series)}"
     if quote is None:
         holder = sources.holder(series, sources.month)
+        if holder.has_ended(sources.month):
+            last = f"the last month of collector {holder.collector}, slot {holder.slot} was {month_text(holder.last_month)}"
+            return Line(name, "", None, f"no longer priced: {last}")
         return Line(name, "", None, f"nothing was sent by collector {holder.collector}, slot {holder.slot}")
     by = who_sent(sources, series, sources.month, quote)
     if quote.mark in OBSERVED:
@@ -193,7 +196,7 @@ def glance_row(sources: Sources, series: Series, now: int, then: int) -> list[Ce
         slot_text(holder[:2]),
         Worded("{}, {}", item.text, item.unit),
         sources.outlets[holder.outlet],
-        mark_text(quote),
+        mark_text(quote, holder.has_ended(sources.month)),
         sent.receipt if sent and stands else None,
         then,
         now,

@@ -57,7 +57,9 @@ def names(of: Sequence[Worded]) -> Worded:
 def reason_of(sources: Sources, series: Series) -> str:
     """Why a series is imputed, as the keys of `wording.REASONS` have it."""
     quote = sources.own.frozen.get(series)
-    return quote.mark if quote and quote.mark not in COMPARABLE else ""
+    if quote and quote.mark not in COMPARABLE:
+        return quote.mark
+    return "ended" if sources.holder(series, sources.month).has_ended(sources.month) else ""
 
 
 def reasons_by_name(sources: Sources, imputed: Sequence[Series]) -> Worded:

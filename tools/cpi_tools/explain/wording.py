@@ -97,10 +97,12 @@ ONE_IMPUTED: Mapping[str, str] = {
     " {later}), from {then} to {now}.",
     "": "Nothing was sent of {item} at {outlet}, so its price is imputed: it moves with what could be compared ({earlier}"
     " to {later}), from {then} to {now}.",
+    "ended": "{item} at {outlet} is no longer priced, so its price is imputed: it moves with what could be compared"
+    " ({earlier} to {later}), from {then} to {now}.",
     "other": "{item} at {outlet} was replaced by one of another quality, so its price is imputed: it moves with what"
     " could be compared ({earlier} to {later}), from {then} to {now}.",
 }
-"""Why the only imputed price is, by the reason of the quote; nothing, if no quote was sent."""
+"""Why the only imputed price is, by the reason of the quote; nothing, if a collector was to price it and sent no quote."""
 
 IMPUTED = (
     "{count} prices couldn't be compared ({reasons}), so they are imputed: they move with what could be compared"
@@ -123,6 +125,7 @@ REASONS: Mapping[str, str] = {
     "gone": "no longer sold",
     "refused": "refused",
     "": "nothing was sent",
+    "ended": "no longer priced",
     "other": "another quality",
 }
 """Why there is no price to compare, as a label next to a name or a count."""
