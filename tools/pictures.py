@@ -46,8 +46,8 @@ def of_phone(browser: Browser, width: int, key: str, folder: Path) -> None:
     first, second, third = (int(str(slot.get_attribute("data-slot"))) for slot in browser.all("[data-slot]")[:3])
     phone.enter(first, mark="missing", reason="stock")
     phone.edit(second)
-    low, high = re.findall(r"[0-9.]+[0-9]", browser.text("#entry-last"))[1:3]
-    browser.type("#price", low)
+    last, _, high = re.findall(r"[0-9.]+[0-9]", browser.text("#entry-last"))[:3]
+    browser.type("#price", f"{float(last) * 1.04:.2f}")
     taken("entry")
     phone.save()
     phone.wait_told(second, "Receipt")
