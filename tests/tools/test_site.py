@@ -14,12 +14,14 @@ from typing import Optional
 
 import pytest
 
+import surveys
 from cpi_tools.pack.config import Config
 from cpi_tools.pack.pictures import of_imputed, of_node
-from cpi_tools.pack.public import Listed, Published
+from cpi_tools.pack.public import Listed, Published, from_file
 from cpi_tools.pack.tables import Series
+from cpi_tools.program import Cpi
 from cpi_tools.publish import publish
-from published import CODES, REVISED
+from published import CODES, LONG_AFTER, REVISED
 from test_measures import over_another_december, tea_again, two_years
 
 CONFIG = Config("NSO", "XX", "Office <of> prices", country="Exampleland", reference="2025", currency="crowns")
@@ -103,7 +105,10 @@ def test_annual_contributions_over_a_december_under_embargo_are_not_told(tmp_pat
     told = words_of(tmp_path / "public/index.html")
     assert "In January 2027 consumer prices were 10.5 percent higher than a year before" in told
     assert "Most came from" not in told
-    untold = "The changes of this month rest on a revision that isn't published yet, so no contributions to them can be"
+    untold = (
+        "Some changes of this month rest on a revision that isn't published yet, so no contributions to the changes on"
+    )
+    untold += " the year before are given."
     assert untold in told and untold in words_of(tmp_path / "public/node/00.html")
     assert untold not in words_of(tmp_path / "public/node/01.html")
     revised = words_of(tmp_path / "public/revisions.html")
@@ -152,6 +157,36 @@ def test_a_december_that_was_revised_is_told_beside_the_figures(tmp_path: Path) 
     assert f"{begun} one counts in the index ( revisions )." in words_of(
         site_of(later, tmp_path / "later") / "index.html"
     )
+
+
+def test_a_hidden_revision_of_flour_is_told_on_no_page_of_rice(cpi: Cpi, tmp_path: Path) -> None:
+    """January's flour was revised under embargo from 0.84 to 0.88, and February's is 0.90: 2.3 percent more, where the
+    published levels give 7.1. Rice went from 4.56 to 4.78, which is the published 4.8 percent."""
+    path = tmp_path / "office.db"
+    sent = [
+        surveys.SMALL.partition("3500,")[0],
+        f"2100,desk,calendar,2026-01,2000,2500,{LONG_AFTER}",
+        f"2200,{surveys.key_of(7)},quote,2,2026-01,price,88",
+        "2500,desk,freeze,2026-01",
+        *(f"3500,{surveys.key_of(7)},quote,{slot},2026-02,price,{price}" for slot, price in ((1, 218), (2, 90))),
+        f"3500,{surveys.key_of(8)},quote,1,2026-02,price,260",
+        "4000,desk,freeze,2026-02",
+    ]
+    assert [reply for reply in cpi.replay(sent, db=path) if "refused" in reply] == []
+    site = site_of(from_file(cpi, path, 6000), tmp_path / "public")
+    counted = (
+        "January 2026 was revised, and that revision isn't published yet. It already counts in the change on the month"
+    )
+    untold = (
+        "Some changes of this month rest on a revision that isn't published yet, so no contributions to the changes on"
+    )
+    for code in ("00", "01", "01.1", "01.1.1", "01.1.1.2", "01.1.1.2-01"):
+        assert f"{counted} before, so the published levels don't give the same" in words_of(site / f"node/{code}.html")
+    assert counted in words_of(site / "index.html")
+    for code in ("01.1.1.1", "01.1.1.1-01"):
+        told = words_of(site / f"node/{code}.html")
+        assert "was revised" not in told and "Against the month before +4.8 %" in told
+    assert f"{untold} the month before are given." in words_of(site / "node/01.1.1.1.html")
 
 
 def test_a_hidden_revision_is_told_beside_what_the_published_levels_do_not_give(tmp_path: Path) -> None:

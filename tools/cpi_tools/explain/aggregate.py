@@ -64,8 +64,8 @@ def quote_line(sources: Sources, series: Series) -> Line:
     if quote is None:
         holder = sources.holder(series, sources.month)
         if holder.has_ended(sources.month):
-            last = f"the last month of collector {holder.collector}, slot {holder.slot} was {month_text(holder.last_month)}"
-            return Line(name, "", None, f"no longer priced: {last}")
+            last = f"slot {holder.slot} was {month_text(holder.last_month)}"
+            return Line(name, "", None, f"no longer priced: the last month of collector {holder.collector}, {last}")
         return Line(name, "", None, f"nothing was sent by collector {holder.collector}, slot {holder.slot}")
     by = who_sent(sources, series, sources.month, quote)
     if quote.mark in OBSERVED:

@@ -96,15 +96,8 @@ def section_of(office: StoredOffice, months: Sequence[MonthOfSeries]) -> Section
         receipt = quote[2] if quote and stands else None
         code = places.get(it.release.month // 100, {}).get(it.holder.item, "") if it.carried else ""
         row: list[Cell] = [month_text(it.release.month), it.release.revision, slot_text(it.holder[:2])]
-        rows.append(
-            [
-                *row,
-                mark_text(it.found, it.holder.has_ended(it.release.month)),
-                receipt,
-                *carried_cells(it.carried),
-                code,
-            ]
-        )
+        found = mark_text(it.found, it.holder.has_ended(it.release.month))
+        rows.append([*row, found, receipt, *carried_cells(it.carried), code])
     heads = columns(
         *("month", "#revision", "priced by", "found", "#receipt", "#counts as, ticks", "#scale", "how", "=aggregate")
     )

@@ -151,7 +151,8 @@ ONE_RETURNED_PRICE_MAKES = (
 
 ONE_RETURNED_REPLACED_PRICE_MAKES = (
     "The only price, that of {item} at {outlet}, was found again after at least one month without a price (counted as"
-    " {then}, found at {found} in terms of what it replaced): after {base} in {december} it counts as {now}, so the level, {link} then, is {level}."
+    " {then}, found at {found} in terms of what it replaced): after {base} in {december} it counts as {now}, so the level,"
+    " {link} then, is {level}."
 )
 
 PRICES_WITH_ONE_RETURNED_MAKE = (
