@@ -193,7 +193,7 @@ def test_lists_that_make_no_sense_arent_kept(phone: Phone, stage: Stage) -> None
             spoiled(phone, path, reply, "The answer made no sense. The page asks again.", phone.send)
             phone.open()
             phone.browser.wait_text("#line", "All sent")
-            assert "Rice, white" in phone.browser.text("#list"), reply
+            phone.browser.wait_text("#list", "Rice, white")
     assert phone.browser.faults() == []
 
 
