@@ -14,6 +14,7 @@ from typing import Any, NamedTuple
 from zipfile import ZIP_DEFLATED, ZipFile
 
 import openpyxl
+from openpyxl.utils import get_column_letter
 
 from spreadsheets import sheets, written
 
@@ -40,8 +41,19 @@ QUOTES: Quotes = {
     (202602, 8, 2): ("price", 90),
 }
 
+
+def place(row_number: int, column: int) -> str:
+    """A cell as a spreadsheet names it; rows and columns from 1 on."""
+    return f"{get_column_letter(column)}{row_number}"
+
+
+FLOUR = place(3, 4)
+"""The price of flour in 2026-01."""
+
 NO_FLOUR: Quotes = {key: it for key, it in QUOTES.items() if key != (202601, 7, 2)}
 """Without the price of flour in 2026-01."""
+
+NO_FLOUR_IN_FEBRUARY: Quotes = {key: it for key, it in QUOTES.items() if key != (202602, 8, 2)}
 
 Make = Callable[[Path], Sequence[str]]
 """Changes the sheets in a folder; the words that it needs beside."""
@@ -162,13 +174,13 @@ def book(change: Callable[[Any], object], *words: str, name: str = "prices.xlsx"
     return make
 
 
-def put_cell(place: str, value: object, number_format: str = "") -> Callable[[Any], None]:
+def put_cell(at: str, value: object, number_format: str = "") -> Callable[[Any], None]:
     """Another value of a cell, and its format."""
 
     def change(sheet: Any) -> None:
-        sheet[place] = value
+        sheet[at] = value
         if number_format:
-            sheet[place].number_format = number_format
+            sheet[at].number_format = number_format
 
     return change
 
@@ -178,57 +190,56 @@ def computed(folder: Path, value: str, kind: str = "n") -> Sequence[str]:
     from test_sheets import SHEET, changed
 
     book(lambda _: None)(folder)
-    with_value = f'<c r="D3" t="{kind}"><f>C3*1.05</f>{value}</c>'.encode()
-    changed(folder / "prices.xlsx", SHEET, lambda data: data.replace(b'<c r="D3" t="n"><v>0.84</v></c>', with_value))
+    plain = f'<c r="{FLOUR}" t="n"><v>0.84</v></c>'.encode()
+    with_value = f'<c r="{FLOUR}" t="{kind}"><f>{place(3, 3)}*1.05</f>{value}</c>'.encode()
+    changed(folder / "prices.xlsx", SHEET, lambda data: data.replace(plain, with_value))
     return ()
 
 
-def of_classification(place: str, value: object, number_format: str) -> Make:
-    """The classification in a workbook, with one cell as a spreadsheet may have it."""
+def as_workbook(folder: Path, name: str, *changes: Callable[[Any], None]) -> None:
+    """A sheet of the office in a workbook instead of its CSV, with some cells as a spreadsheet may have them."""
+    (folder / f"{name}.csv").unlink()
+    made = openpyxl.Workbook()
+    for own in sheets()[name]:
+        made.active.append(own)
+    for change in changes:
+        change(made.active)
+    made.save(folder / f"{name}.xlsx")
+
+
+def of_classification(at: str, value: object, number_format: str) -> Make:
+    """The classification in a workbook, with weights that are numbers, and one cell as a spreadsheet may have it."""
 
     def make(folder: Path) -> Sequence[str]:
-        (folder / "classification.csv").unlink()
-        made = openpyxl.Workbook()
-        for own in sheets()["classification"]:
-            made.active.append([as_number(text) if at == 3 else text for at, text in enumerate(own)])
-        put_cell(place, value, number_format)(made.active)
-        made.save(folder / "classification.xlsx")
+        as_workbook(folder, "classification", weights_as_numbers, put_cell(at, value, number_format))
         return ()
 
     return make
 
 
+def weights_as_numbers(sheet: Any) -> None:
+    """The fourth column, which has the weights."""
+    for (own,) in sheet.iter_rows(min_row=2, min_col=4, max_col=4):
+        own.value = as_number(own.value or "")
+
+
 def of_items(folder: Path) -> Sequence[str]:
     """An item's code that a spreadsheet took for a date."""
-    (folder / "items.csv").unlink()
-    made = openpyxl.Workbook()
-    for own in sheets()["items"]:
-        made.active.append(own)
-    put_cell("A3", datetime(2026, 9, 1), "d-mmm")(made.active)
-    made.save(folder / "items.xlsx")
+    as_workbook(folder, "items", put_cell(place(3, 1), datetime(2026, 9, 1), "d-mmm"))
     return ()
 
 
 def percents(folder: Path, *, are_all: bool) -> Sequence[str]:
     """Weights as numbers of a percent format, 60 percent and 40: all of them, or one."""
-    (folder / "classification.csv").unlink()
-    made = openpyxl.Workbook()
-    for own in sheets()["classification"]:
-        made.active.append(own)
-    put_cell("D7", 0.6, "0.0%")(made.active)
-    put_cell("D9", 0.4 if are_all else 40, "0%" if are_all else "General")(made.active)
-    made.save(folder / "classification.xlsx")
+    rice = put_cell(place(7, 4), 0.6, "0.0%")
+    flour = put_cell(place(9, 4), 0.4, "0%") if are_all else put_cell(place(9, 4), 40, "General")
+    as_workbook(folder, "classification", rice, flour)
     return ("--weights", "percent")
 
 
 def date_of_window(folder: Path) -> Sequence[str]:
     """A window that opens on a day without a time."""
-    (folder / "calendar.csv").unlink()
-    made = openpyxl.Workbook()
-    for own in sheets()["calendar"]:
-        made.active.append(own)
-    put_cell("B4", datetime(2026, 2, 1), "yyyy-mm-dd")(made.active)
-    made.save(folder / "calendar.xlsx")
+    as_workbook(folder, "calendar", put_cell(place(4, 2), datetime(2026, 2, 1), "yyyy-mm-dd"))
     return ()
 
 
@@ -277,14 +288,21 @@ def hidden_row(sheet: Any) -> None:
 
 def two_currencies(sheet: Any) -> None:
     """Prices in the formats of one currency, and one in that of another."""
-    for place in ("C2", "D2", "C3", "E3", "C4"):
-        sheet[place].number_format = '#,##0.00\\ "EUR"'
-    sheet["D3"].number_format = "[$$-409]#,##0.00"
+    for at in (place(2, 3), place(2, 4), place(3, 3), place(3, 5), place(4, 3)):
+        sheet[at].number_format = '#,##0.00\\ "EUR"'
+    sheet[FLOUR].number_format = "[$$-409]#,##0.00"
 
 
 def struck_out(sheet: Any) -> None:
     """A price that is struck out, as one that somebody doubts."""
-    sheet["D3"].font = openpyxl.styles.Font(strike=True)
+    sheet[place(4, 3)].font = openpyxl.styles.Font(strike=True)
+
+
+def merged_months(sheet: Any) -> None:
+    """The last two months of flour as one cell; a column for `confirm` is before the months."""
+    sheet.insert_cols(3)
+    sheet[place(1, 3)] = "confirm"
+    sheet.merge_cells(f"{place(3, 5)}:{place(3, 6)}")
 
 
 def hidden_columns(sheet: Any) -> None:
@@ -301,8 +319,8 @@ def other_sheet(sheet: Any) -> None:
 
 def date_headings(sheet: Any) -> None:
     """Months as dates, the last of a month or the first, shown as Jan-26."""
-    for place, day in (("C1", datetime(2025, 12, 31)), ("D1", datetime(2026, 1, 31)), ("E1", datetime(2026, 2, 1))):
-        put_cell(place, day, "mmm-yy")(sheet)
+    for column, day in enumerate((datetime(2025, 12, 31), datetime(2026, 1, 31), datetime(2026, 2, 1)), 3):
+        put_cell(place(1, column), day, "mmm-yy")(sheet)
 
 
 MERGED_YEARS = [["outlet", "item", "2025", "2026", ""], ["", "", "Dec", "Jan", "Feb"], *PRICES[1:]]
@@ -365,11 +383,11 @@ HABITS: dict[str, Habit] = {
     "a month `26-Jan`": Habit(heading("26-Jan")),
     "a day `1/2/26`": Habit(heading("1/2/26")),
     "a day `01/02/2026`": Habit(heading("01/02/2026")),
-    "a number `2026.1`, which was 2026.10 or 2026.01": Habit(book(put_cell("D1", 2026.1))),
+    "a number `2026.1`, which was 2026.10 or 2026.01": Habit(book(put_cell(place(1, 4), 2026.1))),
     "a footnote mark, `2026-01 1)`": Habit(heading("2026-01 1)")),
     "one month twice": Habit(put_rows([[*PRICES[0], "Jan-26"], *([*own, "."] for own in PRICES[1:])])),
     "a year, `2025`": Habit(heading("2025")),
-    "a number of a day, `46023`": Habit(book(put_cell("D1", 46023))),
+    "a number of a day, `46023`": Habit(book(put_cell(place(1, 4), 46023))),
     "a month of another language, `janvier 2026`": Habit(heading("janvier 2026")),
     "a month `Jan-99`": Habit(heading("Jan-99")),
     "a quarter `2026-Q1`": Habit(heading("2026-Q1")),
@@ -411,7 +429,7 @@ HABITS: dict[str, Habit] = {
     "a hidden row": Habit(book(hidden_row)),
     "a hidden column": Habit(book(hidden_columns)),
     "a price that is struck out": Habit(book(struck_out)),
-    "a price merged over two months": Habit(book(lambda sheet: sheet.merge_cells("C3:D3")), NO_FLOUR),
+    "a price merged over two months": Habit(book(merged_months), NO_FLOUR_IN_FEBRUARY),
     "a cell more than the heading has": Habit(row(5, "11", "RICE", "", "", "", "2.50")),
     "two rows of one series with other prices": Habit(row(5, "10", "FLOUR", "0.80", "0.85", "0.90")),
     "two rows of one series with the same prices": Habit(row(5, "10", "FLOUR", "0.80", "0.84", "0.90")),
@@ -444,9 +462,9 @@ HABITS: dict[str, Habit] = {
     "`€0.84`": Habit(cell("€0.84")),
     "`0.84 EUR`": Habit(cell("0.84 EUR")),
     "`EUR 0.84`": Habit(cell("EUR 0.84")),
-    "a number that its cell shows with a currency": Habit(book(put_cell("D3", 0.84, '"EUR" #,##0.00'))),
+    "a number that its cell shows with a currency": Habit(book(put_cell(FLOUR, 0.84, '"EUR" #,##0.00'))),
     "a number that its cell shows with `$`, among others with `EUR`": Habit(book(two_currencies)),
-    "a number that its cell shows as a percent": Habit(book(put_cell("D3", 0.84, "0%"))),
+    "a number that its cell shows as a percent": Habit(book(put_cell(FLOUR, 0.84, "0%"))),
     "`n/a`": Habit(cell("n/a")),
     "`-`": Habit(cell("-")),
     "`..`": Habit(cell("..")),
@@ -461,13 +479,13 @@ HABITS: dict[str, Habit] = {
     "`٠.٨٤`": Habit(cell("٠.٨٤")),
     "`'0.84`": Habit(cell("'0.84")),
     "`(0.84)`": Habit(cell("(0.84)")),
-    "a number that is a text in a workbook": Habit(book(put_cell("D3", "0.84"))),
+    "a number that is a text in a workbook": Habit(book(put_cell(FLOUR, "0.84"))),
     "a formula with its value": Habit(lambda folder: computed(folder, "<v>0.84000000000000008</v>")),
     "a formula whose value is an empty text": Habit(lambda folder: computed(folder, "<v></v>", "str"), NO_FLOUR),
     "a formula without its value": Habit(lambda folder: computed(folder, "")),
-    "an error, `#N/A`": Habit(book(put_cell("D3", "#N/A"))),
-    "a price that a spreadsheet took for a date": Habit(book(put_cell("D3", datetime(2026, 10, 2), "d-mmm"))),
-    "a number of more than 15 digits": Habit(book(put_cell("D3", 10**16))),
+    "an error, `#N/A`": Habit(book(put_cell(FLOUR, "#N/A"))),
+    "a price that a spreadsheet took for a date": Habit(book(put_cell(FLOUR, datetime(2026, 10, 2), "d-mmm"))),
+    "a number of more than 15 digits": Habit(book(put_cell(FLOUR, 10**16))),
     # ---- weights, codes and times
     "weights that add up to 99.9 percent": Habit(weights("60", "39.9")),
     "weights that add up to 58.9 percent": Habit(weights("4.5", "54.4")),
@@ -475,8 +493,8 @@ HABITS: dict[str, Habit] = {
     "a total below the weights": Habit(weights("60", "40", ["2026", "Total", "Total", "100"])),
     "weights that are all of a percent format": Habit(lambda folder: percents(folder, are_all=True)),
     "one weight of a percent format among numbers": Habit(lambda folder: percents(folder, are_all=False)),
-    "a code `1.1`, which was 01.1": Habit(of_classification("B4", 1.1, "General")),
-    "a code that a spreadsheet took for a date": Habit(of_classification("B4", datetime(2001, 1, 1), "d.m.yy")),
+    "a code `1.1`, which was 01.1": Habit(of_classification(place(4, 2), 1.1, "General")),
+    "a code that a spreadsheet took for a date": Habit(of_classification(place(4, 2), datetime(2001, 1, 1), "d.m.yy")),
     "an item `SEP1` that a spreadsheet took for a date": Habit(of_items),
     "a window that opens on a day without a time": Habit(date_of_window),
 }  # fmt: skip
