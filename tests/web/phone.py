@@ -91,6 +91,14 @@ class Phone:
         found: str = self.browser.run_until("return (await import('/collect/state.js')).state.month")
         return found
 
+    def refuse_correction(self) -> None:
+        """Corrects slot 1 of last month, whose window has closed: the office has 3.20, and refuses 3.10 by 24."""
+        self.browser.click("#month-before")
+        self.show("all")
+        self.wait_told(1, "Receipt 7")
+        self.enter(1, "3.10")
+        self.wait_told(1, "Refused")
+
     def leave(self, slot: int) -> None:
         """Closes the form if it is another slot's by now."""
         if self.edited() not in (None, f"{self.month()}/{slot}"):

@@ -238,11 +238,7 @@ def test_a_missing_price_needs_a_reason(phone: Phone) -> None:
 
 def test_a_refusal_is_told_in_words(phone: Phone) -> None:
     phone.sign_in()
-    phone.browser.click("#month-before")
-    phone.show("all")
-    phone.wait_told(1, "Receipt 7")
-    phone.enter(1, "3.10")
-    phone.wait_told(1, "Refused")
+    phone.refuse_correction()
     phone.edit(1)
     assert "Refused (24). The window has closed. Tell the desk" in phone.browser.text("#entry-refusal")
     phone.browser.click("#entry-drop")

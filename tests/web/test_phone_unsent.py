@@ -109,11 +109,7 @@ def test_an_entry_is_dropped_after_a_question_that_escape_answers_with_no(phone:
 
 def test_a_refused_correction_shows_what_the_office_still_has(phone: Phone) -> None:
     phone.sign_in()
-    phone.browser.click("#month-before")
-    phone.show("all")
-    phone.wait_told(1, "Receipt 7")
-    phone.enter(1, "3.10")
-    phone.wait_told(1, "Refused")
+    phone.refuse_correction()
     assert phone.told(1).split("\n") == ["3.10", "Refused", "Stored: 3.20"]
     assert phone.browser.text("#progress").startswith("3 of 4 stored")
 

@@ -6,8 +6,6 @@ their folder, which is searched first.
 
 from __future__ import annotations
 
-import contextlib
-import os
 from collections.abc import Callable, Mapping
 from pathlib import Path
 from typing import Any, Optional
@@ -18,6 +16,7 @@ from markupsafe import Markup
 from . import charts, exact
 from .others import isolated, others
 from .terminal import Fault, because_of
+from .whole_files import in_place_of
 
 TEMPLATES = Path(__file__).resolve().parent / "templates"
 
@@ -87,12 +86,5 @@ def write_page(pages: jinja2.Environment, template: str, to: Path, **named: obje
     """Writes a page of a template, whole or not at all."""
     text = pages.get_template(template).render(**named)
     beside = to.with_name(f".{to.name}.part")
-    try:
+    with in_place_of(to, beside):
         beside.write_bytes(text.encode())
-        os.replace(beside, to)
-    except BaseException as fault:
-        with contextlib.suppress(OSError):
-            beside.unlink()
-        if isinstance(fault, OSError):
-            fault.filename = str(to)
-        raise

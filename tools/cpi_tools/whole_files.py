@@ -1,11 +1,27 @@
-"""A file that is written whole or not at all, with the mode that it has to have."""
+"""Files that are written whole or not at all."""
 
 from __future__ import annotations
 
 import contextlib
 import os
 import tempfile
+from collections.abc import Iterator
 from pathlib import Path
+
+
+@contextlib.contextmanager
+def in_place_of(to: Path, beside: Path) -> Iterator[None]:
+    """The file that is written at `beside` meanwhile takes the place of another one; after a fault it is removed. An
+    OSError has the name of that place."""
+    try:
+        yield
+        beside.replace(to)
+    except BaseException as fault:
+        with contextlib.suppress(OSError):
+            beside.unlink()
+        if isinstance(fault, OSError):
+            fault.filename = str(to)
+        raise
 
 
 def write_whole(to: Path, content: bytes, mode: int) -> None:
@@ -17,17 +33,8 @@ def write_whole(to: Path, content: bytes, mode: int) -> None:
     except OSError as fault:
         fault.filename = str(to)
         raise
-    beside = Path(name)
-    try:
-        with os.fdopen(number, "wb") as file:
-            file.write(content)
-            file.flush()
-            os.fchmod(number, mode)
-            os.fsync(number)
-        beside.replace(to)
-    except BaseException as fault:
-        with contextlib.suppress(OSError):
-            beside.unlink()
-        if isinstance(fault, OSError):
-            fault.filename = str(to)
-        raise
+    with in_place_of(to, Path(name)), os.fdopen(number, "wb") as file:
+        file.write(content)
+        file.flush()
+        os.fchmod(number, mode)
+        os.fsync(number)
