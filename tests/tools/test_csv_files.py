@@ -1,4 +1,4 @@
-"""Texts of CSV files that a spreadsheet would compute: they are told, and `--safe-csv` writes them as texts."""
+"""Texts of CSV files that a spreadsheet would compute: a line counts them, and `--safe-csv` writes them as texts."""
 
 from __future__ import annotations
 

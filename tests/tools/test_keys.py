@@ -241,7 +241,7 @@ def test_a_file_that_is_no_page_stays(office: Path) -> None:
 
 
 NOT_TAKEN = [
-    # the file, and what is told of it
+    # the file, and the lines about it
     ("collector,name\n7,Anna\n", "row 2: the office has no collector 7: register the collector first, or leave the row out"),
     ("collector,name\n1,A\n\n2,B\n1,C\n", "row 5: collector 1 is there twice, first in row 2: leave one of the two rows"),
     ("collector,name\n1,\n", "row 2: the name of collector 1 is empty: write it, or leave the row out"),

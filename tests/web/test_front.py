@@ -394,7 +394,7 @@ def test_one_address_takes_no_more_than_its_share(stage: Stage) -> None:
 
 def test_who_asks_faster_than_anybody_reads_is_told_to_wait(stage: Stage) -> None:
     """Twenty messages a second, and 200 more at once, are an address's; another one is served meanwhile. (The address is
-    one that no other test has: it is told to wait for ten seconds more.)"""
+    one that no other test has: it has to wait for ten seconds more.)"""
     one = (address_of(999), 0)
     line = http.client.HTTPSConnection("localhost", stage.port, context=stage.context, source_address=one)
     with contextlib.closing(line):

@@ -9,6 +9,9 @@ from typing import NamedTuple
 
 from .terminal import is_line
 
+ROWS_LOOKED_AT = 20
+"""Rows among which the heading of a sheet is searched for."""
+
 
 class Origin(NamedTuple):
     """Where a text is: the file, the row as a spreadsheet counts it (the heading is 1), the column's name.
@@ -97,11 +100,11 @@ class Sheet:
 
 
 MOST_ALIKE = 20
-"""Faults of one kind in a sheet that are told cell by cell; the others are counted."""
+"""Faults of one kind in a sheet that are listed cell by cell; the others are counted."""
 
 
 class Alike:
-    """Faults of one kind: the first are told one by one, and one more line counts the others."""
+    """Faults of one kind: the first are listed one by one, and one more line counts the others."""
 
     def __init__(self, told: list[SheetFault]):
         self._told, self._count, self._last = told, 0, SheetFault(Origin("", 0), "", "")
@@ -120,7 +123,7 @@ class Alike:
 
 
 MOST_TOLD = 10_000
-"""Problems of a check that are told one by one; the others are counted."""
+"""Problems of a check that are listed one by one; the others are counted."""
 
 
 class Capped:
@@ -138,13 +141,13 @@ class Capped:
             self._told.append(fault)
 
     def all(self) -> list[SheetFault]:
-        """Those that are told, and how many more there are."""
+        """Those that are listed, and how many more there are."""
         last = [SheetFault(self._told[-1].origin, more_of(self._more), "mend those above first")] if self._more else []
         return [*self._told, *last]
 
 
 def more_of(count: int) -> str:
-    """What is told of problems that aren't told one by one."""
+    """The line for problems that aren't listed one by one."""
     return f"{count:,} more problems of this kind from here on"
 
 
@@ -154,7 +157,7 @@ LONG = 80
 
 def shown(text: str) -> str:
     """A text in quotation marks, its beginning if it is long; a character that isn't seen, such as a blank of no width,
-    is told by its number."""
+    is shown by its number."""
     first = text if len(text) <= LONG else f"{text[:LONG]}.."
     return f'"{first}"' if first.isprintable() else f'"{ascii(first)[1:-1]}"'
 

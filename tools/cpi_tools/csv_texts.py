@@ -15,7 +15,7 @@ from collections.abc import Iterator
 from pathlib import Path
 from typing import TextIO
 
-from .cells import BadSheet, Origin, Texts, label_of
+from .cells import ROWS_LOOKED_AT, BadSheet, Origin, Texts, label_of
 from .office_sheets import SHEETS
 from .terminal import because_of
 
@@ -31,8 +31,8 @@ UTF_8 = "save it as CSV in UTF-8"
 NAMES = frozenset(name for columns in SHEETS.values() for name in (*columns.needed, *columns.others))
 """The names of all columns."""
 
-ROWS_LOOKED_AT, LOOKED_AT = 20, 1 << 16
-"""Rows, and characters after the first row, in which the heading is looked for."""
+LOOKED_AT = 1 << 16
+"""Characters after the first row in which the heading is searched for."""
 
 
 def texts_of_csv(path: Path) -> Texts:
@@ -81,7 +81,7 @@ def _names_in(line: str, separator: str) -> int:
 
 
 def _no_utf_8(path: Path) -> BadSheet:
-    """What is told of a file that isn't UTF-8: the row, and the cell as far as it can be shown."""
+    """The problem of a file that isn't UTF-8: the row, and the cell as far as it can be shown."""
     told = BadSheet(Origin(label_of(path), 0), "the file isn't UTF-8", UTF_8)
     with path.open("rb") as file:
         for number, line in enumerate(file, 1):

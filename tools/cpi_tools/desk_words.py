@@ -1,4 +1,4 @@
-"""What the desk is told of a row that the program refused: what was read, and what is wanted instead.
+"""The words to the desk about a row that the program refused: what was read, and what is wanted instead.
 
 The numbers are the program's; `words.py` has what its guides say of them. Here are the words for a reader who has the
 sheet open: no slot is "yours", and what has no form is named by its column.
@@ -85,7 +85,7 @@ def words_of(row: Sent, reply: Reply, column: str) -> Words:
 
 
 def unread(row: Sent, column: str) -> Words:
-    """What is told of a cell that the program can't read."""
+    """The words about a cell that the program can't read."""
     names = [name for name, it in row.sources() if it == column]
     # (a cell of prices has no other column for its mark, and in a wide sheet none for its month)
     name = "value" if row.word == "quote" and "value" in names else names[0] if names else column

@@ -184,7 +184,7 @@ class Judge:
         for row, column in unread:
             words = words_of(row, reply, column)
             because = f"the plan of {plan.year}: {words.because}"
-            # (a row of the sheet is a title and a weight, and both may be told of the same cell)
+            # (a row of the sheet is a title and a weight, and both may have the same problem)
             found[row.origin.at(column)] = Problem(row.origin.at(column), number_of(reply), because, words.do)
         yield from found.values()
         if not unread:

@@ -1,6 +1,6 @@
 """An office's sheets, whose rows are put in the order in which an office would have sent them.
 
-Nothing is judged here: texts go to the program as they are, and only what it can't be asked is told, such as a file
+Nothing is judged here: texts go to the program as they are, and only what it can't be asked is reported, such as a file
 that is missing, or a column from which no price is read.
 """
 
@@ -183,7 +183,7 @@ class OfficeFiles:
         return found
 
     def _calendar_rows(self) -> dict[str, Row]:
-        """The row of each month; two that differ are told."""
+        """The row of each month; two that differ are a problem."""
         found: dict[str, Row] = {}
         for row in self._rows("calendar"):
             above = found.setdefault(row["month"], row)
@@ -286,7 +286,7 @@ class OfficeFiles:
     # ---- prices
 
     def _read_prices(self, slots: Sequence[str]) -> None:
-        """Stores what was priced; what is wrong with the sheet is told."""
+        """Stores what was priced, and reports what is wrong with the sheet."""
         sheet, faults = None, []
         try:
             sheet = self._source.streamed("prices")
@@ -391,7 +391,7 @@ class OfficeFiles:
         return Bundle(0, DESK, [Sent(["calendar", month, *window], row.origin, FIELDS["calendar"])], is_single=True)
 
     def _freeze(self, release: Row, window: Window) -> Bundle:
-        """A freeze at its moment, which is the end of the window if none is told."""
+        """A freeze at its moment, which is the end of the window if none is given."""
         own = "frozen_at" if release["frozen_at"] else "month"
         carry = release["carry"].split()
         fields = ["freeze", release["month"], *carry]

@@ -93,7 +93,7 @@ class PriceCells:
 
     def _months_of_columns(self, columns: Columns, ignored: Collection[str]) -> list[tuple[str, str, str]]:
         """The columns of a wide sheet that are a month: their name, their name as it is written, and the month. What is
-        neither such a column nor a known one is told."""
+        neither such a column nor a known one is a problem."""
         found: dict[str, tuple[str, str, str]] = {}
         known = {*columns.needed, *columns.others}
         for column, written in zip(self._sheet.columns, self._sheet.written):

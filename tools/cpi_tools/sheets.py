@@ -13,7 +13,7 @@ from collections.abc import Callable, Collection, Iterator, Mapping, Sequence
 from pathlib import Path
 from typing import Optional
 
-from .cells import Alike, BadSheet, Columns, Origin, Row, Sheet, SheetFault, Texts, label_of, shown
+from .cells import ROWS_LOOKED_AT, Alike, BadSheet, Columns, Origin, Row, Sheet, SheetFault, Texts, label_of, shown
 from .converted import ADVICE, KINDS as CONVERTED
 from .csv_texts import texts_of_csv
 from .terminal import Fault, because_of
@@ -25,9 +25,6 @@ WORKBOOKS = (".xlsx", ".xlsm")
 
 OF_SYSTEMS = ("desktop.ini", "thumbs.db")
 """Files that a system puts next to others; so are those that begin with `.` or `~$`."""
-
-LOOKED_AT = 20
-"""Rows among which the heading is looked for, if the first row is none."""
 
 UNNAMED = "name the column in the first row, or put quotation marks round a text that has the separator in it"
 
@@ -158,7 +155,7 @@ def is_named_so(file: Path, title: Title, titles: Sequence[Title]) -> bool:
 
 def sheet_of(file: str, texts: Texts, columns: Columns) -> Sheet:
     """The table that some texts are: the first row names the columns. Raises BadSheet if it doesn't."""
-    first = [[*row] for row in itertools.islice(texts.rows, LOOKED_AT)]
+    first = [[*row] for row in itertools.islice(texts.rows, ROWS_LOOKED_AT)]
     written = tuple(head.strip() for head in first[0]) if first else ()
     heads = tuple(head.lower() for head in written)
     look_at_heading(file, first, columns)
@@ -214,7 +211,7 @@ def trimmed(cell: str) -> str:
 
 
 def is_heading(sheet: Sheet, origin: Origin, line: Sequence[str]) -> bool:
-    """Whether a row is the heading again, which is told; a heading of another table is a fault."""
+    """Whether a row is the heading again, which is a warning; a heading of another table is a fault."""
     pairs = [(cell.strip().lower(), head) for cell, head in zip(line, sheet.columns) if cell.strip()]
     same = sum(cell == head for cell, head in pairs)
     if same == len(pairs) and same >= min(2, len(sheet.columns)):

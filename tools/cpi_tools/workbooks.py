@@ -146,7 +146,7 @@ class _Unlike:
 
 
 def unlike(kind: str, origin: Origin, names: Sequence[str]) -> SheetFault:
-    """What is told of rows, columns or cells that are read although they look otherwise."""
+    """A warning of rows, columns or cells that are read although they look otherwise."""
     do = "see whether they belong there, and take them out if they don't"
     return SheetFault(origin, f"{counted(len(names), kind)} read like the others: {listed(names)}", do)
 

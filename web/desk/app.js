@@ -66,7 +66,7 @@ async function setWindow() {
   await calendar.offer("calendar-told");
 }
 
-/** Freezes the month that is typed. A table that comes out too early is told first, but if it is the month meant. */
+/** Freezes the month that is typed. It warns first of a table that comes out too early, unless that month is meant. */
 async function freeze(meantMonth = null) {
   if (!hasKey("freeze-told")) return;
   const month = find("freeze-month").value;

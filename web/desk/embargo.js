@@ -22,7 +22,7 @@ export function carriedOut([word, month, , , publishes]) {
   fresh.add(month);
 }
 
-/** What is said of a month before it is frozen: a line for each table that comes out too early, by the windows sent. */
+/** The warnings before a month is frozen: a line for each table that comes out too early, by the windows sent. */
 export function warnings(month) {
   const pairs = [...waysOf(month)].map(([earlier, way]) => [month, earlier, way]);
   for (const later of moments.keys()) {

@@ -1,4 +1,4 @@
-"""What is said of an elementary aggregate: which prices were compared, which are imputed, and what they add up to."""
+"""The sentences of an elementary aggregate: which prices were compared, which are imputed, and what they add up to."""
 
 from __future__ import annotations
 

@@ -84,7 +84,7 @@ class Figure(NamedTuple):
 
 
 class Explanation(NamedTuple):
-    """All that is told of a node in a release of a month: sentences first, then figures, facts and lines."""
+    """The explanation of a node in a release of a month: sentences first, then figures, facts and lines."""
 
     code: str
     title: str

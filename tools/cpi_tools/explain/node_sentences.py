@@ -1,4 +1,4 @@
-"""What is said of a node above aggregates: what adds most to its change, what it rests on, and its mean."""
+"""The sentences of a node above aggregates: what adds most to its change, what it rests on, and its mean."""
 
 from __future__ import annotations
 

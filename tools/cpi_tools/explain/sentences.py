@@ -18,7 +18,7 @@ from .spoken import count_words, level_words, month_words
 
 
 def sentences_of(sources: Sources, code: str) -> list[Worded]:
-    """What is said of a node whose lines are true."""
+    """The sentences of a node whose lines are true."""
     parts = sentences_of_prices if depth_of(code) == AGGREGATE else sentences_of_aggregates
     return [of_changes(sources, code), *parts(sources, code), *of_events(sources, code)]
 

@@ -39,7 +39,7 @@ def _explained(sources: Sources, code: str) -> Explanation:
     is_aggregate = depth_of(code) == AGGREGATE
     parts = [level_part(sources, code), *(aggregate_parts if is_aggregate else node_parts)(sources, code)]
     parts += [] if is_aggregate else [samples_part(sources, code)]
-    # (each expression is valued here, so that one that has no value is told as such)
+    # (each expression is valued here, so that one without a value is reported as such)
     are_true = all([part.is_true for part in parts])
     return Explanation(
         code,
