@@ -137,7 +137,7 @@ def test_a_calendar_that_makes_no_sense_tells_nothing(phone: Phone, stage: Stage
         raw = content if isinstance(content, bytes) else content.replace("NOW", NOW).encode()
         stage.calendar.write_bytes(raw)
         found = phone.browser.run_until(
-            "const { readWindows } = await import('/collect/deadline.js'); return readWindows();"
+            "const { readWindows } = await import('/shared/windows.js'); return readWindows();"
         )
         assert found is None, content
     phone.open()
@@ -171,7 +171,8 @@ def test_the_month_is_that_of_the_window(phone: Phone, stage: Stage) -> None:
     for windows, month in CHOSEN.values():
         publish(stage, **windows)
         found = phone.browser.run_until(
-            "const { currentMonth, readWindows } = await import('/collect/deadline.js');"
+            "const { currentMonth } = await import('/collect/deadline.js');"
+            "const { readWindows } = await import('/shared/windows.js');"
             "const { state } = await import('/collect/state.js'); state.windows = await readWindows();"
             "return currentMonth();"
         )

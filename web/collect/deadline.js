@@ -4,30 +4,10 @@ import { find } from "../shared/dom.js";
 import { inWords, timeOf, thisMonth } from "../shared/months.js";
 import { state } from "./state.js";
 
-const FILE = new URL("../calendar.json", import.meta.url);
 const MINUTE = 60, HOUR = 3600, DAY = 86_400;
 
 /** If a window closes within so many seconds, the page warns of entries that aren't stored. */
 const SOON = 2 * DAY;
-
-/** The published windows by month, none if the desk publishes none; null if they can't be had now, or make no sense. */
-export async function readWindows() {
-  try {
-    const response = await fetch(FILE, { cache: "no-cache", credentials: "omit", redirect: "error" });
-    if (response.status === 404) return [];
-    if (!response.ok) return null;
-    const { months } = await response.json();
-    return months.every(isWindow) ? months.sort((a, b) => (a.month < b.month ? -1 : 1)) : null;
-  } catch {
-    return null;
-  }
-}
-
-const LAST = 8_640_000_000_000; // the last moment of a Date (ECMA-262)
-
-const isMoment = (at) => Number.isInteger(at) && at >= 0 && at <= LAST;
-const isWindow = ({ month, opens, closes }) =>
-  /^[0-9]{4}-(0[1-9]|1[0-2])$/.test(month) && isMoment(opens) && isMoment(closes) && opens < closes;
 
 const seconds = () => Date.now() / 1000;
 

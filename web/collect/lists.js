@@ -1,7 +1,7 @@
 // Asks for the lists: the work list and the quotes of the month that is shown, the items with their tolerances, and the
 // windows. A save needs none of them: its receipt is enough.
 import { ask, NoAnswer } from "../shared/api.js";
-import { readWindows } from "./deadline.js";
+import { readWindows } from "../shared/windows.js";
 import { areRows } from "./quotes.js";
 import { state, takeItems } from "./state.js";
 import * as store from "./store.js";

@@ -1,13 +1,13 @@
 // Keeps the files of the collectors' page, so that it opens without a line. It never touches the office's interface.
 // VERSION is the hash of FILES: tools/pages writes it. What an office sets itself (SET) is kept too, and read anew
 // behind each start, so that the next one has it.
-const VERSION = "8380821da0d1dccf";
+const VERSION = "60e7d0f1b7f56b2e";
 const FILES = [
   "./", "app.js", "collect.css", "deadline.js", "drafts.js", "entry.js", "export.js", "form.js", "head.js",
-  "icon.svg", "key.js", "line.js", "list.js", "lists.js",
-  "look.js", "manifest.webmanifest", "quotes.js", "search.js", "send.js", "session.js", "shown-month.js", "state.js",
-  "store.js", "tabs.js", "wording.js", "unsent.js", "../shared/api.js", "../shared/base.css", "../shared/csv.js",
-  "../shared/dom.js", "../shared/money.js", "../shared/months.js", "../shared/refusals.js", "../shared/words.js",
+  "icon.svg", "key.js", "line.js", "list.js", "lists.js", "look.js", "manifest.webmanifest", "quotes.js", "search.js",
+  "send.js", "session.js", "shown-month.js", "state.js", "store.js", "tabs.js", "unsent.js", "wording.js",
+  "../shared/api.js", "../shared/base.css", "../shared/csv.js", "../shared/dom.js", "../shared/money.js",
+  "../shared/months.js", "../shared/refusals.js", "../shared/windows.js", "../shared/words.js",
 ];
 const SET = new URL("../config.js", self.location.href);
 const NAME = `cpi-collect-${VERSION}`;

@@ -2,8 +2,7 @@
 // has set since this page was loaded, in the form in which cpi-tools calendar writes it. RUNNING says where it belongs.
 import { find, make } from "../shared/dom.js";
 import { inWords } from "../shared/months.js";
-
-const FILE = new URL("../calendar.json", import.meta.url);
+import { readWindows } from "../shared/windows.js";
 
 const windows = new Map(); // month: { month, opens, closes } in seconds since 1970 UTC, or null if a time is civil
 let isNew = false; // whether a window was set since the file was offered
@@ -22,7 +21,7 @@ export async function offer(place) {
   if (!isNew) return;
   isNew = false;
   const civil = [...windows.keys()].filter((month) => windows.get(month) === null).sort();
-  const served = civil.length ? null : await servedWindows();
+  const served = civil.length ? null : await readWindows();
   find(place).append(...(civil.length ? [byClock(civil)] : served === null ? [unread()] : fileOf(served)));
 }
 
@@ -47,18 +46,3 @@ function fileOf(served) {
     make("p", { class: "actions" }, make("a", words, "Save the file")),
   ];
 }
-
-/** The windows that the front serves, none if it has no file yet, or null if they can't be read. */
-async function servedWindows() {
-  try {
-    const response = await fetch(FILE, { cache: "no-cache", credentials: "omit", redirect: "error" });
-    if (response.status === 404) return [];
-    const { months } = await response.json();
-    return response.ok && months.every(isWindow) ? months : null;
-  } catch {
-    return null;
-  }
-}
-
-const isWindow = ({ month, opens, closes }) =>
-  /^[0-9]{4}-[0-9]{2}$/.test(month) && Number.isInteger(opens) && Number.isInteger(closes);
