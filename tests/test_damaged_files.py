@@ -2,9 +2,10 @@
 """Opens files that can't be offices, or that hold rows which no office has.
 
 A folder, a path that leads nowhere, a text, versions that aren't known, other tables, rows outside the limits or
-without their parents: each has its line and its status, and the file stays as it was. Where a quote, an assignment,
-its series or its copied price, or a plan can stand for nothing, the survey can't be read: what asks for it is refused
-by 90, and what was published is told. A row of a published table that is outside the limits shuts out that table alone.
+without their parents, rows of plans of no year: each has its line and its status, and the file stays as it was. If a
+quote, an assignment, its series or its copied price, or a plan can stand for nothing, the survey can't be read: what
+asks for it is refused by 90, and published tables can still be read. A row of a published table that is outside the
+limits shuts out only that table.
 """
 
 from __future__ import annotations
@@ -14,7 +15,8 @@ import sys
 import tempfile
 from functools import partial
 
-from lib.damage import NO_ROWS, OTHER_LEVEL, OTHER_VERSIONS, Way, opened, opened_each, read_in_part
+from lib.damage import NO_ROWS, NO_YEARS, OTHER_LEVEL, OTHER_VERSIONS, Way, of_no_type, opened, opened_each
+from lib.damage import read_in_part
 from lib.filed import KEY, QUOTE, answered, empty, listed_otherwise, office, office_case
 from lib.harness import Checklist, Checks, Fault, program_of, words_of
 from lib.program import Program
@@ -74,9 +76,21 @@ def other_tables(program: Program, room: str) -> Fault:
 
 @check
 def rows_that_cannot_be(program: Program, room: str) -> Fault:
-    """Rows whose parents are gone, and rows of the small tables outside the limits."""
-    ways = [*NO_ROWS, ["DELETE FROM assignment_2 WHERE slot = 2"], ["DELETE FROM release_2 WHERE month = 202601"]]
-    return opened_each(program, room, ways, FAILED, office)
+    """Rows whose parents are gone, rows of the small tables outside the limits, and rows of plans of no year."""
+    gone = [["DELETE FROM assignment_2 WHERE slot = 2"], ["DELETE FROM release_2 WHERE month = 202601"]]
+    references = [[f"INSERT INTO plan_ref VALUES ({year}, 202512)"] for year in NO_YEARS]
+    texts = [of_no_type("node", "'x', '00', 'All items', 1"), of_no_type("plan_item", "'x', 'RICE', '01.1.1.1'")]
+    return opened_each(program, room, [*NO_ROWS, *gone, *references, *texts], FAILED, office)
+
+
+@check
+def rows_of_the_first_and_the_last_year(program: Program, room: str) -> Fault:
+    """Such rows make no plan, but are of years that one can have: the file is opened."""
+    path = office(program, room)
+    change(path, [f"INSERT INTO node VALUES ({year}, '00', 'All items', 1)" for year in (2000, 2199)])
+    change(path, [f"INSERT INTO plan_ref VALUES ({year}, 202512)" for year in (2000, 2199)])
+    ran = program.replay(TABLES_TOLD, path)
+    return None if ran.status == 0 and b"tables" in ran.out else f"{ran}"
 
 
 Records = list[bytes]

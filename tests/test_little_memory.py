@@ -1,10 +1,12 @@
 #!/usr/bin/env python3
 """Runs `cpi` where the system gives it too little memory.
 
-A replay in memory, one over a file, a table and HTTP for a client are each run at N sizes (20) of address space,
-evenly spread from the least at which `cpi --help` works to the least at which the job is done well. (Below the first
-the loader of the system ends with a status of its own.) Each run ends by itself: with status 0 and no line on standard
-error, or with status 1 and one line, which is that of its fault. Of its replies:
+A replay in memory, one over a file, a table and HTTP for a client are each run at N sizes (20) of the memory that the
+program may ask for, evenly spread from the least at which `cpi --help` works to the least at which the job is done
+well. (Below the first the loader of the system ends with a status of its own.) Each run ends by itself: with status 0
+and no line on standard error, or with status 1 and one line, which is that of its fault. Then each job is run at as
+many sizes of address space. That counts the stack, and the system ends a program whose stack can't grow, by SIGSEGV; so
+such a run may end in this way too. Of the replies of each run:
 
 - What a replay wrote is whole lines. A record may be refused by 90; but for those the lines are the first lines of a
   run of the other records with ample memory. The file then holds what these records make of it, or one of the records
@@ -20,6 +22,7 @@ import contextlib
 import json
 import resource
 import shutil
+import signal
 import subprocess
 import sys
 import tempfile
@@ -30,7 +33,7 @@ from typing import NamedTuple
 from lib.harness import Check, Checks, Fault, program_of, words_of
 from lib.long_life import ITEMS, SLOTS, TITLE, entries, office_of, years
 from lib.offices import aggregates, key_of, plan_of
-from lib.program import Program, Ran, failed, with_memory
+from lib.program import Program, Ran, failed, with_data, with_memory
 from lib.records import first_difference, rows_of
 from lib.refusing import is_of_lines
 from lib.served import DESK, ENDED, FULL, Served, message, without_reports
@@ -45,9 +48,21 @@ NO_MEMORY, NO_DATABASE = failed("out of memory").err, failed("database failed").
 SECONDS = 120
 
 
-def run(program: Program, size: int, *words: str, given: bytes = b"") -> Ran:
-    """A run with so many bytes of addresses."""
-    return program.run(*words, given=given, seconds=SECONDS, preexec_fn=with_memory(size))
+class Limit(NamedTuple):
+    """What is limited, how, and by which statuses the system may then end a program itself."""
+
+    name: str
+    of: Callable[[int], Callable[[], None]]
+    ends: tuple[int, ...] = ()
+
+
+ASKED_FOR = Limit("memory that it asks for", with_data)
+ADDRESSES = Limit("addresses", with_memory, (-signal.SIGSEGV,))
+
+
+def run(program: Program, limit: Limit, size: int, *words: str, given: bytes = b"") -> Ran:
+    """A run with so many bytes."""
+    return program.run(*words, given=given, seconds=SECONDS, preexec_fn=limit.of(size))
 
 
 def replayed(program: Program, records: Sequence[Record], db: str | None = None) -> Ran:
@@ -71,10 +86,10 @@ def spread(low: int, high: int, count: int) -> list[int]:
     return [low + (high - low) * at // (count - 1) for at in range(count)]
 
 
-def helps(program: Program, size: int) -> bool:
+def helps(program: Program, limit: Limit, size: int) -> bool:
     """Whether the program is loaded at all."""
     try:
-        return run(program, size, "--help") == program.run("--help")
+        return run(program, limit, size, "--help") == program.run("--help")
     except (OSError, subprocess.SubprocessError):
         return False
 
@@ -93,6 +108,7 @@ class Job:
     """What the program is run for."""
 
     name = ""
+    limit = ASKED_FOR
 
     def is_enough(self, size: int) -> bool:
         """Whether the job is done well with so many bytes."""
@@ -103,14 +119,15 @@ class Job:
         raise NotImplementedError
 
 
-def ended_ill(ran: Ran, *lines: bytes) -> Fault:
-    """What is wrong with the end of a run: nothing where it ended well, or with one of the lines."""
+def ended_ill(ran: Ran, limit: Limit, *lines: bytes) -> Fault:
+    """What is wrong with the end of a run: nothing if it ended well, with one of the lines, or by the system."""
     is_well = (ran.status, ran.err) == (0, b"") or (ran.status == 1 and ran.err in lines)
-    return None if is_well else f"{ran}"
+    is_ended = ran.status in limit.ends and ran.err == b""
+    return None if is_well or is_ended else f"{ran}"
 
 
 def kind_of(ran: Ran) -> str:
-    return ran.err.decode().strip() or "ended well"
+    return ran.err.decode().strip() or ("ended by the system" if ran.status < 0 else "ended well")
 
 
 def without_refused(records: Sequence[Record], lines: Sequence[bytes]) -> tuple[list[Record], list[bytes]]:
@@ -150,7 +167,7 @@ class Replay(Job):
 
     def replayed(self, room: str, size: int) -> Ran:
         words = ["--db", f"{room}/office.db"] if self.is_in_a_file else []
-        return run(self.program, size, "replay", *words, given=self.given)
+        return run(self.program, self.limit, size, "replay", *words, given=self.given)
 
     def is_enough(self, size: int) -> bool:
         with tempfile.TemporaryDirectory() as room:
@@ -161,7 +178,7 @@ class Replay(Job):
         with tempfile.TemporaryDirectory() as room:
             ran = self.replayed(room, size)
             lines = ran.lines()
-            fault = ended_ill(ran, *self.faults)
+            fault = ended_ill(ran, self.limit, *self.faults)
             if fault or not is_of_lines(ran.out):
                 return Found(fault or f"a line that isn't whole, {ran.out[-100:]!r}", "")
             if ran.status == 0 and len(lines) != len(self.records):
@@ -215,7 +232,7 @@ class Table(Job):
         with tempfile.TemporaryDirectory() as room:
             path = shutil.copy(self.start, f"{room}/office.db")
             asked = ["--month", "2026-01", "--form", "text", "--at", "4000"]
-            return run(self.program, size, "table", "--db", path, *asked)
+            return run(self.program, self.limit, size, "table", "--db", path, *asked)
 
     def is_enough(self, size: int) -> bool:
         return self.printed(size) == (0, self.wanted, b"")
@@ -224,7 +241,7 @@ class Table(Job):
         ran = self.printed(size)
         if ran.out != (self.wanted if ran.status == 0 else b""):
             return Found(f"status {ran.status}, and {len(ran.out)} bytes of {len(self.wanted)}", "")
-        return Found(ended_ill(ran, NO_MEMORY, NO_DATABASE), kind_of(ran))
+        return Found(ended_ill(ran, self.limit, NO_MEMORY, NO_DATABASE), kind_of(ran))
 
 
 # ---- HTTP
@@ -277,7 +294,7 @@ class Messages(Job):
     def served(self, room: str, size: int) -> tuple[Ran, list[bytes]]:
         """The end of the program, and the responses."""
         path = shutil.copy(self.start, f"{room}/office.db")
-        with Served(self.program, path, len(self.messages), preexec_fn=with_memory(size)) as served:
+        with Served(self.program, path, len(self.messages), preexec_fn=self.limit.of(size)) as served:
             texts = [it.text for it in self.messages] if served.is_listening else []
             heard = [served.ask_until_reset(text, ends=True) for text in texts]
             return served.end(), heard
@@ -291,7 +308,8 @@ class Messages(Job):
         with tempfile.TemporaryDirectory() as room:
             all_of_it, heard = self.served(room, size)
             ran = without_reports(all_of_it)
-            fault = ended_ill(ran, NO_MEMORY, NO_DATABASE) or (f"{ran}" if ran.out else self.answered_ill(heard))
+            fault = ended_ill(ran, self.limit, NO_MEMORY, NO_DATABASE)
+            fault = fault or (f"{ran}" if ran.out else self.answered_ill(heard))
             kind = f"{kind_of(ran)}{' while it served' if heard and ran.status else ''}"
             kind += ", peers without a response" * (b"" in heard) + ", peers refused by 90" * (FULL in heard)
             return Found(fault or self.stood(f"{room}/office.db", heard), kind)
@@ -347,9 +365,10 @@ def try_job(checks: Checks, job: Job, low: int, count: int) -> None:
     """Runs a job at so many sizes."""
     high = least(job.is_enough, low - STEP)
     sizes, kinds = spread(low, high, count), list[str]()
-    checks.run(Check(f"{job.name}, {size} bytes", partial(looked_at, job, size, kinds)) for size in sizes)
+    names = [f"{job.name}, {size} bytes of {job.limit.name}" for size in sizes]
+    checks.run(Check(name, partial(looked_at, job, size, kinds)) for name, size in zip(names, sizes))
     told = ", ".join(f"{kind} {times}" for kind, times in sorted(collections.Counter(kinds).items()))
-    checks.note(f"{job.name}: ends well with {high} bytes; at {len(sizes)} sizes: {told}")
+    checks.note(f"{job.name}: ends well with {high} bytes of {job.limit.name}; at {len(sizes)} sizes: {told}")
 
 
 def main() -> int:
@@ -358,8 +377,6 @@ def main() -> int:
     chosen = program_of(words)
     program: Program = chosen.program
     with Checks() as checks, contextlib.ExitStack() as rooms:
-        low = least(partial(helps, program), STEP)
-        checks.note(f"cpi --help works with {low} bytes of addresses")
         room = rooms.enter_context(tempfile.TemporaryDirectory())
         jobs: list[Callable[[], Job]] = [
             partial(Replay, program, False),
@@ -367,8 +384,13 @@ def main() -> int:
             partial(Table, program, room),
             partial(Messages, program, room),
         ]
-        for begun in jobs:
-            try_job(checks, begun(), low, chosen.sizes)
+        for limit in (ASKED_FOR, ADDRESSES):
+            low = least(partial(helps, program, limit), STEP)
+            checks.note(f"cpi --help works with {low} bytes of {limit.name}")
+            for begun in jobs:
+                job = begun()
+                job.limit = limit
+                try_job(checks, job, low, chosen.sizes)
     return checks.status
 
 

@@ -26,6 +26,9 @@ OTHER_VERSIONS: list[Way] = [
 ]
 OTHER_LEVEL = ["DROP TABLE level", "CREATE TABLE level (month INTEGER NOT NULL, code TEXT NOT NULL) STRICT"]
 
+NO_YEARS = (-1, 0, 1999, 2200, 10**12)
+"""Numbers that are no year of a plan."""
+
 # Rows of the tables of both schemas that can't be in an office.
 NO_ROWS: list[Way] = [
     ["DELETE FROM outlet"],
@@ -36,7 +39,17 @@ NO_ROWS: list[Way] = [
     ["UPDATE item SET low = 0 WHERE code = 'FLOUR'"],
     ["UPDATE calendar SET closes = opens WHERE month = 202601"],
     ["UPDATE calendar SET month = 202613 WHERE month = 202602"],
+    *([f"INSERT INTO node VALUES ({year}, '00', 'All items', 1)"] for year in NO_YEARS),
+    *([f"INSERT INTO plan_item VALUES ({year}, 'RICE', '01.1.1.1')"] for year in NO_YEARS),
 ]
+
+
+def of_no_type(table: str, row: str) -> Way:
+    """Puts a row that the types of its table refuse, which are let go meanwhile."""
+    begin, end = "PRAGMA writable_schema = ON", "PRAGMA writable_schema = RESET"
+    free = f"UPDATE sqlite_schema SET sql = replace(sql, ' STRICT', '') WHERE name = '{table}'"
+    bind = f"UPDATE sqlite_schema SET sql = sql || ' STRICT' WHERE name = '{table}'"
+    return [begin, free, end, f"INSERT INTO {table} VALUES ({row})", begin, bind, end]
 
 
 def opened(program: Program, path: str, line: str) -> Fault:

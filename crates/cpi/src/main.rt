@@ -4,11 +4,10 @@
 
 use clap::Error;
 use clap::error::ErrorKind;
-use cpi_app::{DeskKey, Job, RunFault, asked_table, job_of_words, read_key, run_replay};
-use cpi_files::{is_missing, replay_in_file, run_serve, table_in_file};
+use cpi_app::{DeskKey, Job, LocalPort, RunFault, asked_table, job_of_words, read_key, run_replay};
+use cpi_files::{FileAt, is_missing, replay_in_cabinet, run_serve, table_in_cabinet};
 use cpi_release::Revision;
 use cpi_wire::WireFault;
-use sqlite::Unknown;
 use std::fs::File;
 use std::process::ExitCode;
 use std::{env, io};
@@ -53,8 +52,8 @@ fn run_replay_in_memory(rt: &HostRuntime, zone: &str) -> Result<u8, RunFault> {
 
 // Answers the records of standard input in the office of the file.
 fn run_replay_in(rt: &HostRuntime, zone: &str, path: &str) -> Result<u8, RunFault> {
-    let out = &mut io::writer(rt);
-    replay_in_file(rt, zone, path, Unknown, &mut rt.reader(), out)?;
+    let file = &mut FileAt { path };
+    replay_in_cabinet(rt, zone, file, &mut rt.reader(), &mut io::writer(rt))?;
     Ok(0)
 }
 
@@ -86,7 +85,9 @@ fn run_serve_of(
     zone: &str,
 ) -> Result<u8, RunFault> {
     let key = key_text(rt, key)?;
-    run_serve(rt, path, Unknown, port, &key, limit, zone)?;
+    let file = &mut FileAt { path };
+    let address = LocalPort { rt, number: port };
+    run_serve(rt, file, &address, &key, limit, zone)?;
     Ok(0)
 }
 
@@ -103,8 +104,8 @@ fn run_table_of(
     if is_missing(rt, path) {
         return Err(RunFault::NoTable);
     }
-    let out = &mut io::writer(rt);
-    table_in_file(rt, path, Unknown, asked, out, &mut rt.stderr())
+    let file = &mut FileAt { path };
+    table_in_cabinet(rt, file, asked, &mut io::writer(rt), &mut rt.stderr())
 }
 
 // Hands what stands outside to the run of the job, and answers the exit status.

@@ -1,3 +1,4 @@
 pub mod Beginning
 pub mod Numbers
+pub mod Served
 pub mod Tabled

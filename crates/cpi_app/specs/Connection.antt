@@ -1,7 +1,5 @@
--- What connections do.
-use Rattle.std.specs.Prelude.{◌≡◌, ◌+◌, ◌⊎◌, ℕ, Bool, true, false, List, [], ◌∷◌, length}
-use Rattle.std.specs.Prelude.{⊤, Option, Some, None, Result, Ok, Err, IfOk, IfErr, IsTrue, IsFalse, codes, is_some}
-use Rattle.std.specs.List.{AllByRecursion}
+-- One connection, and what it does to the office at a desk.
+use Rattle.std.specs.Prelude.{ℕ, Bool, true, false, List, Option, Some, None, Result, Ok, Err, codes, is_some}
 use Rattle.cpi_codes.specs.Zone.{ZoneRule}
 use Rattle.cpi_release.specs.State.{State}
 use Rattle.cpi_store.specs.Office.{Office}
@@ -10,11 +8,9 @@ use Rattle.cpi_wire.specs.declared.fault.WireFault.TheVariants as fault
 use Rattle.cpi_http.specs.declared.serve.Served.{Served}
 use Rattle.cpi_http.specs.declared.serve.Served.TheVariants as served
 use Rattle.cpi_http.specs.Message.{setting}
-use Rattle.cpi_http.specs.Served.{Framing, Change, IsServed, GaveUp, messages}
+use Rattle.cpi_http.specs.Served.{Framing, Change, IsServed, GaveUp, change, messages}
 use Rattle.cpi_app.specs.declared.shake.Shake.{Shake}
 use Rattle.cpi_app.specs.declared.shake.Shake.TheVariants.{Unavailable, Unwritten, NoMemory}
-use Rattle.cpi_app.specs.declared.fault.RunFault.{RunFault}
-use Rattle.cpi_app.specs.declared.fault.RunFault.TheVariants.{NoPort, Wire}
 
 -- the message at the front of the stream was served, whatever was read of the stream behind it
 abbrev pub ServesFront : {B : Type 0} → (B → State Office) → Framing → Option (List ℕ) → Change B → Served → Type 0
@@ -24,14 +20,14 @@ ServesFront state f stream c served = (behind : Option (List ℕ)) × IsServed s
 abbrev pub GivesUpFront : {B : Type 0} → (B → State Office) → Framing → Option (List ℕ) → Change B → WireFault → Type 0
 GivesUpFront state f stream c fault = (behind : Option (List ℕ)) × GaveUp state f stream behind c fault
 
--- what a connection makes of a book: its bytes are known to nobody beforehand
-abbrev pub unknown_bytes : {B : Type 0} → B → B → Change B
-unknown_bytes before now = record { before = before; now = now; written = None; writing = None }
+-- what came of a connection
+abbrev pub Outcome : Type 0
+Outcome = Result Served WireFault
 
 -- Why the book has to be opened again, if it has to: a reply was that the office was unavailable, so that its store may
 -- have failed; or a reply may have been that, since nobody knows the replies if a response wasn't written whole, or if
 -- there was no memory for it.
-abbrev pub shake_of : Result Served WireFault → Option Shake
+abbrev pub shake_of : Outcome → Option Shake
 shake_of (Ok (served.Answered status true)) = Some Unavailable
 shake_of (Ok (served.Answered status false)) = None
 shake_of (Ok served.Cut) = None
@@ -40,7 +36,7 @@ shake_of (Err fault.Write) = Some Unwritten
 shake_of (Err fault.NoMemory) = Some NoMemory
 
 -- it has to
-abbrev pub is_shaken : Result Served WireFault → Bool
+abbrev pub is_shaken : Outcome → Bool
 is_shaken outcome = is_some (shake_of outcome)
 
 -- the words of the reason, in a line on standard error
@@ -49,49 +45,25 @@ words_of Unavailable = codes "a request was refused by 90"
 words_of Unwritten = codes "a response couldn't be written"
 words_of NoMemory = codes "out of memory"
 
--- one connection was served, or given up
-abbrev pub IsConnection : {B : Type 0} → (B → State Office) → Framing → Result Served WireFault → B → B → Type 0
-IsConnection state f outcome before now = IfOk outcome (ServesFront state f None (unknown_bytes before now))
-    × IfErr outcome (GivesUpFront state f None (unknown_bytes before now))
-
--- when a connection was served, and what came of it
-pub record Visit : Type 0 where
+-- A connection: the moment at which it came, the bytes that its peer sends, and the bytes that were written to its peer
+-- before it was served and after. `None` if nobody knows them.
+pub record Connection : Type 0 where
   pub moment : ℕ
-  pub outcome : Result Served WireFault
+  pub sent : Option (List ℕ)
+  pub written : Option (List ℕ)
+  pub writing : Option (List ℕ)
 
--- connections one after another, the last one first: when each was served and what came of it, or `None` where it
--- couldn't be accepted
-abbrev pub Visits : Type 0
-Visits = List (Option Visit)
+abbrev pub connection : ℕ → Option (List ℕ) → Option (List ℕ) → Option (List ℕ) → Connection
+connection moment sent written writing =
+    record { moment = moment; sent = sent; written = written; writing = writing }
 
--- all that was done to the book was done by these connections
-abbrev pub AreServed : {B : Type 0} → (B → State Office) → ZoneRule → ℕ → B → Visits → B → Type 0
-AreServed state zone key first [] now = now ≡ first
-AreServed state zone key first (None ∷ earlier) now = AreServed state zone key first earlier now
-AreServed {B} state zone key first (Some visit ∷ earlier) now = (before : B)
-    × AreServed state zone key first earlier before
-    × IsConnection state (messages (setting visit.moment zone key)) visit.outcome before now
+-- the service before a connection, the connection, what came of it, and the service after
+abbrev pub Serving : Type 0 → Type 1
+Serving S = S → Connection → Outcome → S → Type 0
 
--- the last of them shook the book
-abbrev pub LastShook : Visits → Type 0
-LastShook [] = ⊥
-LastShook (None ∷ earlier) = ⊥
-LastShook (Some visit ∷ earlier) = IsTrue (is_shaken visit.outcome)
-
--- this one didn't
-abbrev pub IsCalm : Option Visit → Type 0
-IsCalm None = ⊤
-IsCalm (Some visit) = IsFalse (is_shaken visit.outcome)
-
--- none but the last of them did
-abbrev pub AreCalmBefore : Visits → Type 0
-AreCalmBefore [] = ⊤
-AreCalmBefore (visit ∷ earlier) = AllByRecursion IsCalm earlier
-
--- so many of the connections are left, and any only where the last one shook the book
-abbrev pub AreLeft : ℕ → Visits → ℕ → Type 0
-AreLeft limit visits left = (left + length visits ≡ limit) × ((left ≡ 0) ⊎ LastShook visits)
-
--- nobody can be listened to: the port is taken, or it couldn't be told that it is listened at
-abbrev pub IsUnheard : RunFault → Type 0
-IsUnheard why = (why ≡ NoPort) ⊎ (why ≡ Wire fault.Write)
+-- the office over a book serves a connection, by a clock's rule and with a desk's key
+abbrev pub ServesAtDesk : {B : Type 0} → (B → State Office) → ZoneRule → ℕ → Serving B
+ServesAtDesk state zone key before came (Ok served) now = ServesFront state
+    (messages (setting came.moment zone key)) came.sent (change before now came.written came.writing) served
+ServesAtDesk state zone key before came (Err fault) now = GivesUpFront state
+    (messages (setting came.moment zone key)) came.sent (change before now came.written came.writing) fault

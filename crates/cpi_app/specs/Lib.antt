@@ -1,7 +1,10 @@
+pub mod Backlog
 pub mod Command
 pub mod CommandExamples
 pub mod Connection
 pub mod Desk
 pub mod Fault
+pub mod Listener
 pub mod Replay
 pub mod Table
+pub mod Visits

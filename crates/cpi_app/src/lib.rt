@@ -2,6 +2,7 @@
 //! isn't done to its end.
 #![tactic(auto)]
 
+mod backlog;
 mod command;
 mod connection;
 mod desk;
@@ -9,25 +10,35 @@ mod examples;
 mod fault;
 mod help;
 mod job;
+mod listener;
 mod offered;
 mod options;
+mod peer;
+mod port;
 mod replay;
 mod serve;
+mod service;
 mod shake;
 mod table;
 mod timed;
 mod version;
+mod wall_clock;
 
+pub use backlog::{Backlog, Queued};
 pub use command::job_of_words;
-pub use connection::{serve_connection, serve_front};
+pub use connection::{OfficeAtDesk, serve_front};
 pub use desk::{Desk, desk_of, read_key};
 pub use examples::worked_commands;
 pub use fault::{RunFault, fault_line};
 pub use job::{DeskKey, Job};
+pub use listener::{Address, Listener, NoClock};
 pub use offered::Offered;
+pub use port::{LocalPort, OpenPort};
 pub use replay::{replay_over, run_replay};
-pub use serve::{listen, serve_book};
+pub use serve::{serve_book, serve_each};
+pub use service::Service;
 pub use shake::{Shake, shake_of};
 pub use table::{AskedTable, asked_table, print_table, write_table};
 pub use timed::Timed;
 pub use version::VERSION;
+pub use wall_clock::WallClock;

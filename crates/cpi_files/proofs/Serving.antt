@@ -1,58 +1,127 @@
 -- One book is served, and then another.
-use Rattle.std.proofs.Common.{◌≡◌, ◌≤◌, ◌<◌, ◌+◌, ℕ, List, [], ◌∷◌, length, Option, Some, Result, Ok, Err}
-use Rattle.std.proofs.Common.{arith, sym, subst, ap, ◌∙◌, inl, inr}
+use Rattle.std.proofs.Common.{◌≡◌, ◌≤◌, ◌<◌, ◌+◌, ℕ, List, [], ◌∷◌, length, Option, None, Some, Result, Ok, Err}
+use Rattle.std.proofs.Common.{IsOk, IsErrOf, arith, sym, subst, ap, refl, ◌∙◌, inl, inr}
 use Rattle.std.proofs.lemmas.List.Sums.{sum_by-cons}
 use Rattle.std.specs.Prelude.{◌⊎◌, IsNone}
-use Rattle.sqlite.specs.Recovery.{Image}
-use Rattle.sqlite_disk.specs.declared.Disk.{Ghosts}
+use Rattle.std.specs.List.{AllByRecursion}
+use Rattle.sqlite.specs.Files.{over_files}
+use Rattle.sqlite_disk.specs.declared.Disk as disk
 use Rattle.cpi_store.specs.declared.open_fault.OpenFault.{OpenFault}
+use Rattle.cpi_sql_rows.specs.Shelf.{book_state}
 use Rattle.cpi_wire.specs.declared.fault.WireFault.TheVariants as wire
-use Rattle.cpi_app.specs.Connection.{Visits, LastShook}
 use Rattle.cpi_app.specs.Desk.{IsDeskOf}
+use Rattle.cpi_app.specs.Listener.{Meeting}
+use Rattle.cpi_app.specs.Visits.{Visits, AreCalmBefore, IsCalm, LastShook}
 use Rattle.cpi_app.specs.declared.desk.Desk.{Desk}
 use Rattle.cpi_app.specs.declared.fault.RunFault.{RunFault}
 use Rattle.cpi_app.specs.declared.fault.RunFault.TheVariants.{BadZone, BadKey, Database}
 use Rattle.cpi_app.specs.declared.fault.RunFault.TheVariants.{NoClock, NoPort, Wire}
-use Rattle.cpi_files.specs.Database.{IsDoneIn}
-use Rattle.cpi_files.specs.Serve.{EndsEarly, Serves, AreServedIn, EndsWithBook}
-use Rattle.cpi_files.specs.Serve.{WereShaken, AreServedInTurn, EndsAtDesk, EndsServing}
+use Rattle.cpi_files.specs.Job.{Deed}
+use Rattle.cpi_files.specs.Serve.{Serves, ServesVisits, ServesNobody, HasDone, EndsWithBook}
+use Rattle.cpi_files.specs.Serve.{WereShaken, AreServedInTurn, AreAllServed, EndsAtDesk, EndsServing}
+use Rattle.cpi_files.specs.Taken.{IsDoneFrom}
+use Rattle.cpi_files.specs.declared.cabinet.Cabinet.{Ghosts}
 use Rattle.cpi_files.specs.declared.serve.Rest.{Rest}
 
-module _ {D L : Type 0} (g : Ghosts D) (start : Image) (desk : Desk) (listener : Option L) (limit : ℕ) where
-  abbrev pub IsDone : Option (List ℕ) → Option (List ℕ) → Option (List ℕ) → Result Rest RunFault → Type 0
-  IsDone input was is outcome = IsDoneIn g start (Serves desk listener limit) input was is outcome
+-- of calm connections none but the last may shake
+calm_before : (visits : Visits) → AllByRecursion IsCalm visits → AreCalmBefore visits
+calm_before [] calm = tt
+calm_before (visit ∷ earlier) calm = calm.1
 
-  served-in : (input was is : Option (List ℕ)) (outcome : Result Rest RunFault) → (d : IsDone input was is outcome)
-      → AreServedIn g start desk d.done.visits
-  served-in input was is outcome d =
-      record { book = d.book; last = d.last; found = d.found; served = d.done.served; calm = d.done.calm }
+module _ {C D T : Type 0} (cabinet : Ghosts C D) (g : disk.Ghosts D) (was is : C) (does : Deed T)
+    (input before after : Option (List ℕ)) (told : T) (closed : Result (Unit {0}) OpenFault) where
+  -- what was done over the books may be said in other words
+  abbrev done-as : (other : Deed (Unit {0})) (d : IsDoneFrom cabinet g was is does input before after told closed)
+      → other _ (book_state over_files) d.4.done.book d.4.done.last None None None tt
+      → HasDone cabinet g was other closed is
+  done-as other d done =
+      let over = d.4.done in (
+        d.0,
+        d.1,
+        d.2,
+        d.3,
+        record {
+          was = d.4.was;
+          shown = d.4.shown;
+          last = d.4.last;
+          done = record { book = over.book; last = over.last; found = over.found; done = done; held = over.held };
+          left = d.4.left;
+        },
+        d.5,
+      )
 
-  -- some connections are left, or none
-  pub book-left : (input was is : Option (List ℕ)) (rest : Rest) → IsDone input was is (Ok rest)
-      → EndsWithBook g start desk listener limit (Ok rest)
-  book-left input was is rest d = (d.done.visits, served-in input was is (Ok rest) d, d.done.few, d.done.left)
+module _ {C D L : Type 0} (cabinet : Ghosts C D) (g : disk.Ghosts D) (meets : Meeting L) (Opens : L → Type 0)
+    (desk : Desk) (listener : Option L) (limit : ℕ) (was is : C) (input before after : Option (List ℕ))
+    (closed : Result (Unit {0}) OpenFault) where
+  abbrev pub IsDone : Result (Rest L) RunFault → Type 0
+  IsDone outcome =
+      IsDoneFrom cabinet g was is (Serves meets Opens desk listener limit) input before after outcome closed
 
-  -- none is, and the file couldn't be closed
-  pub book-open : (input was is : Option (List ℕ)) (rest : Rest) (why : OpenFault) → IsDone input was is (Ok rest)
-      → rest.left ≡ 0 → EndsWithBook g start desk listener limit (Err (Database why))
-  book-open input was is rest why d none =
-      inr (d.done.visits, served-in input was is (Ok rest) d, d.done.few, omega (arith, d.done.left.0, none))
+  abbrev as-visits : (outcome : Result (Rest L) RunFault) (d : IsDone outcome) (first : L) (visits : Visits) (last : L)
+      → ServesVisits meets desk first visits last _ (book_state over_files) d.4.done.book d.4.done.last None None None tt
+      → HasDone cabinet g was (ServesVisits meets desk first visits last) closed is
+  as-visits outcome d first visits last done =
+      done-as cabinet g was is (Serves meets Opens desk listener limit) input before after outcome closed
+      (ServesVisits meets desk first visits last) d done
 
-  nobody : (visits : Visits) → AreServedIn g start desk visits → visits ≡ [] → AreServedIn g start desk []
-  nobody visits s e = subst (λ v. AreServedIn g start desk v) e s
+  -- some connections are left; or none, and the files were closed
+  pub book-left : (rest : Rest L) → IsDone (Ok rest) → (rest.left ≡ 0 → IsOk closed)
+      → EndsWithBook cabinet g meets Opens desk listener limit was is (Ok rest)
+  book-left rest d well =
+      let did = d.4.done.done in
+      let ends = did.2 in (
+        did.0,
+        ends.0,
+        rest.listener,
+        closed,
+        did.1,
+        as-visits (Ok rest) d did.0 ends.0 rest.listener (ends.1, ends.2),
+        omega (arith, ends.3.0),
+        (refl, ends.3, well),
+      )
+
+  -- none is, and the files couldn't be closed
+  pub book-open : (rest : Rest L) (why : OpenFault) → IsDone (Ok rest) → rest.left ≡ 0 → IsErrOf closed why
+      → EndsWithBook cabinet g meets Opens desk listener limit was is (Err (Database why))
+  book-open rest why d none failed =
+      let did = d.4.done.done in
+      let ends = did.2 in
+      inr (
+        did.0,
+        ends.0,
+        rest.listener,
+        closed,
+        did.1,
+        as-visits (Ok rest) d did.0 ends.0 rest.listener (ends.1, ends.2),
+        omega (arith, ends.3.0),
+        (omega (arith, ends.3.0, none), failed),
+      )
+
+  abbrev as-nobody : (outcome : Result (Rest L) RunFault) (d : IsDone outcome) → d.4.done.last ≡ d.4.done.book
+      → HasDone cabinet g was ServesNobody closed is
+  as-nobody outcome d same =
+      done-as cabinet g was is (Serves meets Opens desk listener limit) input before after outcome closed ServesNobody d
+      same
 
   -- serving ended before its time
-  pub book-early : (input was is : Option (List ℕ)) (why : RunFault) → IsDone input was is (Err why)
-      → EndsWithBook g start desk listener limit (Err why)
-  book-early input was is why d =
-      by why d.done.visits d.done.few (served-in input was is (Err why) d) d.done.early
-    where
-      by : (w : RunFault) (visits : Visits) → length visits ≤ limit → AreServedIn g start desk visits
-          → EndsEarly listener visits w → EndsWithBook g start desk listener limit (Err w)
-      by NoClock visits few s h = (visits, s, few, tt)
-      by NoPort visits few s h = (h.0, nobody visits s h.1)
-      by (Wire wire.Write) visits few s h = (h.0, nobody visits s h.1)
-      by w visits few s h = absurd h
+  pub book-early : (why : RunFault) → IsDone (Err why)
+      → EndsWithBook cabinet g meets Opens desk listener limit was is (Err why)
+  book-early NoClock d =
+      let did = d.4.done.done in
+      let ends = did.2.2 in (
+        did.0,
+        ends.0,
+        ends.1,
+        closed,
+        did.1,
+        as-visits (Err NoClock) d did.0 ends.0 ends.1 (ends.2, calm_before ends.0 ends.4),
+        omega (arith, ends.5),
+        ((did.2.0, ends.3), ends.5),
+      )
+  book-early NoPort d = (d.4.done.done.0, (closed, as-nobody (Err NoPort) d d.4.done.done.1))
+  book-early (Wire wire.Write) d =
+      (d.4.done.done.0, (closed, as-nobody (Err (Wire wire.Write)) d d.4.done.done.1))
+  book-early why d = absurd d.4.done.done
 
 -- who shook a book was served
 some-shook : (visits : Visits) → LastShook visits → 0 < length visits
@@ -68,49 +137,82 @@ fewer : (visits : Visits) (limit left : ℕ) → left + length visits ≡ limit 
 fewer visits limit left all (inl none) some = omega (arith, none, some)
 fewer visits limit left all (inr shook) some = omega (arith, some-shook visits shook, all)
 
--- a book leaves fewer connections
-pub next-fewer : {A L : Type 0} (again : Ghosts A) (held : Image) (desk : Desk) (listener : Option L) (left : ℕ)
-    (rest : Rest) → 0 < left → EndsWithBook again held desk listener left (Ok rest) → rest.left < left
-next-fewer again held desk listener left rest some e = fewer e.0 left rest.left e.3.0 e.3.1 some
-
--- who listens isn't nobody
+-- a listener isn't none
 taken : {L : Type 0} (listener : L) → IsNone (Some listener) → ⊥
 taken listener none = cc
 
-module _ {D A : Type 0} (g : Ghosts D) (again : Ghosts A) (start : Image) (desk : Desk) (limit : ℕ) where
-  -- books were served one after another, and so many connections are left
-  pub record StandsAt (left : ℕ) : Type 0 where
+module _ {C D L : Type 0} (cabinet : Ghosts C D) (g : disk.Ghosts D) (meets : Meeting L) (Opens : L → Type 0)
+    (desk : Desk) where
+  -- a book leaves fewer connections
+  pub next-fewer : (listener : Option L) (left : ℕ) (was is : C) (rest : Rest L) → 0 < left
+      → EndsWithBook cabinet g meets Opens desk listener left was is (Ok rest) → rest.left < left
+  next-fewer listener left was is rest some e = fewer e.1 left rest.left e.7.1.0 e.7.1.1 some
+
+module _ {C D L : Type 0} (cabinet : Ghosts C D) (g : disk.Ghosts D) (meets : Meeting L) (Opens : L → Type 0)
+    (desk : Desk) (limit : ℕ) (start : C) where
+  -- books were served one after another, and so many connections are left to this listener
+  pub record StandsAt (left : ℕ) (now : C) (is : L) : Type 0 where
     pub count : ℕ
-    pub books : AreServedInTurn g again start desk limit count
+    pub closed : Result (Unit {0}) OpenFault
+    pub books : AreServedInTurn cabinet g meets Opens desk limit start count closed now is
     pub rest : left + count ≡ limit
     pub stays : (left ≡ 0) ⊎ LastShook books.last
+    pub well : left ≡ 0 → IsOk closed
 
   -- the first book
-  abbrev first-book : (visits : Visits) → AreServedIn g start desk visits → length visits ≤ limit
-      → AreServedInTurn g again start desk limit (length visits)
-  first-book visits s few =
-      record { earlier = []; last = visits; shaken = tt; served = s; all = omega arith; few = few }
+  abbrev first-book : (first is : L) (visits : Visits) (closed : Result (Unit {0}) OpenFault) (now : C) → Opens first
+      → HasDone cabinet g start (ServesVisits meets desk first visits is) closed now → length visits ≤ limit
+      → AreServedInTurn cabinet g meets Opens desk limit start (length visits) closed now is
+  first-book first is visits closed now opened s few = record {
+    earlier = [];
+    last = visits;
+    before = start;
+    was = first;
+    shaken = (refl, opened);
+    served = s;
+    all = omega arith;
+    few = few;
+  }
 
-  pub first-stands : {L : Type 0} (listener : Option L) (rest : Rest)
-      → EndsWithBook g start desk listener limit (Ok rest) → StandsAt rest.left
-  first-stands listener rest e =
-      record { count = length e.0; books = first-book e.0 e.1 e.2; rest = e.3.0; stays = e.3.1 }
+  pub first-stands : (rest : Rest L) (now : C)
+      → EndsWithBook cabinet g meets Opens desk None limit start now (Ok rest) → StandsAt rest.left now rest.listener
+  first-stands rest now e =
+      let served = subst (λ is. HasDone cabinet g start (ServesVisits meets desk e.0 e.1 is) e.3 now) e.7.0 e.5 in
+      record {
+        count = length e.1;
+        closed = e.3;
+        books = first-book e.0 rest.listener e.1 e.3 now e.4 served e.6;
+        rest = e.7.1.0;
+        stays = e.7.1.1;
+        well = e.7.2;
+      }
 
   -- serving ended with it
-  pub first-ends : {L : Type 0} (listener : Option L) (why : RunFault)
-      → EndsWithBook g start desk listener limit (Err why) → EndsAtDesk g again start desk limit (Err why)
-  first-ends listener NoClock e = (length e.0, first-book e.0 e.1 e.2)
-  first-ends listener NoPort e = e.1
-  first-ends listener (Wire wire.Write) e = e.1
-  first-ends listener (Database fault) (inl refused) = inl ([], tt, refused)
-  first-ends listener (Database fault) (inr e) =
-      inr (subst (λ count. AreServedInTurn g again start desk limit count) e.3 (first-book e.0 e.1 e.2))
-  first-ends listener why e = absurd e
+  pub first-ends : (why : RunFault) (now : C)
+      → EndsWithBook cabinet g meets Opens desk None limit start now (Err why)
+      → EndsAtDesk cabinet g meets Opens desk limit start now (Err why)
+  first-ends NoClock now e =
+      (e.2, length e.1, e.3, first-book e.0 e.2 e.1 e.3 now e.4 e.5 e.6, e.7.0, e.7.1)
+  first-ends NoPort now e = e.1
+  first-ends (Wire wire.Write) now e = e.1
+  first-ends (Database fault) now (inl refused) = inl (inl refused)
+  first-ends (Database fault) now (inr e) =
+      inr (
+        e.2,
+        e.3,
+        subst (λ count. AreServedInTurn cabinet g meets Opens desk limit start count e.3 now e.2) e.7.0
+            (first-book e.0 e.2 e.1 e.3 now e.4 e.5 e.6),
+        e.7.1,
+      )
+  first-ends why now e = absurd e
 
   -- a book was left
-  was-shaken : (left : ℕ) (s : StandsAt left) → 0 < left
-      → WereShaken g again start desk limit (s.books.last ∷ s.books.earlier)
-  was-shaken left s some = (
+  was-shaken : (left : ℕ) (now : C) (is : L) (s : StandsAt left now is) → 0 < left
+      → WereShaken cabinet g meets Opens desk limit start (s.books.last ∷ s.books.earlier) now is
+  was-shaken left now is s some = (
+    s.books.before,
+    s.books.was,
+    s.closed,
     s.books.shaken,
     s.books.served,
     shaken s.books.last left s.stays some,
@@ -118,53 +220,92 @@ module _ {D A : Type 0} (g : Ghosts D) (again : Ghosts A) (start : Image) (desk 
   )
 
   -- the next book
-  abbrev next-book : (held : Image) (left : ℕ) (s : StandsAt left) → 0 < left
-      → (visits : Visits) → AreServedIn again held desk visits → length visits ≤ left
-      → AreServedInTurn g again start desk limit (length visits + s.count)
-  next-book held left s some visits served few = record {
+  abbrev next-book : (left : ℕ) (before : C) (was : L) (s : StandsAt left before was) → 0 < left
+      → (visits : Visits) (is : L) (closed : Result (Unit {0}) OpenFault) (now : C)
+      → HasDone cabinet g before (ServesVisits meets desk was visits is) closed now → length visits ≤ left
+      → AreServedInTurn cabinet g meets Opens desk limit start (length visits + s.count) closed now is
+  next-book left before was s some visits is closed now served few = record {
     earlier = s.books.last ∷ s.books.earlier;
     last = visits;
-    shaken = was-shaken left s some;
-    served = (held, served);
+    before = before;
+    was = was;
+    shaken = was-shaken left before was s some;
+    served = served;
     all = ap (λ count. length visits + count) s.books.all
         ∙ sym (sum_by-cons length visits (s.books.last ∷ s.books.earlier));
     few = omega (arith, s.rest, few);
   }
 
-  pub next-stands : {L : Type 0} (held : Image) (listener : Option L) (left : ℕ) (rest : Rest)
-      → StandsAt left → 0 < left
-      → EndsWithBook again held desk listener left (Ok rest) → StandsAt rest.left
-  next-stands held listener left rest s some e = record {
-    count = length e.0 + s.count;
-    books = next-book held left s some e.0 e.1 e.2;
-    rest = omega (arith, s.rest, e.3.0);
-    stays = e.3.1;
-  }
+  pub next-stands : (before now : C) (listener : L) (left : ℕ) (rest : Rest L)
+      → StandsAt left before listener → 0 < left
+      → EndsWithBook cabinet g meets Opens desk (Some listener) left before now (Ok rest)
+      → StandsAt rest.left now rest.listener
+  next-stands before now listener left rest s some e =
+      let to = subst (λ is. HasDone cabinet g before (ServesVisits meets desk e.0 e.1 is) e.3 now) e.7.0 e.5 in
+      let served = subst
+      (λ first. HasDone cabinet g before (ServesVisits meets desk first e.1 rest.listener) e.3 now) e.4 to in
+      record {
+        count = length e.1 + s.count;
+        closed = e.3;
+        books = next-book left before listener s some e.1 rest.listener e.3 now served e.6;
+        rest = omega (arith, s.rest, e.7.1.0);
+        stays = e.7.1.1;
+        well = e.7.2;
+      }
 
   -- serving ended with it
-  pub next-ends : {L : Type 0} (held : Image) (listener : L) (left : ℕ) (why : RunFault) → StandsAt left → 0 < left
-      → EndsWithBook again held desk (Some listener) left (Err why)
-      → EndsAtDesk g again start desk limit (Err why)
-  next-ends held listener left NoClock s some e = (length e.0 + s.count, next-book held left s some e.0 e.1 e.2)
-  next-ends held listener left NoPort s some e = absurd (taken listener e.0)
-  next-ends held listener left (Wire wire.Write) s some e = absurd (taken listener e.0)
-  next-ends held listener left (Database fault) s some (inl refused) =
-      inl (s.books.last ∷ s.books.earlier, was-shaken left s some, (held, refused))
-  next-ends held listener left (Database fault) s some (inr e) =
-      let all : length e.0 + s.count ≡ limit = omega (arith, s.rest, e.3) in
-      inr (subst (λ count. AreServedInTurn g again start desk limit count) all (next-book held left s some e.0 e.1 e.2))
-  next-ends held listener left why s some e = absurd e
+  pub next-ends : (before now : C) (listener : L) (left : ℕ) (why : RunFault)
+      → StandsAt left before listener → 0 < left
+      → EndsWithBook cabinet g meets Opens desk (Some listener) left before now (Err why)
+      → EndsAtDesk cabinet g meets Opens desk limit start now (Err why)
+  next-ends before now listener left NoClock s some e =
+      let served = subst (λ first. HasDone cabinet g before (ServesVisits meets desk first e.1 e.2) e.3 now) e.4 e.5 in (
+        e.2,
+        length e.1 + s.count,
+        e.3,
+        next-book left before listener s some e.1 e.2 e.3 now served e.6,
+        e.7.0,
+        omega (arith, s.rest, e.7.1),
+      )
+  next-ends before now listener left NoPort s some e = absurd (taken listener e.0)
+  next-ends before now listener left (Wire wire.Write) s some e = absurd (taken listener e.0)
+  next-ends before now listener left (Database fault) s some (inl refused) = inl (inr (
+    s.books.last,
+    s.books.earlier,
+    before,
+    listener,
+    was-shaken left before listener s some,
+    refused,
+  ))
+  next-ends before now listener left (Database fault) s some (inr e) =
+      let served = subst (λ first. HasDone cabinet g before (ServesVisits meets desk first e.1 e.2) e.3 now) e.4 e.5 in
+      let all : length e.1 + s.count ≡ limit = omega (arith, s.rest, e.7.0) in
+      inr (
+        e.2,
+        e.3,
+        subst (λ count. AreServedInTurn cabinet g meets Opens desk limit start count e.3 now e.2) all
+            (next-book left before listener s some e.1 e.2 e.3 now served e.6),
+        e.7.1,
+      )
+  next-ends before now listener left why s some e = absurd e
 
   -- none is left
-  pub all-served : (left : ℕ) → StandsAt left → left ≡ 0 → AreServedInTurn g again start desk limit limit
-  all-served left s none =
-      let all : s.count ≡ limit = omega (arith, s.rest, none) in
-      subst (λ count. AreServedInTurn g again start desk limit count) all s.books
+  pub all-served : (left : ℕ) (now : C) (is : L) → StandsAt left now is → left ≡ 0
+      → AreAllServed cabinet g meets Opens desk limit start IsOk now
+  all-served left now is s none =
+      let all : s.count ≡ limit = omega (arith, s.rest, none) in (
+        is,
+        s.closed,
+        subst (λ count. AreServedInTurn cabinet g meets Opens desk limit start count s.closed now is) all s.books,
+        s.well none,
+      )
 
-module _ {D A : Type 0} (g : Ghosts D) (again : Ghosts A) (start : Image) (limit : ℕ) (zone key : List ℕ) where
+module _ {C D L : Type 0} (cabinet : Ghosts C D) (g : disk.Ghosts D) (meets : Meeting L) (Opens : L → Type 0)
+    (limit : ℕ) (zone key : List ℕ) (start now : C) where
   -- with the desk of the words
   pub ends-serving : (desk : Desk) (outcome : Result (Unit {0}) RunFault) → IsDeskOf zone key desk
-      → EndsAtDesk g again start desk limit outcome → EndsServing g again start zone key limit outcome
+      → EndsAtDesk cabinet g meets Opens desk limit start now outcome
+      → EndsServing cabinet g meets Opens zone key limit start now outcome
   ends-serving desk (Err BadZone) is e = absurd e
   ends-serving desk (Err BadKey) is e = absurd e
   ends-serving desk outcome is e = (desk, is, e)

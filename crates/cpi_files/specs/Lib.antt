@@ -1,6 +1,7 @@
-pub mod Database
 pub mod Job
 pub mod Over
+pub mod Files
+pub mod Taken
 pub mod Replay
 pub mod Serve
 pub mod Table

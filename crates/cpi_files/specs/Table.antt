@@ -1,12 +1,13 @@
--- What the print of a published table of the office of a file writes.
-use Rattle.std.specs.Prelude.{ℕ, List, Option}
-use Rattle.sqlite.specs.Recovery.{Image}
-use Rattle.sqlite_disk.specs.declared.Disk.{Ghosts}
+-- What the print of a published table of the office of a cabinet's files writes.
+use Rattle.std.specs.Prelude.{ℕ, List, Option, Result}
+use Rattle.sqlite_disk.specs.declared.Disk as disk
 use Rattle.cpi_release.specs.State.{State, Keeps}
 use Rattle.cpi_store.specs.Office.{Office}
+use Rattle.cpi_store.specs.declared.open_fault.OpenFault.{OpenFault}
 use Rattle.cpi_app.specs.declared.table.AskedTable.{AskedTable}
 use Rattle.cpi_app.specs.Table.{IsPrinted}
-use Rattle.cpi_files.specs.Database.{IsDoneIn}
+use Rattle.cpi_files.specs.Taken.{IsDoneFrom}
+use Rattle.cpi_files.specs.declared.cabinet.Cabinet.{Ghosts}
 
 -- the table was printed that the office of a book holds, or the line of a fault, and the office is as it was
 pub record Prints (asked : AskedTable) (Book : Type 0) (state : Book → State Office) (book now : Book)
@@ -14,8 +15,9 @@ pub record Prints (asked : AskedTable) (Book : Type 0) (state : Book → State O
   pub keeps : Keeps (state book) (state now)
   pub printed : (state now).is_clean → IsPrinted asked (state book).held was is status
 
--- that was done in the office that the files held
-abbrev pub IsPrintedFrom : {D : Type 0} → Ghosts D → Image → AskedTable
+-- that was done in the office of the cabinet's files, whatever became of the close
+abbrev pub IsPrintedFrom : {C D : Type 0} → Ghosts C D → disk.Ghosts D → C → C → AskedTable
     → Option (List ℕ) → Option (List ℕ) → ℕ → Type 0
-IsPrintedFrom g start asked was is status =
-    (input : Option (List ℕ)) × IsDoneIn g start (Prints asked) input was is status
+IsPrintedFrom cabinet g was is asked before after status = (input : Option (List ℕ))
+    × (closed : Result (Unit {0}) OpenFault)
+    × IsDoneFrom cabinet g was is (Prints asked) input before after status closed

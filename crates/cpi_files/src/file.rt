@@ -1,23 +1,20 @@
-//! A job in the office of a database file.
-ghost use Rattle.std.specs.Prelude.{◌≡◌, IfOk, IfErr};
-ghost use Rattle.sqlite.specs.WalFiles.{image_at};
-ghost use Rattle.cpi_files.specs.Database.{IsDoneIn, IsRefused};
+//! The file of an office at a path.
+ghost use Rattle.std.specs.Prelude.{◌≡◌, ⊤};
+ghost use Rattle.cpi_store.specs.declared.open_fault.OpenFault.TheVariants.{Store};
 
-use crate::job::BookJob;
-use crate::over::job_over;
+use crate::cabinet::Cabinet;
 use cpi_sql::OpenFault;
-use sqlite::{Connection, FileFrom, Start};
-use sqlite_disk::Disk;
+use sqlite::{FileFrom, Files, Options, Unknown};
 use std::fs::{File, OpenOptions};
+use std::hash::{BuildHasher, RandomState};
 use std::io;
-use std::io::{Read, Write};
 use std::os::unix::fs::OpenOptionsExt;
 
 /// How many bytes a log has once all that it held was copied into its file.
 const EMPTY_LOG: u64 = 41;
 
-/// Who may read and write a file that is made here: its owner.
-const OWNER_ALONE: u32 = 0o600;
+/// Who may read and write a file that is made here: only its owner.
+const ONLY_OWNER: u32 = 0o600;
 
 // Whether the port takes the words for a path.
 fn is_path(words: &str) -> bool {
@@ -51,53 +48,49 @@ fn has_only_log(rt: &HostRuntime, path: &str) -> bool {
     }
 }
 
-// Makes the file where there is none, for its owner alone, since the keys of all collectors will stand there. The port
-// gives the log the access that the file has. (Where this fails, so does the open.)
+// Makes the file if there is none, for its owner only, since it will hold the keys of all collectors. The port gives
+// the log the access that the file has. (If this fails, so does the open.)
 fn make_private(rt: &HostRuntime, path: &str) {
-    if !is_path(path) {
-        return;
-    }
     let _made = OpenOptions::new()
         .write(true)
         .create_new(true)
-        .mode(OWNER_ALONE)
+        .mode(ONLY_OWNER)
         .open(rt, path);
 }
 
-/// Does the job in the office of the file at the path, of which `start` says how a crash is read, and closes the file,
-/// with what its log holds copied into it. A file that is empty or isn't there gets the tables of an office that holds
-/// nothing; else it is to hold those of an office, and stays as it is, or those of schema 1, and is migrated. Where the
-/// file can't be opened so, the job doesn't begin, and the file is as it was; nor does it begin if a log that holds
-/// something is there without its file. Beside what the job tells stands what became of the close: each answered command
-/// is kept before that already.
-pub fn job_in_file<S: Start, J: BookJob, R: Read, W: Write, E: Write>(
-    rt: &HostRuntime,
-    path: &str,
-    start: S,
-    job: &mut J,
-    reader: &mut R,
-    out: &mut W,
-    err: &mut E,
-) -> Result<(J::Told, Result<(), OpenFault>), OpenFault>
-    ensures done { IfOk result (λ it. IsDoneIn ⟦<FileFrom<S> as Disk>⟧ (image_at S.Start) (J.does job.old)
-        (R.remaining reader.old) (W.contents out.old) (W.contents out.new) it.0) }
-    ensures refused { IfErr result (IsRefused ⟦<FileFrom<S> as Disk>⟧ (image_at S.Start)) }
-    ensures untouched { IfErr result (λ _. (reader.new ≡ reader.old)
-        × (out.new ≡ out.old) × (err.new ≡ err.old)) }
-{
-    if has_only_log(rt, path) {
-        return Err(OpenFault::Store);
-    }
-    make_private(rt, path);
-    let conn = match Connection::open_from(rt, path, false, start) {
-        Ok(conn) => conn,
-        Err(_) => return Err(OpenFault::Store),
-    };
-    match job_over(rt, conn, job, reader, out, err) {
-        Ok((conn, told)) => Ok((told, conn.close().map_err(|_| OpenFault::Store))),
-        Err(unopened) => {
-            let _ = unopened.conn.close();
-            Err(unopened.fault)
+/// The file at a path and its log. They are closed when they are put back, and may be taken again and again. Nothing is
+/// supposed of what they hold.
+#[derive(Drop)]
+pub struct FileAt<'a> {
+    pub path: &'a str,
+}
+
+impl Cabinet for FileAt<'_> {
+    type Medium = FileFrom<Unknown>;
+
+    ghost gives = { λ _ _ _. ⊤ };
+
+    ghost refuses = { λ _ fault _. fault ≡ Store };
+
+    ghost keeps = { λ _ _ _. ⊤ };
+
+    fn take(&mut self, rt: &HostRuntime) -> Result<(Files<FileFrom<Unknown>>, Options), OpenFault> {
+        if !is_path(self.path) || has_only_log(rt, self.path) {
+            return Err(OpenFault::Store);
         }
+        let Ok(hasher) = RandomState::new(rt) else {
+            return Err(OpenFault::Store);
+        };
+        make_private(rt, self.path);
+        match sqlite_std_file::open(rt, self.path, Unknown) {
+            Ok(files) => Ok((files, Options::new(hasher.hash_one(&0u8)))),
+            Err(_) => Err(OpenFault::Store),
+        }
+    }
+
+    fn put_back(&mut self, files: Files<FileFrom<Unknown>>)
+        ensures { ⊤ }
+    {
+        drop(files);
     }
 }

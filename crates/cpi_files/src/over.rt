@@ -1,15 +1,16 @@
 //! A job over a connection, whatever its store is.
 ghost use Rattle.std.specs.Prelude.{◌≡◌, false, IfOk, IfErr};
 ghost use Rattle.sqlite.specs.Held.{state};
-ghost use Rattle.cpi_files.specs.Over.{IsDoneOver, IsRefusedOver};
+ghost use Rattle.cpi_sql.specs.Opens.{IsUnopened};
+ghost use Rattle.cpi_files.specs.Over.{IsDoneOver};
 
 use crate::job::BookJob;
 use cpi_sql::{SqlBook, Unopened};
 use sqlite::{Alter, Connection};
 use std::io::{Read, Write};
 
-/// Does the job in the office that the connection holds, and gives the connection back with what the job tells. Where
-/// the connection holds no office the job doesn't begin, and the connection is given back as it was.
+/// Does the job in the office that the connection holds, and gives the connection back with what the job tells. If the
+/// connection holds no office, the job doesn't begin, and the connection is given back as it was.
 pub fn job_over<S: Alter + Drop, J: BookJob, R: Read, W: Write, E: Write>(
     rt: &HostRuntime,
     conn: Connection<S>,
@@ -21,11 +22,11 @@ pub fn job_over<S: Alter + Drop, J: BookJob, R: Read, W: Write, E: Write>(
     requires { (state S.Store conn).in_transaction ≡ false }
     ensures done { IfOk result (λ it. IsDoneOver S.Store conn (J.does job.old) (R.remaining reader.old)
         (W.contents out.old) (W.contents out.new) it.0 it.1) }
-    ensures refused { IfErr result (λ e. IsRefusedOver S.Store conn e.fault e.conn) }
+    ensures refused { IfErr result (λ e. IsUnopened S.Store conn e.fault e.conn) }
     ensures untouched { IfErr result (λ _. (reader.new ≡ reader.old)
         × (out.new ≡ out.old) × (err.new ≡ err.old)) }
 {
-    match SqlBook::over(rt.alloc(), conn) {
+    match SqlBook::new(rt.alloc(), conn) {
         Ok(book) => {
             let (book, told) = job.run(rt, book, reader, out, err);
             Ok((book.into_connection(), told))

@@ -1,18 +1,16 @@
-//! The job of a replay in the office of a file.
+//! The job of a replay in the office of files.
 ghost use Rattle.std.specs.Prelude.{◌≡◌, ◌↔◌, IsNone, IsErrOf};
 ghost use Rattle.jiff.specs.Words.{read_whole};
-ghost use Rattle.sqlite.specs.WalFiles.{image_at};
 ghost use Rattle.cpi_app.specs.declared.fault.RunFault.TheVariants as RunFault;
 ghost use Rattle.cpi_files.specs.Replay.{EndsIn};
 
-use crate::file::job_in_file;
+use crate::cabinet::Cabinet;
 use crate::job::BookJob;
+use crate::taken::job_in_cabinet;
 use cpi_app::{RunFault, replay_over};
 use cpi_codes::{Zone, zone_of};
 use cpi_store::Book;
 use cpi_wire::WireFault;
-use sqlite::{FileFrom, Start};
-use sqlite_disk::Disk;
 use std::io::{Read, Write, sink};
 
 // The replay of an input, by the clock of a zone.
@@ -40,20 +38,18 @@ impl BookJob for Replay {
     }
 }
 
-/// Answers the records of the reader, each by its line before the next one is carried out, in the office of the file at
-/// the path, of which `start` says how a crash is read, and closes the file. Civil times are read by the clock of the
-/// zone, input through a buffer. A zone that is no rule of a clock is told before the file is opened, and where it
-/// can't be opened nothing is read and nothing is written, and it is as it was. A fault of the input is told before one
-/// of the close.
-pub fn replay_in_file<S: Start, R: Read, W: Write>(
+/// Answers the records of the reader, each by its line before the next one is carried out, in the office of the
+/// cabinet's files, and closes them. Civil times are read by the clock of the zone, and input through a buffer. If the
+/// zone is no rule of a clock, no file is taken. If the files hold no office, nothing is read, nothing is written, and
+/// they hold what they held. A fault of the input goes before one of the close.
+pub fn replay_in_cabinet<C: Cabinet, R: Read, W: Write>(
     rt: &HostRuntime,
     zone: &str,
-    path: &str,
-    start: S,
+    cabinet: &mut C,
     reader: &mut R,
     writer: &mut W,
 ) -> Result<(), RunFault>
-    ensures ended { EndsIn ⟦<FileFrom<S> as Disk>⟧ (image_at S.Start) zone.now
+    ensures ended { EndsIn C.Cabinet C.Medium.Disk cabinet.old cabinet.new zone.now
         ((reader.new ≡ reader.old) × (writer.new ≡ writer.old)) (R.remaining reader.old)
         (W.contents writer.old) (W.contents writer.new) result }
     ensures bad_zone { IsErrOf result RunFault.BadZone ↔ IsNone (read_whole zone.now) }
@@ -62,7 +58,7 @@ pub fn replay_in_file<S: Start, R: Read, W: Write>(
         return Err(RunFault::BadZone);
     };
     let mut job = Replay { clock };
-    let (outcome, closed) = job_in_file(rt, path, start, &mut job, reader, writer, &mut sink())?;
+    let (outcome, closed) = job_in_cabinet(rt, cabinet, &mut job, reader, writer, &mut sink())?;
     outcome?;
     Ok(closed?)
 }

@@ -1,57 +1,51 @@
-//! The job of serving the office of a file by HTTP.
-ghost use Rattle.std.specs.Prelude.{◌↔◌, IsNone, IfErr, IsErrOf};
+//! The job of serving the office of files by HTTP.
+ghost use Rattle.std.specs.Prelude.{◌↔◌, IsNone, IfOk, IfErr, IsErrOf};
 ghost use Rattle.jiff.specs.Words.{read_whole};
-ghost use Rattle.sqlite.specs.WalFiles.{image_at};
-ghost use Rattle.cpi_app.specs.Connection.{IsUnheard};
 ghost use Rattle.cpi_app.specs.Desk.{HasNoKey};
+ghost use Rattle.cpi_app.specs.Listener.{IsUnheard};
 ghost use Rattle.cpi_app.specs.declared.fault.RunFault.TheVariants as RunFault;
-ghost use Rattle.cpi_files.specs.Serve.{EndsWithBook, EndsAtDesk, EndsServing};
+ghost use Rattle.cpi_files.specs.Serve.{EndsWithBook, EndsAtDesk, EndsServing, IsListener};
 
-use crate::file::job_in_file;
+use crate::cabinet::Cabinet;
 use crate::job::BookJob;
-use cpi_app::{Desk, RunFault, desk_of, listen, serve_book};
+use crate::taken::job_in_cabinet;
+use cpi_app::{Address, Desk, RunFault, desk_of, serve_book};
 use cpi_store::Book;
-use sqlite::{FileFrom, Start, Unknown};
-use sqlite_disk::Disk;
 use std::io::{Read, Write, empty, sink};
-use std::net::TcpListener;
 
-// What is left of serving: the listener, and how many connections.
+// The rest of serving: the listener, and how many connections are left.
 #[derive(Drop)]
-struct Rest {
-    listener: TcpListener,
+struct Rest<L> {
+    listener: L,
     left: u32,
 }
 
-// Serving up to so many connections at a port of this machine, whose listener is there once an office was opened.
+// Serving up to so many connections at an address, whose listener is there once an office was opened.
 #[derive(Drop)]
-struct Serve<'a> {
+struct Serve<'a, A: Address> {
     desk: &'a Desk,
-    port: u16,
-    listener: Option<TcpListener>,
+    address: &'a A,
+    listener: Option<A::Open>,
     limit: u32,
 }
 
-// The listener that is there, or else one at the port.
-fn listener_at(
-    rt: &HostRuntime,
-    port: u16,
-    listener: Option<TcpListener>,
-) -> Result<TcpListener, RunFault>
-    ensures { IfErr result (λ why. IsUnheard why × IsNone listener) }
+// The listener that is there, or else one that is opened at the address.
+fn listener_at<A: Address>(address: &A, listener: Option<A::Open>) -> Result<A::Open, RunFault>
+    ensures ok { IfOk result (IsListener (A.opens address.now) listener) }
+    ensures err { IfErr result (λ why. IsUnheard why × IsNone listener) }
 {
     match listener {
         Some(listener) => Ok(listener),
-        None => listen(rt, port),
+        None => address.listen(),
     }
 }
 
-impl BookJob for Serve<'_> {
+impl<A: Address> BookJob for Serve<'_, A> {
     ghost use Rattle.cpi_files.specs.Serve.{Serves};
 
-    type Told = Result<Rest, RunFault>;
+    type Told = Result<Rest<A::Open>, RunFault>;
 
-    ghost does = { λ job. Serves job.desk.now job.listener job.limit };
+    ghost does = { λ job. Serves A.Open.meets (A.opens job.address.now) job.desk.now job.listener job.limit };
 
     fn run<B: Book, R: Read, W: Write, E: Write>(
         &mut self,
@@ -60,103 +54,100 @@ impl BookJob for Serve<'_> {
         _reader: &mut R,
         _out: &mut W,
         _err: &mut E,
-    ) -> (B, Result<Rest, RunFault>) {
+    ) -> (B, Result<Rest<A::Open>, RunFault>) {
         if self.listener.is_some() {
             let _ = eprintln!(rt; "cpi: the file is open again");
         }
-        let listener = match listener_at(rt, self.port, self.listener.take()) {
+        let mut listener = match listener_at(self.address, self.listener.take()) {
             Ok(listener) => listener,
             Err(fault) => return (book, Err(fault)),
         };
-        let (book, served) = serve_book(rt.alloc(), rt, &listener, self.limit, self.desk, book);
+        let (book, served) = serve_book(rt.alloc(), rt, &mut listener, self.limit, self.desk, book);
         match served {
             Ok(left) => (book, Ok(Rest { listener, left })),
-            Err(fault) => (book, Err(fault)),
+            Err(_) => (book, Err(RunFault::NoClock)),
         }
     }
 }
 
-// Serves over the office of the file until no connection is left or one of them shook the book, and closes the file. A
-// close that failed is told where none is left.
-fn serve_in_file<S: Start>(
+// Serves over the office of the cabinet's files until no connection is left or one of them shook the book, and closes
+// them. If none is left, a close that failed is the fault.
+fn serve_in_cabinet<C: Cabinet, A: Address>(
     rt: &HostRuntime,
-    path: &str,
-    start: S,
-    job: Serve<'_>,
-) -> Result<Rest, RunFault>
-    ensures { EndsWithBook ⟦<FileFrom<S> as Disk>⟧ (image_at S.Start)
-        job.entry.desk.now job.entry.listener job.entry.limit result }
+    cabinet: &mut C,
+    job: Serve<'_, A>,
+) -> Result<Rest<A::Open>, RunFault>
+    ensures { EndsWithBook C.Cabinet C.Medium.Disk A.Open.meets (A.opens job.entry.address.now)
+        job.entry.desk.now job.entry.listener job.entry.limit cabinet.old cabinet.new result }
 {
     let mut job = job;
-    let (outcome, closed) = job_in_file(
+    let (outcome, closed) = job_in_cabinet(
         rt,
-        path,
-        start,
+        cabinet,
         &mut job,
         &mut empty(),
         &mut sink(),
         &mut sink(),
     )?;
     let rest = outcome?;
-    if rest.left == 0 {
-        closed?;
+    if rest.left > 0 {
+        return Ok(rest);
     }
+    closed?;
     Ok(rest)
 }
 
-// Serves over the office of the file with the desk. Where a connection shook the book, and more are to be served, the
-// file is opened again.
-fn serve_at_desk<S: Start>(
+// Serves over the office of the cabinet's files with the desk. If a connection shook the book, and more are to be
+// served, the files are opened again.
+fn serve_at_desk<C: Cabinet, A: Address>(
     rt: &HostRuntime,
-    path: &str,
-    start: S,
-    port: u16,
+    cabinet: &mut C,
+    address: &A,
     desk: &Desk,
     limit: u32,
 ) -> Result<(), RunFault>
-    ensures { EndsAtDesk ⟦<FileFrom<S> as Disk>⟧ ⟦<FileFrom<Unknown> as Disk>⟧ (image_at S.Start)
-        desk.now limit result }
+    ensures { EndsAtDesk C.Cabinet C.Medium.Disk A.Open.meets (A.opens address.now) desk.now limit
+        cabinet.old cabinet.new result }
 {
     let job = Serve {
         desk,
-        port,
+        address,
         listener: None,
         limit,
     };
-    let mut rest = serve_in_file(rt, path, start, job)?;
+    let mut rest = serve_in_cabinet(rt, cabinet, job)?;
     while rest.left > 0 {
         let Rest { listener, left } = rest;
         let job = Serve {
             desk,
-            port,
+            address,
             listener: Some(listener),
             limit: left,
         };
-        rest = serve_in_file(rt, path, Unknown, job)?;
+        rest = serve_in_cabinet(rt, cabinet, job)?;
     }
     let _ = eprintln!(rt; "cpi: served as many connections as --limit says");
     Ok(())
 }
 
-/// Serves the office in the database file at the path by HTTP, of which `start` says how a crash is read, at a
-/// port of this machine, for so many connections one after another, with the desk of the zone and the key. Where a
-/// connection shook the book, the file is closed and opened again. The faults are those of the zone, of the key, of the
-/// database and of the port, in this order, and then those of the run. Standard error gets a line when the book was
-/// shaken, when the file is open again, and when the limit has come.
-pub fn run_serve<S: Start>(
+/// Serves the office of the cabinet's files by HTTP at an address, for so many connections one after another, with the
+/// desk of the zone and the key. If a connection shook the book, the files are closed, put back and taken again; the
+/// listener stays. The faults are those of the zone, of the key, of the database and of the address, in this order, and
+/// then those of the run. Standard error gets a line when the book was shaken, when the files are open again, and when
+/// the limit has come.
+pub fn run_serve<C: Cabinet, A: Address>(
     rt: &HostRuntime,
-    path: &str,
-    start: S,
-    port: u16,
+    cabinet: &mut C,
+    address: &A,
     key: &str,
     limit: u32,
     zone: &str,
 ) -> Result<(), RunFault>
-    ensures ends { EndsServing ⟦<FileFrom<S> as Disk>⟧ ⟦<FileFrom<Unknown> as Disk>⟧ (image_at S.Start)
-        zone.now key.now limit result }
+    ensures ends { EndsServing C.Cabinet C.Medium.Disk A.Open.meets (A.opens address.now)
+        zone.now key.now limit cabinet.old cabinet.new result }
     ensures bad_zone { IsErrOf result RunFault.BadZone ↔ IsNone (read_whole zone.now) }
     ensures bad_key { IsErrOf result RunFault.BadKey ↔ HasNoKey zone.now key.now }
 {
     let desk = desk_of(zone, key)?;
-    serve_at_desk(rt, path, start, port, &desk, limit)
+    serve_at_desk(rt, cabinet, address, &desk, limit)
 }

@@ -1,15 +1,13 @@
-//! The job of a table of the office of a file.
+//! The job of a table of the office of files.
 ghost use Rattle.std.specs.Prelude.{◌≡◌, IfOk, IfErr};
-ghost use Rattle.sqlite.specs.WalFiles.{image_at};
-ghost use Rattle.cpi_files.specs.Database.{IsRefusedAs};
 ghost use Rattle.cpi_files.specs.Table.{IsPrintedFrom};
+ghost use Rattle.cpi_files.specs.Taken.{IsRefusedAs};
 
-use crate::file::job_in_file;
+use crate::cabinet::Cabinet;
 use crate::job::BookJob;
+use crate::taken::job_in_cabinet;
 use cpi_app::{AskedTable, RunFault, print_table};
 use cpi_store::Book;
-use sqlite::{FileFrom, Start};
-use sqlite_disk::Disk;
 use std::io::{Read, Write, empty};
 
 // The print of a table.
@@ -40,23 +38,22 @@ impl BookJob for Print {
     }
 }
 
-/// Prints a table from the office of the file at the path, of which `start` says how a crash is read, and answers the
-/// status to end with. Where the file can't be opened nothing is written, and it is as it was. The file is closed, and
-/// nothing was written to it, so that nothing is lost where its log can't be copied.
-pub fn table_in_file<S: Start, W: Write, E: Write>(
+/// Prints a table from the office of the cabinet's files, closes them, and answers the status to end with. The office
+/// is as it was, so nothing is lost if their log can't be copied. If the files hold no office, nothing is written, and
+/// they hold what they held.
+pub fn table_in_cabinet<C: Cabinet, W: Write, E: Write>(
     rt: &HostRuntime,
-    path: &str,
-    start: S,
+    cabinet: &mut C,
     asked: AskedTable,
     out: &mut W,
     err: &mut E,
 ) -> Result<u8, RunFault>
-    ensures printed { IfOk result (λ status. IsPrintedFrom ⟦<FileFrom<S> as Disk>⟧ (image_at S.Start) asked
-        (W.contents out.old) (W.contents out.new) status) }
-    ensures fault { IfErr result (IsRefusedAs ⟦<FileFrom<S> as Disk>⟧ (image_at S.Start)) }
+    ensures printed { IfOk result (IsPrintedFrom C.Cabinet C.Medium.Disk cabinet.old cabinet.new asked
+        (W.contents out.old) (W.contents out.new)) }
+    ensures fault { IfErr result (IsRefusedAs C.Cabinet C.Medium.Disk cabinet.old cabinet.new) }
     ensures untouched { IfErr result (λ _. (out.new ≡ out.old) × (err.new ≡ err.old)) }
 {
     let mut job = Print { asked };
-    let (status, _) = job_in_file(rt, path, start, &mut job, &mut empty(), out, err)?;
+    let (status, _) = job_in_cabinet(rt, cabinet, &mut job, &mut empty(), out, err)?;
     Ok(status)
 }

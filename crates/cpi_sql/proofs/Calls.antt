@@ -1,5 +1,6 @@
 -- The calls of a book over a database: what they show, and what a crash leaves.
-use Rattle.std.proofs.Common.{◌≡◌, ◌⊎◌, ℕ, Result, Ok, Err, IsTrue, false, arith, ap, inl, inr, refl, ◌∙◌}
+use Rattle.std.proofs.Common.{◌≡◌, ◌⊎◌, ℕ, Result, Ok, Err, IsTrue, false, arith, ap, inl, inr, refl, subst, sym}
+use Rattle.std.proofs.Common.{◌∙◌}
 use Rattle.std.specs.Prelude.{OnOk}
 use Rattle.std.specs.Result.{IsErr, is_ok}
 use Rattle.sqlite.specs.Effect.{Database}
@@ -10,6 +11,7 @@ use Rattle.cpi_store.specs.Office.{Change, Office, changed}
 use Rattle.cpi_store.specs.Calls.{Writes}
 use Rattle.cpi_sql_rows.specs.Finding.{IsSettled}
 use Rattle.cpi_sql_rows.specs.Lists.{office_in}
+use Rattle.cpi_sql_rows.specs.Making.{IsOfficeDatabase}
 use Rattle.cpi_sql_rows.specs.Shelf.{HasTables, IsCleanBook, IsDone, IsLook, Looks, office_state}
 use Rattle.cpi_sql_writes.specs.Written.{Written}
 use Rattle.cpi_sql.specs.Calls.{IsCounted}
@@ -57,7 +59,7 @@ module _ {change : Change} {fits : Office → Type 0} {A E : Type 0} (old new : 
       → (office_state old n).may_leave o ⊎ (o ≡ changed change (office_in old.now.trees))
   left r written tables owed was disk o may = elim (written.crash.crash disk may.0 may.1) [
     | inl before ↦ inl (may.0, before, may.2)
-    | inr made ↦ inr (may.2 ∙ made (tables was) (owed was))
+    | inr made ↦ let it = made (tables was) (owed was) in inr (may.2 it.0 ∙ it.1.office)
   ]
 
   module _ {F : Type 0} (put : Result A E) (m : ℕ) (written : Written change fits old new put)
@@ -74,13 +76,15 @@ module _ {change : Change} {fits : Office → Type 0} {A E : Type 0} (old new : 
           was_kept = λ disk. omega (arith, disk, written.crash.clean);
           was_clean = written.clean;
           stays = λ was disk. record { disk = disk; is_open = on_ok put counted (opens disk (tables was).alone) };
-          done = λ clean. (done clean).office;
+          done = λ clean. (done clean).made.office;
           kept = λ clean. tt;
           count = omega (arith, on_ok put counted counted.same);
           fault = tt;
           crash = left put written tables owed;
           answered = λ clean o may.
-              may.2 ∙ ap office_in (settled clean.is_open (done clean).tables.alone may.0 may.1) ∙ (done clean).office;
+              let is = settled clean.is_open (done clean).tables.alone may.0 may.1 in
+              may.2 (subst IsOfficeDatabase (sym is) (done clean).tables.office) ∙ ap office_in is
+              ∙ (done clean).made.office;
         }
 
     pub put_fails : {T G : Type 0} {f : F} (r : Result T G) → IsErr r → IsCounted put (Err f) n m

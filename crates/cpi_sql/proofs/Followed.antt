@@ -16,9 +16,10 @@ use Rattle.cpi_store.proofs.Released.{release_total}
 use Rattle.cpi_sql_rows.specs.HeldTables.{HeldTable, beside, carried_table, frozen_table, level_table, release_in}
 use Rattle.cpi_sql_rows.specs.Texts.{is_release}
 use Rattle.cpi_sql_writes.specs.ReleaseSteps.{IsNew, ListsStand}
-use Rattle.cpi_sql_rows.specs.Lists.{headers_in, office_in, releases_in, release_number}
+use Rattle.cpi_sql_rows.specs.Lists.{office_in, releases_in, release_number}
+use Rattle.cpi_sql_rows.specs.Making.{IsOfficeDatabase}
 use Rattle.cpi_sql_rows.specs.Shelf.{AllStand, AllStandFor, AreTaken, HasTables, IsCleanBook, IsDone}
-use Rattle.cpi_sql_rows.specs.Shelf.{IsLook, Takes, WritesTaken, survey_of}
+use Rattle.cpi_sql_rows.specs.Shelf.{IsLook, IsPlanTaken, Takes, WritesTaken, survey_of}
 use Rattle.cpi_sql_rows.proofs.Kept.{kept_tables}
 use Rattle.cpi_sql_writes.specs.Written.{Written}
 use Rattle.cpi_sql_reads.specs.Headers.{AreHeadersOf}
@@ -81,8 +82,17 @@ module _ {X : Type 0} (entry : Row → Option X) (old new : List Row) (takes : T
   unfolding Takes AllStandFor
   still_taken_for holder number all r h is = elim (takes r h) [ inl was ↦ all r was is | inr stands ↦ stands ]
 
-survey_taken : (old new : Trees) → WritesTaken old new → AreTaken old → AreTaken new
-survey_taken old new rows was = record {
+plan_taken : (old new : Trees) → WritesTaken old new → (year : ℕ) → IsPlanTaken year old → IsPlanTaken year new
+plan_taken old new rows year was = record {
+  nodes = still_taken_for _ _ _ rows.nodes _ year was.nodes;
+  places = still_taken_for _ _ _ rows.places _ year was.places;
+  references = still_taken_for _ _ _ rows.references _ year was.references;
+}
+
+survey_taken : (old new : Trees) → IsOfficeDatabase new → WritesTaken old new → AreTaken old → AreTaken new
+survey_taken old new is rows was = record {
+  whole = is.whole;
+  plans = λ year. plan_taken old new rows year (was.plans year);
   assignments = still_taken _ _ _ rows.assignments was.assignments;
   quotes = still_taken _ _ _ rows.quotes was.quotes;
 }
@@ -154,7 +164,7 @@ module _ {change : Change} {fits : Office → Type 0} {A E F : Type 0} {u : A} {
       let st = sound was in
       let done : IsDone change old new = on_ok put counted (written.done clean st.tables (owed was)) in
       let same : releases_in new.now.trees ≡ releases_in old.now.trees =
-      ap (λ (o : Office). o.releases) done.office ∙ still (office_in old.now.trees) in
+      ap (λ (o : Office). o.releases) done.made.office ∙ still (office_in old.now.trees) in
       record {
         tables = done.tables;
         kept = record {
@@ -163,11 +173,11 @@ module _ {change : Change} {fits : Office → Type 0} {A E F : Type 0} {u : A} {
               let before = st.kept.survey it.0 in
               record {
                 read = it.1 ∙ ap (changed change) before.read ∙ sym (passes (office_in old.now.trees))
-                    ∙ sym (ap survey_of done.office);
-                taken = survey_taken old.now.trees new.now.trees done.rows before.taken;
+                    ∙ sym (ap survey_of done.made.office);
+                taken = survey_taken old.now.trees new.now.trees done.tables.office done.made.rows before.taken;
               };
-          headers = λ t. headers_stand old.now.trees new.now.trees done.rows same c.headers (st.kept.headers t);
-          lists = lists_stand old.now.trees new.now.trees done.rows
+          headers = λ t. headers_stand old.now.trees new.now.trees done.made.rows same c.headers (st.kept.headers t);
+          lists = lists_stand old.now.trees new.now.trees done.made.rows
               (λ key r. subst (λ rs. row_at release_cmp release_key key rs ≡ Some r) (sym same)) c.lists st.kept.lists;
           samples = tt;
         };
@@ -187,7 +197,7 @@ release_sound {put = put} r old new c written counted owed stands sound headers 
     let none = owed was in
     let done : IsDone (Freezes r) old new = on_ok put counted (written.done clean st.tables none) in
     let stand : ListsStand r new.now.trees = on_ok put counted (stands clean st.tables none) in
-    let put_in = ap (λ (o : Office). o.releases) done.office in
+    let put_in = ap (λ (o : Office). o.releases) done.made.office in
     let still = put_still old.now.trees new.now.trees r none put_in in
     let there = put_there old.now.trees new.now.trees r none put_in stand in record {
       tables = done.tables;
@@ -195,12 +205,12 @@ release_sound {put = put} r old new c written counted owed stands sound headers 
         survey = λ t.
             let before = st.kept.survey t in
             record {
-              read = before.read ∙ sym (ap survey_of done.office);
-              taken = survey_taken old.now.trees new.now.trees done.rows before.taken;
+              read = before.read ∙ sym (ap survey_of done.made.office);
+              taken = survey_taken old.now.trees new.now.trees done.tables.office done.made.rows before.taken;
             };
         headers = λ t. absurd (let no = t in cc);
         lists = follows new.now.trees
-            (lists_stand old.now.trees new.now.trees done.rows still c.lists st.kept.lists) there;
+            (lists_stand old.now.trees new.now.trees done.made.rows still c.lists st.kept.lists) there;
         samples = tt;
       };
     }

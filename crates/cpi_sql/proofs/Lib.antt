@@ -1,3 +1,5 @@
 pub mod Calls
 pub mod Counted
 pub mod Followed
+pub mod Lending
+pub mod TablesTaken

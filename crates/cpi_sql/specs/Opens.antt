@@ -5,7 +5,7 @@ use Rattle.sqlite.specs.State.{Survives}
 use Rattle.sqlite_trees.specs.declared.store.Store.{Ghosts}
 use Rattle.cpi_store.specs.declared.open_fault.OpenFault.{OpenFault}
 use Rattle.cpi_store.specs.declared.open_fault.OpenFault.TheVariants.{UnknownSchema}
-use Rattle.cpi_sql_rows.specs.Finding.{AreWhole, IsOpened, IsSettled, MayBeMade}
+use Rattle.cpi_sql_rows.specs.Finding.{AreWhole, HavePlanYears, IsOpened, IsSettled, MayBeMade}
 use Rattle.cpi_sql_rows.specs.Numbered.{ShowsOther}
 use Rattle.cpi_sql_rows.specs.Shelf.{IsCleanBook, IsKept, Shelf, StaysOpen}
 
@@ -16,6 +16,7 @@ pub record IsOpenedOffice {S : Type 0} (store : Ghosts S) (was : Held S) (b : Sh
   pub settled : IsCleanBook (state store b.held) → IsSettled (state store b.held)
   pub crash : Survives (state store was) (state store b.held) (MayBeMade (state store was))
   pub whole : IsCleanBook (state store b.held) → AreWhole (state store b.held).now.trees
+  pub years : IsCleanBook (state store b.held) → HavePlanYears (state store b.held).now.trees
   pub count : b.failures ≡ 0
   pub unread : b.is_read ≡ false
   pub no_headers : b.has_headers ≡ false

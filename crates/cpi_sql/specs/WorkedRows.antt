@@ -35,6 +35,10 @@ rice = record { division = 1; group = Some 1; class = Some 1; subclass = Some 1;
 abbrev pub flour : Code
 flour = record { division = 1; group = Some 1; class = Some 1; subclass = Some 2; aggregate = Some 1; valid = refl }
 
+-- the code of the subclass above it
+abbrev pub flours : Code
+flours = record { division = 1; group = Some 1; class = Some 1; subclass = Some 2; aggregate = None; valid = refl }
+
 -- ---- items
 
 -- a row of an item with these tolerances
@@ -77,10 +81,14 @@ Calendar =
 
 -- ---- quotes of collector 7: December 2025 is month 311
 
+-- a row of a quote with this mark, value and receipt
+abbrev pub quote_with : List ℕ → ℕ → ℕ → Row
+quote_with mark value receipt =
+    number 5 ∷ number 7 ∷ number 4 ∷ number 202512 ∷ word mark ∷ number value ∷ number receipt ∷ []
+
 -- a row of a quote with this mark and value
 abbrev pub quote_row : List ℕ → ℕ → Row
-quote_row mark value =
-    number 5 ∷ number 7 ∷ number 4 ∷ number 202512 ∷ word mark ∷ number value ∷ number 9 ∷ []
+quote_row mark value = quote_with mark value 9
 
 -- which rows are quotes
 abbrev pub Quotes : Type 0
@@ -91,6 +99,18 @@ Quotes =
     ≡ Some (7, record { slot = 4; month = 311; mark = Missing Stock; receipt = 9 }))
     × (quote_in (quote_row (codes "price") 0) ≡ None)
     × (quote_in (quote_row (codes "prices") 200) ≡ None)
+
+-- a price that was stored with this receipt
+abbrev pub receipt_row : ℕ → Row
+receipt_row receipt = quote_with (codes "price") 200 receipt
+
+-- the receipts of a collector: 1 to 1,000,000
+abbrev pub Receipts : Type 0
+Receipts =
+    (quote_in (receipt_row 1) ≡ Some (7, record { slot = 4; month = 311; mark = Price 200; receipt = 1 }))
+    × (quote_in (receipt_row 1000000) ≡ Some (7, record { slot = 4; month = 311; mark = Price 200; receipt = 1000000 }))
+    × (quote_in (receipt_row 0) ≡ None)
+    × (quote_in (receipt_row 1000001) ≡ None)
 
 -- ---- assignments of collector 7: December 2026 is month 323
 
@@ -209,16 +229,21 @@ CarriedPrices =
     × (carried_in (carried_row 1) ≡ Some (3141, record carried_price { imputed = true }))
     × (carried_in (carried_row 2) ≡ None)
 
--- 98 points, which is 2.0 percent less than the month before
-abbrev pub level_row : ℕ → Value → ℕ → Row
-level_row weight year_change imputed =
-    number 5 ∷ number 202601 ∷ number 2 ∷ word (codes "01.1.1.2-01") ∷ word (codes "Flour, wheat") ∷ number weight
+-- a row of a table with this code, weight in use and annual change: 98 points, which is 2.0 percent less than the
+-- month before
+abbrev pub row_of : List ℕ → ℕ → Value → ℕ → Row
+row_of code weight year_change imputed =
+    number 5 ∷ number 202601 ∷ number 2 ∷ word code ∷ word (codes "Flour, wheat") ∷ number weight
     ∷ number 98000000 ∷ number 98000000 ∷ Int (negsuc 19) ∷ year_change ∷ number imputed ∷ []
 
--- the row of a table with this chained level and annual change
-abbrev pub level_with : ℕ → Option ℤ → Level
-level_with weight year_change = record {
-  code = flour;
+-- the row of the elementary aggregate of flour
+abbrev pub level_row : ℕ → Value → ℕ → Row
+level_row = row_of (codes "01.1.1.2-01")
+
+-- the row of a table with this code, weight and annual change
+abbrev pub level_of : Code → ℕ → Option ℤ → Level
+level_of code weight year_change = record {
+  code = code;
   title = codes "Flour, wheat";
   weight = weight;
   within = 98000000;
@@ -227,6 +252,10 @@ level_with weight year_change = record {
   year_change = year_change;
   imputed = false;
 }
+
+-- the same of the elementary aggregate of flour
+abbrev pub level_with : ℕ → Option ℤ → Level
+level_with = level_of flour
 
 -- which rows are rows of a table
 abbrev pub Levels : Type 0
@@ -237,10 +266,27 @@ Levels =
     × (level_in (level_row 400000 (word (codes "0")) 0) ≡ None)
     × (level_in (level_row 400000 Null 2) ≡ None)
 
--- the weights in use at and below a node: 1 to 10^15
+-- the weights in use of an elementary aggregate: 1 to 10^9
 abbrev pub Weights : Type 0
 Weights =
     (level_in (level_row 1 Null 0) ≡ Some (3122, level_with 1 None))
-    × (level_in (level_row 1000000000000000 Null 0) ≡ Some (3122, level_with 1000000000000000 None))
+    × (level_in (level_row 1000000000 Null 0) ≡ Some (3122, level_with 1000000000 None))
     × (level_in (level_row 0 Null 0) ≡ None)
-    × (level_in (level_row 1000000000000001 Null 0) ≡ None)
+    × (level_in (level_row 1000000001 Null 0) ≡ None)
+
+-- the row of the node above that of flour, its subclass
+abbrev pub above_row : ℕ → Row
+above_row weight = row_of (codes "01.1.1.2") weight Null 0
+
+-- what stands in it
+abbrev pub above_with : ℕ → Level
+above_with weight = level_of flours weight None
+
+-- the sums of weights in use: 1 to 10^15
+abbrev pub SumsOfWeights : Type 0
+SumsOfWeights =
+    (level_in (above_row 1) ≡ Some (3122, above_with 1))
+    × (level_in (above_row 1000000001) ≡ Some (3122, above_with 1000000001))
+    × (level_in (above_row 1000000000000000) ≡ Some (3122, above_with 1000000000000000))
+    × (level_in (above_row 0) ≡ None)
+    × (level_in (above_row 1000000000000001) ≡ None)

@@ -1,5 +1,7 @@
 //! The office in a database: a book whose survey is read once and kept, and whose releases stay in the tables.
-ghost use Rattle.std.specs.Prelude.{◌≡◌, IfOk, MatchResult};
+ghost use Rattle.std.specs.Borrow.{sem};
+ghost use Rattle.std.specs.Option.{option_copied};
+ghost use Rattle.std.specs.Prelude.{◌≡◌, MatchResult};
 ghost use Rattle.cpi_codes.specs.Month.{year_of};
 ghost use Rattle.cpi_index.specs.Series.{frozen_serial, is_by_series};
 ghost use Rattle.cpi_release.specs.FrozenMonths.{frozen_months};
@@ -7,19 +9,21 @@ ghost use Rattle.cpi_release.specs.GroupCalls.{IsAfterFrozen, group_of};
 ghost use Rattle.cpi_release.specs.KeptSamples.{IsFit};
 ghost use Rattle.cpi_release.specs.PublishedTables.{frozen_month_of, published_until};
 ghost use Rattle.cpi_release.specs.Releases.{level_at};
+ghost use Rattle.cpi_store.specs.Calls.{EndsAs};
 ghost use Rattle.cpi_store.specs.Bearer.{bearer_of, collector_key, collector_of};
-ghost use Rattle.cpi_store.specs.Office.{Office, month_rows as rows_of_month};
+ghost use Rattle.cpi_store.specs.Office.{Office, month_rows as rows_of_month, own_part, public_part};
 ghost use Rattle.cpi_store.specs.Sources.{office_sources};
 ghost use Rattle.cpi_store.specs.Tables.{table_until};
 ghost use Rattle.cpi_sql_rows.specs.Common.{⊤, AreTaken, IsTrue, None, OnErr, OnOk, at, book_state, false};
-ghost use Rattle.cpi_sql_rows.specs.Common.{held_by, map, option_map, refl, state, true};
+ghost use Rattle.cpi_sql_rows.specs.Common.{held_by, map, option_map, refl, state, true, Some};
 ghost use Rattle.cpi_sql_rows.specs.Finding.{IsSettled};
 ghost use Rattle.cpi_sql_rows.specs.Lists.{level_in};
 ghost use Rattle.cpi_sql_rows.specs.Tables.{level_2};
 ghost use Rattle.cpi_sql_reads.specs.Headers.{LatestStands};
 ghost use Rattle.cpi_sql_reads.specs.Samples.{SamplesTaken};
-ghost use Rattle.cpi_sql.specs.Calls.{Finds, HeadersTaken, IsCounted, KeepsRows, ReadsOffice, RestsOn};
+ghost use Rattle.cpi_sql.specs.Calls.{Finds, HeadersTaken, IsCounted, IsTableTaken, KeepsRows, ReadsOffice, RestsOn};
 ghost use Rattle.cpi_sql.specs.Opens.{IsOpenedOffice, IsUnopened};
+ghost use Rattle.cpi_sql.specs.contracts.sql_book.SqlBook.{the_row};
 
 use cpi_codes::{Code, CollectorId, Key, Moment, Month, OutletId, Slot};
 use cpi_index::{ChainedLevel, FrozenQuote, GroupRow};
@@ -104,11 +108,13 @@ pub struct Unopened<S: Alter> {
 }
 
 impl<S: Alter + Drop> SqlBook<S> {
-    /// The office in the database. Where it has no table, the tables are made, all or none; else they are to be those
-    /// of the office with the row 2 in `version`, and no row changes, or those of schema 1 with the row 1, which are
-    /// migrated, all or none. After that a crash leaves what is there. On a fault the database is as it was, and its
-    /// connection is given back; the schema is unknown only where `version` can be read and says another number.
-    pub fn over(alloc: Global, conn: Connection<S>) -> Result<SqlBook<S>, Unopened<S>>
+    /// The office in the database. If it has no table, the tables are made, all or none. Else they have to be those of
+    /// the office with the row 2 in `version`, and no row changes, or those of schema 1 with the row 1, which are
+    /// migrated, all or none. After that a crash leaves what is there. On a fault the database is as it was; the schema
+    /// is unknown only if `version` can be read and says another number. The fault comes with the connection: no contract
+    /// can say what a connection holds once it is let go. A caller that wants only the fault writes
+    /// `map_err(|unopened| unopened.fault)`.
+    pub fn new(alloc: Global, conn: Connection<S>) -> Result<SqlBook<S>, Unopened<S>>
         requires { (state S.Store conn).in_transaction ≡ false }
         ensures { MatchResult result (IsOpenedOffice S.Store conn) (λ e. IsUnopened S.Store conn e.fault e.conn) }
     {
@@ -129,14 +135,6 @@ impl<S: Alter + Drop> SqlBook<S> {
             }),
             Err(fault) => Err(Unopened { fault, conn }),
         }
-    }
-
-    /// The same, with the connection let go on a fault.
-    pub fn new(alloc: Global, conn: Connection<S>) -> Result<SqlBook<S>, OpenFault>
-        requires { (state S.Store conn).in_transaction ≡ false }
-        ensures { IfOk result (IsOpenedOffice S.Store conn) }
-    {
-        SqlBook::over(alloc, conn).map_err(|unopened| unopened.fault)
     }
 
     /// The connection, given back.
@@ -322,22 +320,40 @@ impl<S: Alter> Book for SqlBook<S> {
         Ok(self.survey.bearer_at(number).map(|bearer| bearer.key))
     }
 
-    fn outlet(&mut self, number: OutletId) -> Result<Option<&Outlet>, StoreFault> {
+    fn outlet(&mut self, number: OutletId) -> Result<Option<&Outlet>, StoreFault>
+        ensures* reads { sem 𝓛 (EndsAs (the_row S.row S.Store) self.entry (λ book.
+            ReadsOffice S.Store self.old book result (λ office found.
+            option_copied found ≡ at (λ u. u.number) number office.outlets)
+            × RestsOn S.Store self.old book result AreTaken)) }
+    {
         self.ready_survey()?;
         Ok(self.survey.outlet(number))
     }
 
-    fn public_part(&mut self) -> Result<&Public, StoreFault> {
+    fn public_part(&mut self) -> Result<&Public, StoreFault>
+        ensures* reads { sem 𝓛 (EndsAs (the_row S.row S.Store) self.entry (λ book.
+            ReadsOffice S.Store self.old book result (λ office public. public.now ≡ public_part office)
+            × RestsOn S.Store self.old book result AreTaken)) }
+    {
         self.ready_survey()?;
         Ok(self.survey.public())
     }
 
-    fn own(&mut self, collector: CollectorId) -> Result<&Own, StoreFault> {
+    fn own(&mut self, collector: CollectorId) -> Result<&Own, StoreFault>
+        ensures* reads { sem 𝓛 (EndsAs (the_row S.row S.Store) self.entry (λ book.
+            ReadsOffice S.Store self.old book result (λ office own. own.now ≡ own_part collector office)
+            × RestsOn S.Store self.old book result AreTaken)) }
+    {
         self.ready_survey()?;
         Ok(self.survey.own(collector))
     }
 
-    fn parts(&mut self, collector: CollectorId) -> Result<Parts<'_>, StoreFault> {
+    fn parts(&mut self, collector: CollectorId) -> Result<Parts<'_>, StoreFault>
+        ensures* reads { sem 𝓛 (EndsAs (the_row S.row S.Store) self.entry (λ book.
+            ReadsOffice S.Store self.old book result (λ office parts.
+            (parts.public.now ≡ public_part office) × (parts.own.now ≡ own_part collector office))
+            × RestsOn S.Store self.old book result AreTaken)) }
+    {
         self.ready_survey()?;
         Ok(self.survey.parts(collector))
     }
@@ -399,7 +415,12 @@ impl<S: Alter> Book for SqlBook<S> {
         month: Month,
         revision: Revision,
         until: Moment,
-    ) -> Result<Option<&Rows<Level>>, StoreFault> {
+    ) -> Result<Option<&Rows<Level>>, StoreFault>
+        ensures* reads { sem 𝓛 (EndsAs (the_row S.row S.Store) self.entry (λ book.
+            ReadsOffice S.Store self.old book result (λ office found.
+            option_copied found ≡ option_map (λ t. t.levels) (table_until month (Some revision) until office.releases))
+            × RestsOn S.Store self.old book result (IsTableTaken month revision until))) }
+    {
         self.ready_headers()?;
         if !is_there(&self.headers, month, revision, until) {
             return Ok(None);

@@ -1,75 +1,113 @@
--- What the copies of the rows of schema 1 stand for.
-use Rattle.std.proofs.Common.{◌≡◌, ℕ, ℤ, pos, ◌&&◌, Bool, true, false, codes, Some, refl, sym, ap, subst}
+-- What the copies of the rows of schema 1 are, and what they stand for.
+use Rattle.std.proofs.Common.{◌≡◌, pos, true, List, [], ◌∷◌, drop, Option, refl, sym, ap, ◌∙◌}
+use Rattle.std.proofs.lemmas.List.Sorted.{IsPermutation-sym}
+use Rattle.std.specs.Cmp.{IsTotalOrder}
+use Rattle.std.specs.declared.cmp.Ordering.{Ordering}
 use Rattle.sqlite.specs.declared.types.Value.{Value}
-use Rattle.sqlite.specs.declared.types.Value.TheVariants.{Null, Int, Text}
-use Rattle.sqlite.specs.Order.{column, value_cmp}
+use Rattle.sqlite.specs.declared.types.Value.TheVariants.{Null, Int}
+use Rattle.sqlite.specs.Order.{Row, column}
 use Rattle.sqlite.specs.Cast.{cast}
 use Rattle.sqlite.specs.Kind.TheVariants as kind
-use Rattle.sqlite.specs.Ops.{binary, unary, is_true}
-use Rattle.sqlite.specs.Collation.TheVariants.{Binary}
-use Rattle.sqlite_sql.specs.declared.ops.UnaryOp.TheVariants.{TypeOf}
-use Rattle.sqlite_sql.specs.declared.ops.BinaryOp.TheVariants.{Compare}
-use Rattle.sqlite_sql.specs.declared.ops.CompareOp.TheVariants.{Eq}
-use Rattle.cpi_sql_rows.specs.Lists.{number_in, month_from, month_at, assignment_in, quote_in, header_in, frozen_in}
-use Rattle.cpi_sql_rows.specs.Lists.{carried_in, level_in}
-use Rattle.cpi_sql_rows.proofs.Lists.{bound_is}
+use Rattle.sqlite_trees.specs.View.{is_int}
+use Rattle.sqlite_rules.specs.Lists.{Has}
+use Rattle.sqlite_rules.proofs.ProbeLemmas.{has_mapped, mapped_has}
+use Rattle.cpi_sql_rows.specs.Copies.{AreCopies, contents}
+use Rattle.cpi_sql_rows.specs.Lists.{listed, assignment_in, quote_in, header_in, frozen_in, carried_in, level_in}
+use Rattle.cpi_sql_rows.specs.Shelf.{IsKeyed}
+use Rattle.cpi_sql_rows.proofs.Listed.{listed_is, listed_in_order, listed_stands, stands_listed}
+use Rattle.cpi_sql_rows.proofs.Reading.{has_permuted}
 use Rattle.cpi_sql_rows.proofs.Writing.{cast_int, cast_null}
-use Rattle.cpi_sql_open.proofs.CopiedRows.{StandsFor}
+use Rattle.cpi_sql_open.proofs.CopiedRows.{Fits}
 use Rattle.cpi_sql_open.proofs.Moves.{assignments, quotes, releases, frozen, carried, levels}
 use Rattle.cpi_sql_open.proofs.Texts.{◌▸◌}
 
-pub assignments_stand : StandsFor assignment_in assignments
-assignments_stand = record {
-  same = λ v r. refl;
-  taken = λ r x e. refl;
-  fixed = λ r e s. s.0 ▸ s.1.0 ▸ s.1.1.0 ▸ s.1.1.1.0 ▸ s.1.1.1.1.0 ▸ s.1.1.1.1.1.0 ▸ s.0 ▸ s.1.0 ▸ cast_null ▸ tt;
-}
+-- ---- the new tables take the copies as they are
 
-pub quotes_stand : StandsFor quote_in quotes
-quotes_stand = record { same = λ v r. refl; taken = λ r x e. refl; fixed = λ r e s. s }
+pub assignments_fit : Fits assignments
+assignments_fit r id s =
+    s.0 ▸ s.1.0 ▸ s.1.1.0 ▸ s.1.1.1.0 ▸ s.1.1.1.1.0 ▸ s.1.1.1.1.1.0 ▸ s.0 ▸ s.1.0 ▸ cast_null ▸ tt
 
--- ---- headers
+pub quotes_fit : Fits quotes
+quotes_fit r id s = s
 
-abbrev is_whole_number : Value → Bool
-is_whole_number v =
-    is_true (binary (Compare Eq Binary) (unary TypeOf v) (Text (codes "integer"))) && true
+number_cast : (v : Value) → is_int v ≡ true → cast kind.Integer v ≡ v
+number_cast (Int n) e = cast_int n
+number_cast v e = cc
 
-whole_tested : (n : ℤ) → is_whole_number (Int n) ≡ true
-unfolding binary unary value_cmp lib.Ieee.is_nan lib.Ieee.lt
-whole_tested n = refl
+pub releases_fit : Fits releases
+releases_fit r id s = number_cast (column r 0) id ▸ cast_int (pos 1) ▸ s.1.0 ▸ s.1.1.0 ▸ s.1.1.1.0 ▸ tt
 
-tested_whole : (v : Value) → is_whole_number v ≡ true → cast kind.Integer v ≡ v
-unfolding binary unary value_cmp lib.Ieee.is_nan lib.Ieee.lt
-tested_whole Null e = cast_null
-tested_whole (Int n) e = cast_int n
-tested_whole v e = absurd (let no : false ≡ true = e in cc)
+pub frozen_fit : Fits frozen
+frozen_fit r id s = s.0 ▸ cast_int (pos 1) ▸ s.1
 
-number_column : (v : Value) (n : ℕ) → number_in v ≡ Some n → v ≡ Int (pos n)
-number_column (Int (pos m)) n e = let same : m ≡ n = cc in ap (λ k. Int (pos k)) same
-number_column v n e = cc
+pub carried_fit : Fits carried
+carried_fit r id s = s.0 ▸ cast_int (pos 1) ▸ s.1
 
-month_tested : (v : Value) (m : ℕ) → month_from v ≡ Some m → is_whole_number v ≡ true
-month_tested v m e =
-    let it = bound_is (number_in v) month_at m e in
-    subst (λ w. is_whole_number w ≡ true) (sym (number_column v it.0 it.1)) (whole_tested (pos it.0))
+pub levels_fit : Fits levels
+levels_fit r id s = s.0 ▸ cast_int (pos 1) ▸ s.1
 
-pub releases_stand : StandsFor header_in releases
-releases_stand = record {
-  same = λ v r. refl;
-  taken = λ r x e. let month = bound_is (month_from (column r 0)) _ x e in month_tested (column r 0) month.0 month.1;
-  fixed = λ r e s. tested_whole (column r 0) e ▸ cast_int (pos 1) ▸ s.1.0 ▸ s.1.1.0 ▸ s.1.1.1.0 ▸ tt;
-}
+-- ---- what a row stands for, whatever its rowid
 
--- ---- what a release lists
+abbrev IsOfContents : {X : Type 0} → (Row → Option X) → Type 0
+IsOfContents entry = (r : Row) → entry r ≡ entry (Null ∷ drop 1 r)
 
-pub frozen_stand : StandsFor frozen_in frozen
-frozen_stand =
-    record { same = λ v r. refl; taken = λ r x e. refl; fixed = λ r e s. s.0 ▸ cast_int (pos 1) ▸ s.1 }
+pub assignment_contents : IsOfContents assignment_in
+assignment_contents [] = refl
+assignment_contents (v ∷ r) = refl
 
-pub carried_stand : StandsFor carried_in carried
-carried_stand =
-    record { same = λ v r. refl; taken = λ r x e. refl; fixed = λ r e s. s.0 ▸ cast_int (pos 1) ▸ s.1 }
+pub quote_contents : IsOfContents quote_in
+quote_contents [] = refl
+quote_contents (v ∷ r) = refl
 
-pub levels_stand : StandsFor level_in levels
-levels_stand =
-    record { same = λ v r. refl; taken = λ r x e. refl; fixed = λ r e s. s.0 ▸ cast_int (pos 1) ▸ s.1 }
+pub header_contents : IsOfContents header_in
+header_contents [] = refl
+header_contents (v ∷ r) = refl
+
+pub frozen_contents : IsOfContents frozen_in
+frozen_contents [] = refl
+frozen_contents (v ∷ r) = refl
+
+pub carried_contents : IsOfContents carried_in
+carried_contents [] = refl
+carried_contents (v ∷ r) = refl
+
+pub level_contents : IsOfContents level_in
+level_contents [] = refl
+level_contents (v ∷ r) = refl
+
+-- ---- the lists that the copies make
+
+module _ {X K : Type 0} {R : K → K → Ordering} (o : IsTotalOrder R) (key : X → K) (entry : Row → Option X)
+    (is : IsOfContents entry) (copy : Row → Row) (old new : List Row) (copies : AreCopies copy old new)
+    (keyed : IsKeyed R key entry new) where
+  abbrev first : Row → Option X
+  first r = entry (copy r)
+
+  alike : (r s : Row) → contents r ≡ contents s → entry r ≡ entry s
+  alike r s same = is r ∙ ap (λ vs. entry (Null ∷ vs)) same ∙ sym (is s)
+
+  sound : (s : Row) → Has new s → (r : Row) × Has old r × (entry s ≡ first r)
+  sound s h =
+      let from = has_mapped (λ r. contents (copy r)) old (contents s)
+      (has_permuted _ _ (contents s) copies (mapped_has contents new s h)) in
+      (from.0, from.1, alike s (copy from.0) from.2)
+
+  complete : (r : Row) → Has old r → (s : Row) × Has new s × (entry s ≡ first r)
+  complete r h =
+      let from = has_mapped contents new (contents (copy r)) (has_permuted _ _ (contents (copy r))
+      (IsPermutation-sym _ _ copies) (mapped_has (λ r. contents (copy r)) old r h)) in
+      (from.0, from.1, sym (alike (copy r) from.0 from.2))
+
+  first_keyed : IsKeyed R key first old
+  unfolding IsKeyed
+  first_keyed r q x y hr hq er eq same =
+      let a = complete r hr in
+      let b = complete q hq in
+      keyed a.0 b.0 x y a.1 b.1 (a.2 ∙ er) (b.2 ∙ eq) same
+
+  -- the new rows make the list that the old ones did
+  pub copied_list : listed R key entry new ≡ listed R key first old
+  copied_list = sym (listed_is o key entry new (listed R key first old) keyed (listed_in_order o key first old)
+      (λ x h. let it = listed_stands o key first old x h in
+      let there = complete it.0 it.1 in (there.0, there.1, there.2 ∙ it.2))
+      (λ r x h e. let it = sound r h in stands_listed o key first old x it.0 first_keyed it.1 (sym it.2 ∙ e)))

@@ -1,34 +1,36 @@
 -- Rows that an INSERT takes from another table, into one that is empty.
-use Rattle.std.proofs.Common.{◌≡◌, inl, inr, ℕ, suc, ◌+◌, ℤ, ◌&&◌, Bool, true, false, List, []}
-use Rattle.std.proofs.Common.{◌∷◌, map, drop, Some, Option, if◌then◌else◌, refl, sym, ap, ap₂, subst}
-use Rattle.std.proofs.Common.{◌∙◌, arith}
-use Rattle.std.proofs.lemmas.Bool.{and_parts}
-use Rattle.std.specs.Cmp.{IsTotalOrder}
+use Rattle.std.proofs.Common.{◌≡◌, inl, inr, ℕ, suc, ◌+◌, ◌&&◌, Bool, true, false, List, [], ◌∷◌, ◌++◌, map, drop}
+use Rattle.std.proofs.Common.{Option, if◌then◌else◌, IsTrue, Ordering, Less, Equal, Greater, true≢false, refl, sym}
+use Rattle.std.proofs.Common.{ap, ap₂, subst, ◌∙◌, arith}
+use Rattle.std.proofs.lemmas.Bool.{and_parts, not-true, or_parts}
+use Rattle.std.proofs.lemmas.List.{append-nil}
+use Rattle.std.proofs.lemmas.List.Sorted.{IsPermutation-append_comm, IsPermutation-append_left}
+use Rattle.std.proofs.lemmas.List.Sorted.{IsPermutation-append_right, IsPermutation-cons, IsPermutation-map}
+use Rattle.std.proofs.lemmas.List.Sorted.{IsPermutation-middle, IsPermutation-refl, IsPermutation-sym}
+use Rattle.std.proofs.lemmas.List.Sorted.{IsPermutation-trans}
 use Rattle.std.specs.List.{list_all}
-use Rattle.std.specs.declared.cmp.Ordering.{Ordering}
+use Rattle.std.specs.List.Sorted.{IsPermutation}
+use Rattle.std.specs.Ordering.{is_eq, match_ordering}
 use Rattle.sqlite.specs.declared.types.Value.{Value}
 use Rattle.sqlite.specs.declared.types.Value.TheVariants.{Null, Int, Text}
-use Rattle.sqlite.specs.Order.{Row, column}
+use Rattle.sqlite.specs.Order.{Row, column, value_cmp}
 use Rattle.sqlite.specs.Kind.{Kind}
 use Rattle.sqlite.specs.Kind.TheVariants as kind
 use Rattle.sqlite.specs.Cast.{cast, cast_all, cast_row}
-use Rattle.sqlite.specs.Edit.{numbered, with_rowid, put_all, are_fresh, have_rowids, next_rowid}
+use Rattle.sqlite.specs.Edit.{numbered, with_rowid, put_all, are_fresh, have_rowids, is_taken, next_rowid}
 use Rattle.sqlite.specs.Rowids.TheVariants.{Chosen}
 use Rattle.sqlite.specs.Table.{Table}
-use Rattle.sqlite.specs.Term.{lit, eval_all, holds}
-use Rattle.sqlite.specs.Tree.{put_row}
+use Rattle.sqlite.specs.Term.{eval_all}
+use Rattle.sqlite.specs.Tree.{put_row, rowid}
 use Rattle.sqlite_schema.specs.declared.schema.Column.{Column}
 use Rattle.sqlite_schema.specs.Names.{is_key}
 use Rattle.sqlite_schema.specs.Rules.{is_of, are_typed, suits, has_affinity}
 use Rattle.sqlite.specs.Ops.{is_null}
 use Rattle.sqlite_rules.specs.Lists.{Has}
-use Rattle.sqlite_rules.proofs.ProbeLemmas.{has_mapped, mapped_has}
-use Rattle.sqlite_rules.proofs.TableLemmas.{put_all_has, put_all_adds}
-use Rattle.cpi_sql_rows.specs.Lists.{listed}
-use Rattle.cpi_sql_rows.specs.Shelf.{HasRowids, IsKeyed}
-use Rattle.cpi_sql_rows.proofs.Listed.{listed_is, listed_in_order, listed_stands, stands_listed}
+use Rattle.sqlite_trees.proofs.ListLemmas.{map-map}
+use Rattle.sqlite_trees.specs.View.{is_int}
+use Rattle.cpi_sql_rows.specs.Shelf.{HasRowids}
 use Rattle.cpi_sql_rows.proofs.KeptRowids.{put_shaped}
-use Rattle.cpi_sql_rows.proofs.Reading.{Members}
 use Rattle.cpi_sql_rows.proofs.Writing.{as_plain, cast_int, cast_null}
 use Rattle.cpi_sql_open.proofs.Moves.{Move, table_at}
 
@@ -124,28 +126,43 @@ same_row t vs h = ap₂ ◌∷◌ cast_null (same_cells t.columns vs h)
 
 -- ---- rowids are chosen
 
-pub has_numbered : (rows sources : List Row) (vs : Row) → Has sources (Null ∷ vs)
-    → (id : ℤ) × Has (numbered Chosen rows sources) (Int id ∷ vs)
-has_numbered rows [] vs h = absurd h
-has_numbered rows (x ∷ sources) vs (inl is) =
-    (next_rowid rows, inl (ap (with_rowid Chosen rows) is))
-has_numbered rows (x ∷ sources) vs (inr h) =
-    let it = has_numbered (put_row (with_rowid Chosen rows x) rows) sources vs h in (it.0, inr it.1)
+-- behind its rowid a row is as it was before that was chosen
+chosen_contents : (rows before : List Row) → map (drop 1) (numbered Chosen before rows) ≡ map (drop 1) rows
+chosen_contents [] before = refl
+chosen_contents (r ∷ rows) before =
+    ap₂ ◌∷◌ (one (is_null (rowid r))) (chosen_contents rows (put_row (with_rowid Chosen before r) before))
+  where
+    one : (b : Bool) → drop 1 (if b then Int (next_rowid before) ∷ drop 1 r else r) ≡ drop 1 r
+    one true = refl
+    one false = refl
 
-pub numbered_has : (rows sources : List Row) (s : Row) → Has (numbered Chosen rows sources) s
-    → (before : List Row) × (x : Row) × Has sources x × (s ≡ with_rowid Chosen before x)
-numbered_has rows [] s h = absurd h
-numbered_has rows (x ∷ sources) s (inl is) = (rows, x, inl refl, is)
-numbered_has rows (x ∷ sources) s (inr h) =
-    let it = numbered_has (put_row (with_rowid Chosen rows x) rows) sources s h in (it.0, it.1, inr it.2, it.3)
+-- a row that is put at a free rowid is one more
+put_more : (new : Row) (rows : List Row) → is_taken rows new ≡ false → IsPermutation (new ∷ rows) (put_row new rows)
+put_more new [] free = IsPermutation-refl (new ∷ [])
+put_more new (r ∷ rows) free =
+    let parts = or_parts _ _ free in
+    go (value_cmp (rowid r) (rowid new)) parts.0 (put_more new rows parts.1)
+  where
+    go : (o : Ordering) → is_eq o ≡ false → IsPermutation (new ∷ rows) (put_row new rows)
+        → IsPermutation (new ∷ r ∷ rows) (match_ordering o (r ∷ put_row new rows) (new ∷ rows) (new ∷ r ∷ rows))
+    go Less other later = IsPermutation-trans _ _ _
+        (IsPermutation-append_left rows (new ∷ r ∷ []) (r ∷ new ∷ [])
+        (IsPermutation-append_comm (new ∷ []) (r ∷ []))) (IsPermutation-cons r _ _ later)
+    go Equal other later = absurd (true≢false other)
+    go Greater other later = IsPermutation-refl _
 
--- ---- what the new rows stand for
+-- and so are rows at rowids that are free in turn
+put_all_more : (news rows : List Row) → are_fresh rows news ≡ true → IsPermutation (news ++ rows) (put_all rows news)
+put_all_more [] rows fresh = IsPermutation-refl rows
+put_all_more (n ∷ news) rows fresh =
+    let parts = and_parts _ _ fresh in
+    IsPermutation-trans _ _ _ (IsPermutation-trans _ _ _ (IsPermutation-sym _ _ (IsPermutation-middle news n rows))
+    (IsPermutation-append_right news _ _ (put_more n rows (not-true _ parts.0))))
+    (put_all_more news (put_row n rows) parts.1)
 
--- whether the row is copied
-abbrev pub takes : Move → Row → Bool
-takes m r = list_all (holds ([] ∷ r ∷ [])) m.terms
+-- ---- the copies of the rows of a table
 
--- the columns of its copy
+-- the columns of the copy of a row
 abbrev pub cells_of : Move → Row → Row
 cells_of m r = eval_all m.cells ([] ∷ r ∷ [])
 
@@ -154,11 +171,11 @@ abbrev pub copies_of : Move → List Row → List Row → List Row
 copies_of m before sources =
     numbered Chosen before (map (λ s. cast_row (as_plain (table_at (m.at + 6))) (drop 0 s)) sources)
 
--- the rows that are taken are in the new table, each with a rowid that was chosen; those of the old one are as their
--- kinds have them
+-- each row is copied once into the new table, with a rowid that was chosen; those of the old one are as their kinds
+-- have them
 pub record Copied (m : Move) (old new : List Row) : Type 0 where
   pub sources : List Row
-  pub members : Members m.terms (lit Null ∷ m.cells) old [] sources
+  pub each : IsPermutation (map (λ r. Null ∷ cells_of m r) old) sources
   pub rows : new ≡ put_all [] (copies_of m [] sources)
   pub keyed : have_rowids (copies_of m [] sources) ≡ true
   pub fresh : are_fresh [] (copies_of m [] sources) ≡ true
@@ -171,62 +188,36 @@ no_rowids = (λ r h. absurd h, λ r s h k tie. absurd h)
 pub copied_rowids : (m : Move) (old new : List Row) → Copied m old new → HasRowids new
 copied_rowids m old new it = subst HasRowids (sym it.rows) (put_shaped _ [] no_rowids it.keyed it.fresh)
 
--- a copy stands for what the row does: its rowid tells nothing, a row that stands for something is taken, and the
--- columns are as the new table has them
-pub record StandsFor {X : Type 0} (entry : Row → Option X) (m : Move) : Type 0 where
-  pub same : (v : Value) (r : Row) → entry (v ∷ cells_of m r) ≡ entry (Null ∷ cells_of m r)
-  pub taken : (r : Row) (x : X) → entry (Null ∷ cells_of m r) ≡ Some x → takes m r ≡ true
-  pub fixed : (r : Row) → takes m r ≡ true → Settled (table_at m.at).columns 1 r
-      → IsCast (table_at (m.at + 6)).columns (cells_of m r)
+-- the new table takes the columns of a copy as they are
+abbrev pub Fits : Move → Type 0
+Fits m = (r : Row) → IsTrue (is_int (rowid r)) → Settled (table_at m.at).columns 1 r
+    → IsCast (table_at (m.at + 6)).columns (cells_of m r)
 
-module _ {X K : Type 0} {R : K → K → Ordering} (o : IsTotalOrder R) (key : X → K) (entry : Row → Option X) (m : Move)
-    (is : StandsFor entry m) (old new : List Row) (it : Copied m old new) (keyed : IsKeyed R key entry new) where
-  abbrev to : Table
-  to = as_plain (table_at (m.at + 6))
+map_on : {X Y : Type 0} (f g : X → Y) (xs : List X) → ((x : X) → Has xs x → f x ≡ g x) → map f xs ≡ map g xs
+map_on f g [] same = refl
+map_on f g (x ∷ xs) same = ap₂ ◌∷◌ (same x (inl refl)) (map_on f g xs (λ y h. same y (inr h)))
 
-  abbrev first : Row → Option X
-  first r = entry (Null ∷ cells_of m r)
+module _ (m : Move) (fits : Fits m) (old new : List Row) (it : Copied m old new)
+    (ids : (r : Row) → Has old r → IsTrue (is_int (rowid r))) where
+  -- a copy as the new table has it
+  abbrev made : Row → Row
+  made s = cast_row (as_plain (table_at (m.at + 6))) (drop 0 s)
 
-  abbrev given : List Row
-  given = map (λ s. cast_row to (drop 0 s)) it.sources
+  made_contents : (r : Row) → Has old r → drop 1 (made (Null ∷ cells_of m r)) ≡ cells_of m r
+  made_contents r h = ap (drop 1)
+      (same_row (as_plain (table_at (m.at + 6))) (cells_of m r) (fits r (ids r h) (it.settled r h)))
 
-  cast_to : (r : Row) → Has old r → takes m r ≡ true → cast_row to (Null ∷ cells_of m r) ≡ Null ∷ cells_of m r
-  cast_to r h passes = same_row to (cells_of m r) (is.fixed r passes (it.settled r h))
-
-  sound : (s : Row) → Has new s → (r : Row) × Has old r × (entry s ≡ first r)
-  sound s h =
-      let among : Has (copies_of m [] it.sources) s =
-      elim (put_all_has (copies_of m [] it.sources) [] s (subst (λ l. Has l s) it.rows h)) [
-        | inl here ↦ here
-        | inr none ↦ absurd none
-      ] in
-      let from = numbered_has [] given s among in
-      let x = has_mapped (λ y. cast_row to (drop 0 y)) it.sources from.1 from.2 in
-      let r = it.members.sound x.0 x.1 in
-      let cells : from.1 ≡ Null ∷ cells_of m r.0 = x.2 ∙ ap (cast_row to) r.3 ∙ cast_to r.0 r.1 r.2 in
-      (r.0, r.1, ap entry (from.3 ∙ ap (with_rowid Chosen from.0) cells) ∙ is.same (Int (next_rowid from.0)) r.0)
-
-  complete : (r : Row) (x : X) → Has old r → first r ≡ Some x → (s : Row) × Has new s × (entry s ≡ Some x)
-  complete r x h e =
-      let passes = is.taken r x e in
-      let there = mapped_has (λ y. cast_row to (drop 0 y)) it.sources (Null ∷ cells_of m r)
-      (it.members.complete r h passes) in
-      let copy = has_numbered [] given (cells_of m r) (subst (Has given) (cast_to r h passes) there) in
-      let row = Int copy.0 ∷ cells_of m r in (
-        row,
-        subst (λ l. Has l row) (sym it.rows) (put_all_adds (copies_of m [] it.sources) [] row it.fresh copy.1),
-        is.same (Int copy.0) r ∙ e,
-      )
-
-  first_keyed : IsKeyed R key first old
-  unfolding IsKeyed
-  first_keyed r q x y hr hq er eq same =
-      let a = complete r x hr er in
-      let b = complete q y hq eq in
-      keyed a.0 b.0 x y a.1 b.1 a.2 b.2 same
-
-  -- so the new rows make the list that the old ones did
-  pub copied_list : listed R key entry new ≡ listed R key first old
-  copied_list = sym (listed_is o key entry new (listed R key first old) keyed (listed_in_order o key first old)
-      (λ x h. let it = listed_stands o key first old x h in complete it.0 x it.1 it.2)
-      (λ r x h e. let it = sound r h in stands_listed o key first old x it.0 first_keyed it.1 (sym it.2 ∙ e)))
+  -- so the new table holds the copies, one of each row
+  pub each_copied : IsPermutation (map (cells_of m) old) (map (drop 1) new)
+  each_copied =
+      let copies = copies_of m [] it.sources in
+      let first : map (λ s. drop 1 (made s)) (map (λ r. Null ∷ cells_of m r) old) ≡ map (cells_of m) old =
+      map-map (λ s. drop 1 (made s)) (λ r. Null ∷ cells_of m r) old ∙ map_on _ _ old made_contents in
+      let last : map (λ s. drop 1 (made s)) it.sources ≡ map (drop 1) copies =
+      sym (map-map (drop 1) made it.sources) ∙ sym (chosen_contents (map made it.sources) []) in
+      let put : IsPermutation copies new = subst (IsPermutation copies) (sym it.rows)
+      (subst (λ l. IsPermutation l (put_all [] copies)) (append-nil copies) (put_all_more copies [] it.fresh)) in
+      IsPermutation-trans _ _ _
+      (subst (λ l. IsPermutation l (map (drop 1) copies)) first
+      (subst (IsPermutation (map (λ s. drop 1 (made s)) (map (λ r. Null ∷ cells_of m r) old))) last
+      (IsPermutation-map (λ s. drop 1 (made s)) _ _ it.each))) (IsPermutation-map (drop 1) copies new put)

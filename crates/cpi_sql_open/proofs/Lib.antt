@@ -13,3 +13,4 @@ pub mod MakeLemmas
 pub mod Undone
 pub mod NumberedLemmas
 pub mod Moved
+pub mod Reopened

@@ -9,11 +9,11 @@ use Rattle.sqlite.specs.State.{State, Survives, HasCleanDisk}
 use Rattle.sqlite.proofs.StateLemmas.{survives_then}
 use Rattle.cpi_sql_rows.specs.Steps.{is_beside}
 use Rattle.cpi_sql_rows.specs.Tables.{first_tables, first_schema, office_schema}
-use Rattle.cpi_sql_rows.specs.Making.{HoldsNothing, IsBlank, IsNew, no_schema, second_tables}
+use Rattle.cpi_sql_rows.specs.Making.{HoldsNothing, IsBlank, IsNew, IsOfficeDatabase, no_schema, second_tables}
 use Rattle.cpi_sql_rows.specs.Lists.{plans_of, years, releases_in}
 use Rattle.cpi_sql_rows.specs.Lists.{collector_in, outlet_in, item_in, calendar_in}
-use Rattle.cpi_sql_rows.specs.Finding.{AreWhole}
-use Rattle.cpi_sql_rows.specs.Shelf.{HasRowids, HasTables, IsKeyed, IsWhole}
+use Rattle.cpi_sql_rows.specs.Finding.{AreWhole, HavePlanYears}
+use Rattle.cpi_sql_rows.specs.Shelf.{AllStand, HasRowids, HasTables, IsKeyed, IsWhole}
 use Rattle.cpi_sql_rows.specs.Texts.{put_version_text}
 use Rattle.cpi_sql_rows.proofs.Found.{none_whole}
 use Rattle.cpi_sql_open.specs.Making.{MakeEach}
@@ -80,11 +80,24 @@ blank_whole s b = record {
   calendar = subst (IsWhole nat_cmp (λ r. r.month) calendar_in) (sym b.calendar) (none_whole nat_cmp _ _);
 }
 
+pub blank_years : (s : State) → IsBlank s → HavePlanYears s.now.trees
+unfolding AllStand
+blank_years s b = record {
+  nodes = rw b.nodes (λ r h. absurd h);
+  places = rw b.places (λ r h. absurd h);
+  references = rw b.references (λ r h. absurd h);
+}
+
+pub blank_database : (s : State) → IsBlank s → IsOfficeDatabase s.now.trees
+blank_database s b =
+    record { tables = b.tables; version = b.version; whole = blank_whole s b; years = blank_years s b }
+
 pub blank_tables : (s : State) → IsBlank s → s.in_transaction ≡ false → HasTables s
 unfolding IsKeyed
 blank_tables s b alone = record {
   schema = b.schema;
   alone = alone;
+  office = blank_database s b;
   rowids = subst HasRowids (sym b.quotes) no_rowids;
   days = subst HasRowids (sym b.calendar) no_rowids;
   assignment_ids = subst HasRowids (sym b.assignments) no_rowids;
@@ -144,11 +157,7 @@ made_survives a b c one made two =
     survives_then a b c _ _ _ (λ _ db no. absurd no)
     (λ clean db is none. let disk : HasCleanDisk b = omega (arith, two.clean) in
     let blank = made disk none in
-    subst IsNew (sym is) (record {
-      tables = blank.tables;
-      office = blank_office b blank;
-      version = blank.version;
-    })) one two
+    subst IsNew (sym is) (record { database = blank_database b blank; office = blank_office b blank })) one two
 
 pub unmade_survives : (a b c : State) → Survives a b (λ _. ⊥) → Survives b c (λ _. ⊥)
     → Survives a c (λ db. a.now.schema ≡ no_schema → IsNew db)

@@ -18,9 +18,11 @@ use Rattle.cpi_sql_rows.specs.Steps.{is_beside}
 use Rattle.cpi_sql_rows.specs.Tables.{first_schema, first_tables, office_schema}
 use Rattle.cpi_sql_rows.specs.Lists.{assignment_in, carried_in, frozen_in, header_in, header_key, level_in}
 use Rattle.cpi_sql_rows.specs.Lists.{office_in, quote_in, releases_in}
+use Rattle.cpi_sql_rows.specs.Copies.{HasCopies, assignment_copy, carried_copy, frozen_copy, header_copy, level_copy}
+use Rattle.cpi_sql_rows.specs.Copies.{quote_copy}
 use Rattle.cpi_sql_rows.specs.FirstSchema.{first_office_in, first_releases_in}
 use Rattle.cpi_sql_rows.specs.Finding.{HaveFirstRowids, HaveReleaseRowids, HaveSurveyRowids}
-use Rattle.cpi_sql_rows.specs.Finding.{IsMigrated, IsMoved, KeepsLists}
+use Rattle.cpi_sql_rows.specs.Finding.{IsMigrated, IsMoved}
 use Rattle.cpi_sql_rows.specs.Making.{second_tables}
 use Rattle.cpi_sql_rows.specs.Numbered.{IsVersion, version_text}
 use Rattle.cpi_sql_rows.specs.Shelf.{HasRowids}
@@ -28,9 +30,10 @@ use Rattle.cpi_sql_rows.proofs.Found.{assignments_keyed, quotes_keyed}
 use Rattle.cpi_sql_rows.proofs.FoundReleases.{headers_keyed, frozen_keyed, carried_keyed, levels_keyed}
 use Rattle.cpi_sql_rows.proofs.Lists.{held_total, quote_total}
 use Rattle.cpi_sql_open.specs.Stages.{RanEach, Stage, stage_of}
-use Rattle.cpi_sql_open.proofs.CopiedOffice.{assignments_stand, quotes_stand, releases_stand, frozen_stand}
-use Rattle.cpi_sql_open.proofs.CopiedOffice.{carried_stand, levels_stand}
-use Rattle.cpi_sql_open.proofs.CopiedRows.{copied_list, copied_rowids, no_rowids}
+use Rattle.cpi_sql_open.proofs.CopiedOffice.{assignment_contents, assignments_fit, carried_contents, carried_fit}
+use Rattle.cpi_sql_open.proofs.CopiedOffice.{copied_list, frozen_contents, frozen_fit, header_contents, level_contents}
+use Rattle.cpi_sql_open.proofs.CopiedOffice.{levels_fit, quote_contents, quotes_fit, releases_fit}
+use Rattle.cpi_sql_open.proofs.CopiedRows.{copied_rowids, each_copied, no_rowids}
 use Rattle.cpi_sql_open.proofs.Frames.{IsLeft, at_tree, has_tree, left_then}
 use Rattle.cpi_sql_open.proofs.Making.{Made, made_each, second_make, second_texts}
 use Rattle.cpi_sql_open.proofs.Moves.{assignments, carried, clear_texts, copy_texts, frozen, levels, number_texts}
@@ -61,7 +64,7 @@ module _ (a b : Stage) (m : Made first_schema office_schema second_tables a b) w
       (was 18 refl, tt) ▸ (was 16 refl, tt) ▸ (was 15 refl, tt) ▸ (was 13 refl, tt) ▸ (was 11 refl, tt) ▸ tt
 
   module _ (d e : Stage) (left : IsLeft written b d) (n : IsNumbered (0 ∷ 0 ∷ []) d e)
-      (taken : AreTaken a.now.trees e.now.trees steps) where
+      (taken : AreTaken a.now.trees e.now.trees steps) (ids : HaveFirstRowids a.now.trees) where
     abbrev old : Trees
     old = a.now.trees
 
@@ -93,17 +96,31 @@ module _ (a b : Stage) (m : Made first_schema office_schema second_tables a b) w
       levels = copied_rowids levels (old 20) (new 32) taken.1.1.1.1.1.0;
     }
 
+    copied : HasCopies old new
+    copied = record {
+      assignments = each_copied assignments assignments_fit (old 11) (new 22) taken.0
+          (numbers (old 11) ids.survey.assignments);
+      quotes = each_copied quotes quotes_fit (old 13) (new 24) taken.1.0 (numbers (old 13) ids.survey.quotes);
+      headers = each_copied releases releases_fit (old 15) (new 26) taken.1.1.0
+          (numbers (old 15) ids.releases.headers);
+      frozen = each_copied frozen frozen_fit (old 16) (new 28) taken.1.1.1.0 (numbers (old 16) ids.releases.frozen);
+      carried = each_copied carried carried_fit (old 18) (new 30) taken.1.1.1.1.0
+          (numbers (old 18) ids.releases.carried);
+      levels = each_copied levels levels_fit (old 20) (new 32) taken.1.1.1.1.1.0
+          (numbers (old 20) ids.releases.levels);
+    }
+
     same_releases : releases_in new ≡ first_releases_in old
     unfolding releases_in first_releases_in
     same_releases = rw (
-      copied_list release_total header_key header_in releases releases_stand (old 15) (new 26) taken.1.1.0
+      copied_list release_total header_key header_in header_contents header_copy (old 15) (new 26) copied.headers
           (headers_keyed new n.sound rowids.headers),
-      copied_list (held_total nat_cmp_total) (held_key frozen_serial) frozen_in frozen frozen_stand (old 16) (new 28)
-          taken.1.1.1.0 (frozen_keyed new n.sound rowids.frozen),
-      copied_list (held_total nat_cmp_total) (held_key carried_serial) carried_in carried carried_stand (old 18)
-          (new 30) taken.1.1.1.1.0 (carried_keyed new n.sound rowids.carried),
-      copied_list (held_total total-law) (held_key (λ (l : Level). l.code)) level_in levels levels_stand (old 20)
-          (new 32) taken.1.1.1.1.1.0 (levels_keyed new n.sound rowids.levels),
+      copied_list (held_total nat_cmp_total) (held_key frozen_serial) frozen_in frozen_contents frozen_copy (old 16)
+          (new 28) copied.frozen (frozen_keyed new n.sound rowids.frozen),
+      copied_list (held_total nat_cmp_total) (held_key carried_serial) carried_in carried_contents carried_copy
+          (old 18) (new 30) copied.carried (carried_keyed new n.sound rowids.carried),
+      copied_list (held_total total-law) (held_key (λ (l : Level). l.code)) level_in level_contents level_copy
+          (old 20) (new 32) copied.levels (levels_keyed new n.sound rowids.levels),
     ) refl
 
     office : office_in new ≡ first_office_in old
@@ -115,17 +132,28 @@ module _ (a b : Stage) (m : Made first_schema office_schema second_tables a b) w
       same 8 refl refl,
       same 10 refl refl,
       references,
-      copied_list (held_total nat_cmp_total) (held_key (λ (g : Given). g.assignment.slot)) assignment_in assignments
-          assignments_stand (old 11) (new 22) taken.0 (assignments_keyed new n.sound survey.assignments),
-      copied_list (held_total quote_total) (held_key quote_key) quote_in quotes quotes_stand (old 13) (new 24)
-          taken.1.0 (quotes_keyed new n.sound survey.quotes),
+      copied_list (held_total nat_cmp_total) (held_key (λ (g : Given). g.assignment.slot)) assignment_in
+          assignment_contents assignment_copy (old 11) (new 22) copied.assignments
+          (assignments_keyed new n.sound survey.assignments),
+      copied_list (held_total quote_total) (held_key quote_key) quote_in quote_contents quote_copy (old 13) (new 24)
+          copied.quotes (quotes_keyed new n.sound survey.quotes),
       same_releases,
     ) refl
 
-    migrated : IsVersion 1 (old 0) → HaveFirstRowids old → IsMigrated old new
-    migrated one ids = let gone = taken.1.1.1.1.1.1 in record {
+    migrated : IsVersion 1 (old 0) → IsMigrated old new
+    migrated one = let gone = taken.1.1.1.1.1.1 in record {
       was = one;
       tables = all_there new n.sound;
+      lists = record {
+        collectors = same 1 refl refl;
+        outlets = same 3 refl refl;
+        items = same 4 refl refl;
+        nodes = same 6 refl refl;
+        places = same 8 refl refl;
+        calendar = same 10 refl refl;
+      };
+      copied = copied;
+      references = references;
       office = office;
       version = n.version;
       cleared = record {
@@ -136,16 +164,6 @@ module _ (a b : Stage) (m : Made first_schema office_schema second_tables a b) w
         carried = gone.1.0 (numbers (old 18) ids.releases.carried);
         levels = gone.0 (numbers (old 20) ids.releases.levels);
       };
-    }
-
-    lists : KeepsLists old new
-    lists = record {
-      collectors = same 1 refl refl;
-      outlets = same 3 refl refl;
-      items = same 4 refl refl;
-      nodes = same 6 refl refl;
-      places = same 8 refl refl;
-      calendar = same 10 refl refl;
     }
 
 pub all_moved : (old new : State) (b c d : Stage) → RanEach second_texts (stage_of old) b → RanEach copy_texts b c
@@ -162,10 +180,9 @@ all_moved old new b c d makes copies clears numbers inside first one ids =
     let taken = still_taken a.now.trees steps (0 ∷ 0 ∷ []) d.now.trees e.now.trees n.left.others refl done.1 in
     record {
       schema = n.left.schema;
-      migrated = migrated a b m d e done.0 n taken one ids;
-      lists = lists a b m d e done.0 n taken;
-      survey = survey a b m d e done.0 n taken;
-      releases = rowids a b m d e done.0 n taken;
+      migrated = migrated a b m d e done.0 n taken ids one;
+      survey = survey a b m d e done.0 n taken ids;
+      releases = rowids a b m d e done.0 n taken ids;
     }
 
 -- ---- after the look at the number
@@ -176,8 +193,6 @@ moved_same a begun b c start end m = record {
   schema = ap (λ (d : Database). d.schema) end ∙ m.schema;
   migrated = subst (λ (d : Database). IsMigrated a.now.trees d.trees) (sym end)
       (subst (λ (d : Database). IsMigrated d.trees b.now.trees) start m.migrated);
-  lists = subst (λ (d : Database). KeepsLists a.now.trees d.trees) (sym end)
-      (subst (λ (d : Database). KeepsLists d.trees b.now.trees) start m.lists);
   survey = subst (λ (d : Database). HaveSurveyRowids d.trees) (sym end) m.survey;
   releases = subst (λ (d : Database). HaveReleaseRowids d.trees) (sym end) m.releases;
 }
@@ -211,5 +226,5 @@ moved_survives a begun b c start one done two =
     subst (IsMigrated a.now.trees) (sym is) (moved_same a begun b b start refl m).migrated) one two
 
 pub unmoved_survives : (a b c : State) → Survives a b (λ _. ⊥) → Survives b c (λ _. ⊥)
-    → Survives a c (λ db. a.now.schema ≡ first_schema → IsMigrated a.now.trees db)
+    → Survives a c (λ db. a.now.schema ≡ first_schema → HaveFirstRowids a.now.trees → IsMigrated a.now.trees db)
 unmoved_survives a b c one two = survives_then a b c _ _ _ (λ _ db no. absurd no) (λ _ db no. absurd no) one two

@@ -1,15 +1,12 @@
 -- The statements that bring the rows of schema 1 into the tables of schema 2, and what each means under it.
-use Rattle.std.proofs.Common.{ℕ, ◌+◌, pos, List, [], ◌∷◌, ◌++◌, get_or, codes, map, refl}
+use Rattle.std.proofs.Common.{ℕ, ◌+◌, pos, List, [], ◌∷◌, ◌++◌, get_or, map, refl}
 use Rattle.std.specs.List.{AllZip}
 use Rattle.sqlite.specs.Collation.{Collation}
 use Rattle.sqlite.specs.Collation.TheVariants.{Binary}
 use Rattle.sqlite.specs.Query.{Query}
-use Rattle.sqlite.specs.declared.types.Value.TheVariants.{Null, Int, Text}
+use Rattle.sqlite.specs.declared.types.Value.TheVariants.{Null, Int}
 use Rattle.sqlite.specs.Table.{Table}
-use Rattle.sqlite.specs.Term.{Term, lit, col, op1, op2}
-use Rattle.sqlite_sql.specs.declared.ops.UnaryOp.TheVariants.{TypeOf}
-use Rattle.sqlite_sql.specs.declared.ops.BinaryOp.TheVariants.{Compare}
-use Rattle.sqlite_sql.specs.declared.ops.CompareOp.TheVariants.{Eq}
+use Rattle.sqlite.specs.Term.{Term, lit, col}
 use Rattle.sqlite.specs.Source.{Source}
 use Rattle.sqlite.specs.Source.TheVariants as source
 use Rattle.sqlite.specs.Command.{Command}
@@ -26,10 +23,9 @@ use Rattle.cpi_sql_open.specs.declared.migrate.TheConstants.{CLEARS, COPIES, NUM
 abbrev pub table_at : ℕ → Table
 table_at at = get_or office_schema.tables at version
 
--- a table of schema 1 whose rows schema 2 has anew, six places behind: which of them are copied, and their columns
+-- a table of schema 1 whose rows schema 2 has anew, six places behind, and the columns of their copies
 pub record Move : Type 0 where
   pub at : ℕ
-  pub terms : List Term
   pub cells : List Term
 
 -- one statement: rows are copied into the new table, or each row of a table is taken out
@@ -59,13 +55,13 @@ each_binary [] = []
 each_binary (t ∷ terms) = Binary ∷ each_binary terms
 
 -- what a query on one table shows, as an INSERT takes it
-abbrev pub copy_query : ℕ → List Term → List Term → Query
-copy_query tree terms project = record (whole_query tree terms project []) { collations = each_binary project }
+abbrev pub copy_query : ℕ → List Term → Query
+copy_query tree project = record (whole_query tree [] project []) { collations = each_binary project }
 
--- the rows that are copied: the rowid of each is chosen
+-- each row is copied, and the rowid of the copy is chosen
 abbrev pub copy_source : Move → Source
 copy_source m =
-    source.Query (record { lets = []; body = copy_query (table_at m.at).tree m.terms (lit Null ∷ m.cells) })
+    source.Query (record { lets = []; body = copy_query (table_at m.at).tree (lit Null ∷ m.cells) })
 
 abbrev pub command : Step → Command
 command (copies m) = Insert (m.at + 6) (copy_source m)
@@ -77,25 +73,19 @@ command (clears at) =
 abbrev pub assignments : Move
 assignments = record {
   at = 7;
-  terms = [];
   cells = columns (1 ∷ 2 ∷ 3 ∷ 4 ∷ 5 ∷ 6 ∷ 1 ∷ 2 ∷ []) ++ lit Null ∷ [];
 }
 
 abbrev pub quotes : Move
-quotes = record { at = 8; terms = []; cells = columns (1 ∷ 2 ∷ 3 ∷ 4 ∷ 5 ∷ 6 ∷ []) }
+quotes = record { at = 8; cells = columns (1 ∷ 2 ∷ 3 ∷ 4 ∷ 5 ∷ 6 ∷ []) }
 
--- the month of a release is its rowid, which a file can't have as anything but a whole number
+-- the month of a release is its rowid
 abbrev pub releases : Move
-releases = record {
-  at = 9;
-  terms = op2 (Compare Eq Binary) (op1 TypeOf (col 1 0)) (lit (Text (codes "integer"))) ∷ [];
-  cells = col 1 0 ∷ lit (Int (pos 1)) ∷ columns (2 ∷ 3 ∷ 4 ∷ []);
-}
+releases = record { at = 9; cells = col 1 0 ∷ lit (Int (pos 1)) ∷ columns (2 ∷ 3 ∷ 4 ∷ []) }
 
 -- what a release lists has revision 1 behind its month
 abbrev pub listed_at : ℕ → List ℕ → Move
-listed_at at others =
-    record { at = at; terms = []; cells = col 1 1 ∷ lit (Int (pos 1)) ∷ columns others }
+listed_at at others = record { at = at; cells = col 1 1 ∷ lit (Int (pos 1)) ∷ columns others }
 
 abbrev pub frozen : Move
 frozen = listed_at 10 (2 ∷ 3 ∷ 4 ∷ 5 ∷ 6 ∷ 7 ∷ [])

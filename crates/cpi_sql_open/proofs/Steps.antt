@@ -4,6 +4,7 @@ use Rattle.std.proofs.Common.{IsTrue, refl, sym, ap, subst, ◌∙◌, arith, ge
 use Rattle.std.proofs.lemmas.Bool.{and_parts, ltb-true}
 use Rattle.std.specs.Cmp.{tied_itself}
 use Rattle.std.specs.List.{AllByRecursion, AllZip, list_all}
+use Rattle.std.specs.List.Sorted.{IsPermutation}
 use Rattle.std.specs.Ordering.{is_eq}
 use Rattle.sqlite.specs.declared.types.Value.TheVariants.{Null, Int}
 use Rattle.sqlite.specs.Edit.{id_in, without_all, put_all, are_fresh, have_rowids}
@@ -26,9 +27,10 @@ use Rattle.cpi_sql_rows.specs.Steps.{SameBut, is_beside}
 use Rattle.cpi_sql_rows.specs.Tables.{office_schema, version}
 use Rattle.cpi_sql_rows.specs.Shelf.{HasRowids}
 use Rattle.cpi_sql_rows.specs.Texts.{whole_query}
-use Rattle.cpi_sql_rows.proofs.Reading.{Members, left_has, members}
+use Rattle.cpi_sql_rows.proofs.Distinct.{shown_all}
+use Rattle.cpi_sql_rows.proofs.Reading.{Members, left_has}
 use Rattle.cpi_sql_open.specs.Stages.{Ran, RanEach, Stage}
-use Rattle.cpi_sql_open.proofs.CopiedRows.{Copied, copies_of, is_office_column, row_settled}
+use Rattle.cpi_sql_open.proofs.CopiedRows.{Copied, cells_of, copies_of, is_office_column, row_settled}
 use Rattle.cpi_sql_open.proofs.Edits.{deleted, inserted}
 use Rattle.cpi_sql_open.proofs.Frames.{IsLeft, left_then}
 use Rattle.cpi_sql_open.proofs.Looks.{overlay_none}
@@ -65,10 +67,9 @@ all_gone rows found shown ids = nothing_has (without_all rows (ids_of found)) (�
 -- ---- rows are copied
 
 -- with no DISTINCT, no collation matters
-any_collation : (tree : ℕ) (terms project : List Term) (db : Trees) (params : Row) (rows : List Row)
-    → IsAnswer (copy_query tree terms project) db params rows →
-    IsAnswer (whole_query tree terms project []) db params rows
-any_collation tree terms project db params rows a = record {
+any_collation : (tree : ℕ) (project : List Term) (db : Trees) (params : Row) (rows : List Row)
+    → IsAnswer (copy_query tree project) db params rows → IsAnswer (whole_query tree [] project []) db params rows
+any_collation tree project db params rows a = record {
   staged = a.staged;
   grouped = a.grouped;
   kept = a.kept;
@@ -123,9 +124,9 @@ step_taken text (copies m) is good old new ran inside has empty =
       it.2.left,
       record {
         sources = it.0;
-        members = subst (λ l. Members m.terms (lit Null ∷ m.cells) l [] it.0) (overlay_none old.now.trees from)
-            (members from m.terms (lit Null ∷ m.cells) [] (overlay old.now.trees []) [] it.0
-            (any_collation from m.terms (lit Null ∷ m.cells) (overlay old.now.trees []) [] it.0 (it.1.answer Null)));
+        each = subst (λ l. IsPermutation (map (λ r. Null ∷ cells_of m r) l) it.0) (overlay_none old.now.trees from)
+            (shown_all from (lit Null ∷ m.cells) [] (overlay old.now.trees []) [] it.0
+            (any_collation from (lit Null ∷ m.cells) (overlay old.now.trees []) [] it.0 (it.1.answer Null)));
         rows = news.0;
         keyed = news.1;
         fresh = news.2;

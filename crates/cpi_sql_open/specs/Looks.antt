@@ -1,32 +1,55 @@
--- What is tested of the tables that an open finds, and the texts that ask for rowids.
+-- What is tested of the tables that an open finds, and the texts that ask for rowids and years.
 use Rattle.std.specs.Prelude.{◌≡◌, ℕ, List, [], ◌∷◌, IsTrue}
 use Rattle.std.specs.List.{AllByRecursion, AllZip}
 use Rattle.sqlite.specs.Schema.{Schema}
 use Rattle.sqlite.specs.State.{State, HasCleanDisk, IsLive, Survives}
 use Rattle.sqlite.specs.Table.{Table}
-use Rattle.cpi_sql_rows.specs.Finding.{AreWhole, AsksRowids, IsOfOffice}
+use Rattle.cpi_sql_rows.specs.Finding.{ArePlanRows, AreWhole, AsksRowids, AsksYears, HavePlanYears, IsOfOffice}
 use Rattle.cpi_sql_rows.specs.Shelf.{HasRowids, HasTables, IsCleanBook, IsKept}
-use Rattle.cpi_sql_rows.specs.Tables.{first_schema, office_schema}
+use Rattle.cpi_sql_rows.specs.Numbered.{IsVersion}
+use Rattle.cpi_sql_rows.specs.Tables.{first_schema, office_schema, version}
 use Rattle.cpi_sql_open.specs.Making.{MakeEach}
 
 -- under the schema, each of the texts asks for the rowids of its tree
 abbrev pub AskEach : List (List ℕ) → List ℕ → Schema → Type 0
 AskEach texts trees schema = AllZip (AsksRowids schema) texts trees
 
--- these texts make the tables of the schema behind those of schema 1, and these ask for the rowids of the trees
-pub record AreTestsOf (schema : Schema) (trees : List ℕ) (more scans : List (List ℕ)) : Type 0 where
+-- under the schema, each of the texts asks for the rowids and the years of its table of plans, a tree and the column of
+-- the year
+abbrev pub AskEachYear : List (List ℕ) → List (ℕ × ℕ) → Schema → Type 0
+AskEachYear texts plans schema = AllZip (λ text plan. AsksYears schema text plan.0 plan.1) texts plans
+
+-- what an open asks of the tables that it finds: that they are those of the schema, that the rows of these trees have
+-- rowids of their own, and that those of plans have years too
+pub record Wanted : Type 0 where
+  pub schema : Schema
+  pub trees : List ℕ
+  pub plans : List (ℕ × ℕ)
+
+-- of the tables of schema 2
+abbrev pub second_wanted : Wanted
+second_wanted = record {
+  schema = office_schema;
+  trees = 10 ∷ 22 ∷ 24 ∷ 26 ∷ 28 ∷ 30 ∷ 32 ∷ [];
+  plans = (6, 1) ∷ (8, 1) ∷ (34, 0) ∷ [];
+}
+
+-- and of those of schema 1
+abbrev pub first_wanted : Wanted
+first_wanted = record {
+  schema = first_schema;
+  trees = 10 ∷ 11 ∷ 13 ∷ 15 ∷ 16 ∷ 18 ∷ 20 ∷ [];
+  plans = (6, 1) ∷ (8, 1) ∷ [];
+}
+
+-- the texts of a test: those that make the tables that follow those of schema 1, and those that ask for rowids and for
+-- years
+pub record AreTestsOf (wanted : Wanted) (more scans years : List (List ℕ)) : Type 0 where
   pub tables : List Table
-  pub makes : MakeEach more tables first_schema schema
-  pub office : IsOfOffice schema
-  pub asks : AskEach scans trees schema
-
--- the trees whose rowids are asked for: of schema 2
-abbrev pub second_trees : List ℕ
-second_trees = 6 ∷ 8 ∷ 10 ∷ 22 ∷ 24 ∷ 34 ∷ 26 ∷ 28 ∷ 30 ∷ 32 ∷ []
-
--- and of schema 1
-abbrev pub first_trees : List ℕ
-first_trees = 6 ∷ 8 ∷ 10 ∷ 11 ∷ 13 ∷ 15 ∷ 16 ∷ 18 ∷ 20 ∷ []
+  pub makes : MakeEach more tables first_schema wanted.schema
+  pub office : IsOfOffice wanted.schema
+  pub asks : AskEach scans wanted.trees wanted.schema
+  pub ask_years : AskEachYear years wanted.plans wanted.schema
 
 -- the rows are as they were, and nothing is committed
 pub record IsTest (old new : State) : Type 0 where
@@ -34,17 +57,19 @@ pub record IsTest (old new : State) : Type 0 where
   pub kept : IsCleanBook new → IsKept old new
   pub crash : Survives old new (λ _. ⊥)
 
--- the schema was this one, each row of the small tables stood for something, and the rowids of these trees rose
-pub record Finds (schema : Schema) (trees : List ℕ) (old new : State) : Type 0 where
-  pub is : old.now.schema ≡ schema
+-- the tables were those that were wanted, and each row of the small ones stood for something
+pub record Finds (wanted : Wanted) (old new : State) : Type 0 where
+  pub is : old.now.schema ≡ wanted.schema
   pub live : IsLive old
   pub whole : IsCleanBook new → AreWhole old.now.trees
-  pub rise : IsCleanBook new → AllByRecursion (λ tree. HasRowids (old.now.trees tree)) trees
+  pub rise : IsCleanBook new → AllByRecursion (λ tree. HasRowids (old.now.trees tree)) wanted.trees
+  pub years : IsCleanBook new → AllByRecursion (λ plan. ArePlanRows plan.1 (old.now.trees plan.0)) wanted.plans
   pub is_open : HasCleanDisk new → IsTrue new.is_open
 
--- the tables are those of an office
+-- the tables are those of an office, if their number is
 pub record FindsOffice (old new : State) : Type 0 where
   pub schema : old.now.schema ≡ office_schema
-  pub tables : IsCleanBook new → HasTables new
+  pub tables : IsCleanBook new → IsVersion 2 (new.now.trees version.tree) → HasTables new
   pub whole : IsCleanBook new → AreWhole new.now.trees
+  pub years : IsCleanBook new → HavePlanYears new.now.trees
   pub is_open : HasCleanDisk new → IsTrue new.is_open

@@ -5,13 +5,14 @@ ghost use Rattle.sqlite.specs.Steps.{over_memory};
 ghost use Rattle.cpi_sql_rows.specs.Common.{ℕ, AreWhole, HasCleanDisk, HasRowids, IfOk, IsCleanBook, IsLive};
 ghost use Rattle.cpi_sql_rows.specs.Common.{IsOfOffice, IsTrue, List, LooksOver, OnOk, StaysOpen, false, first_schema};
 ghost use Rattle.cpi_sql_rows.specs.Common.{map, state};
-ghost use Rattle.cpi_sql_open.specs.Looks.{AreTestsOf, AskEach, Finds, FindsOffice, IsTest, first_trees};
+ghost use Rattle.cpi_sql_rows.specs.Finding.{ArePlanRows};
+ghost use Rattle.cpi_sql_open.specs.Looks.{AreTestsOf, AskEach, AskEachYear, Finds, FindsOffice, IsTest, first_wanted};
 ghost use Rattle.cpi_sql_open.specs.Making.{MakeEach};
 
 use crate::make::{SECOND_TABLES, make_unnumbered};
 use crate::same::Same;
 use cpi_plan::{CalendarRow, Item};
-use cpi_sql_rows::{Unread, read_all, scan};
+use cpi_sql_rows::{Unread, read_all, scan, scan_plans};
 use cpi_store::{Bearer, Outlet};
 use sqlite::{Alter, Connection, Error};
 use sqlite_trees::memory::MemStore;
@@ -38,22 +39,17 @@ fn has_tables<S: Alter>(conn: &Connection<S>, alloc: Global, more: &[&str]) -> R
     Ok(schema.same(model.schema()))
 }
 
-const SECOND_SCANS: [&str; 10] = [
-    "SELECT rowid FROM node ORDER BY rowid",
-    "SELECT rowid FROM plan_item ORDER BY rowid",
+const SECOND_SCANS: [&str; 7] = [
     "SELECT rowid FROM calendar ORDER BY rowid",
     "SELECT rowid FROM assignment_2 ORDER BY rowid",
     "SELECT rowid FROM quote_2 ORDER BY rowid",
-    "SELECT rowid FROM plan_ref ORDER BY rowid",
     "SELECT rowid FROM release_2 ORDER BY rowid",
     "SELECT rowid FROM frozen_2 ORDER BY rowid",
     "SELECT rowid FROM carried_2 ORDER BY rowid",
     "SELECT rowid FROM level_2 ORDER BY rowid",
 ];
 
-const FIRST_SCANS: [&str; 9] = [
-    "SELECT rowid FROM node ORDER BY rowid",
-    "SELECT rowid FROM plan_item ORDER BY rowid",
+const FIRST_SCANS: [&str; 7] = [
     "SELECT rowid FROM calendar ORDER BY rowid",
     "SELECT rowid FROM assignment ORDER BY rowid",
     "SELECT rowid FROM quote ORDER BY rowid",
@@ -61,6 +57,18 @@ const FIRST_SCANS: [&str; 9] = [
     "SELECT rowid FROM frozen ORDER BY rowid",
     "SELECT rowid FROM carried ORDER BY rowid",
     "SELECT rowid FROM level ORDER BY rowid",
+];
+
+// The years of plans are asked for too: a row of a year that an office can't have is read nowhere else.
+const SECOND_PLANS: [&str; 3] = [
+    "SELECT rowid, year FROM node ORDER BY rowid",
+    "SELECT rowid, year FROM plan_item ORDER BY rowid",
+    "SELECT rowid, year FROM plan_ref ORDER BY rowid",
+];
+
+const FIRST_PLANS: [&str; 2] = [
+    "SELECT rowid, year FROM node ORDER BY rowid",
+    "SELECT rowid, year FROM plan_item ORDER BY rowid",
 ];
 
 // Tests the rowids that each of the texts asks for.
@@ -81,6 +89,26 @@ fn scan_each<S: Alter>(
     };
     scan(conn, alloc, text)?;
     scan_each(conn, alloc, later)
+}
+
+// Tests the rowids and the years of plans that each of the texts asks for.
+fn scan_each_plan<S: Alter>(
+    conn: &mut Connection<S>,
+    alloc: Global,
+    texts: &[&str],
+) -> Result<(), Unread>
+    ensures look { (plans : _) → LooksOver (AskEachYear (map (λ t. t.now) texts.now) plans)
+        (state S.Store conn.old) (state S.Store conn.new) }
+    ensures stays { OnOk result (StaysOpen (state S.Store conn.old) (state S.Store conn.new)) }
+    ensures years { OnOk result (IsCleanBook (state S.Store conn.new) → (state S.Store conn.old).in_transaction ≡ false
+        → (plans : _) → AskEachYear (map (λ t. t.now) texts.now) plans (state S.Store conn.old).now.schema
+        → AllByRecursion (λ plan. ArePlanRows plan.1 ((state S.Store conn.old).now.trees plan.0)) plans) }
+{
+    let [text, later @ ..] = texts else {
+        return Ok(());
+    };
+    scan_plans(conn, alloc, text)?;
+    scan_each_plan(conn, alloc, later)
 }
 
 // Reads the tables that are small and that both schemas have.
@@ -104,17 +132,20 @@ fn test_tables<S: Alter>(
     alloc: Global,
     more: &[&str],
     scans: &[&str],
+    plans: &[&str],
 ) -> Result<(), Unread>
     requires { (state S.Store conn.old).in_transaction ≡ false }
-    ensures test { (to : _) (trees : _) → AreTestsOf to trees (map (λ t. t.now) more.now) (map (λ t. t.now) scans.now)
-        → IsTest (state S.Store conn.old) (state S.Store conn.new) }
-    ensures found { (to : _) (trees : _) → AreTestsOf to trees (map (λ t. t.now) more.now) (map (λ t. t.now) scans.now)
-        → OnOk result (Finds to trees (state S.Store conn.old) (state S.Store conn.new)) }
+    ensures test { (wanted : _) → AreTestsOf wanted (map (λ t. t.now) more.now) (map (λ t. t.now) scans.now)
+        (map (λ t. t.now) plans.now) → IsTest (state S.Store conn.old) (state S.Store conn.new) }
+    ensures found { (wanted : _) → AreTestsOf wanted (map (λ t. t.now) more.now) (map (λ t. t.now) scans.now)
+        (map (λ t. t.now) plans.now)
+        → OnOk result (Finds wanted (state S.Store conn.old) (state S.Store conn.new)) }
 {
     if !has_tables(conn, alloc, more)? {
         return Err(Unread);
     }
     read_all_small(conn, alloc)?;
+    scan_each_plan(conn, alloc, plans)?;
     scan_each(conn, alloc, scans)
 }
 
@@ -124,14 +155,14 @@ pub fn test_second<S: Alter>(conn: &mut Connection<S>, alloc: Global) -> Result<
     ensures test { IsTest (state S.Store conn.old) (state S.Store conn.new) }
     ensures found { OnOk result (FindsOffice (state S.Store conn.old) (state S.Store conn.new)) }
 {
-    test_tables(conn, alloc, &SECOND_TABLES, &SECOND_SCANS)
+    test_tables(conn, alloc, &SECOND_TABLES, &SECOND_SCANS, &SECOND_PLANS)
 }
 
 /// Tests the tables of schema 1, which are as they were.
 pub fn test_first<S: Alter>(conn: &mut Connection<S>, alloc: Global) -> Result<(), Unread>
     requires { (state S.Store conn.old).in_transaction ≡ false }
     ensures test { IsTest (state S.Store conn.old) (state S.Store conn.new) }
-    ensures found { OnOk result (Finds first_schema first_trees (state S.Store conn.old) (state S.Store conn.new)) }
+    ensures found { OnOk result (Finds first_wanted (state S.Store conn.old) (state S.Store conn.new)) }
 {
-    test_tables(conn, alloc, &[], &FIRST_SCANS)
+    test_tables(conn, alloc, &[], &FIRST_SCANS, &FIRST_PLANS)
 }

@@ -2,6 +2,7 @@
 #![tactic(auto)]
 
 mod inspect;
+mod left;
 mod make;
 mod migrate;
 mod open;
@@ -9,4 +10,5 @@ mod perform;
 mod same;
 mod version;
 
+pub use left::what_is_left_is_found;
 pub use open::open_office;

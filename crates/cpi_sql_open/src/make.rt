@@ -6,6 +6,7 @@ ghost use Rattle.cpi_sql_rows.specs.Making.{IsBlank, IsNew, no_schema};
 ghost use Rattle.cpi_sql_open.specs.Making.{MakeEach};
 
 use crate::perform::perform_each;
+use cpi_sql_rows::settle;
 use sqlite::{Alter, Connection, Error, Transaction};
 
 // The tables of schema 1, in the order in which they are made.
@@ -97,11 +98,11 @@ pub fn make_tables<S: Alter>(conn: &mut Connection<S>) -> Result<(), Error>
     ensures crash { Survives (state S.Store conn.old) (state S.Store conn.new)
         (λ db. (state S.Store conn.old).now.schema ≡ no_schema → IsNew db) }
 {
-    let _settled = conn.is_autocommit();
+    settle(conn);
     let mut tx = conn.transaction();
     make_all(&mut tx)?;
     let done = tx.commit();
-    let _settled_again = conn.is_autocommit();
+    settle(conn);
     done
 }
 

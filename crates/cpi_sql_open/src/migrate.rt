@@ -7,7 +7,7 @@ ghost use Rattle.cpi_sql_rows.specs.Finding.{HaveFirstRowids, IsMigrated, IsMove
 use crate::make::{NUMBER, SECOND_TABLES};
 use crate::perform::perform_each;
 use crate::version::{Version, look};
-use cpi_sql_rows::Unread;
+use cpi_sql_rows::{Unread, settle};
 use sqlite::{Alter, Connection, Transaction};
 
 // The rows of each table of schema 1 that schema 2 has anew are copied.
@@ -18,7 +18,7 @@ const COPIES: [&str; 6] = [
     "INSERT INTO quote_2 (collector, slot, month, mark, value, receipt) SELECT collector, slot, month, mark, \
      value, receipt FROM quote",
     "INSERT INTO release_2 (month, revision, frozen_at, publishes, carry) SELECT month, 1, frozen_at, \
-     publishes, carry FROM release WHERE typeof(month) = 'integer'",
+     publishes, carry FROM release",
     "INSERT INTO frozen_2 (month, revision, collector, slot, item, last_month, mark, value) SELECT month, 1, \
      collector, slot, item, last_month, mark, value FROM frozen",
     "INSERT INTO carried_2 (month, revision, collector, slot, item, last_month, ticks, knum, kden, observed, \
@@ -83,11 +83,11 @@ pub fn migrate<S: Alter>(conn: &mut Connection<S>) -> Result<(), Unread>
         (λ db. (state S.Store conn.old).now.schema ≡ first_schema →
         HaveFirstRowids (state S.Store conn.old).now.trees → IsMigrated (state S.Store conn.old).now.trees db) }
 {
-    let _settled = conn.is_autocommit();
+    settle(conn);
     let mut tx = conn.transaction();
     move_rows(&mut tx)?;
     let done = tx.commit();
-    let _settled_again = conn.is_autocommit();
+    settle(conn);
     done?;
     Ok(())
 }

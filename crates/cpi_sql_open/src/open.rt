@@ -1,8 +1,9 @@
 //! An open: the tables are made where there is nothing, and else tested; those of schema 1 are migrated.
 ghost use Rattle.std.specs.Prelude.{◌≡◌};
-ghost use Rattle.cpi_sql_rows.specs.Common.{AreWhole, Err, HasCleanDisk, HasTables, IsCleanBook, IsKept, IsTrue};
+ghost use Rattle.cpi_sql_rows.specs.Common.{AreWhole, Err, HasCleanDisk, HasTables, IsCleanBook, IsKept, IsLive, IsTrue};
 ghost use Rattle.cpi_sql_rows.specs.Common.{OnErr, OnOk, StaysOpen, Survives, false, first_schema, state};
-ghost use Rattle.cpi_sql_rows.specs.Finding.{IsMigrated, IsOpened, MayBeMade};
+ghost use Rattle.cpi_sql_rows.specs.Finding.{HavePlanYears, IsMigrated, IsOpened, MayBeMade};
+ghost use Rattle.cpi_sql_rows.specs.Making.{IsOfficeDatabase};
 ghost use Rattle.cpi_sql_rows.specs.Numbered.{ShowsOther};
 ghost use Rattle.cpi_store.specs.declared.open_fault.OpenFault.TheVariants.{UnknownSchema};
 
@@ -15,6 +16,13 @@ use cpi_store::OpenFault;
 use sqlite::{Alter, Connection};
 use std::alloc::Global;
 
+// Does nothing: it is called for the proof, which learns that the connection is live.
+fn know_live<S: Alter>(conn: &Connection<S>)
+    ensures { IsLive (state S.Store conn.now) }
+{
+    let _schema = conn.schema();
+}
+
 // The tables of schema 1, tested and then migrated.
 fn migrate_first<S: Alter>(conn: &mut Connection<S>, alloc: Global) -> Result<(), Unread>
     requires { (state S.Store conn.old).in_transaction ≡ false }
@@ -26,17 +34,20 @@ fn migrate_first<S: Alter>(conn: &mut Connection<S>, alloc: Global) -> Result<()
     ensures migrated { IsCleanBook (state S.Store conn.new) → OnOk result (
         ((state S.Store conn.old).now.schema ≡ first_schema)
         × IsMigrated (state S.Store conn.old).now.trees (state S.Store conn.new).now.trees) }
+    ensures years { IsCleanBook (state S.Store conn.new) →
+        OnOk result (HavePlanYears (state S.Store conn.new).now.trees) }
     ensures open { HasCleanDisk (state S.Store conn.new) → OnOk result (IsTrue (state S.Store conn.new).is_open) }
     ensures crash { Survives (state S.Store conn.old) (state S.Store conn.new) (λ db.
-        IsCleanBook (state S.Store conn.old) × (((state S.Store conn.old).now.schema ≡ first_schema)
-        × IsMigrated (state S.Store conn.old).now.trees db)) }
+        IsCleanBook (state S.Store conn.old)
+        × (IsOfficeDatabase db × (((state S.Store conn.old).now.schema ≡ first_schema)
+        × IsMigrated (state S.Store conn.old).now.trees db))) }
 {
     test_first(conn, alloc)?;
     if !conn.is_autocommit() {
         return Err(Unread);
     }
     migrate(conn)?;
-    let _schema = conn.schema();
+    know_live(conn);
     Ok(())
 }
 
@@ -48,6 +59,8 @@ pub fn open_office<S: Alter>(conn: &mut Connection<S>, alloc: Global) -> Result<
         OnErr result (IsKept (state S.Store conn.old) (state S.Store conn.new)) }
     ensures ready { IsCleanBook (state S.Store conn.new) → OnOk result (HasTables (state S.Store conn.new)) }
     ensures whole { IsCleanBook (state S.Store conn.new) → OnOk result (AreWhole (state S.Store conn.new).now.trees) }
+    ensures years { IsCleanBook (state S.Store conn.new) →
+        OnOk result (HavePlanYears (state S.Store conn.new).now.trees) }
     ensures opened { IsCleanBook (state S.Store conn.new) →
         OnOk result (IsOpened (state S.Store conn.old) (state S.Store conn.new)) }
     ensures stays { OnOk result (StaysOpen (state S.Store conn.old) (state S.Store conn.new)) }

@@ -7,6 +7,7 @@ ghost use Rattle.cpi_sql_rows.specs.Tables.{version};
 ghost use Rattle.cpi_sql_open.specs.declared.version.Version.TheVariants.{Second, Other};
 ghost use Rattle.cpi_sql_open.specs.Said.{Says};
 
+use cpi_sql_rows::settle;
 use sqlite::{Alter, Connection, Error, Row, Transaction};
 use sqlite_value::value::ValueRef;
 
@@ -64,7 +65,7 @@ pub fn read_version<S: Alter>(conn: &mut Connection<S>) -> Result<Version, Error
         IfOk result (λ v. v ≡ Other → ShowsOther S.Store conn.old) }
     ensures survives { Survives (state S.Store conn.old) (state S.Store conn.new) (λ _. ⊥) }
 {
-    let _settled = conn.is_autocommit();
+    settle(conn);
     let mut tx = conn.transaction();
     let found = look(&mut tx);
     tx.rollback();

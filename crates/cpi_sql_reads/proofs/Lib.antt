@@ -3,3 +3,4 @@ pub mod HeaderLists
 pub mod OneLess
 pub mod StoredLists
 pub mod LatestHeaders
+pub mod PlanYears

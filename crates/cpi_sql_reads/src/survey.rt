@@ -1,7 +1,7 @@
 //! What the tables hold of an office but for its releases, read whole.
 ghost use Rattle.std.specs.Prelude.{◌≡◌};
 ghost use Rattle.cpi_store.specs.Office.{public_part};
-ghost use Rattle.cpi_sql_rows.specs.Common.{state, IsSurveyOf, Looks};
+ghost use Rattle.cpi_sql_rows.specs.Common.{state, ArePlansTaken, IsSurveyOf, Looks};
 ghost use Rattle.cpi_sql_rows.specs.Lists.{office_in};
 ghost use Rattle.cpi_sql_reads.specs.Tells.{Tells};
 
@@ -17,6 +17,7 @@ use std::alloc::Global;
 fn read_public<S: Alter>(conn: &mut Connection<S>, alloc: Global) -> Result<Public, Unread>
     ensures look { Looks (state S.Store conn.old) (state S.Store conn.new) result }
     ensures read { Tells S.Store conn.old conn.new result (λ trees public. public ≡ public_part (office_in trees)) }
+    ensures taken { Tells S.Store conn.old conn.new result (λ trees _. ArePlansTaken trees) }
 {
     let read: Vec<Item> = read_all(conn, alloc)?;
     let items = by_key(alloc, read)?;

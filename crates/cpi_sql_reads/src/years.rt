@@ -1,10 +1,12 @@
 //! The plans of the years, read from the tables.
 ghost use Rattle.std.specs.Prelude.{◌≡◌, ◌≤◌, ◌++◌};
 ghost use Rattle.std.specs.Option.{option_to_list};
+ghost use Rattle.cpi_plan.specs.Plan.{IsPlan};
 ghost use Rattle.cpi_plan.specs.Stored.{plan_from};
-ghost use Rattle.cpi_sql_rows.specs.Common.{ℕ, held_by, held_cmp, held_key, nat_cmp, state};
-ghost use Rattle.cpi_sql_rows.specs.Common.{refl, IfOk, IsInOrder, Looks, OnOk};
-ghost use Rattle.cpi_sql_rows.specs.HeldTables.{HeldTable, Holds, beside, year_in};
+ghost use Rattle.cpi_sql_rows.specs.Common.{ℕ, held_by, held_cmp, held_key, nat_cmp, state, year_in};
+ghost use Rattle.cpi_sql_rows.specs.Common.{refl, AllStandFor, ArePlansTaken, IfOk, IsInOrder, IsPlanTaken, Looks};
+ghost use Rattle.cpi_sql_rows.specs.Common.{OnOk};
+ghost use Rattle.cpi_sql_rows.specs.HeldTables.{HeldTable, Holds, beside};
 ghost use Rattle.cpi_sql_rows.specs.HeldTables.{node_table, place_table, reference_table};
 ghost use Rattle.cpi_sql_rows.specs.Lists.{if_whole, listed, nodes_in, places_in, plan_at, plans_in, reference_of};
 ghost use Rattle.cpi_sql_rows.specs.Lists.{references_in};
@@ -79,12 +81,21 @@ fn rows_of_year<S: Alter, T: YearRow>(
     ensures read { Tells S.Store conn.old conn.new result (λ trees xs.
         xs.items ≡ held_by year (listed (held_cmp T.Key.cmp) (held_key T.key) (beside (year_in T.place) T.table.after)
         (trees T.table.tree))) }
+    ensures stand { Tells S.Store conn.old conn.new result (λ trees _.
+        AllStandFor (year_in T.place) (beside (year_in T.place) T.table.after) year (trees T.table.tree)) }
 {
     let number = u32::from(year);
     list(conn, alloc, T::text(), params![number])
 }
 
-// The plan that the rows of a year make; none where it has no nodes.
+// Does nothing: it is called for the proof, which learns what each plan keeps true.
+fn know_plan(plan: &YearPlan)
+    ensures { IsPlan plan.now }
+{
+    let _nodes = plan.nodes();
+}
+
+// The plan that the rows of a year make; none if it has no nodes.
 fn made(
     alloc: Global,
     items: &RowsByKey<Item>,
@@ -103,7 +114,7 @@ fn made(
     let Some(plan) = YearPlan::from_rows(alloc, year, items, nodes, places, reference) else {
         return Err(Unread);
     };
-    let _kept = plan.nodes();
+    know_plan(&plan);
     Ok(Some(plan))
 }
 
@@ -118,6 +129,7 @@ fn plan_of<S: Alter>(
     ensures look { Looks (state S.Store conn.old) (state S.Store conn.new) result }
     ensures read { Tells S.Store conn.old conn.new result (λ trees p. p ≡ plan_at (nodes_in (trees node_table.tree))
         (places_in (trees place_table.tree)) (references_in (trees reference_table.tree)) year) }
+    ensures taken { Tells S.Store conn.old conn.new result (λ trees _. IsPlanTaken year trees) }
 {
     let nodes: Vec<Node> = rows_of_year(conn, alloc, year)?;
     let places: Vec<Place> = rows_of_year(conn, alloc, year)?;
@@ -125,7 +137,7 @@ fn plan_of<S: Alter>(
     made(alloc, items, year, &nodes, &places, &references)
 }
 
-/// The plans of all years, 2000 to 2199.
+/// The plans of all years, 2000 to 2199. A row that the types refuse, in a plan of one of these years, is an error.
 pub fn plans<S: Alter>(
     conn: &mut Connection<S>,
     alloc: Global,
@@ -133,6 +145,7 @@ pub fn plans<S: Alter>(
 ) -> Result<Vec<YearPlan>, Unread>
     ensures look { Looks (state S.Store conn.old) (state S.Store conn.new) result }
     ensures read { Tells S.Store conn.old conn.new result (λ trees ps. ps.items ≡ plans_in trees) }
+    ensures taken { Tells S.Store conn.old conn.new result (λ trees _. ArePlansTaken trees) }
     ensures order { IfOk result (λ ps. IsInOrder nat_cmp (λ p. p.year) ps.items) }
 {
     let mut plans = Vec::new(alloc);

@@ -6,7 +6,7 @@ use Rattle.sqlite.specs.Tree.{Trees}
 use Rattle.sqlite.specs.Command.{Command}
 use Rattle.sqlite.specs.Command.TheVariants.{Commit, Release}
 use Rattle.sqlite.specs.Does.{Tally, Does}
-use Rattle.sqlite.specs.Effect.{Database}
+use Rattle.sqlite.specs.Effect.{Database, IsDatabase}
 use Rattle.sqlite.specs.Listing.{understood}
 use Rattle.sqlite.specs.State.{State, Writes, Runs, Executes, CommitsBy, mode_of}
 use Rattle.sqlite.proofs.Callers.{runs_as, statement_of}
@@ -17,9 +17,10 @@ use Rattle.cpi_sql_rows.proofs.Commits.{commits_as}
 -- what the statement does to the tables of the office, where it is run and where a crash leaves it
 pub record IsChange (text : List ℕ) (params : Row) (Done : Trees → Database → Type 0) : Type 1 where
   pub ran : (old new : State) (count : ℕ) → old.now.schema ≡ office_schema
-      → Executes text params old new (Ok count) → Done old.now.trees new.now × (new.in_transaction ≡ old.in_transaction)
+      → Executes text params old new (Ok count)
+      → Done old.now.trees new.now × (new.in_transaction ≡ old.in_transaction) × IsDatabase new.now
   pub commits : (old : State) (db : Trees) → old.now.schema ≡ office_schema → CommitsBy text params old db
-      → (after : Database) × Done old.now.trees after × (db ≡ after.trees)
+      → (after : Database) × Done old.now.trees after × (db ≡ after.trees) × IsDatabase after
 
 module _ (text : List ℕ) (command : Command) (is : Makes text command) (params : Row)
     (writes : (old new : State) (t : List ℕ) (count : ℕ) → Runs old new None command t params count
@@ -33,7 +34,8 @@ module _ (text : List ℕ) (command : Command) (is : Makes text command) (params
     }) (statement_of text (understood office_schema text)) None command (Ok (tally, after))
     → Done db after) where
   change_done : (old new : State) (count : ℕ) → old.now.schema ≡ office_schema
-      → Executes text params old new (Ok count) → Done old.now.trees new.now × (new.in_transaction ≡ old.in_transaction)
+      → Executes text params old new (Ok count)
+      → Done old.now.trees new.now × (new.in_transaction ≡ old.in_transaction) × IsDatabase new.now
   change_done old new count has h =
       let t = statement_of text (understood office_schema text) in
       let w = writes old new t count (runs_as text params old new office_schema has command is.0 is.1 count h) in (
@@ -43,10 +45,11 @@ module _ (text : List ℕ) (command : Command) (is : Makes text command) (params
               new.now,
             ))) has w.changed),
         w.shown.mode,
+        w.sound,
       )
 
   change_commits : (old : State) (db : Trees) → old.now.schema ≡ office_schema → CommitsBy text params old db
-      → (after : Database) × Done old.now.trees after × (db ≡ after.trees)
+      → (after : Database) × Done old.now.trees after × (db ≡ after.trees) × IsDatabase after
   change_commits old db has may =
       let t = statement_of text (understood office_schema text) in
       elim (commits_as text params old office_schema has command is.0 is.1 db may) [
@@ -59,6 +62,7 @@ module _ (text : List ℕ) (command : Command) (is : Makes text command) (params
                 it.2,
               ))) has it.3),
           it.5,
+          it.4,
         )
       ]
 

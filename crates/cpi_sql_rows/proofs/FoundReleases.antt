@@ -20,7 +20,7 @@ use Rattle.cpi_sql_rows.specs.declared.release_rows.Header.{Header}
 use Rattle.cpi_sql_rows.specs.Tables.{office_schema, release_2, frozen_2, carried_2, level_2}
 use Rattle.cpi_sql_rows.specs.Lists.{ranged, month_from, item_from, mark_in, name_from, revision_from, codes_from}
 use Rattle.cpi_sql_rows.specs.Lists.{header_in, header_key}
-use Rattle.cpi_sql_rows.specs.Lists.{code_from, flag_in, change_in, whole_or_none, priced_from}
+use Rattle.cpi_sql_rows.specs.Lists.{code_from, flag_in, change_in, weight_from, whole_or_none, priced_from}
 use Rattle.cpi_sql_rows.specs.Lists.{frozen_in, carried_in, level_in}
 use Rattle.cpi_sql_rows.specs.ReleaseRows.{frozen_after, carried_after, level_after}
 use Rattle.cpi_sql_rows.specs.Shelf.{IsKeyed, HasRowids}
@@ -134,7 +134,7 @@ level_code : (r : Row) (l : Level) → level_after r ≡ Some l → column r 3 �
 level_code r l e =
     let one = bound_is (code_from (column r 3)) _ _ e in
     let two = bound_is (name_from (column r 4)) _ _ one.2 in
-    let three = bound_is (ranged 1 1000000000000000 (column r 5)) _ _ two.2 in
+    let three = bound_is (weight_from one.0 (column r 5)) _ _ two.2 in
     let four = bound_is (ranged 1 10000000000000 (column r 6)) _ _ three.2 in
     let five = bound_is (ranged 1 1000000000000000 (column r 7)) _ _ four.2 in
     let six = bound_is (change_in (column r 8)) _ _ five.2 in

@@ -4,6 +4,7 @@ use Rattle.std.proofs.Common.{sym, subst}
 use Rattle.sqlite.specs.Tree.{Trees}
 use Rattle.sqlite.specs.Effect.{Database}
 use Rattle.sqlite.specs.Listing.{understood, reads_listing}
+use Rattle.sqlite.specs.Program.{overlay}
 use Rattle.sqlite.specs.State.{State, IsLive}
 use Rattle.sqlite.proofs.Callers.{IsPlain, command_of}
 use Rattle.sqlite_catalog.specs.Listing.{IsSound}
@@ -12,11 +13,15 @@ use Rattle.sqlite_trees.specs.Memory.{memory_view}
 use Rattle.sqlite_trees.specs.declared.memory.MemStore.{MemStore}
 use Rattle.sqlite_tied.specs.Compute.{everything}
 use Rattle.sqlite.specs.Schema.{Schema}
-use Rattle.cpi_sql_rows.specs.Tables.{first_schema, office_schema}
-use Rattle.cpi_sql_rows.specs.Finding.{AsksRowids, HaveRowids, HavePlanRowids, AreWhole, IsOfOffice, IsFirst, IsSecond}
-use Rattle.cpi_sql_rows.specs.Finding.{KeepsLists, IsMoved}
+use Rattle.cpi_sql_rows.specs.Making.{HasAllTables, IsOfficeDatabase}
+use Rattle.cpi_sql_rows.specs.Numbered.{IsVersion}
+use Rattle.cpi_sql_rows.specs.Tables.{first_schema, node, office_schema, plan_item, version}
+use Rattle.cpi_sql_rows.specs.Finding.{AreWhole, AsksRowids, AsksYears, HavePlanRowids, HaveRowids, IsFirst, IsOfOffice}
+use Rattle.cpi_sql_rows.specs.Finding.{IsSecond}
+use Rattle.cpi_sql_rows.specs.Finding.{AreOfYears, HavePlanYears, IsMigrated, IsMoved, KeepsLists}
 use Rattle.cpi_sql_rows.specs.Texts.{select}
-use Rattle.cpi_sql_rows.specs.Shelf.{HasTables, HasRowids, IsKept}
+use Rattle.cpi_sql_rows.specs.Shelf.{AllStand, HasTables, HasRowids, IsKept}
+use Rattle.cpi_sql_rows.specs.WholeTables.{either, second}
 use Rattle.cpi_sql_rows.proofs.Found.{assignments_keyed, quotes_keyed}
 use Rattle.cpi_sql_rows.proofs.FoundPlans.{nodes_keyed, places_keyed, references_keyed}
 use Rattle.cpi_sql_rows.proofs.FoundReleases.{headers_keyed, frozen_keyed, carried_keyed, levels_keyed}
@@ -43,18 +48,6 @@ under_one : (known : Schema) (text : List ℕ) (tree : ℕ) → AsksRowids known
     → schema ≡ known → AsksRowids schema text tree
 under_one known text tree asks schema e = subst (λ s. AsksRowids s text tree) (sym e) asks
 
-pub node_rowids : (schema : Schema) → IsOfOffice schema
-    → AsksRowids schema (codes "SELECT rowid FROM node ORDER BY rowid") 6
-unfolding understood everything
-node_rowids = under_both _ 6 (asked (codes "rowid") refl refl (refl, refl))
-    (asked (codes "rowid") refl refl (refl, refl))
-
-pub plan_item_rowids : (schema : Schema) → IsOfOffice schema
-    → AsksRowids schema (codes "SELECT rowid FROM plan_item ORDER BY rowid") 8
-unfolding understood everything
-plan_item_rowids = under_both _ 8 (asked (codes "rowid") refl refl (refl, refl))
-    (asked (codes "rowid") refl refl (refl, refl))
-
 pub calendar_rowids : (schema : Schema) → IsOfOffice schema
     → AsksRowids schema (codes "SELECT rowid FROM calendar ORDER BY rowid") 10
 unfolding understood everything
@@ -70,11 +63,6 @@ pub quote_rowids : (schema : Schema) → IsSecond schema
     → AsksRowids schema (codes "SELECT rowid FROM quote_2 ORDER BY rowid") 24
 unfolding understood everything
 quote_rowids = under_one office_schema _ 24 (asked (codes "rowid") refl refl (refl, refl))
-
-pub reference_rowids : (schema : Schema) → IsSecond schema
-    → AsksRowids schema (codes "SELECT rowid FROM plan_ref ORDER BY rowid") 34
-unfolding understood everything
-reference_rowids = under_one office_schema _ 34 (asked (codes "year") refl refl (refl, refl))
 
 pub release_rowids : (schema : Schema) → IsSecond schema
     → AsksRowids schema (codes "SELECT rowid FROM release_2 ORDER BY rowid") 26
@@ -128,6 +116,43 @@ pub first_level_rowids : (schema : Schema) → IsFirst schema
 unfolding understood everything
 first_level_rowids = under_one first_schema _ 20 (asked (codes "rowid") refl refl (refl, refl))
 
+-- ---- the texts that ask for rowids and years
+
+years_asked : {schema : Schema} {text : List ℕ} {tree place : ℕ} (names : List (List ℕ))
+    → command_of (understood schema text) ≡ select tree [] (0 ∷ place ∷ []) (0 ∷ []) names
+    → reads_listing schema text ≡ false → IsPlain (understood schema text)
+    → ((trees : Trees) → overlay trees [] tree ≡ trees tree) → AsksYears schema text tree place
+years_asked names command listing plain stored = record {
+  order = 0 ∷ [];
+  names = names;
+  command = command;
+  listing = listing;
+  plain = plain;
+  stored = stored;
+}
+
+pub node_years : (schema : Schema) → IsOfOffice schema
+    → AsksYears schema (codes "SELECT rowid, year FROM node ORDER BY rowid") 6 1
+unfolding understood everything
+node_years = either (λ s. AsksYears s (codes "SELECT rowid, year FROM node ORDER BY rowid") 6 1)
+    (years_asked (codes "rowid" ∷ codes "year" ∷ []) refl refl (refl, refl) (λ _. refl))
+    (years_asked (codes "rowid" ∷ codes "year" ∷ []) refl refl (refl, refl) (λ _. refl))
+
+pub plan_item_years : (schema : Schema) → IsOfOffice schema
+    → AsksYears schema (codes "SELECT rowid, year FROM plan_item ORDER BY rowid") 8 1
+unfolding understood everything
+plan_item_years = either (λ s. AsksYears s (codes "SELECT rowid, year FROM plan_item ORDER BY rowid") 8 1)
+    (years_asked (codes "rowid" ∷ codes "year" ∷ []) refl refl (refl, refl) (λ _. refl))
+    (years_asked (codes "rowid" ∷ codes "year" ∷ []) refl refl (refl, refl) (λ _. refl))
+
+pub reference_years : (schema : Schema) → IsSecond schema
+    → AsksYears schema (codes "SELECT rowid, year FROM plan_ref ORDER BY rowid") 34 0
+unfolding understood everything
+reference_years = second (λ s. AsksYears s (codes "SELECT rowid, year FROM plan_ref ORDER BY rowid") 34 0)
+    (years_asked (codes "year" ∷ codes "year" ∷ []) refl refl (refl, refl) (λ _. refl))
+
+-- ---- what is found
+
 pub schema_after : (Fits : Schema → Type 0) (a b : State) → IsKept a b → Fits a.now.schema → Fits b.now.schema
 schema_after Fits a b k has = subst (λ (d : Database). Fits d.schema) (sym k.now) has
 
@@ -140,12 +165,15 @@ on_any (Ok a) P h = h
 on_any (Err e) P h = tt
 
 pub found_tables : (s : State) → s.in_transaction ≡ false → s.now.schema ≡ office_schema → IsTrue s.is_open → IsLive s
-    → AreWhole s.now.trees → HaveRowids s.now.trees → HasTables s
-found_tables s alone has is_open live whole rise =
+    → AreWhole s.now.trees → HavePlanYears s.now.trees → HaveRowids s.now.trees
+    → IsVersion 2 (s.now.trees version.tree) → HasTables s
+unfolding HasAllTables
+found_tables s alone has is_open live whole years rise number =
     let sound : IsSound office_schema s.now.trees = subst (λ x. IsSound x s.now.trees) has (live is_open).0 in
     record {
       schema = has;
       alone = alone;
+      office = record { tables = sound; version = number; whole = whole; years = years };
       rowids = rise.survey.quotes;
       days = rise.plans.calendar;
       assignment_ids = rise.survey.assignments;
@@ -188,6 +216,25 @@ moved_whole old new k h = record {
   calendar = rw k.calendar h.calendar;
 }
 
+pub moved_years : (old new : Trees) → AreOfYears 1 (old node.tree) → AreOfYears 1 (old plan_item.tree)
+    → IsMigrated old new → HavePlanYears new
+unfolding AllStand
+moved_years old new nodes places m = record {
+  nodes = subst (AreOfYears 1) (sym m.lists.nodes) nodes;
+  places = subst (AreOfYears 1) (sym m.lists.places) places;
+  references = subst (AreOfYears 0) (sym m.references) (λ r h. absurd h);
+}
+
+-- a migration of tables that were found so makes the database of an office
+pub moved_database : (old new : Trees) → AreWhole old → AreOfYears 1 (old node.tree) → AreOfYears 1 (old plan_item.tree)
+    → IsMigrated old new → IsOfficeDatabase new
+moved_database old new whole nodes places m = record {
+  tables = m.tables;
+  version = m.version;
+  whole = moved_whole old new m.lists whole;
+  years = moved_years old new nodes places m;
+}
+
 moved_rowids : (old new : Trees) → KeepsLists old new → HavePlanRowids old → HavePlanRowids new
 moved_rowids old new k h = record {
   nodes = subst HasRowids (sym k.nodes) h.nodes;
@@ -196,11 +243,13 @@ moved_rowids old new k h = record {
 }
 
 pub moved_tables : (old new : State) → new.in_transaction ≡ false → IsTrue new.is_open → IsLive new
-    → AreWhole old.now.trees → HavePlanRowids old.now.trees → IsMoved old new → HasTables new
-moved_tables old new alone is_open live whole rise moved =
-    found_tables new alone moved.schema is_open live (moved_whole old.now.trees new.now.trees moved.lists whole)
-    (record {
-      plans = moved_rowids old.now.trees new.now.trees moved.lists rise;
+    → AreWhole old.now.trees → AreOfYears 1 (old.now.trees node.tree) → AreOfYears 1 (old.now.trees plan_item.tree)
+    → HavePlanRowids old.now.trees → IsMoved old new → HasTables new
+moved_tables old new alone is_open live whole nodes places rise moved =
+    found_tables new alone moved.schema is_open live
+    (moved_whole old.now.trees new.now.trees moved.migrated.lists whole)
+    (moved_years old.now.trees new.now.trees nodes places moved.migrated) (record {
+      plans = moved_rowids old.now.trees new.now.trees moved.migrated.lists rise;
       survey = moved.survey;
       releases = moved.releases;
-    })
+    }) moved.migrated.version

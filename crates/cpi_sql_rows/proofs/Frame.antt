@@ -1,5 +1,5 @@
 -- What a write of some tables makes of the office: each other table is as it was.
-use Rattle.std.proofs.Common.{◌≡◌, ℕ, ◌==◌, true, false, List, [], ◌∷◌, Option, Some, None, map, not}
+use Rattle.std.proofs.Common.{◌≡◌, ℕ, ◌==◌, true, false, List, [], ◌∷◌, Option, Some, None, IsSome, map, not}
 use Rattle.std.proofs.Common.{inl, inr, refl, sym, ap, subst, ◌∙◌}
 use Rattle.std.specs.Prelude.{if◌then◌else◌}
 use Rattle.std.specs.Ordering.{nat_cmp}
@@ -8,7 +8,7 @@ use Rattle.std.specs.declared.cmp.Ordering.{Ordering}
 use Rattle.std.specs.List.{AllByRecursion, list_all, list_any}
 use Rattle.std.proofs.lemmas.Bool.{cases_Bool}
 use Rattle.std.proofs.lemmas.Bool.Decides.{eqb_tells}
-use Rattle.sqlite.specs.Order.{Row}
+use Rattle.sqlite.specs.Order.{Row, column}
 use Rattle.sqlite.specs.Table.{Table}
 use Rattle.sqlite.specs.Tree.{Trees}
 use Rattle.sqlite.specs.State.{State}
@@ -17,13 +17,19 @@ use Rattle.cpi_rows.specs.Held.{held_cmp, held_key}
 use Rattle.cpi_survey.specs.Quote.{quote_cmp, quote_key}
 use Rattle.cpi_index.specs.Series.{frozen_serial, carried_serial}
 use Rattle.cpi_release.specs.FrozenMonths.{release_cmp}
-use Rattle.cpi_store.specs.Office.{Change, changed}
-use Rattle.cpi_sql_rows.specs.Tables.{office_schema}
+use Rattle.sqlite.specs.Effect.{Database, IsDatabase}
+use Rattle.sqlite_catalog.specs.Listing.{IsSound}
+use Rattle.cpi_store.specs.Office.{Change, PutsItem, PutsPlan, PutsCalendar, Registers, PutsOutlet, Assigns, HandsOver}
+use Rattle.cpi_store.specs.Office.{Quotes as PutsQuote, Freezes, changed}
+use Rattle.cpi_sql_rows.specs.Tables.{office_schema, version}
+use Rattle.cpi_sql_rows.specs.Making.{HasAllTables}
+use Rattle.cpi_sql_rows.specs.Numbered.{IsVersion}
 use Rattle.cpi_sql_rows.specs.Lists.{office_in, collector_in, outlet_in, item_in, calendar_in, assignment_in, quote_in}
 use Rattle.cpi_sql_rows.specs.Lists.{node_in, place_in, reference_row, header_in, header_key, frozen_in, carried_in}
-use Rattle.cpi_sql_rows.specs.Lists.{level_in}
-use Rattle.cpi_sql_rows.specs.Shelf.{HasRowids, HasTables, IsDone, IsKeyed, Takes, WritesTaken}
-use Rattle.cpi_sql_rows.specs.Steps.{SameBut, is_beside}
+use Rattle.cpi_sql_rows.specs.Lists.{and_then, level_in}
+use Rattle.cpi_sql_rows.specs.Shelf.{AllStand, HasRowids, HasTables, IsDone, IsKeyed, IsWhole, Takes, WritesTaken}
+use Rattle.cpi_sql_rows.specs.Frames.{SameBut, is_beside, written_by}
+use Rattle.cpi_sql_rows.specs.WholeRows.{AreOfYears, year_in}
 use Rattle.cpi_sql_rows.proofs.Listed.{PutsRow, still_keyed}
 
 -- the tables of the office, by what their rows are
@@ -187,17 +193,76 @@ module _ (tables : List OfficeTable) (old new : Trees) (others : SameBut (map tr
     levels = (each Levels).rows.takes;
   }
 
--- what is done, where these tables alone are written
-pub table_written : (tables : List OfficeTable) (change : Change) (old new : State) → new.now.schema ≡ office_schema
-    → new.in_transaction ≡ false → SameBut (map tree_of tables) old.now.trees new.now.trees
+-- no change writes the number of the schema
+spares_number : (change : Change) → is_beside (written_by change) version.tree ≡ true
+spares_number (PutsItem i) = refl
+spares_number (PutsPlan p) = refl
+spares_number (PutsCalendar r) = refl
+spares_number (Registers b) = refl
+spares_number (PutsOutlet u) = refl
+spares_number (Assigns b a) = refl
+spares_number (HandsOver h) = refl
+spares_number (PutsQuote b q) = refl
+spares_number (Freezes r) = refl
+
+-- a table that is whole is so once its rows are written
+still_whole : {X K : Type 0} {cmp : K → K → Ordering} {key : X → K} {entry : Row → Option X} (old new : List Row)
+    → Writes cmp key entry old new → IsWhole cmp key entry old → IsWhole cmp key entry new
+unfolding AllStand Takes
+still_whole old new written was = record {
+  keyed = written.keyed was.keyed;
+  stand = λ r h. elim (written.takes r h) [ inl there ↦ was.stand r there | inr stands ↦ stands ];
+}
+
+-- rows of plans that are of years which an office can have still are once rows are put that stand for something
+still_years : {X : Type 0} (entry : Row → Option X) (place : ℕ)
+    → ((r : Row) → IsSome (entry r) → IsSome (year_in place r)) → (old new : List Row) → Takes entry old new
+    → AreOfYears place old → AreOfYears place new
+unfolding AllStand Takes
+still_years entry place of_year old new takes was r h =
+    elim (takes r h) [ inl there ↦ was r there | inr stands ↦ of_year r stands ]
+
+-- what stands for something has its year first
+has_first : {A B : Type 0} (a : Option A) (f : A → Option B) → IsSome (and_then a f) → IsSome a
+has_first None f h = h
+has_first (Some a) f h = refl
+
+-- the database has the office's schema, and obeys it
+pub all_tables_of : (db : Database) → db.schema ≡ office_schema → IsDatabase db → HasAllTables db.trees
+unfolding HasAllTables
+all_tables_of db has sound = subst (λ s. IsSound s db.trees) has sound
+
+-- what is done if these tables are written, and no others
+pub table_written : (tables : List OfficeTable) (change : Change) (old new : State)
+    → written_by change ≡ map tree_of tables → new.now.schema ≡ office_schema → new.in_transaction ≡ false
+    → HasAllTables new.now.trees → SameBut (map tree_of tables) old.now.trees new.now.trees
     → AllByRecursion (λ t. Written t (old.now.trees (tree_of t)) (new.now.trees (tree_of t))) tables
     → office_in new.now.trees ≡ changed change (office_in old.now.trees) → HasTables old → IsDone change old new
-table_written tables change old new schema alone others written office has =
+table_written tables change old new writes schema alone all others written office has =
     let it = each tables old.now.trees new.now.trees others written in
+    let spared : SameBut (written_by change) old.now.trees new.now.trees =
+    subst (λ trees. SameBut trees old.now.trees new.now.trees) (sym writes) others in
+    let was = has.office in
     record {
       tables = record {
         schema = schema;
         alone = alone;
+        office = record {
+          tables = all;
+          version = subst (IsVersion 2) (sym (spared version.tree (spares_number change))) was.version;
+          whole = record {
+            collectors = still_whole _ _ (it Collectors) was.whole.collectors;
+            outlets = still_whole _ _ (it Outlets) was.whole.outlets;
+            items = still_whole _ _ (it Items) was.whole.items;
+            calendar = still_whole _ _ (it Calendar).rows was.whole.calendar;
+          };
+          years = record {
+            nodes = still_years node_in 1 (λ r. has_first _ _) _ _ (it Nodes).rows.takes was.years.nodes;
+            places = still_years place_in 1 (λ r. has_first _ _) _ _ (it Places).rows.takes was.years.places;
+            references = still_years reference_row 0 (λ r. has_first _ _) _ _ (it References).rows.takes
+                was.years.references;
+          };
+        };
         rowids = (it Quotes).rowids has.rowids;
         days = (it Calendar).rowids has.days;
         assignment_ids = (it Assignments).rowids has.assignment_ids;
@@ -225,6 +290,9 @@ table_written tables change old new schema alone others written office has =
           levels = (it Levels).rows.keyed has.releases.levels;
         };
       };
-      office = office;
-      rows = rows_taken tables old.now.trees new.now.trees others written;
+      made = record {
+        office = office;
+        rows = rows_taken tables old.now.trees new.now.trees others written;
+        others = spared;
+      };
     }

@@ -13,10 +13,10 @@ use Rattle.sqlite.specs.Term.{Term, holds}
 use Rattle.cpi_rows.specs.Keyed.{IsInOrder}
 use Rattle.cpi_rows.specs.Held.{held_by, held_cmp, held_key}
 use Rattle.cpi_survey.specs.Quote.{QuoteRow, quote_cmp, quote_key}
-use Rattle.cpi_sql_rows.specs.HeldTables.{HeldTable, Holds, beside, release_in, year_in}
+use Rattle.cpi_sql_rows.specs.HeldTables.{HeldTable, Holds, beside, release_in}
 use Rattle.cpi_sql_rows.specs.Lists.{and_then, listed, month_at, quote_in, quotes_in, release_number, shown_quote}
 use Rattle.cpi_sql_rows.specs.Read.{AreRead}
-use Rattle.cpi_sql_rows.specs.Shelf.{HasTables, AllStand, AllStandFor}
+use Rattle.cpi_sql_rows.specs.Shelf.{HasTables, AllStand, AllStandFor, year_in}
 use Rattle.cpi_sql_rows.specs.Tables.{quote_2}
 use Rattle.cpi_sql_rows.specs.Texts.{all_quotes_text, is_first, is_release}
 use Rattle.cpi_sql_rows.specs.WholeTables.{all_quotes_asked}

@@ -6,12 +6,14 @@ use Rattle.sqlite.specs.State.{State}
 use Rattle.cpi_rows.specs.Held.{held_cmp, held_key}
 use Rattle.cpi_survey.specs.Quote.{quote_cmp, quote_key}
 use Rattle.cpi_sql_rows.specs.Lists.{collector_in, outlet_in, item_in, calendar_in, assignment_in, quote_in}
+use Rattle.cpi_sql_rows.specs.Making.{IsOfficeDatabase}
 use Rattle.cpi_sql_rows.specs.Shelf.{HasTables, HasPlans, HasReleases, HasRowids, IsKeyed, IsKept}
 
 pub kept_tables : (old new : State) → IsKept old new → HasTables old → HasTables new
 kept_tables old new k h = record {
   schema = ap (λ (d : Database). d.schema) k.now ∙ h.schema;
   alone = k.alone;
+  office = subst (λ (d : Database). IsOfficeDatabase d.trees) (sym k.now) h.office;
   rowids = subst (λ (d : Database). HasRowids (d.trees 24)) (sym k.now) h.rowids;
   days = subst (λ (d : Database). HasRowids (d.trees 10)) (sym k.now) h.days;
   assignment_ids = subst (λ (d : Database). HasRowids (d.trees 22)) (sym k.now) h.assignment_ids;

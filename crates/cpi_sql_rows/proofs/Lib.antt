@@ -4,6 +4,7 @@ pub mod Streaming
 pub mod Texts
 pub mod Reading
 pub mod Distinct
+pub mod PlanYears
 pub mod Writing
 pub mod Commits
 pub mod Lists

@@ -15,7 +15,7 @@ use Rattle.cpi_codes.specs.Month.{month_in, is_in_calendar}
 use Rattle.cpi_codes.specs.declared.months.MonthFault.TheVariants.{Range}
 use Rattle.cpi_survey.specs.Quote.{QuoteRow, quote_cmp, quote_key}
 use Rattle.cpi_store.specs.declared.bearer.Bearer.{Bearer}
-use Rattle.cpi_sql_rows.specs.Lists.{quote_in, quote_from, ranged, month_from, month_at, month_out}
+use Rattle.cpi_sql_rows.specs.Lists.{quote_in, quote_from, ranged, receipt_from, month_from, month_at, month_out}
 use Rattle.cpi_sql_rows.specs.Lists.{mark_in, number_in}
 use Rattle.cpi_sql_rows.proofs.Listed.{PutsRow}
 use Rattle.cpi_sql_rows.proofs.Lists.{held_total, quote_total, bound_is, number_is, ranged_is, some_is}
@@ -80,7 +80,7 @@ numbers_of r c q e =
     let three = bound_is (ranged 1 400 (column r 2)) _ _ two.1 in
     let four = bound_is (month_from (column r 3)) _ _ three.2 in
     let five = bound_is (mark_in (column r 4) (column r 5)) _ _ four.2 in
-    let six = bound_is (number_in (column r 6)) _ _ five.2 in
+    let six = bound_is (receipt_from (column r 6)) _ _ five.2 in
     let made : record { slot = three.0; month = four.0; mark = five.0; receipt = six.0 } ≡ two.0 = some_is six.2 in
     let is_q : two.0 ≡ q = ap (λ (p : ℕ × QuoteRow). p.1) pair in
     record {

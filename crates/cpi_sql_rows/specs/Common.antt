@@ -18,5 +18,5 @@ pub use Rattle.cpi_sql_rows.specs.Lists.{listed}
 pub use Rattle.cpi_sql_rows.specs.Read.{Asked, ShowsAll}
 pub use Rattle.cpi_sql_rows.specs.Shelf.{AllStand, AllStandOf, AreTaken, HasRowids, HasTables, IsCleanBook, IsDone}
 pub use Rattle.cpi_sql_rows.specs.Shelf.{IsKept, IsSurveyOf, IsWhole, Looks, Shelf, StaysOpen, book_state, shelf_code}
-pub use Rattle.cpi_sql_rows.specs.Shelf.{survey_of}
+pub use Rattle.cpi_sql_rows.specs.Shelf.{AllStandFor, ArePlansTaken, IsPlanTaken, survey_of, year_in}
 pub use Rattle.cpi_sql_rows.specs.Tables.{first_schema, office_schema}

@@ -3,22 +3,27 @@ use Rattle.std.specs.Prelude.{◌≡◌, ◌⊎◌, ℕ, false, List, [], ◌∷
 use Rattle.sqlite.specs.declared.types.Value.{Value}
 use Rattle.sqlite.specs.declared.types.Value.TheVariants.{Null, Int, Real, Text, Blob}
 use Rattle.sqlite.specs.Listing.{understood, reads_listing}
+use Rattle.sqlite.specs.Order.{Row, column}
 use Rattle.sqlite.specs.Schema.{Schema}
 use Rattle.sqlite.specs.Tree.{Trees}
 use Rattle.sqlite.proofs.Callers.{IsPlain, command_of}
+use Rattle.cpi_sql_rows.specs.declared.plan_rows.PlanRow.{PlanRow}
 use Rattle.cpi_sql_rows.specs.declared.rowids.Rowid.{Rowid}
+use Rattle.cpi_sql_rows.specs.Asked.{AsksFor}
 use Rattle.cpi_sql_rows.specs.Tables.{assignment, assignment_2, calendar, carried, carried_2, collector}
 use Rattle.cpi_sql_rows.specs.Tables.{first_schema, frozen, frozen_2, item, level, level_2, node}
 use Rattle.cpi_sql_rows.specs.Tables.{office_schema, outlet, plan_item, plan_ref, quote, quote_2, release}
 use Rattle.cpi_sql_rows.specs.Tables.{release_2, version}
 use Rattle.cpi_sql_rows.specs.Texts.{select}
-use Rattle.std.specs.Ordering.{nat_cmp}
 use Rattle.sqlite.specs.State.{State, Survives}
-use Rattle.cpi_sql_rows.specs.Making.{no_schema, HasAllTables, HoldsNothing, IsNew}
+use Rattle.cpi_sql_rows.specs.Making.{no_schema, HasAllTables, HoldsNothing, IsOfficeDatabase}
 use Rattle.cpi_sql_rows.specs.Numbered.{IsVersion}
-use Rattle.cpi_sql_rows.specs.Lists.{collector_in, outlet_in, item_in, calendar_in, office_in}
+use Rattle.cpi_sql_rows.specs.Lists.{and_then, office_in}
+use Rattle.cpi_sql_rows.specs.Copies.{HasCopies}
 use Rattle.cpi_sql_rows.specs.FirstSchema.{first_office_in}
-use Rattle.cpi_sql_rows.specs.Shelf.{HasRowids, IsCleanBook, IsKept, IsWhole}
+use Rattle.cpi_sql_rows.specs.Shelf.{HasRowids, IsCleanBook, IsKept}
+pub use Rattle.cpi_sql_rows.specs.WholeRows.{AreWhole, AreOfYears, HavePlanYears}
+use Rattle.cpi_sql_rows.specs.WholeRows.{year_in}
 
 -- a rowid, and not NULL
 abbrev pub rowid_from : Value → Option Rowid
@@ -38,6 +43,24 @@ pub record AsksRowids (schema : Schema) (text : List ℕ) (tree : ℕ) : Type 0 
   pub command : command_of (understood schema text) ≡ select tree [] (0 ∷ []) (0 ∷ []) names
   pub listing : reads_listing schema text ≡ false
   pub plain : IsPlain (understood schema text)
+
+-- ---- rows of plans
+
+-- the rowid and the year of a row of a plan, as an answer shows them
+abbrev pub plan_row_from : Row → Option PlanRow
+plan_row_from x = and_then (rowid_from (column x 0))
+    (λ i. and_then (year_in 1 x) (λ y. Some (record { number = i.number; year = y })))
+
+-- under the schema, the text asks for the rowid and the year of each row of that tree, whose year is in that column
+abbrev pub AsksYears : Schema → List ℕ → ℕ → ℕ → Type 0
+AsksYears schema text tree place = AsksFor schema text tree [] (0 ∷ place ∷ [])
+
+-- the rows of a table of plans: each has a rowid of its own, and a year that an office can have
+pub record ArePlanRows (place : ℕ) (rows : List Row) : Type 0 where
+  pub rowids : HasRowids rows
+  pub years : AreOfYears place rows
+
+-- ---- rowids of all tables
 
 -- the rowids are numbers, and no two rows have one, in the tables whose keys rest on that
 pub record HavePlanRowids (trees : Trees) : Type 0 where
@@ -81,13 +104,6 @@ pub record HaveRowids (trees : Trees) : Type 0 where
   pub survey : HaveSurveyRowids trees
   pub releases : HaveReleaseRowids trees
 
--- the types take each row of a small table, and no two have one key
-pub record AreWhole (trees : Trees) : Type 0 where
-  pub collectors : IsWhole nat_cmp (λ b. b.number) collector_in (trees collector.tree)
-  pub outlets : IsWhole nat_cmp (λ u. u.number) outlet_in (trees outlet.tree)
-  pub items : IsWhole nat_cmp (λ i. i.code) item_in (trees item.tree)
-  pub calendar : IsWhole nat_cmp (λ r. r.month) calendar_in (trees calendar.tree)
-
 -- the tables of schema 1 whose rows schema 2 has anew hold nothing
 pub record AreCleared (trees : Trees) : Type 0 where
   pub assignments : trees assignment.tree ≡ []
@@ -97,23 +113,36 @@ pub record AreCleared (trees : Trees) : Type 0 where
   pub carried : trees carried.tree ≡ []
   pub levels : trees level.tree ≡ []
 
--- the rows of schema 1, whose number was 1, stand in the tables of schema 2, which are all there, and no longer in
--- their own
+-- the tables that schema 2 took over are as they were
+pub record KeepsLists (old new : Trees) : Type 0 where
+  pub collectors : new collector.tree ≡ old collector.tree
+  pub outlets : new outlet.tree ≡ old outlet.tree
+  pub items : new item.tree ≡ old item.tree
+  pub nodes : new node.tree ≡ old node.tree
+  pub places : new plan_item.tree ≡ old plan_item.tree
+  pub calendar : new calendar.tree ≡ old calendar.tree
+
+-- the rows of schema 1, whose number was 1, are in the tables of schema 2, which are all there: each table that both
+-- schemas have is as it was, each that schema 2 has anew holds a copy of every row, and no year has a reference month;
+-- so the office is the one that they stood for. The old tables hold them no longer.
 pub record IsMigrated (old new : Trees) : Type 0 where
   pub was : IsVersion 1 (old version.tree)
   pub tables : HasAllTables new
+  pub lists : KeepsLists old new
+  pub copied : HasCopies old new
+  pub references : new plan_ref.tree ≡ []
   pub office : office_in new ≡ first_office_in old
   pub version : IsVersion 2 (new version.tree)
   pub cleared : AreCleared new
 
--- what an open leaves: new tables where there was nothing, the tables of schema 2 as they were, or those of schema 1
--- migrated; they are all the tables of schema 2, and their number is 2
+-- What an open leaves is the database of an office: a new one if there was no table, the tables of schema 2 as they
+-- were, or those of schema 1 migrated.
 abbrev pub IsOpened : State → State → Type 0
 IsOpened old new =
     (((old.now.schema ≡ no_schema) × HoldsNothing new.now.trees)
     ⊎ (((old.now.schema ≡ office_schema) × (new.now ≡ old.now))
     ⊎ ((old.now.schema ≡ first_schema) × IsMigrated old.now.trees new.now.trees)))
-    × (new.now.schema ≡ office_schema) × IsVersion 2 (new.now.trees version.tree)
+    × (new.now.schema ≡ office_schema) × IsOfficeDatabase new.now.trees
 
 -- whatever stands there endures: a crash leaves it
 abbrev pub IsSettled : State → Type 0
@@ -137,26 +166,17 @@ pub record LooksOver (Fits : Schema → Type 0) (old new : State) : Type 0 where
   pub kept : IsCleanBook new → old.in_transaction ≡ false → Fits old.now.schema → IsKept old new
   pub crash : Survives old new (λ _. IsQuietOver Fits old)
 
--- what an open may commit: all the tables of an office that holds nothing, with their number, where nothing was, or
--- schema 1 migrated
+-- What an open may commit is the database of an office: of one that holds nothing if there was no table, or that of
+-- schema 1 migrated.
 abbrev pub MayBeMade : State → Trees → Type 0
 MayBeMade old db =
-    ((old.now.schema ≡ no_schema) × IsNew db)
-    ⊎ ((old.now.schema ≡ first_schema) × IsMigrated old.now.trees db)
-
--- the tables that schema 2 took over are as they were
-pub record KeepsLists (old new : Trees) : Type 0 where
-  pub collectors : new collector.tree ≡ old collector.tree
-  pub outlets : new outlet.tree ≡ old outlet.tree
-  pub items : new item.tree ≡ old item.tree
-  pub nodes : new node.tree ≡ old node.tree
-  pub places : new plan_item.tree ≡ old plan_item.tree
-  pub calendar : new calendar.tree ≡ old calendar.tree
+    IsOfficeDatabase db
+    × (((old.now.schema ≡ no_schema) × HoldsNothing db)
+    ⊎ ((old.now.schema ≡ first_schema) × IsMigrated old.now.trees db))
 
 -- a migration is done
 pub record IsMoved (old new : State) : Type 0 where
   pub schema : new.now.schema ≡ office_schema
   pub migrated : IsMigrated old.now.trees new.now.trees
-  pub lists : KeepsLists old.now.trees new.now.trees
   pub survey : HaveSurveyRowids new.now.trees
   pub releases : HaveReleaseRowids new.now.trees

@@ -1,9 +1,7 @@
 -- The lists of the office that the rows of schema 1 stand for: each row for what its copy in schema 2 does, which has
 -- the slot's own series, no copied price and revision 1. No plan has a reference month.
-use Rattle.std.specs.Prelude.{pos, List, [], ◌∷◌, map}
+use Rattle.std.specs.Prelude.{List, [], map}
 use Rattle.std.specs.Ordering.{nat_cmp}
-use Rattle.sqlite.specs.declared.types.Value.TheVariants.{Null, Int}
-use Rattle.sqlite.specs.Order.{Row, column}
 use Rattle.sqlite.specs.Tree.{Trees}
 use Rattle.cpi_codes.specs.CodeOrder.{code_cmp}
 use Rattle.cpi_rows.specs.Held.{held_cmp, held_key}
@@ -11,41 +9,10 @@ use Rattle.cpi_index.specs.Series.{frozen_serial, carried_serial}
 use Rattle.cpi_release.specs.FrozenMonths.{release_cmp}
 use Rattle.cpi_release.specs.declared.release.Release.{Release}
 use Rattle.cpi_store.specs.Office.{Office}
+use Rattle.cpi_sql_rows.specs.Copies.{assignment_copy, header_copy, frozen_copy, carried_copy, level_copy}
 use Rattle.cpi_sql_rows.specs.Lists.{listed, assignment_in, quotes_in, header_in, header_key, frozen_in, carried_in}
 use Rattle.cpi_sql_rows.specs.Lists.{level_in, release_from, office_in, plans_of, years, nodes_in, places_in}
 use Rattle.cpi_sql_rows.specs.Tables.{assignment, carried, frozen, level, node, plan_item, quote, release}
-
--- ---- rows: each is its rowid, and then its columns
-
--- behind its own columns an assignment has its slot as its series, and no copied price
-abbrev pub assignment_copy : Row → Row
-assignment_copy r =
-    column r 0 ∷ column r 1 ∷ column r 2 ∷ column r 3 ∷ column r 4 ∷ column r 5 ∷ column r 6
-    ∷ column r 1 ∷ column r 2 ∷ Null ∷ []
-
--- the month of a release was its rowid
-abbrev pub header_copy : Row → Row
-header_copy r = Null ∷ column r 0 ∷ Int (pos 1) ∷ column r 2 ∷ column r 3 ∷ column r 4 ∷ []
-
--- what a release lists has revision 1 behind its month
-abbrev pub frozen_copy : Row → Row
-frozen_copy r =
-    column r 0 ∷ column r 1 ∷ Int (pos 1) ∷ column r 2 ∷ column r 3 ∷ column r 4 ∷ column r 5 ∷ column r 6
-    ∷ column r 7 ∷ []
-
--- a carried price as it is moved
-abbrev pub carried_copy : Row → Row
-carried_copy r =
-    column r 0 ∷ column r 1 ∷ Int (pos 1) ∷ column r 2 ∷ column r 3 ∷ column r 4 ∷ column r 5 ∷ column r 6
-    ∷ column r 7 ∷ column r 8 ∷ column r 9 ∷ column r 10 ∷ []
-
--- a row of a table as it is moved
-abbrev pub level_copy : Row → Row
-level_copy r =
-    column r 0 ∷ column r 1 ∷ Int (pos 1) ∷ column r 2 ∷ column r 3 ∷ column r 4 ∷ column r 5 ∷ column r 6
-    ∷ column r 7 ∷ column r 8 ∷ column r 9 ∷ []
-
--- ---- lists
 
 -- the releases of schema 1
 unfoldable pub first_releases_in : Trees → List Release

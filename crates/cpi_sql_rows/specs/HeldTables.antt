@@ -15,7 +15,8 @@ use Rattle.cpi_release.specs.declared.level.Level.{Level}
 use Rattle.cpi_release.specs.declared.release.Release.{Release}
 use Rattle.cpi_rows.specs.Held.{held_by, held_cmp, held_key}
 use Rattle.cpi_sql_rows.specs.Asked.{AsksFor}
-use Rattle.cpi_sql_rows.specs.Lists.{and_then, carrieds_in, frozens_in, levels_in, listed, ranged, release_from}
+use Rattle.cpi_sql_rows.specs.Lists.{and_then, carrieds_in, frozens_in, levels_in, listed, release_from}
+pub use Rattle.cpi_sql_rows.specs.WholeRows.{year_in}
 use Rattle.cpi_sql_rows.specs.Lists.{node_at, place_at, reference_at, release_from_key, release_number}
 use Rattle.cpi_sql_rows.specs.ReleaseRows.{frozen_after, carried_after, level_after}
 use Rattle.cpi_sql_rows.specs.Shelf.{HasPlans, HasReleases, IsKeyed}
@@ -28,10 +29,6 @@ use Rattle.cpi_sql_rows.specs.declared.reference_months.ReferenceMonth.{Referenc
 -- the number of the release that a row begins with
 abbrev pub release_in : Row → Option ℕ
 release_in r = release_from_key (column r 1) (column r 2)
-
--- the year in a column
-abbrev pub year_in : ℕ → Row → Option ℕ
-year_in place r = ranged 2000 2199 (column r place)
 
 -- what a row stands for, beside the number of its holder
 abbrev pub beside : {X : Type 0} → (Row → Option ℕ) → (Row → Option X) → Row → Option (ℕ × X)

@@ -1,12 +1,15 @@
 pub mod Tables
 pub mod Lists
+pub mod Copies
 pub mod FirstSchema
 pub mod Texts
 pub mod Asked
 pub mod Read
-pub mod Shelf
 pub mod Numbered
+pub mod WholeRows
 pub mod Making
+pub mod Frames
+pub mod Shelf
 pub mod Steps
 pub mod Finding
 pub mod WholeTables

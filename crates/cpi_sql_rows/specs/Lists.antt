@@ -1,5 +1,5 @@
 -- The lists of the office that the rows of the tables of schema 2 stand for.
-use Rattle.std.specs.Prelude.{ℕ, zero, suc, ◌+◌, ◌*◌, ◌/◌, ◌%◌, ◌&&◌, ◌==◌, ℤ, map, filter_map, pos, negsuc}
+use Rattle.std.specs.Prelude.{ℕ, zero, suc, ◌+◌, ◌*◌, ◌/◌, ◌%◌, ◌&&◌, ◌||◌, not, ◌==◌, ℤ, map, filter_map, pos, negsuc}
 use Rattle.std.specs.Prelude.{Bool, true, false, if◌then◌else◌, nat_le, nat_lt, bytes_eq, List, [], ◌∷◌, codes}
 use Rattle.std.specs.Prelude.{Option, Some, None, Result, Ok, Err}
 use Rattle.std.specs.declared.cmp.Ordering.{Ordering}
@@ -22,7 +22,7 @@ use Rattle.cpi_plan.specs.Stored.{plan_from, is_whole}
 use Rattle.cpi_plan.specs.declared.plan_rows.Node.{Node}
 use Rattle.cpi_plan.specs.declared.plan_rows.Place.{Place}
 use Rattle.cpi_codes.specs.CodeOf.{code_of}
-use Rattle.cpi_codes.specs.CodeOrder.{code_cmp}
+use Rattle.cpi_codes.specs.CodeOrder.{code_cmp, is_elementary}
 use Rattle.cpi_codes.specs.declared.codes.Code.{Code}
 use Rattle.cpi_plan.specs.Calendar.{CalendarPart}
 use Rattle.cpi_survey.specs.declared.mark.Reason.TheVariants.{Stock, Closed, Gone, Refused}
@@ -37,6 +37,7 @@ use Rattle.cpi_store.specs.Office.{Office}
 use Rattle.cpi_index.specs.Frozen.{Frozen}
 use Rattle.cpi_index.specs.Carried.{Carried}
 use Rattle.cpi_index.specs.Series.{frozen_serial, carried_serial}
+use Rattle.cpi_index.specs.Weights.{is_effective}
 use Rattle.cpi_release.specs.declared.level.Level.{Level}
 use Rattle.cpi_release.specs.declared.release.Release.{Release}
 use Rattle.cpi_release.specs.FrozenMonths.{ReleaseKey, release_cmp}
@@ -215,11 +216,15 @@ mark_word (Missing Refused) = codes "refused"
 abbrev pub mark_in : Value → Value → Option Mark
 mark_in mark value = and_then (text_in mark) (λ t. and_then (number_in value) (λ v. mark_from t v))
 
+-- a receipt, 1 to 1,000,000
+abbrev pub receipt_from : Value → Option ℕ
+receipt_from v = ranged 1 1000000 v
+
 -- a quote, of its columns
 abbrev pub quote_from : Value → Value → Value → Value → Value → Option QuoteRow
 quote_from slot month mark value receipt =
     and_then (ranged 1 400 slot) (λ s. and_then (month_from month) (λ m. and_then (mark_in mark value) (λ k.
-    and_then (number_in receipt) (λ n. Some (record { slot = s; month = m; mark = k; receipt = n })))))
+    and_then (receipt_from receipt) (λ n. Some (record { slot = s; month = m; mark = k; receipt = n })))))
 
 -- as an answer shows them, each after its collector
 abbrev pub shown_quote : Row → Option (ℕ × QuoteRow)
@@ -490,11 +495,20 @@ carried_in r = and_then (release_from_key (column r 1) (column r 2)) (λ n.
     and_then (carried_from (column r 3) (column r 4) (column r 5) (column r 6) (column r 7) (column r 8) (column r 9)
     (column r 10) (column r 11)) (λ c. Some (n, c)))
 
+-- whether a node with this code can have the weight in use; an elementary aggregate has limits of its own
+abbrev pub can_weigh : Code → ℕ → Bool
+can_weigh code weight = not (is_elementary code) || is_effective weight
+
+-- the weight in use of a node with this code
+abbrev pub weight_from : Code → Value → Option ℕ
+weight_from code v =
+    and_then (ranged 1 1000000000000000 v) (λ w. if can_weigh code w then Some w else None)
+
 -- a row of a table, of its columns
 abbrev pub level_from : Value → Value → Value → Value → Value → Value → Value → Value → Option Level
 level_from code title weight within chained month_change year_change imputed =
     and_then (code_from code) (λ c. and_then (name_from title) (λ t.
-    and_then (ranged 1 1000000000000000 weight) (λ w.
+    and_then (weight_from c weight) (λ w.
     and_then (ranged 1 10000000000000 within) (λ i. and_then (ranged 1 1000000000000000 chained) (λ l.
     and_then (change_in month_change) (λ m. and_then (whole_or_none year_change) (λ y.
     and_then (flag_in imputed) (λ u. Some (record {

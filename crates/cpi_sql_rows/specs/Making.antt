@@ -12,6 +12,7 @@ use Rattle.cpi_sql_rows.specs.Lists.{office_in}
 use Rattle.cpi_sql_rows.specs.Tables.{assignment_2, calendar, carried_2, collector, frozen_2, item, level_2}
 use Rattle.cpi_sql_rows.specs.Tables.{node, office_schema, outlet, plan_item, plan_ref, quote_2, release_2}
 use Rattle.cpi_sql_rows.specs.Tables.{version}
+use Rattle.cpi_sql_rows.specs.WholeRows.{AreWhole, HavePlanYears}
 
 -- the schema of an empty database
 abbrev pub no_schema : Schema
@@ -25,6 +26,14 @@ placed schema table = record table { tree = next_tree schema }
 -- schema, and its rows obey that.
 unfoldable pub HasAllTables : Trees → Type 0
 HasAllTables trees = IsDatabase (record { schema = office_schema; trees = trees })
+
+-- the database of an office: all its tables, with the number of their schema, small tables whose rows the types take,
+-- and rows of plans that are of years which an office can have; an open of a file asks for these
+pub record IsOfficeDatabase (trees : Trees) : Type 0 where
+  pub tables : HasAllTables trees
+  pub version : IsVersion 2 (trees version.tree)
+  pub whole : AreWhole trees
+  pub years : HavePlanYears trees
 
 -- the tables of an office are there, and hold nothing but the number of their schema
 pub record IsBlank (s : State) : Type 0 where
@@ -49,11 +58,10 @@ pub record IsBlank (s : State) : Type 0 where
 unfoldable pub HoldsNothing : Trees → Type 0
 HoldsNothing trees = office_in trees ≡ empty_office
 
--- the tables of an office that holds nothing, all of them, with the number of their schema
+-- the database of an office that holds nothing
 pub record IsNew (trees : Trees) : Type 0 where
-  pub tables : HasAllTables trees
+  pub database : IsOfficeDatabase trees
   pub office : HoldsNothing trees
-  pub version : IsVersion 2 (trees version.tree)
 
 -- what schema 2 adds
 abbrev pub second_tables : List Table

@@ -2,7 +2,6 @@
 use Rattle.std.specs.Prelude.{◌≡◌, ◌⊎◌, ℕ, Bool, false, List, [], Option, Some, IsSome, IsTrue, Result, OnOk, refl}
 use Rattle.std.specs.Coded.{Coded, code_by, coded×, coded_ℕ, coded_bool}
 use Rattle.std.specs.Ordering.{nat_cmp, is_eq}
-use Rattle.std.specs.declared.cmp.Ordering.{Ordering}
 use Rattle.std.specs.declared.cmp.Ordering.TheVariants.{Equal}
 use Rattle.sqlite.specs.declared.types.Value.{Value}
 use Rattle.sqlite.specs.Order.{Row, column, value_cmp}
@@ -23,8 +22,12 @@ use Rattle.cpi_sql_rows.specs.Tables.{assignment_2, calendar, carried_2, collect
 use Rattle.cpi_sql_rows.specs.Tables.{node, office_schema, outlet, plan_item, plan_ref, quote_2, release_2}
 use Rattle.cpi_sql_rows.specs.Lists.{office_in, collector_in, outlet_in, item_in, calendar_in, assignment_in}
 use Rattle.cpi_sql_rows.specs.Lists.{quote_in, node_in, place_in, reference_row, header_in, header_key, frozen_in}
-use Rattle.cpi_sql_rows.specs.Lists.{carried_in, level_in}
-use Rattle.cpi_sql_rows.specs.Lists.{release_from_key}
+use Rattle.cpi_sql_rows.specs.Lists.{carried_in, level_in, release_from_key}
+use Rattle.cpi_sql_rows.specs.Frames.{SameBut, written_by}
+unfoldable pub use Rattle.cpi_sql_rows.specs.WholeRows.{AllStand, IsKeyed}
+use Rattle.cpi_sql_rows.specs.WholeRows.{AreWhole}
+pub use Rattle.cpi_sql_rows.specs.WholeRows.{IsWhole, year_in}
+use Rattle.cpi_sql_rows.specs.Making.{IsOfficeDatabase}
 
 -- what contracts see of a book over a database
 pub record Shelf (S : Type 0) : Type 0 where
@@ -52,15 +55,6 @@ unfoldable pub HasRowids : List Row → Type 0
 HasRowids rows = ((r : Row) → Has rows r → IsTrue (is_int (rowid r)))
     × ((r s : Row) → Has rows r → Has rows s → value_cmp (rowid r) (rowid s) ≡ Equal → r ≡ s)
 
--- no two rows stand for one key with different contents
-unfoldable pub IsKeyed : {X K : Type 0} → (K → K → Ordering) → (X → K) → (Row → Option X) → List Row → Type 0
-IsKeyed {X} cmp key entry rows = (r s : Row) (x y : X) → Has rows r → Has rows s → entry r ≡ Some x → entry s ≡ Some y
-    → cmp (key x) (key y) ≡ Equal → x ≡ y
-
--- each row stands for something: the types take it
-unfoldable pub AllStand : {X : Type 0} → (Row → Option X) → List Row → Type 0
-AllStand entry rows = (r : Row) → Has rows r → IsSome (entry r)
-
 -- each row of the holder with that number stands for something; its number is what the row says
 unfoldable pub AllStandFor : {X : Type 0} → (Row → Option ℕ) → (Row → Option X) → ℕ → List Row → Type 0
 AllStandFor holder entry number rows = (r : Row) → Has rows r → holder r ≡ Some number → IsSome (entry r)
@@ -69,16 +63,22 @@ AllStandFor holder entry number rows = (r : Row) → Has rows r → holder r ≡
 abbrev pub AllStandOf : {X : Type 0} → (Row → Option X) → ℕ → List Row → Type 0
 AllStandOf entry number rows = AllStandFor (λ r. release_from_key (column r 1) (column r 2)) entry number rows
 
--- the types take each assignment and each quote
+-- the types take each row of a year's plan
+pub record IsPlanTaken (year : ℕ) (trees : Trees) : Type 0 where
+  pub nodes : AllStandFor (year_in 1) node_in year (trees node.tree)
+  pub places : AllStandFor (year_in 1) place_in year (trees plan_item.tree)
+  pub references : AllStandFor (year_in 0) reference_row year (trees plan_ref.tree)
+
+-- the types take each row of each plan
+abbrev pub ArePlansTaken : Trees → Type 0
+ArePlansTaken trees = (year : ℕ) → IsPlanTaken year trees
+
+-- the types take each row that the survey is read from
 pub record AreTaken (trees : Trees) : Type 0 where
+  pub whole : AreWhole trees
+  pub plans : ArePlansTaken trees
   pub assignments : AllStand assignment_in (trees assignment_2.tree)
   pub quotes : AllStand quote_in (trees quote_2.tree)
-
--- each row stands for something, and no two have one key
-pub record IsWhole {X K : Type 0} (cmp : K → K → Ordering) (key : X → K) (entry : Row → Option X) (rows : List Row)
-    : Type 0 where
-  pub keyed : IsKeyed cmp key entry rows
-  pub stand : AllStand entry rows
 
 -- the tables of the plans
 pub record HasPlans (trees : Trees) : Type 0 where
@@ -103,6 +103,7 @@ pub record HasReleases (trees : Trees) : Type 0 where
 pub record HasTables (s : State) : Type 0 where
   pub schema : s.now.schema ≡ office_schema
   pub alone : s.in_transaction ≡ false
+  pub office : IsOfficeDatabase s.now.trees
   pub rowids : HasRowids (s.now.trees quote_2.tree)
   pub days : HasRowids (s.now.trees calendar.tree)
   pub assignment_ids : HasRowids (s.now.trees assignment_2.tree)
@@ -165,20 +166,30 @@ pub record WritesTaken (old new : Trees) : Type 0 where
   pub carried : Takes carried_in (old carried_2.tree) (new carried_2.tree)
   pub levels : Takes level_in (old level_2.tree) (new level_2.tree)
 
--- what the change makes of the office
+-- what the change makes of the tables: the office has it, the types take each row that is put, and each table that it
+-- doesn't write is as it was
+pub record IsChangedBy (change : Change) (old new : Trees) : Type 0 where
+  pub office : office_in new ≡ changed change (office_in old)
+  pub rows : WritesTaken old new
+  pub others : SameBut (written_by change) old new
+
+-- the change is made
 pub record IsDone (change : Change) (old new : State) : Type 0 where
   pub tables : HasTables new
-  pub office : office_in new.now.trees ≡ changed change (office_in old.now.trees)
-  pub rows : WritesTaken old.now.trees new.now.trees
+  pub made : IsChangedBy change old.now.trees new.now.trees
 
 -- an office but for its releases
 abbrev pub survey_of : Office → Office
 survey_of office = with_releases [] office
 
--- the survey that the tables hold, each of whose assignments and quotes the types take
+-- the survey that the tables hold, made of rows that the types take
 pub record IsSurveyOf (trees : Trees) (survey : Office) : Type 0 where
   pub read : survey ≡ survey_of (office_in trees)
   pub taken : AreTaken trees
+
+-- the office that an open of the database finds; of one that isn't an office's nothing is known, so it may be any
+abbrev pub MayOpenAs : Trees → Office → Type 0
+MayOpenAs db office = IsOfficeDatabase db → office ≡ office_in db
 
 -- the office that the tables of a database hold, as a book over it shows that
 abbrev pub office_state : State → ℕ → BookState Office
@@ -188,7 +199,7 @@ office_state s failures = record {
   is_kept = HasCleanDisk s;
   is_clean = IsCleanBook s;
   clean_is_kept = λ clean. clean.disk;
-  may_leave = λ office. (db : Trees) × s.may_leave db × (office ≡ office_in db);
+  may_leave = λ office. (db : Trees) × s.may_leave db × MayOpenAs db office;
 }
 
 -- the same of a book

@@ -1,7 +1,8 @@
-//! One statement: what it does, and that nothing has changed where it failed.
+//! One statement: what it does, and that nothing has changed if it failed.
 ghost use Rattle.std.specs.Prelude.{◌≡◌};
 ghost use Rattle.cpi_sql_rows.specs.Common.{CommitsBy, Executes, HasCleanDisk, IfOk, IsCleanBook, IsKept, IsTrue};
 ghost use Rattle.cpi_sql_rows.specs.Common.{Ok, OnErr, OnOk, Survives, bound, false, state};
+ghost use Rattle.cpi_sql_rows.specs.Finding.{IsSettled};
 
 use sqlite::{Alter, Connection, Error};
 use sqlite_value::value::ValueRef;
@@ -22,14 +23,17 @@ pub fn run<S: Alter>(
     ensures crash { Survives (state S.Store conn.old) (state S.Store conn.new)
         (CommitsBy text.now (bound params.now) (state S.Store conn.old)) }
 {
-    let _settled = conn.is_autocommit();
+    settle(conn);
     conn.execute(text, params)
 }
 
-/// Between transactions a crash leaves what the connection shows.
+/// Does nothing: it is called for the proof, which learns that what an open connection shows between transactions is
+/// committed, and that a crash leaves it.
 pub fn settle<S: Alter>(conn: &Connection<S>)
-    ensures { IsTrue (state S.Store conn.now).is_open → (state S.Store conn.now).in_transaction ≡ false
-        → (db : _) → (state S.Store conn.now).may_leave db → db ≡ (state S.Store conn.now).now.trees }
+    ensures committed { IsTrue (state S.Store conn.now).is_open → (state S.Store conn.now).in_transaction ≡ false
+        → (state S.Store conn.now).now ≡ (state S.Store conn.now).committed }
+    ensures endures { IsTrue (state S.Store conn.now).is_open → (state S.Store conn.now).in_transaction ≡ false
+        → IsSettled (state S.Store conn.now) }
 {
     let _settled = conn.is_autocommit();
 }

@@ -3,9 +3,10 @@ ghost use Rattle.std.specs.Prelude.{◌≡◌};
 ghost use Rattle.cpi_codes.specs.Key.{key_of};
 ghost use Rattle.cpi_codes.specs.CodeOf.{code_of};
 ghost use Rattle.cpi_codes.specs.ItemCode.{item_code_of};
-ghost use Rattle.cpi_sql_rows.specs.Common.{IfOk, Int, Some, pos, string_bytes};
-ghost use Rattle.cpi_sql_rows.specs.Lists.{mark_from, mark_word, month_at, name_of, ranged};
+ghost use Rattle.cpi_sql_rows.specs.Common.{IfOk, Int, OnOk, Some, pos, string_bytes};
+ghost use Rattle.cpi_sql_rows.specs.Lists.{mark_from, mark_word, month_at, name_of, ranged, receipt_from};
 
+use crate::rows::LAST_RECEIPT;
 use crate::stored::Unread;
 use cpi_codes::{Code, CollectorId, ItemCode, Key, Moment, Month, Name, OutletId, Slot};
 use cpi_plan::{HighTolerance, LowTolerance};
@@ -112,6 +113,18 @@ pub fn mark_value(mark: Mark) -> u32
     ensures { mark_from (mark_word mark) result ≡ Some mark }
 {
     mark.observed_price().map_or(0, |price| price.units())
+}
+
+/// The receipt; an error says that no collector is given it.
+pub fn receipt_number(receipt: u32) -> Result<u32, Unread>
+    ensures value { IfOk result (λ n. n ≡ receipt) }
+    ensures range { OnOk result (receipt_from (Int (pos receipt)) ≡ Some receipt) }
+{
+    if 1 <= receipt && receipt <= LAST_RECEIPT {
+        Ok(receipt)
+    } else {
+        Err(Unread)
+    }
 }
 
 /// The moment, in seconds since 1970 UTC.

@@ -7,7 +7,9 @@ ghost use Rattle.cpi_survey.specs.Quote.{quote_cmp, quote_key};
 ghost use Rattle.cpi_sql_rows.specs.Lists.{quote_in, quotes_in, shown_given, shown_quote};
 ghost use Rattle.cpi_sql_rows.specs.Tables.{quote_2};
 
-use crate::rows::{number_at, read_copied, read_item_code, read_mark, read_month, read_series};
+use crate::rows::{
+    number_at, read_copied, read_item_code, read_mark, read_month, read_receipt, read_series,
+};
 use crate::stored::{Stored, Unread, gather, in_order};
 use cpi_codes::{CollectorId, OutletId, Slot};
 use cpi_store::{Given, HeldGiven, HeldQuote};
@@ -46,7 +48,7 @@ impl Stored for HeldQuote {
                 slot: Slot::new(number_at(row, 1)?)?,
                 month: read_month(row, 2)?,
                 mark: read_mark(row, 3, 4)?,
-                receipt: row.get(5).ok()?,
+                receipt: read_receipt(row, 5)?,
             },
         })
     }

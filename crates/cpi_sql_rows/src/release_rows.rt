@@ -3,8 +3,8 @@ ghost use Rattle.std.specs.Prelude.{◌≡◌, ◌==◌};
 ghost use Rattle.std.specs.List.{slice_split};
 ghost use Rattle.cpi_codes.specs.CodeOf.{code_of as spelled};
 ghost use Rattle.cpi_sql_rows.specs.Common.{IfOk, IfSome, Some, column, map};
-ghost use Rattle.cpi_sql_rows.specs.Lists.{codes_of as spelled_all, each_of, flag_in, header_from, header_key};
-ghost use Rattle.cpi_sql_rows.specs.Lists.{month_from, revision_from};
+ghost use Rattle.cpi_sql_rows.specs.Lists.{can_weigh as may_weigh, codes_of as spelled_all, each_of, flag_in};
+ghost use Rattle.cpi_sql_rows.specs.Lists.{header_from, header_key, month_from, revision_from, weight_from};
 ghost use Rattle.cpi_sql_rows.specs.ReleaseRows.{shown_carried, shown_frozen, shown_level};
 
 use crate::rows::{
@@ -13,7 +13,7 @@ use crate::rows::{
 };
 use crate::stored::Stored;
 use cpi_codes::{Code, Moment, Month};
-use cpi_index::{CarriedPrice, ChainedLevel, FrozenQuote, Index, NodeWeight};
+use cpi_index::{CarriedPrice, ChainedLevel, EffectiveWeight, FrozenQuote, Index, NodeWeight};
 use cpi_release::{Level, Revision};
 use cpi_rows::{Keyed, Rows};
 use sqlite::Row;
@@ -144,15 +144,35 @@ impl Stored for CarriedPrice {
     }
 }
 
+/// Whether a node with this code can have the weight in use: an elementary aggregate has at most 10^9.
+pub fn can_weigh(code: Code, weight: NodeWeight) -> bool
+    ensures { result ≡ may_weigh code weight }
+{
+    !code.is_elementary() || EffectiveWeight::new(code, weight.parts().into()).is_some()
+}
+
+// The weight in use of a node with this code.
+fn read_weight(row: &Row, at: usize, code: Code) -> Option<NodeWeight>
+    ensures { IfSome result (λ w. weight_from code (column row.now at) ≡ Some w) }
+{
+    let weight = NodeWeight::new(number_at(row, at)?.into())?;
+    if can_weigh(code, weight) {
+        Some(weight)
+    } else {
+        None
+    }
+}
+
 impl Stored for Level {
     ghost stands_for = { shown_level };
 
     fn read(alloc: Global, row: &Row) -> Option<Level> {
         let _release = read_release(row)?;
+        let code = read_code(row, 2)?;
         Some(Level {
-            code: read_code(row, 2)?,
+            code,
             title: read_name(alloc, row, 3)?,
-            weight: NodeWeight::new(number_at(row, 4)?.into())?,
+            weight: read_weight(row, 4, code)?,
             within: Index::new(number_at(row, 5)?.into())?,
             chained: ChainedLevel::new(number_at(row, 6)?.into())?,
             month_change: row.get(7).ok()?,

@@ -4,7 +4,7 @@ ghost use Rattle.cpi_codes.specs.CodeOf.{code_of as spelled};
 ghost use Rattle.cpi_sql_rows.specs.Common.{IfSome, Some, column};
 ghost use Rattle.cpi_sql_rows.specs.Lists.{bearer_from, calendar_from, code_from, item_from, item_of, mark_from};
 ghost use Rattle.cpi_sql_rows.specs.Lists.{mark_in, month_from, name_from, number_in, outlet_from, price_or_none};
-ghost use Rattle.cpi_sql_rows.specs.Lists.{ranged, shown_node, shown_place, shown_reference, text_in};
+ghost use Rattle.cpi_sql_rows.specs.Lists.{ranged, receipt_from, shown_node, shown_place, shown_reference, text_in};
 
 use crate::reference_months::ReferenceMonth;
 use crate::stored::Stored;
@@ -18,6 +18,9 @@ use sqlite::Row;
 use sqlite_value::value::ValueRef;
 use std::alloc::Global;
 use std::str;
+
+/// The greatest receipt that a collector can be given.
+pub const LAST_RECEIPT: u32 = 1_000_000;
 
 /// The text that stands there, lent.
 pub fn text_at(row: &Row, at: usize) -> Option<&[u8]>
@@ -173,6 +176,13 @@ pub fn read_between(row: &Row, at: usize, least: u64, most: u64) -> Option<u64>
     } else {
         None
     }
+}
+
+/// The receipt that stands there.
+pub fn read_receipt(row: &Row, at: usize) -> Option<u32>
+    ensures { IfSome result (λ n. receipt_from (column row.now at) ≡ Some n) }
+{
+    u32::try_from(read_between(row, at, 1, LAST_RECEIPT.into())?).ok()
 }
 
 // The year of a plan, which its rows begin with.

@@ -3,6 +3,7 @@ ghost use Rattle.std.specs.Prelude.{◌≡◌};
 ghost use Rattle.cpi_sql_rows.specs.Common.{Asked, HasCleanDisk, IfOk, IfSome, IsInOrder, IsTrue, OnOk, Option};
 ghost use Rattle.cpi_sql_rows.specs.Common.{Row as SqlRow, ShowsAll, Some, bound, state};
 
+use crate::ask::settle;
 use cpi_rows::{Keyed, RowsByKey, are_in_order};
 use sqlite::{Alter, Connection, Error, Row};
 use sqlite_value::value::ValueRef;
@@ -51,7 +52,7 @@ pub fn gather<S: Alter, T: Stored>(
         ShowsAll T.stands_for text.now (bound params.now) (state S.Store conn.old) (state S.Store conn.new) xs.items) }
     ensures open { HasCleanDisk (state S.Store conn.new) → OnOk result (IsTrue (state S.Store conn.new).is_open) }
 {
-    let _settled = conn.is_autocommit();
+    settle(conn);
     let mut read = Vec::new(alloc);
     let mut rows = conn.query(text, params)?;
     'rows: for _ in 0..u64::MAX {

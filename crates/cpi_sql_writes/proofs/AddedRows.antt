@@ -35,6 +35,7 @@ pub step_then : (tree : ℕ) (P Q R : List Row → List Row → Type 0)
 step_then tree P Q R f a b c p q = record {
   inside = q.inside;
   schema = q.schema;
+  all = λ h. q.all (p.all h);
   rows = f (a.now.trees tree) (b.now.trees tree) (c.now.trees tree) p.rows q.rows;
   rowids = q.rowids;
   others = λ n e. q.others n e ∙ p.others n e;
@@ -90,6 +91,7 @@ module _ {X : Type 0} (entry : Row → Option (ℕ × X)) where
     list_begun a = inside_here a (λ inside ready. record {
       inside = inside;
       schema = ready.schema;
+      all = λ h. h;
       rows = λ number is. added_none number (a.now.trees tree);
       rowids = ready.rowids;
       others = λ n e. refl;

@@ -1,13 +1,14 @@
 -- A statement of a known text that is a transaction of its own, as a change of the office.
-use Rattle.std.proofs.Common.{◌≡◌, List, ℕ, Result, false, ap, ◌∙◌}
+use Rattle.std.proofs.Common.{◌≡◌, List, ℕ, Result, false, sym, subst, ◌∙◌}
 use Rattle.sqlite.specs.Order.{Row}
 use Rattle.sqlite.specs.Tree.{Trees}
-use Rattle.sqlite.specs.Effect.{Database}
+use Rattle.sqlite.specs.Effect.{Database, IsDatabase}
 use Rattle.sqlite.specs.State.{State}
 use Rattle.sqlite.proofs.StateLemmas.{survives_weaker}
 use Rattle.cpi_store.specs.Office.{Change, Office}
 use Rattle.cpi_sql_rows.specs.Lists.{office_in}
-use Rattle.cpi_sql_rows.specs.Shelf.{HasTables, IsDone}
+use Rattle.cpi_sql_rows.specs.Making.{IsOfficeDatabase}
+use Rattle.cpi_sql_rows.specs.Shelf.{HasTables, IsChangedBy, IsDone}
 use Rattle.cpi_sql_rows.proofs.Change.{IsChange}
 use Rattle.cpi_sql_writes.specs.Within.{RunsAlone}
 use Rattle.cpi_sql_writes.specs.Written.{Written}
@@ -16,16 +17,18 @@ use Rattle.cpi_sql_writes.proofs.Withins.{on_then}
 module _ (text : List ℕ) (params : Row) (Made : Trees → Database → Type 0) (makes : IsChange text params Made)
     (change : Change) (fits : Office → Type 0)
     (done : (old new : State) → HasTables old → fits (office_in old.now.trees) → Made old.now.trees new.now
-    → new.in_transaction ≡ false → IsDone change old new) where
+    → new.in_transaction ≡ false → IsDatabase new.now → IsDone change old new) where
   pub alone_written : {A E : Type 0} (old new : State) (result : Result A E) → RunsAlone text params old new result
       → Written change fits old new result
   alone_written old new result runs = record {
     clean = runs.clean;
     done = λ clean has fit. on_then result _ _ (runs.ran clean.disk) (λ it.
         let made = makes.ran old new it.0 has.schema it.1 in
-        done old new has fit made.0 (made.1 ∙ has.alone));
+        done old new has fit made.0 (made.1 ∙ has.alone) made.2);
     kept = λ clean has. runs.kept clean has.alone;
     crash = survives_weaker old new _ _ (λ _ db may has fit.
         let it = makes.commits old db has.schema may in
-        ap office_in it.2 ∙ (done old (record old { now = it.0 }) has fit it.1 has.alone).office) runs.crash;
+        let after = done old (record old { now = it.0 }) has fit it.1 has.alone it.3 in
+        subst (λ trees. IsOfficeDatabase trees × IsChangedBy change old.now.trees trees) (sym it.2)
+        (after.tables.office, after.made)) runs.crash;
   }

@@ -12,7 +12,8 @@ use Rattle.cpi_rows.specs.Keyed.{put}
 use Rattle.cpi_store.specs.Office.{Change, changed}
 use Rattle.cpi_sql_rows.specs.Lists.{listed, office_in}
 use Rattle.cpi_sql_rows.specs.Shelf.{HasTables, IsDone, IsKeyed}
-use Rattle.cpi_sql_rows.specs.Steps.{SameBut, is_beside}
+use Rattle.cpi_sql_rows.specs.Frames.{SameBut, is_beside, written_by}
+use Rattle.cpi_sql_rows.specs.Making.{HasAllTables}
 use Rattle.cpi_sql_rows.specs.Tables.{office_schema}
 use Rattle.cpi_sql_rows.proofs.Frame.{OfficeTable, Writes, Written, row_written, table_written, tree_of}
 use Rattle.cpi_sql_rows.proofs.Listed.{PutsRow, listed_put}
@@ -29,19 +30,21 @@ office_beside trees old new others = λ i. office_in (λ n. same n i)
     same n = elim (cases_Bool (is_beside trees n)) [ inl other ↦ rw other (others n other) | inr among ↦ rw among refl ]
 
 module _ (change : Change) (old new : State) (has : HasTables old) (schema : new.now.schema ≡ office_schema)
-    (alone : new.in_transaction ≡ false) where
+    (alone : new.in_transaction ≡ false) (all : HasAllTables new.now.trees) where
   -- some tables are written
-  pub tables_written : (tables : List OfficeTable) → SameBut (map tree_of tables) old.now.trees new.now.trees
+  pub tables_written : (tables : List OfficeTable) → written_by change ≡ map tree_of tables
+      → SameBut (map tree_of tables) old.now.trees new.now.trees
       → AllByRecursion (λ t. Written t (old.now.trees (tree_of t)) (new.now.trees (tree_of t))) tables
       → office_in (beside (map tree_of tables) old.now.trees new.now.trees) ≡ changed change (office_in old.now.trees)
       → IsDone change old new
-  tables_written tables others written office =
-      table_written tables change old new schema alone others written
+  tables_written tables writes others written office =
+      table_written tables change old new writes schema alone all others written
       (office_beside (map tree_of tables) old.now.trees new.now.trees others ∙ office) has
 
   -- one row is put into one table
   pub row_done : {X K : Type 0} {R : K → K → Ordering} (t : OfficeTable)
-      → SameBut (tree_of t ∷ []) old.now.trees new.now.trees → (o : IsTotalOrder R) (key : X → K)
+      → written_by change ≡ tree_of t ∷ [] → SameBut (tree_of t ∷ []) old.now.trees new.now.trees
+      → (o : IsTotalOrder R) (key : X → K)
       (entry : Row → Option X) (x : X) → IsKeyed R key entry (old.now.trees (tree_of t))
       → PutsRow o key entry x (old.now.trees (tree_of t)) (new.now.trees (tree_of t))
       → (Writes R key entry (old.now.trees (tree_of t)) (new.now.trees (tree_of t))
@@ -49,6 +52,6 @@ module _ (change : Change) (old new : State) (has : HasTables old) (schema : new
       → (listed R key entry (new.now.trees (tree_of t)) ≡ put R key x (listed R key entry (old.now.trees (tree_of t)))
       → office_in (beside (tree_of t ∷ []) old.now.trees new.now.trees) ≡ changed change (office_in old.now.trees))
       → IsDone change old new
-  row_done t others o key entry x keyed puts written office =
-      tables_written (t ∷ []) others (written (row_written o key entry x _ _ puts), tt)
+  row_done t writes others o key entry x keyed puts written office =
+      tables_written (t ∷ []) writes others (written (row_written o key entry x _ _ puts), tt)
       (office (listed_put o key entry x _ _ keyed puts))

@@ -215,6 +215,7 @@ module _ (h : SeriesMove) (a b c : State) (has : HasTables (outside a))
 
   pub handed_over : IsDone (HandsOver h) (outside a) (outside c)
   unfolding releases_in
-  handed_over = tables_written (HandsOver h) (outside a) (outside c) has two.schema refl (Assignments ∷ []) others
+  handed_over = tables_written (HandsOver h) (outside a) (outside c) has two.schema refl
+      (two.all (one.all has.office.tables)) (Assignments ∷ []) refl others
       (record { rows = record { keyed = λ _. second.1; takes = both }; rowids = λ _. two.rowids }, tt)
       (ap (λ rows. record (office_in a.now.trees) { assignments = rows }) rows_now)

@@ -57,7 +57,7 @@ module _ (p : Plan) (v : IsPlan p) (year : ℕ) (nodes : List Node) (places : Li
   pub plan_done : IsDone (PutsPlan p) (outside a) (outside d)
   unfolding releases_in
   plan_done = tables_written (PutsPlan p) (outside a) (outside d) has three.schema refl
-      (Nodes ∷ Places ∷ References ∷ []) same (
+      (three.all (two.all (one.all has.office.tables))) (Nodes ∷ Places ∷ References ∷ []) refl same (
         all_nodes.written (rw (three.others 6 refl, two.others 6 refl) one.rowids),
         (
           all_places.written (rw (three.others 8 refl) two.rowids),

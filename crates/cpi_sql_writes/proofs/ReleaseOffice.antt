@@ -144,7 +144,8 @@ module _ (r : Release) (fits : FitsTables r) (m v : ℕ) (is : month_at m ≡ So
   release_done : IsDone (Freezes r) (outside a) (outside e)
   unfolding releases_in
   release_done = tables_written (Freezes r) (outside a) (outside e) has four.schema refl
-      (Headers ∷ tables.Frozen ∷ tables.Carried ∷ Levels ∷ []) same (
+      (four.all (three.all (two.all (one.all has.office.tables))))
+      (Headers ∷ tables.Frozen ∷ tables.Carried ∷ Levels ∷ []) refl same (
         row_written release_total header_key header_in (header_of r) (a.now.trees 26) (e.now.trees 26) header_put,
         (
           frozen_rows.written (rw (four.others 28 refl, three.others 28 refl) two.rowids),

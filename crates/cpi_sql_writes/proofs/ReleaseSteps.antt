@@ -18,8 +18,9 @@ use Rattle.cpi_sql_rows.specs.Tables.{release_2, frozen_2, carried_2, level_2}
 use Rattle.cpi_sql_rows.specs.Texts.{add_header_text, add_header_terms}
 use Rattle.cpi_sql_rows.specs.Texts.{drop_frozen_text, drop_carried_text, drop_level_text, is_release}
 use Rattle.cpi_sql_rows.specs.Lists.{ranged, month_at, mark_from, flag_in, name_of, codes_of, frozen_in}
-use Rattle.cpi_sql_rows.specs.Lists.{carried_in, level_in, whole_or_none}
+use Rattle.cpi_sql_rows.specs.Lists.{carried_in, level_in, weight_from, whole_or_none}
 use Rattle.cpi_sql_rows.specs.ReleaseRows.{annual}
+use Rattle.cpi_sql_rows.proofs.Frame.{all_tables_of}
 use Rattle.cpi_sql_rows.proofs.ReleaseRows.{release_tested}
 use Rattle.cpi_sql_rows.proofs.Texts.{add_header_is, drop_frozen_is, drop_carried_is, drop_level_is}
 use Rattle.cpi_sql_rows.proofs.Writing.{cast_int, cast_null}
@@ -70,7 +71,7 @@ module _ (m v : ℕ) where
   }
 
   pub level_columns : (c t : List ℕ) (u : ℕ) (x : Level) → code_of c ≡ Some x.code → name_of t ≡ Some x.title
-      → ranged 1 1000000000000000 (Int (pos x.weight)) ≡ Some x.weight
+      → weight_from x.code (Int (pos x.weight)) ≡ Some x.weight
       → ranged 1 10000000000000 (Int (pos x.within)) ≡ Some x.within
       → ranged 1 1000000000000000 (Int (pos x.chained)) ≡ Some x.chained → flag_in (Int (pos u)) ≡ Some x.imputed
       → AreColumns level_2 level_in (IsReleaseNumber m v) x (Int (pos m) ∷ Int (pos v) ∷ Text c ∷ Text t
@@ -115,6 +116,7 @@ module _ {A E : Type 0} (old new : State) (result : Result A E) (m v : ℕ) wher
       record {
         inside = done.1 ∙ inside;
         schema = done.0.schema;
+        all = λ _. all_tables_of new.now done.0.schema done.2;
         rows = record {
           row = Int (next_rowid (old.now.trees release_2.tree)) ∷ columns;
           is = rw (month, revision, frozen, published, carry) refl;

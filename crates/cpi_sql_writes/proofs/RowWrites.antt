@@ -28,7 +28,7 @@ use Rattle.cpi_sql_rows.specs.Texts.{put_item_text, put_outlet_text, put_quote_t
 use Rattle.cpi_sql_rows.specs.Lists.{assignment_in, bearer_from, calendar_in, collector_in, item_in, item_of, office_in}
 use Rattle.cpi_sql_rows.specs.Lists.{outlet_from, outlet_in, quote_in, releases_in}
 use Rattle.cpi_sql_rows.proofs.Frame as tables
-use Rattle.cpi_sql_rows.proofs.Frame.{Assignments, Calendar, Collectors, Items, Outlets}
+use Rattle.cpi_sql_rows.proofs.Frame.{Assignments, Calendar, Collectors, Items, Outlets, all_tables_of}
 use Rattle.cpi_sql_rows.proofs.Inserting.{inserted, none_apart}
 use Rattle.cpi_sql_rows.proofs.Lists.{held_total, quote_total}
 use Rattle.cpi_sql_rows.proofs.QuoteOffice.{quote_puts}
@@ -69,9 +69,10 @@ module _ {A E : Type 0} (old new : State) (result : Result A E) where
       (adds_one collector 1 refl (Int (pos n) ∷ Text k ∷ []) (Values given_pair 3) (numbered n k)
       (λ db. numbered n k) (λ limit db rows h. h.1) (λ db. simp (cast_null, cast_int)) put_collector_text
       put_collector_is) (Registers b) (λ o. at key b.number o.collectors ≡ None)
-      (λ a s has free made alone. row_done (Registers b) a s has made.schema alone Collectors made.others nat_cmp_total
-      key collector_in b has.collectors (inserted nat_cmp_total key collector_in b _ _ (numbered n k) is made.rows
-      made.kept has.collectors (λ y h. none_apart nat_cmp key b.number _ y free h)) (λ w. w)
+      (λ a s has free made alone sound.
+      row_done (Registers b) a s has made.schema alone (all_tables_of s.now made.schema sound) Collectors refl
+      made.others nat_cmp_total key collector_in b has.collectors (inserted nat_cmp_total key collector_in b _ _
+      (numbered n k) is made.rows made.kept has.collectors (λ y h. none_apart nat_cmp key b.number _ y free h)) (λ w. w)
       (ap (λ rows. record (office_in a.now.trees) { collectors = rows }))) old new result
 
   pub outlet_written : (u : Outlet) (n : ℕ) (k : List ℕ) → outlet_from (Int (pos n)) (Text k) ≡ Some u
@@ -84,10 +85,11 @@ module _ {A E : Type 0} (old new : State) (result : Result A E) where
       (adds_one outlet 2 refl (Int (pos n) ∷ Text k ∷ []) (Values given_pair 3) (numbered n k)
       (λ db. numbered n k) (λ limit db rows h. h.1) (λ db. simp (cast_null, cast_int)) put_outlet_text
       put_outlet_is) (PutsOutlet u) (λ o. at key u.number o.outlets ≡ None)
-      (λ a s has free made alone. row_done (PutsOutlet u) a s has made.schema alone Outlets made.others nat_cmp_total
-      key outlet_in u has.outlets (inserted nat_cmp_total key outlet_in u _ _ (numbered n k) is made.rows made.kept
-      has.outlets (λ y h. none_apart nat_cmp key u.number _ y free h)) (λ w. w)
-      (ap (λ rows. record (office_in a.now.trees) { outlets = rows }))) old new result
+      (λ a s has free made alone sound.
+      row_done (PutsOutlet u) a s has made.schema alone (all_tables_of s.now made.schema sound) Outlets refl made.others
+      nat_cmp_total key outlet_in u has.outlets (inserted nat_cmp_total key outlet_in u _ _ (numbered n k) is made.rows
+      made.kept has.outlets (λ y h. none_apart nat_cmp key u.number _ y free h)) (λ w. w) (ap (λ rows. record (office_in
+      a.now.trees) { outlets = rows }))) old new result
 
   pub item_written : (i : Item) (c t u : List ℕ) (l h : ℕ)
       → item_of (Text c) (Text t) (Text u) (Int (pos l)) (Int (pos h)) ≡ Some i
@@ -101,10 +103,11 @@ module _ {A E : Type 0} (old new : State) (result : Result A E) where
       (Values (lit Null ∷ col 0 0 ∷ col 0 1 ∷ col 0 2 ∷ col 0 3 ∷ col 0 4 ∷ []) 6) (Null ∷ item_columns c t u l h)
       (item_row c t u l h) (λ limit db rows h. h.1) (λ db. simp (cast_null, cast_int)) put_item_text put_item_is)
       (PutsItem i) (λ o. at key i.code o.items ≡ None)
-      (λ a s has free made alone. row_done (PutsItem i) a s has made.schema alone Items made.others nat_cmp_total key
-      item_in i has.items (inserted nat_cmp_total key item_in i _ _ (item_row c t u l h a.now.trees) is made.rows
-      made.kept has.items (λ y h. none_apart nat_cmp key i.code _ y free h)) (λ w. w)
-      (ap (λ rows. record (office_in a.now.trees) { items = rows }))) old new result
+      (λ a s has free made alone sound.
+      row_done (PutsItem i) a s has made.schema alone (all_tables_of s.now made.schema sound) Items refl made.others
+      nat_cmp_total key item_in i has.items (inserted nat_cmp_total key item_in i _ _ (item_row c t u l h a.now.trees)
+      is made.rows made.kept has.items (λ y h. none_apart nat_cmp key i.code _ y free h)) (λ w. w) (ap (λ rows. record
+      (office_in a.now.trees) { items = rows }))) old new result
 
   pub assignment_written : (b : Bearer) (a : Assigned) (c : GivenColumns)
       → given_of c ≡ Some (b.number, first_of_series b.number a.assignment)
@@ -115,11 +118,11 @@ module _ {A E : Type 0} (old new : State) (result : Result A E) where
       let g = first_of_series b.number a.assignment in
       alone_written put_assignment_text (columns_of c) (Added c) (row_made c) (Assigns b a)
       (λ o. IsFree b.number a.assignment.slot o.assignments)
-      (λ s t has free made alone. row_done (Assigns b a) s t has made.schema alone Assignments made.others
-      (held_total nat_cmp_total) slot_key assignment_in (b.number, g) has.assignments
-      (added_puts b.number g c is s.now.trees t.now free made has.assignments)
-      (λ w. record { rows = w; rowids = made.rowids })
-      (ap (λ rows. record (office_in s.now.trees) { assignments = rows }))) old new result
+      (λ s t has free made alone sound.
+      row_done (Assigns b a) s t has made.schema alone (all_tables_of t.now made.schema sound) Assignments refl
+      made.others (held_total nat_cmp_total) slot_key assignment_in (b.number, g) has.assignments (added_puts b.number g
+      c is s.now.trees t.now free made has.assignments) (λ w. record { rows = w; rowids = made.rowids }) (ap (λ rows.
+      record (office_in s.now.trees) { assignments = rows }))) old new result
 
   pub quote_written : (b : Bearer) (q : QuoteRow) (m : ℕ) (mark : List ℕ) (v : ℕ)
       → ((id : Value) → quote_in (id ∷ quote_columns b.number q.slot m mark v q.receipt) ≡ Some (b.number, q))
@@ -131,13 +134,12 @@ module _ {A E : Type 0} (old new : State) (result : Result A E) where
       alone_written put_quote_text columns
       (λ db after. HasRowids (db 24) → IsPutOver quote_places Null columns 24 db after)
       (quote_put b.number q.slot m mark v q.receipt) (Quotes b q) (λ _. ⊤)
-      (λ a s has _ made alone.
+      (λ a s has _ made alone sound.
       let done = made has.rowids in
-      row_done (Quotes b q) a s has done.schema alone tables.Quotes done.others (held_total quote_total)
-      (held_key quote_key) quote_in (b.number, q) has.quotes
-      (quote_puts b q columns is (a.now.trees 24) (s.now.trees 24) done.rows)
-      (λ w. record { rows = w; rowids = λ _. done.rowids })
-      (ap (λ rows. record (office_in a.now.trees) { quotes = rows }))) old new result
+      row_done (Quotes b q) a s has done.schema alone (all_tables_of s.now done.schema sound) tables.Quotes refl
+      done.others (held_total quote_total) (held_key quote_key) quote_in (b.number, q) has.quotes (quote_puts b q
+      columns is (a.now.trees 24) (s.now.trees 24) done.rows) (λ w. record { rows = w; rowids = λ _. done.rowids }) (ap
+      (λ rows. record (office_in a.now.trees) { quotes = rows }))) old new result
 
   pub day_written : (x : CalendarPart) (m o c p : ℕ) → calendar_in (Int (pos m) ∷ day_behind o c p) ≡ Some x
       → RunsAlone put_calendar_text (day_columns m o c p) old new result
@@ -147,9 +149,10 @@ module _ {A E : Type 0} (old new : State) (result : Result A E) where
       alone_written put_calendar_text (day_columns m o c p)
       (λ db after. HasRowids (db 10) → IsPutOver calendar_places (Int (pos m)) (day_behind o c p) 10 db after)
       (day_put m o c p) (PutsCalendar x) (λ _. ⊤)
-      (λ a s has _ made alone.
+      (λ a s has _ made alone sound.
       let done = made has.days in
-      row_done (PutsCalendar x) a s has done.schema alone Calendar done.others nat_cmp_total day_key calendar_in x
-      has.calendar (day_puts x m o c p is (a.now.trees 10) (s.now.trees 10) done.rows)
-      (λ w. record { rows = w; rowids = λ _. done.rowids })
-      (ap (λ rows. record (office_in a.now.trees) { calendar = rows }))) old new result
+      row_done (PutsCalendar x) a s has done.schema alone (all_tables_of s.now done.schema sound) Calendar refl
+      done.others nat_cmp_total day_key calendar_in x has.calendar (day_puts x m o c p is (a.now.trees 10) (s.now.trees
+      10) done.rows) (λ w. record { rows = w; rowids = λ _. done.rowids }) (ap (λ rows. record (office_in a.now.trees) {
+        calendar = rows;
+      }))) old new result

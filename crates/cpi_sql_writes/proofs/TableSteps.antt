@@ -30,6 +30,7 @@ use Rattle.cpi_sql_rows.specs.Texts.{whole_query}
 use Rattle.cpi_sql_rows.specs.Shelf.{HasRowids}
 use Rattle.cpi_sql_rows.specs.Steps.{IsStep, SameBut}
 use Rattle.cpi_sql_rows.proofs.Change.{IsChange, is_change}
+use Rattle.cpi_sql_rows.proofs.Frame.{all_tables_of}
 use Rattle.cpi_sql_rows.proofs.Reading.{Members, members, left_has, has_left}
 use Rattle.cpi_sql_rows.proofs.KeptRowids.{rowids_left, same_rowid}
 use Rattle.cpi_sql_rows.proofs.TableRows.{AddsRow, GivesOne, adds_one, no_work, on_table, task_on}
@@ -58,6 +59,7 @@ made_step tree text params Done makes Rows old new turn inside run ready =
     record {
       inside = ran.1 ∙ inside;
       schema = made.schema;
+      all = λ _. all_tables_of new.now made.schema ran.2;
       rows = made.rows;
       rowids = made.rowids;
       others = made.others;

@@ -17,6 +17,7 @@ use Rattle.cpi_sql_rows.specs.Tables.{carried_2, frozen_2, level_2, office_schem
 use Rattle.cpi_sql_rows.specs.Lists.{and_then, month_at, release_from_key, revision_from, header_in, release_number}
 use Rattle.cpi_sql_rows.specs.Lists.{carried_in, frozen_in, level_in}
 use Rattle.cpi_sql_rows.specs.Shelf.{AllStandOf, equals}
+use Rattle.cpi_sql_rows.specs.Making.{HasAllTables}
 use Rattle.cpi_sql_rows.specs.Steps.{SameBut}
 use Rattle.cpi_sql_writes.specs.Within.{Replaces}
 
@@ -49,6 +50,7 @@ pub record AddsHeader (h : Header) (old new : List Row) : Type 0 where
 pub record IsHeaderStep (h : Header) (old new : State) : Type 0 where
   pub inside : IsTrue new.in_transaction
   pub schema : new.now.schema ≡ office_schema
+  pub all : HasAllTables old.now.trees → HasAllTables new.now.trees
   pub rows : AddsHeader h (old.now.trees release_2.tree) (new.now.trees release_2.tree)
   pub others : SameBut (release_2.tree ∷ []) old.now.trees new.now.trees
 

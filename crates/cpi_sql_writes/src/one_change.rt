@@ -1,14 +1,16 @@
 //! A change of the office that is made in one transaction: all of its rows are written, or none.
 ghost use Rattle.std.specs.Prelude.{◌≡◌};
 ghost use Rattle.sqlite.specs.Tree.{Trees};
-ghost use Rattle.cpi_store.specs.Office.{Change, changed, Office};
+ghost use Rattle.cpi_store.specs.Office.{Change, Office};
 ghost use Rattle.cpi_sql_rows.specs.Common.{false, HasCleanDisk, HasTables, IsCleanBook, IsDone, IsTrue, OnErr};
 ghost use Rattle.cpi_sql_rows.specs.Common.{OnOk, state, Survives};
 ghost use Rattle.cpi_sql_rows.specs.Lists.{office_in};
+ghost use Rattle.cpi_sql_rows.specs.Making.{IsOfficeDatabase};
+ghost use Rattle.cpi_sql_rows.specs.Shelf.{IsChangedBy};
 ghost use Rattle.cpi_sql_writes.specs.Within.{ChangesOffice, LeavesTables, Within};
 ghost use Rattle.cpi_sql_writes.specs.Written.{Written};
 
-use cpi_sql_rows::Unread;
+use cpi_sql_rows::{Unread, settle};
 use sqlite::{Alter, Connection, Transaction};
 use std::alloc::Global;
 
@@ -52,13 +54,13 @@ fn in_transaction<S: Alter, C: OneChange>(
         OnErr result ((state S.Store conn.new).now ≡ (state S.Store conn.old).now) }
     ensures crash { Survives (state S.Store conn.old) (state S.Store conn.new) (λ db.
         HasTables (state S.Store conn.old) → C.fits change.now (office_in (state S.Store conn.old).now.trees) →
-        office_in db ≡ changed (C.change change.now) (office_in (state S.Store conn.old).now.trees)) }
+        IsOfficeDatabase db × IsChangedBy (C.change change.now) (state S.Store conn.old).now.trees db) }
 {
-    let _settled = conn.is_autocommit();
+    settle(conn);
     let mut tx = conn.transaction();
     change.write(&mut tx, alloc)?;
     let done = tx.commit();
-    let _settled_again = conn.is_autocommit();
+    settle(conn);
     match done {
         Ok(()) => Ok(()),
         Err(_) => Err(Unread),

@@ -4,19 +4,20 @@ ghost use Rattle.sqlite_value.specs.Value.{owned};
 ghost use Rattle.cpi_codes.specs.CodeOf.{code_of};
 ghost use Rattle.cpi_codes.specs.ItemCode.{item_code_of};
 ghost use Rattle.cpi_index.specs.Carried.{IsTicks};
-ghost use Rattle.cpi_sql_rows.specs.Common.{Int, pos, Some, string_bytes};
-ghost use Rattle.cpi_sql_rows.specs.Lists.{carried_in, flag_in, frozen_in, level_in, ranged};
+ghost use Rattle.cpi_sql_rows.specs.Common.{IfOk, Int, OnOk, pos, Some, string_bytes};
+ghost use Rattle.cpi_sql_rows.specs.Lists.{carried_in, flag_in, frozen_in, level_in, ranged, weight_from};
 ghost use Rattle.cpi_sql_rows.specs.ReleaseRows.{annual};
 ghost use Rattle.cpi_sql_rows.specs.Tables.{carried_2, frozen_2, level_2};
 ghost use Rattle.cpi_sql_writes.specs.ReleaseSteps.{is_of_release, IsReleaseNumber};
 
 use crate::held_row::{HeldRow, insert_rows};
 use crate::inside::run_inside;
+use cpi_codes::Code;
 use cpi_index::{CarriedPrice, ChainedLevel, FrozenQuote, Index, NodeWeight};
 use cpi_release::Level;
 use cpi_sql_rows::{
-    Unread, code_text, collector_number, item_text, mark_text, mark_value, month_number, name_text,
-    slot_number,
+    Unread, can_weigh, code_text, collector_number, item_text, mark_text, mark_value, month_number,
+    name_text, slot_number,
 };
 use sqlite::types::{ToSql, ValueRef};
 use sqlite::{Alter, Transaction, params};
@@ -192,11 +193,16 @@ fn chained_value(level: ChainedLevel) -> ValueRef<'static>
     ValueRef::Int(level.millionths() as i64)
 }
 
-fn weight_value(weight: NodeWeight) -> ValueRef<'static>
-    ensures value { owned result ≡ Int (pos weight) }
-    ensures range { ranged 1 1000000000000000 (Int (pos weight)) ≡ Some weight }
+// The weight in use of a node with this code; an error says that it can't have it.
+fn weight_value(code: Code, weight: NodeWeight) -> Result<ValueRef<'static>, Unread>
+    ensures value { IfOk result (λ v. owned v ≡ Int (pos weight)) }
+    ensures range { OnOk result (weight_from code (Int (pos weight)) ≡ Some weight) }
 {
-    ValueRef::Int(weight.parts() as i64)
+    if can_weigh(code, weight) {
+        Ok(ValueRef::Int(weight.parts() as i64))
+    } else {
+        Err(Unread)
+    }
 }
 
 fn month_change(level: &Level) -> ValueRef<'static>
@@ -248,12 +254,13 @@ impl HeldRow for Level {
         code: &'a String,
         all: &mut Vec<ValueRef<'a>>,
     ) -> Result<(), Unread> {
+        let weight = weight_value(self.code, self.weight)?;
         let columns = [
             numbers.month.to_sql(),
             numbers.revision.to_sql(),
             code.to_sql(),
             name_text(&self.title).to_sql(),
-            weight_value(self.weight),
+            weight,
             index_value(self.within),
             chained_value(self.chained),
             month_change(self),

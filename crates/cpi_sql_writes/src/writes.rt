@@ -3,17 +3,17 @@ ghost use Rattle.std.specs.Prelude.{◌≡◌};
 ghost use Rattle.cpi_store.specs.Office.{Assigns, PutsCalendar, PutsItem, PutsOutlet, Quotes, Registers};
 ghost use Rattle.cpi_sql_rows.specs.Common.{⊤, at, bound, false, HasCleanDisk, IfOk, Int, IsTrue, None, OnOk};
 ghost use Rattle.cpi_sql_rows.specs.Common.{pos, Some, state, string_bytes, Text};
-ghost use Rattle.cpi_sql_rows.specs.Lists.{bearer_from, calendar_from, month_at};
+ghost use Rattle.cpi_sql_rows.specs.Lists.{bearer_from, calendar_from, month_at, ranged};
 ghost use Rattle.cpi_sql_writes.specs.GivenColumns.{IsFree};
 ghost use Rattle.cpi_sql_writes.specs.Within.{RunsAlone};
 ghost use Rattle.cpi_sql_writes.specs.Written.{Written};
 
 use crate::given_columns::given_columns;
-use cpi_codes::SeriesId;
+use cpi_codes::{Moment, SeriesId};
 use cpi_plan::{CalendarRow, Item};
 use cpi_sql_rows::{
     Unread, collector_number, high_number, item_text, key_text, low_number, mark_text, mark_value,
-    moment_value, month_number, name_text, outlet_number, run, slot_number,
+    moment_value, month_number, name_text, outlet_number, receipt_number, run, slot_number,
 };
 use cpi_store::{Bearer, Outlet};
 use cpi_survey::{Assigned, Quote};
@@ -140,7 +140,8 @@ const PUT_QUOTE: &str =
      ON CONFLICT (collector, slot, month) DO UPDATE SET collector = excluded.collector, slot = excluded.slot, \
      month = excluded.month, mark = excluded.mark, value = excluded.value, receipt = excluded.receipt";
 
-/// Puts a quote of the collector, over the one of its slot and month if there is one.
+/// Puts a quote of the collector, over the one of its slot and month if there is one. An error comes too where its
+/// receipt is none that a collector is given.
 pub fn put_quote<S: Alter>(
     conn: &mut Connection<S>,
     bearer: Bearer,
@@ -155,12 +156,19 @@ pub fn put_quote<S: Alter>(
     let month = month_number(quote.month);
     let word = mark_text(quote.mark);
     let value = mark_value(quote.mark);
-    let receipt = quote.receipt;
+    let receipt = receipt_number(quote.receipt)?;
     put_row(
         conn,
         PUT_QUOTE,
         params![collector, slot, month, word, value, receipt],
     )
+}
+
+// Does nothing: it is called for the proof, which learns that the moment is within the range of its column.
+fn know_moment(moment: Moment)
+    ensures { ranged 0 9999999999 (Int (pos moment)) ≡ Some moment }
+{
+    let _value = moment_value(moment);
 }
 
 // The month's number; what the row's columns are then stands for the row.
@@ -169,9 +177,9 @@ fn day_number(row: CalendarRow) -> u32
     ensures is { calendar_from (Int (pos result)) (Int (pos row.opens)) (Int (pos row.closes)) (Int (pos row.publishes))
         ≡ Some row }
 {
-    let _opens = moment_value(row.opens());
-    let _closes = moment_value(row.closes());
-    let _publishes = moment_value(row.publishes());
+    know_moment(row.opens());
+    know_moment(row.closes());
+    know_moment(row.publishes());
     month_number(row.month())
 }
 

@@ -93,7 +93,7 @@ fn nothing_is_unavailable(rt: HostRuntime) -> Result<(), Fail> {
     let sheet = whole_sheet(alloc)?;
     let records = sheet.records.as_str();
     assert!(rt; is_told(&sheet, &told_in_memory(alloc, "", records)));
-    let told = told_in(alloc, &Held::nothing(alloc), records)?.map_err(|_| "no office")?;
+    let told = told_in(&rt, &Held::nothing(alloc), records)?.map_err(|_| "no office")?;
     assert!(rt; is_told(&sheet, &told));
     Ok(())
 }

@@ -1,15 +1,14 @@
 //! An office in a database file and its log, both in memory.
-use cpi_app::{AskedTable, print_table};
-use cpi_codes::zone_of;
-use cpi_office::Office;
-use cpi_sql::{OpenFault, SqlBook};
+use cpi_app::{AskedTable, print_table, replay_over};
+use cpi_codes::{Zone, zone_of};
+use cpi_files::{BookJob, Cabinet, job_in_cabinet};
+use cpi_sql::OpenFault;
 use cpi_store::{Book, VecBook};
-use cpi_wire::replay;
 use sqlite::{Alter, Connection, FileStore, Files, Options};
 use sqlite_disk::{Crash, Disk, Fuse, Memory};
 use std::alloc::Global;
 use std::io;
-use std::io::{ErrorKind, Write};
+use std::io::{ErrorKind, Read, Write};
 use std::test::Fail;
 
 /// What is told to a caller who leaves at the first reply that the office is unavailable: the lines before it.
@@ -20,6 +19,8 @@ pub(crate) struct Told {
     pub(crate) is_whole: bool,
     /// The line of a fault.
     pub(crate) fault: Vec<u8>,
+    /// Whether the files were closed afterwards, with what the log held copied.
+    pub(crate) is_closed: bool,
 }
 
 impl Told {
@@ -28,6 +29,7 @@ impl Told {
             lines: Vec::new(alloc),
             is_whole: false,
             fault: Vec::new(alloc),
+            is_closed: false,
         }
     }
 }
@@ -48,46 +50,50 @@ impl Write for Told {
     }
 }
 
-// Sends records to the office of a book, up to the first that is unavailable. Gives the book back.
-fn answered<B: Book>(alloc: Global, book: B, records: &str, told: &mut Told) -> B {
-    let Ok(zone) = zone_of("UTC0") else {
-        return book;
-    };
-    let mut office = Office::new(alloc, book);
-    let done = replay(alloc, records.as_bytes(), told, &zone, &mut office);
-    told.is_whole = done.is_ok();
-    office.into_book()
-}
-
-// Prints a table of the office of a book, or the line of a fault. Gives the book back.
-fn printed<B: Book>(alloc: Global, book: B, asked: AskedTable, told: &mut Told) -> B {
-    let mut book = book;
-    let mut fault = Vec::new(alloc);
-    told.is_whole = print_table(alloc, &mut book, asked, told, &mut fault) == 0;
-    told.fault = fault;
-    book
-}
-
-// Prints the table that is asked for, or else sends the records, with the clock of UTC. Gives the book back.
-fn done<B: Book>(
-    alloc: Global,
-    book: B,
-    records: &str,
+// The print of a table, or else the answers to the records of an input, by the clock of UTC.
+#[derive(Drop)]
+struct Task {
+    clock: Zone,
     asked: Option<AskedTable>,
-    told: &mut Told,
-) -> B {
-    match asked {
-        Some(asked) => printed(alloc, book, asked, told),
-        None => answered(alloc, book, records, told),
+}
+
+impl BookJob for Task {
+    ghost use Rattle.std.specs.Prelude.{⊤};
+
+    // whether each record has its line, or the table was printed
+    type Told = bool;
+
+    ghost does = { λ _ _ _ _ _ _ _ _ _. ⊤ };
+
+    fn run<B: Book, R: Read, W: Write, E: Write>(
+        &mut self,
+        rt: &HostRuntime,
+        book: B,
+        reader: &mut R,
+        out: &mut W,
+        err: &mut E,
+    ) -> (B, bool) {
+        let Some(asked) = self.asked else {
+            let (book, outcome) = replay_over(rt.alloc(), &self.clock, book, reader, out);
+            return (book, outcome.is_ok());
+        };
+        let mut book = book;
+        let status = print_table(rt.alloc(), &mut book, asked, out, err);
+        (book, status == 0)
     }
 }
 
 /// What is told of records in an office in memory, in which other ones were carried out before.
 pub(crate) fn told_in_memory(alloc: Global, before: &str, records: &str) -> Told {
     let mut told = Told::nothing(alloc);
-    let book = answered(alloc, VecBook::new(alloc), before, &mut told);
+    let Ok(clock) = zone_of("UTC0") else {
+        return told;
+    };
+    let book = VecBook::new(alloc);
+    let (book, _) = replay_over(alloc, &clock, book, &mut before.as_bytes(), &mut told);
     let mut told = Told::nothing(alloc);
-    let _book = answered(alloc, book, records, &mut told);
+    let (_, outcome) = replay_over(alloc, &clock, book, &mut records.as_bytes(), &mut told);
+    told.is_whole = outcome.is_ok();
     told
 }
 
@@ -138,7 +144,7 @@ pub(crate) struct Left {
     pub(crate) told: Result<Told, OpenFault>,
     /// What the files hold.
     pub(crate) files: Held,
-    /// What they hold where the machine stops: what was synced.
+    /// What they hold if the machine stops then: what was synced.
     pub(crate) synced: Held,
 }
 
@@ -169,127 +175,85 @@ fn held_by(alloc: Global, files: &MemoryFiles) -> Result<Held, Fail> {
     })
 }
 
-// How many frames the log has before it is copied into the database file: those of some commands.
-const FRAMES: usize = 6;
-
-// ---- what is done over a connection of any store, so that each such call is proved once
-
-// Prints that table of the office of a database, or sends it the records, or tells why it is none, and gives the
-// connection back.
-fn done_over<S: Alter + Drop>(
-    alloc: Global,
-    conn: Connection<S>,
-    records: &str,
-    asked: Option<AskedTable>,
-) -> (Result<Told, OpenFault>, Connection<S>) {
-    if !conn.is_autocommit() {
-        return (Err(OpenFault::Store), conn);
-    }
-    match SqlBook::over(alloc, conn) {
-        Ok(book) => {
-            let mut told = Told::nothing(alloc);
-            let book = done(alloc, book, records, asked, &mut told);
-            (Ok(told), book.into_connection())
-        }
-        Err(unopened) => (Err(unopened.fault), unopened.conn),
-    }
-}
-
-// Has another program's statements carried out.
-fn execute<S: Alter + Drop>(conn: &mut Connection<S>, statements: &str) -> Result<(), Fail> {
-    conn.execute_batch(statements)?;
-    Ok(())
-}
-
-/// The number that another program's query finds.
-pub(crate) fn number_in<S: Alter + Drop>(
-    conn: &mut Connection<S>,
-    query: &str,
-) -> Result<i64, Fail> {
-    let row = conn.query_row(query, &[])?;
-    Ok(row.get(0)?)
-}
-
-// ---- the connections of these files: each call at their type stands here
-
-// The database of the files, whatever it holds; or the files, where they hold none.
-fn connected(alloc: Global, files: MemoryFiles) -> Result<Database, MemoryFiles> {
-    if !files.may_be_used() {
-        return Err(files);
-    }
+// The log has few frames, those of some commands, before it is copied into the database file.
+fn options() -> Options {
     let mut options = Options::new(7);
-    options.checkpoint_frames = FRAMES;
-    match Connection::open_files(alloc, files, options) {
-        Ok(conn) => Ok(conn),
-        Err((_, left)) => Err(left.into_files()),
+    options.checkpoint_frames = 6;
+    options
+}
+
+// A cabinet of such files.
+#[derive(Drop)]
+struct Drawer {
+    files: Option<MemoryFiles>,
+}
+
+impl Cabinet for Drawer {
+    ghost use Rattle.std.specs.Prelude.{◌≡◌, Some};
+
+    type Medium = Fuse<Memory>;
+
+    ghost gives = { λ was files _. was.files ≡ Some files };
+
+    ghost refuses = { λ was _ now. now ≡ was };
+
+    ghost keeps = { λ _ files now. now.files ≡ Some files };
+
+    fn take(&mut self, _rt: &HostRuntime) -> Result<(MemoryFiles, Options), OpenFault> {
+        let Some(files) = self.files.take() else {
+            return Err(OpenFault::Store);
+        };
+        if !files.may_be_used() {
+            self.files = Some(files);
+            return Err(OpenFault::Store);
+        }
+        Ok((files, options()))
+    }
+
+    fn put_back(&mut self, files: MemoryFiles)
+        ensures { self.new.files ≡ Some files }
+    {
+        self.files = Some(files);
     }
 }
 
-/// How an office in files is let go.
-#[derive(Clone, Copy, PartialEq, Eq)]
-pub(crate) enum End {
-    /// Its process ends.
-    Process,
-    /// It is closed.
-    Closed,
-}
-
-// The files, given back.
-fn let_go(conn: Database, end: End) -> MemoryFiles {
-    if end == End::Process {
-        return conn.into_store().close();
-    }
-    match conn.close_files() {
-        Ok(files) => files,
-        Err((_, store)) => store.close(),
-    }
-}
-
-// Prints that table of the office of the files, or sends it the records, which is then let go.
+// Prints that table of the office of the drawer's files, or sends it the records.
 fn done_in(
-    alloc: Global,
-    files: MemoryFiles,
-    end: End,
+    rt: &HostRuntime,
+    drawer: &mut Drawer,
     records: &str,
     asked: Option<AskedTable>,
-) -> (Result<Told, OpenFault>, MemoryFiles) {
-    match connected(alloc, files) {
-        Ok(conn) => {
-            let (told, conn) = done_over(alloc, conn, records, asked);
-            (told, let_go(conn, end))
-        }
-        Err(files) => (Err(OpenFault::Store), files),
-    }
+) -> Result<Told, OpenFault> {
+    let mut told = Told::nothing(rt.alloc());
+    let mut fault = Vec::new(rt.alloc());
+    let Ok(clock) = zone_of("UTC0") else {
+        return Ok(told);
+    };
+    let mut task = Task { clock, asked };
+    let records = &mut records.as_bytes();
+    let (is_whole, closed) = job_in_cabinet(rt, drawer, &mut task, records, &mut told, &mut fault)?;
+    told.is_whole = is_whole;
+    told.fault = fault;
+    told.is_closed = closed.is_ok();
+    Ok(told)
 }
 
-/// The database of files that hold so much, to be looked at by another program.
-pub(crate) fn database(alloc: Global, held: &Held) -> Result<Database, Fail> {
-    let files = files_of(alloc, held, ENOUGH)?;
-    match connected(alloc, files) {
-        Ok(conn) => Ok(conn),
-        Err(_) => Err("no database".into()),
-    }
-}
-
-/// The files after statements of another program, with what the log holds copied into the database file.
-pub(crate) fn changed(alloc: Global, held: &Held, statements: &str) -> Result<Held, Fail> {
-    let mut conn = database(alloc, held)?;
-    execute(&mut conn, statements)?;
-    held_by(alloc, &let_go(conn, End::Closed))
-}
-
-/// Prints that table of the office of files that hold so much and take so many calls, or sends it the records where
-/// none is asked for, and lets it go.
+/// Prints that table of the office of files that hold so much and take so many calls, or sends it the records if none
+/// is asked for, and closes it.
 pub(crate) fn run(
-    alloc: Global,
+    rt: &HostRuntime,
     held: &Held,
     calls: Calls,
-    end: End,
     records: &str,
     asked: Option<AskedTable>,
 ) -> Result<Left, Fail> {
-    let files = files_of(alloc, held, calls)?;
-    let (told, mut files) = done_in(alloc, files, end, records, asked);
+    let alloc = rt.alloc();
+    let files = Some(files_of(alloc, held, calls)?);
+    let mut drawer = Drawer { files };
+    let told = done_in(rt, &mut drawer, records, asked);
+    let Some(mut files) = drawer.files else {
+        return Err("the files weren't put back".into());
+    };
     let written = held_by(alloc, &files)?;
     files.log.crash();
     files.db.crash();
@@ -301,12 +265,61 @@ pub(crate) fn run(
     })
 }
 
-/// What records are told in the office of files that hold so much, none of whose calls stops, up to the process's end.
+/// What records are told in the office of files that hold so much, none of whose calls stops.
 pub(crate) fn told_in(
-    alloc: Global,
+    rt: &HostRuntime,
     held: &Held,
     records: &str,
 ) -> Result<Result<Told, OpenFault>, Fail> {
-    let Left { told, .. } = run(alloc, held, ENOUGH, End::Process, records, None)?;
+    let Left { told, .. } = run(rt, held, ENOUGH, records, None)?;
     Ok(told)
+}
+
+// ---- what another program does with the database
+
+/// The database of files that hold so much.
+pub(crate) fn database(alloc: Global, held: &Held) -> Result<Database, Fail> {
+    let files = files_of(alloc, held, ENOUGH)?;
+    if !files.may_be_used() {
+        return Err("no file".into());
+    }
+    match Connection::open_files(alloc, files, options()) {
+        Ok(conn) => Ok(conn),
+        Err(_) => Err("no database".into()),
+    }
+}
+
+// Carries statements out.
+fn execute<S: Alter + Drop>(conn: &mut Connection<S>, statements: &str) -> Result<(), Fail> {
+    conn.execute_batch(statements)?;
+    Ok(())
+}
+
+/// The number that a query finds.
+pub(crate) fn number_in<S: Alter + Drop>(
+    conn: &mut Connection<S>,
+    query: &str,
+) -> Result<i64, Fail> {
+    let row = conn.query_row(query, &[])?;
+    Ok(row.get(0)?)
+}
+
+// Closes a connection, with what its log holds copied into the database file, and gives the files back. Whether that
+// was done is the first of what it answers.
+fn close(conn: Database) -> (bool, MemoryFiles) {
+    match conn.close_files() {
+        Ok(files) => (true, files),
+        Err((_, store)) => (false, store.close()),
+    }
+}
+
+/// The files after the statements, with what the log holds copied into the database file.
+pub(crate) fn changed(alloc: Global, held: &Held, statements: &str) -> Result<Held, Fail> {
+    let mut conn = database(alloc, held)?;
+    execute(&mut conn, statements)?;
+    let (is_closed, files) = close(conn);
+    if !is_closed {
+        return Err("not closed".into());
+    }
+    held_by(alloc, &files)
 }

@@ -1,8 +1,7 @@
 //! The jobs that words ask for, done over files in memory: a replay in two runs, tables, and files of another schema.
-use crate::files::{ENOUGH, End, Held, Left, changed, run, told_in};
+use crate::files::{ENOUGH, Held, Left, changed, run, told_in};
 use crate::script::script;
 use cpi_app::{AskedTable, DeskKey, Job, asked_table, fault_line, job_of_words};
-use std::alloc::Global;
 use std::test::Fail;
 
 // An office up to its calendar, and then what a collector sends and asks.
@@ -61,28 +60,28 @@ fn asked_by(job: &Job) -> Result<Option<AskedTable>, Fail> {
 
 // Does what the words ask for over the files, and closes them.
 fn run_words<'a>(
-    alloc: Global,
+    rt: &HostRuntime,
     held: &Held,
     words: &'a [&'a str],
     records: &str,
 ) -> Result<Left, Fail> {
-    let Ok(job) = job_of_words(alloc, words) else {
+    let Ok(job) = job_of_words(rt.alloc(), words) else {
         return Err("the words are refused".into());
     };
     if !is_in_file(&job) {
         return Err("another file".into());
     }
     let asked = asked_by(&job)?;
-    run(alloc, held, ENOUGH, End::Closed, records, asked)
+    run(rt, held, ENOUGH, records, asked)
 }
 
 #[test]
 fn a_replay_goes_on_where_the_run_before_it_ended(rt: HostRuntime) -> Result<(), Fail> {
     let alloc = rt.alloc();
     let words = ["replay", "--db", "F"];
-    let mut held = run_words(alloc, &Held::nothing(alloc), &words, DESK)?.files;
+    let mut held = run_words(&rt, &Held::nothing(alloc), &words, DESK)?.files;
     for _ in 0..2 {
-        let left = run_words(alloc, &held, &words, COLLECTOR)?;
+        let left = run_words(&rt, &held, &words, COLLECTOR)?;
         let is_told = match &left.told {
             Ok(told) => told.lines.as_slice() == TOLD,
             Err(_) => false,
@@ -95,13 +94,13 @@ fn a_replay_goes_on_where_the_run_before_it_ended(rt: HostRuntime) -> Result<(),
 
 // Whether the words print this, or tell that fault.
 fn prints<'a>(
-    alloc: Global,
+    rt: &HostRuntime,
     held: &Held,
     words: &'a [&'a str],
     out: &[u8],
     fault: &[u8],
 ) -> Result<bool, Fail> {
-    let left = run_words(alloc, held, words, "")?;
+    let left = run_words(rt, held, words, "")?;
     Ok(match &left.told {
         Ok(told) => {
             let is_whole = told.is_whole == fault.is_empty();
@@ -115,15 +114,8 @@ fn prints<'a>(
 fn a_table_is_printed_once_it_is_published(rt: HostRuntime) -> Result<(), Fail> {
     let alloc = rt.alloc();
     let records = script().concat(alloc)?;
-    let held = run(
-        alloc,
-        &Held::nothing(alloc),
-        ENOUGH,
-        End::Closed,
-        records.as_str(),
-        None,
-    )?
-    .files;
+    let nothing = Held::nothing(alloc);
+    let held = run(&rt, &nothing, ENOUGH, records.as_str(), None)?.files;
     let early = [
         "table", "--db", "F", "--month", "2026-01", "--form", "text", "--at", "2999",
     ];
@@ -143,18 +135,18 @@ fn a_table_is_printed_once_it_is_published(rt: HostRuntime) -> Result<(), Fail> 
         "--revision",
         "2",
     ];
-    assert!(rt; prints(alloc, &held, &early, b"", b"cpi: no table\n")?);
-    assert!(rt; prints(alloc, &held, &late, JANUARY, b"")?);
-    assert!(rt; prints(alloc, &held, &second, b"", b"cpi: no table\n")?);
+    assert!(rt; prints(&rt, &held, &early, b"", b"cpi: no table\n")?);
+    assert!(rt; prints(&rt, &held, &late, JANUARY, b"")?);
+    assert!(rt; prints(&rt, &held, &second, b"", b"cpi: no table\n")?);
     Ok(())
 }
 
 #[test]
 fn a_file_of_another_schema_is_told_so(rt: HostRuntime) -> Result<(), Fail> {
     let alloc = rt.alloc();
-    let held = run_words(alloc, &Held::nothing(alloc), &["replay", "--db", "F"], "")?.files;
+    let held = run_words(&rt, &Held::nothing(alloc), &["replay", "--db", "F"], "")?.files;
     let other = changed(alloc, &held, "UPDATE version SET number = 9")?;
-    let line = match told_in(alloc, &other, "")? {
+    let line = match told_in(&rt, &other, "")? {
         Ok(_) => "an office",
         Err(fault) => fault_line(&fault),
     };

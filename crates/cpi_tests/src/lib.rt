@@ -6,6 +6,8 @@
 #[cfg(test)]
 mod ample;
 #[cfg(test)]
+mod connections;
+#[cfg(test)]
 mod endless;
 #[cfg(test)]
 mod files;

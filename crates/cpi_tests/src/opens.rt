@@ -1,8 +1,9 @@
 //! Opens that are stopped at each call of a file: of files that hold nothing yet, where the tables are made, and of
 //! files of schema 1, which are migrated.
-use crate::files::{Calls, End, Held, database, number_in, run, told_in, told_in_memory};
+use crate::files::{Calls, Held, Told, database, number_in, run, told_in, told_in_memory};
 use crate::first::first_files;
 use crate::script::{answers, questions};
+use cpi_sql::OpenFault;
 use sqlite::{Alter, Connection};
 use std::alloc::Global;
 use std::test::Fail;
@@ -82,21 +83,40 @@ fn of_schema_1(alloc: Global) -> Result<Before, Fail> {
 }
 
 // The schema of what an open left. It is none where the office that is opened there afterwards answers otherwise.
-fn schema_left(alloc: Global, before: &Before, held: &Held) -> Result<Option<i64>, Fail> {
+fn schema_left(rt: &HostRuntime, before: &Before, held: &Held) -> Result<Option<i64>, Fail> {
+    let alloc = rt.alloc();
     let mut conn = database(alloc, held)?;
     let schema = schema_in(alloc, &mut conn, before.schema == 1)?;
-    match told_in(alloc, held, questions())? {
+    match told_in(rt, held, questions())? {
         Ok(told) if told.lines.as_slice() == before.answers.as_slice() => Ok(schema),
         _ => Ok(None),
+    }
+}
+
+// How far a run came.
+#[derive(Clone, Copy, PartialEq, Eq)]
+enum End {
+    Unopened,
+    Unclosed,
+    Closed,
+}
+
+fn end_of(told: &Result<Told, OpenFault>) -> End {
+    match told {
+        Err(_) => End::Unopened,
+        Ok(told) if told.is_closed => End::Closed,
+        Ok(_) => End::Unclosed,
     }
 }
 
 // What is seen of opens in which a file stops ever later.
 #[derive(Clone, Copy, Debug, PartialEq, Eq)]
 struct Seen {
-    // how many were stopped and left the files as they were, and how many left the office made
+    // how many were stopped and left the files as they were, and how many left the office made; how many succeeded, and
+    // a file stopped in the close
     kept: u32,
     made: u32,
+    unclosed: u32,
     // how many calls were made where no file stopped
     whole: Option<u64>,
     // after how many calls something else was left
@@ -104,10 +124,13 @@ struct Seen {
 }
 
 impl Seen {
-    fn see(&mut self, before: &Before, calls: u64, is_open: bool, schemas: [Option<i64>; 2]) {
+    fn see(&mut self, before: &Before, calls: u64, end: End, schemas: [Option<i64>; 2]) {
         let [_, synced] = schemas;
-        if is_open {
+        let is_open = end != End::Unopened;
+        if end == End::Closed {
             self.whole = Some(calls);
+        } else if is_open {
+            self.unclosed = self.unclosed.saturating_add(1);
         } else if synced == Some(before.schema) {
             self.kept = self.kept.saturating_add(1);
         } else {
@@ -122,23 +145,24 @@ impl Seen {
     }
 }
 
-// Opens the files with the log, or the database file, stopping after each number of calls, up to an open that succeeds.
-// Looks at what each leaves where the process ends, and where the machine does.
-fn see_opens(alloc: Global, before: &Before, is_log: bool) -> Result<Seen, Fail> {
+// Opens the files and closes them, with the log, or the database file, stopping after each number of calls, until no
+// call is stopped. Looks at what each leaves if the process ends then, and if the machine does.
+fn see_opens(rt: &HostRuntime, before: &Before, is_log: bool) -> Result<Seen, Fail> {
     let mut seen = Seen {
         kept: 0,
         made: 0,
+        unclosed: 0,
         whole: None,
         wrong: None,
     };
     for stop in 0..1000 {
         let calls = Calls::until(is_log, stop);
-        let left = run(alloc, &before.files, calls, End::Process, "", None)?;
+        let left = run(rt, &before.files, calls, "", None)?;
         let schemas = [
-            schema_left(alloc, before, &left.files)?,
-            schema_left(alloc, before, &left.synced)?,
+            schema_left(rt, before, &left.files)?,
+            schema_left(rt, before, &left.synced)?,
         ];
-        seen.see(before, stop, left.told.is_ok(), schemas);
+        seen.see(before, stop, end_of(&left.told), schemas);
         if seen.whole.is_some() || seen.wrong.is_some() {
             break;
         }
@@ -153,10 +177,9 @@ fn is_sound(seen: &Seen) -> bool {
 
 #[test]
 fn an_open_that_is_stopped_makes_all_tables_or_none(rt: HostRuntime) -> Result<(), Fail> {
-    let alloc = rt.alloc();
-    let before = nothing(alloc)?;
+    let before = nothing(rt.alloc())?;
     for is_log in [true, false] {
-        let seen = see_opens(alloc, &before, is_log)?;
+        let seen = see_opens(&rt, &before, is_log)?;
         assert!(rt; is_sound(&seen), "{seen:?}");
     }
     Ok(())
@@ -164,10 +187,9 @@ fn an_open_that_is_stopped_makes_all_tables_or_none(rt: HostRuntime) -> Result<(
 
 #[test]
 fn a_migration_that_is_stopped_is_whole_or_not_there(rt: HostRuntime) -> Result<(), Fail> {
-    let alloc = rt.alloc();
-    let before = of_schema_1(alloc)?;
+    let before = of_schema_1(rt.alloc())?;
     for is_log in [true, false] {
-        let seen = see_opens(alloc, &before, is_log)?;
+        let seen = see_opens(&rt, &before, is_log)?;
         assert!(rt; is_sound(&seen), "{seen:?}");
     }
     Ok(())

@@ -1,7 +1,6 @@
 //! Files that stop at each of their calls.
-use crate::files::{Calls, ENOUGH, End, Held, Told, run, told_in};
+use crate::files::{Calls, ENOUGH, Held, Told, run, told_in};
 use crate::script::{CHANGES, changes, lines, script, states, trial};
-use std::alloc::Global;
 use std::test::Fail;
 
 // The script, what is sent to what it leaves, what that is told after each of its records, and what the files of an
@@ -14,11 +13,12 @@ struct Prepared {
     made: Held,
 }
 
-fn prepare(alloc: Global) -> Result<Prepared, Fail> {
+fn prepare(rt: &HostRuntime) -> Result<Prepared, Fail> {
+    let alloc = rt.alloc();
     let trial = trial(alloc)?;
     let states = states(alloc, trial.as_str())?;
     let nothing = Held::nothing(alloc);
-    let made = run(alloc, &nothing, ENOUGH, End::Closed, "", None)?;
+    let made = run(rt, &nothing, ENOUGH, "", None)?;
     Ok(Prepared {
         script: script().concat(alloc)?,
         trial,
@@ -46,8 +46,8 @@ fn is_state(states: &[Told], count: usize, lines: &[u8]) -> bool {
     }
 }
 
-fn find(alloc: Global, prepared: &Prepared, held: &Held, place: usize) -> Result<Found, Fail> {
-    let Ok(told) = told_in(alloc, held, prepared.trial.as_str())? else {
+fn find(rt: &HostRuntime, prepared: &Prepared, held: &Held, place: usize) -> Result<Found, Fail> {
+    let Ok(told) = told_in(rt, held, prepared.trial.as_str())? else {
         return Ok(Found::Wrong);
     };
     if is_state(&prepared.states, place, &told.lines) {
@@ -63,8 +63,10 @@ fn find(alloc: Global, prepared: &Prepared, held: &Held, place: usize) -> Result
 #[derive(Clone, Copy, PartialEq, Eq)]
 enum Outcome {
     // A file stopped in the command at the place, all before it being answered as they are to be: what is found of it
-    // where the process ended, and where the machine did. An open that stopped is one in the first.
+    // if the process ends then, and if the machine does. An open that stopped is one in the first.
     Stopped(usize, Found, Found),
+    // A file stopped in the close, and the office is the one that all commands left.
+    Unclosed,
     // No file stopped.
     Whole,
     // The lines aren't those of the script, or what they tell isn't kept.
@@ -76,23 +78,27 @@ fn line_count(lines: &[u8]) -> usize {
     lines.iter().filter(|byte| **byte == b'\n').count()
 }
 
-fn try_with(alloc: Global, prepared: &Prepared, calls: Calls) -> Result<Outcome, Fail> {
+fn try_with(rt: &HostRuntime, prepared: &Prepared, calls: Calls) -> Result<Outcome, Fail> {
     let sent = prepared.script.as_str();
-    let left = run(alloc, &prepared.made, calls, End::Process, sent, None)?;
-    let (place, is_whole) = match &left.told {
+    let left = run(rt, &prepared.made, calls, sent, None)?;
+    let (place, is_whole, is_closed) = match &left.told {
         Ok(told) if !lines().starts_with(&told.lines) => return Ok(Outcome::Wrong),
-        Ok(told) => (line_count(&told.lines), told.is_whole),
-        Err(_) => (0, false),
+        Ok(told) => (line_count(&told.lines), told.is_whole, told.is_closed),
+        Err(_) => (0, false, false),
     };
-    let ended = find(alloc, prepared, &left.files, place)?;
-    let synced = find(alloc, prepared, &left.synced, place)?;
+    let ended = find(rt, prepared, &left.files, place)?;
+    let synced = find(rt, prepared, &left.synced, place)?;
     if !is_whole {
         return Ok(Outcome::Stopped(place, ended, synced));
     }
-    if place == script().len() && ended == Found::Before && synced == Found::Before {
-        return Ok(Outcome::Whole);
+    if place != script().len() || ended != Found::Before || synced != Found::Before {
+        return Ok(Outcome::Wrong);
     }
-    Ok(Outcome::Wrong)
+    Ok(if is_closed {
+        Outcome::Whole
+    } else {
+        Outcome::Unclosed
+    })
 }
 
 // What is seen of runs in which a file stops ever later.
@@ -103,6 +109,8 @@ struct Seen {
     last: Option<usize>,
     has_before: bool,
     has_after: bool,
+    // whether a close was stopped
+    has_unclosed: bool,
     // how many calls were made where no file stopped
     whole: Option<u64>,
     // after how many calls an answered command isn't there, or one is there in part
@@ -116,6 +124,7 @@ impl Seen {
             last: None,
             has_before: false,
             has_after: false,
+            has_unclosed: false,
             whole: None,
             wrong: None,
         }
@@ -124,6 +133,7 @@ impl Seen {
     fn see(&mut self, calls: u64, outcome: Outcome) {
         match outcome {
             Outcome::Whole => self.whole = Some(calls),
+            Outcome::Unclosed => self.has_unclosed = true,
             Outcome::Wrong => self.wrong = Some(calls),
             Outcome::Stopped(place, ended, synced) => {
                 if self.last != Some(place) {
@@ -141,10 +151,10 @@ impl Seen {
 }
 
 // Stops the log, or the database file, after each number of calls, until a run has no stop.
-fn see_stops(alloc: Global, prepared: &Prepared, is_log: bool) -> Result<Seen, Fail> {
+fn see_stops(rt: &HostRuntime, prepared: &Prepared, is_log: bool) -> Result<Seen, Fail> {
     let mut seen = Seen::new();
     for stop in 0..1000 {
-        seen.see(stop, try_with(alloc, prepared, Calls::until(is_log, stop))?);
+        seen.see(stop, try_with(rt, prepared, Calls::until(is_log, stop))?);
         if seen.whole.is_some() || seen.wrong.is_some() {
             break;
         }
@@ -159,9 +169,8 @@ fn is_sound(seen: &Seen) -> bool {
 
 #[test]
 fn a_log_that_stops_leaves_each_command_whole_or_not_at_all(rt: HostRuntime) -> Result<(), Fail> {
-    let alloc = rt.alloc();
-    let prepared = prepare(alloc)?;
-    let seen = see_stops(alloc, &prepared, true)?;
+    let prepared = prepare(&rt)?;
+    let seen = see_stops(&rt, &prepared, true)?;
     assert!(rt;
         is_sound(&seen) && seen.has_before && seen.has_after,
         "{seen:?}"
@@ -174,8 +183,10 @@ fn a_log_that_stops_leaves_each_command_whole_or_not_at_all(rt: HostRuntime) -> 
 fn a_database_file_that_stops_leaves_each_command_whole_or_not_at_all(
     rt: HostRuntime,
 ) -> Result<(), Fail> {
-    let alloc = rt.alloc();
-    let seen = see_stops(alloc, &prepare(alloc)?, false)?;
-    assert!(rt; is_sound(&seen) && seen.commands > 1, "{seen:?}");
+    let seen = see_stops(&rt, &prepare(&rt)?, false)?;
+    assert!(rt;
+        is_sound(&seen) && seen.commands > 1 && seen.has_unclosed,
+        "{seen:?}"
+    );
     Ok(())
 }

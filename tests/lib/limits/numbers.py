@@ -5,7 +5,7 @@ from __future__ import annotations
 from collections.abc import Iterator
 from typing import Optional
 
-from .limit import BAD, DONE, Limit, Told, count_of, month_of, refused
+from .limit import DONE, Limit, Told, count_of, month_of, refused
 from .places import KA, KB, KC, Records, each, moving, moving_month, quoted, two_digits
 
 FAR = (2**8 + 1, 2**16 + 1, 2**32 + 1, 2**64 + 1)

@@ -13,6 +13,7 @@ from .stored import MOMENTS, MONTHS, NOT_READ, Stored, column, number_of
 from .texts import NAME
 
 WEIGHT = "that of a node above is their sum, at most 10^15"
+OF_AGGREGATE = "| weight in use of an elementary aggregate | 1 to 10^9;"
 
 
 def frozen(count: int) -> Records:
@@ -70,6 +71,7 @@ def table_with(code: str, at: int, printed: Callable[[int], str], value: int) ->
 OF_TABLES: list[tuple[str, str, int, int, str, Callable[[int], str], Callable[[int], str]]] = [
     # the column, the code of the row, the field when it is printed, the most, how it is stored and printed
     ("weight", "00", 1, 10**15, WEIGHT, str, str),
+    ("weight", ONE, 1, 10**9, OF_AGGREGATE, str, str),
     ("within", "00", 2, 10**13, INDEX, str, decimals),
     ("within", ONE, 2, 10**13, INDEX, str, decimals),
     ("chained", "00", 3, 10**15, LEVEL, str, decimals),

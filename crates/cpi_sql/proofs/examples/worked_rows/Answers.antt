@@ -16,6 +16,9 @@ returns-clause-calendar c = (refl, refl, refl, refl)
 pub returns-clause-quotes : goal.returns-clause-quotes
 returns-clause-quotes c = (refl, refl, refl, refl)
 
+pub returns-clause-receipts : goal.returns-clause-receipts
+returns-clause-receipts c = (refl, refl, refl, refl)
+
 pub returns-clause-assignments : goal.returns-clause-assignments
 unfolding item_code_of
 returns-clause-assignments c = (refl, refl, refl, refl, refl, refl, refl, refl, refl)
@@ -43,3 +46,7 @@ returns-clause-levels c = (refl, refl, refl, refl, refl)
 pub returns-clause-weights : goal.returns-clause-weights
 unfolding code_of is_name is_utf8 chars encode
 returns-clause-weights c = (refl, refl, refl, refl)
+
+pub returns-clause-sums : goal.returns-clause-sums
+unfolding code_of is_name is_utf8 chars encode
+returns-clause-sums c = (refl, refl, refl, refl, refl)

@@ -1,6 +1,7 @@
 use Rattle.std.proofs.Common.{◌≡◌, ◌∙◌}
 use Rattle.sqlite.specs.Held.{state}
 use Rattle.cpi_sql_rows.specs.Lists.{calendar_rows_in, items_in, plans_in}
+use Rattle.cpi_sql_rows.specs.Shelf.{ArePlansTaken}
 use Rattle.cpi_sql_reads.proofs.Looking.{later, looks_both, looks_refused}
 use Rattle.cpi_sql_reads.proofs.survey.read_public.Goals as goal
 
@@ -33,3 +34,7 @@ returns-clause-read g c = λ clean has.
     later (looks_both one two) (λ t. c.in_ok-rows.rows.items ≡ calendar_rows_in (t 10)) c.in_ok-rows.ensures.look
     c.in_ok-rows.ensures.read clean has in
     c.from_parts.ensures ∙ (λ n. record { items = items n; plans = plans n; calendar = rows n })
+
+pub returns-clause-taken : goal.returns-clause-taken
+returns-clause-taken g c = λ clean has. later c.in_ok-read.ensures.look ArePlansTaken c.in_ok-plans.ensures.look
+    c.in_ok-plans.ensures.taken (c.read_all-2.ensures.look.still.clean clean) has

@@ -72,6 +72,8 @@ returns-in-Some-clause-read g c = λ clean has.
         releases = [];
       });
       taken = record {
+        whole = has.office.whole;
+        plans = c.in_ok-public.ensures.taken (c.in_ok-bearers.ensures.look.still.clean before_read) has;
         assignments = later three (λ t. AllStand assignment_in (t 22)) c.in_ok-given.ensures.look
             (λ is had. (c.in_ok-given.ensures.whole is had.schema).stand) before_quotes has;
         quotes = later four (λ t. AllStand quote_in (t 24)) c.in_ok-quotes.ensures.look c.in_ok-quotes.ensures.stand

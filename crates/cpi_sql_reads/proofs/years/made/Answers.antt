@@ -7,5 +7,5 @@ use Rattle.cpi_sql_reads.proofs.years.made.Goals as goal
 pub returns : goal.returns
 returns c =
     let first : c.map-reference.result ≡ reference_of c.args.references.now = search rules in
-    stored_is _ _ c.nodes-kept.ensures.kept
+    stored_is _ _ c.know_plan.ensures
     (c.in-Some.ensures ∙ ap (plan_from c.args.year c.args.nodes.now c.args.places.now) first)

@@ -1,6 +1,6 @@
-use Rattle.std.proofs.Common.{◌≡◌}
+use Rattle.std.proofs.Common.{◌≡◌, ℕ, ◌+◌, ◌<◌}
 use Rattle.sqlite.specs.Held.{state}
-use Rattle.cpi_sql_rows.specs.Shelf.{IsCleanBook, HasTables, Looked, StaysOpen}
+use Rattle.cpi_sql_rows.specs.Shelf.{IsCleanBook, IsPlanTaken, HasTables, Looked, StaysOpen}
 use Rattle.cpi_sql_rows.specs.Lists.{years, plans_of, nodes_in, places_in, references_in}
 use Rattle.cpi_sql_reads.proofs.years.plans.Given as goal
 
@@ -12,4 +12,5 @@ invariant-years g l =
       read : IsCleanBook now → HasTables old
           → l.plans.items ≡ plans_of (years l.n) (nodes_in (old.now.trees 6)) (places_in (old.now.trees 8))
           (references_in (old.now.trees 34));
+      taken : IsCleanBook now → HasTables old → (k : ℕ) → k < l.n → IsPlanTaken (2000 + k) old.now.trees;
     }

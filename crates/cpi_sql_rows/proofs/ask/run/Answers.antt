@@ -1,4 +1,4 @@
-use Rattle.std.proofs.Common.{◌∙◌, ap, not, IsTrue, arith}
+use Rattle.std.proofs.Common.{arith}
 use Rattle.sqlite.specs.Held.{state}
 use Rattle.cpi_sql_rows.proofs.Asking.{executes_open, executes_opens, ran_kept}
 use Rattle.cpi_sql_rows.proofs.ask.run.Goals as goal
@@ -16,9 +16,8 @@ pub returns-clause-kept : goal.returns-clause-kept
 returns-clause-kept g c = λ clean alone.
     let old = state g.S.Store c.args.conn.now in
     let new = state g.S.Store c.execute.new.self in
-    let settled = λ (was : IsTrue old.is_open). c.is_autocommit-settled.ensures.settled
-    (c.is_autocommit-settled.ensures.value ∙ ap not alone) was in
-    ran_kept old new settled alone clean.is_open _ _ c.execute.result (c.execute.ensures.runs clean.disk)
+    ran_kept old new (λ was. c.settle.ensures.committed was alone) alone clean.is_open _ _ c.execute.result
+    (c.execute.ensures.runs clean.disk)
 
 pub returns-clause-open : goal.returns-clause-open
 returns-clause-open g c = λ disk alone.

@@ -1,4 +1,4 @@
-use Rattle.std.proofs.Common.{rules, ◌≡◌, not, List, [], ◌∷◌, ◌++◌, Some, Err, arith, ap, ◌∙◌}
+use Rattle.std.proofs.Common.{rules, ◌≡◌, List, [], ◌∷◌, ◌++◌, Some, Err, arith}
 use Rattle.sqlite.specs.Order.{Row as SqlRow}
 use Rattle.sqlite.specs.Held.{state}
 use Rattle.sqlite.specs.Values.{bound}
@@ -22,9 +22,8 @@ returns-in_err-rows-clause-asked g c =
             (held.err clean.disk) clean.is_open;
       };
       kept = λ clean alone plain. asked_same old new
-          (λ was. c.is_autocommit-settled.ensures.settled (c.is_autocommit-settled.ensures.value ∙ ap not alone) was)
-          alone clean.is_open (λ (rows : List SqlRow). rows) _ _ (Err c.in_err-rows.field-0.0) plain tt
-          (held.err clean.disk);
+          (λ was. c.settle.ensures.committed was alone) alone clean.is_open (λ (rows : List SqlRow). rows) _ _
+          (Err c.in_err-rows.field-0.0) plain tt (held.err clean.disk);
       crash = search rules;
     }
 
@@ -37,7 +36,7 @@ returns-in_err-row-clause-asked g c =
     let it : Asked c.args.text.now (bound c.args.params.now) (state g.S.Store old) (state g.S.Store now) =
     failed_asked g.S.Store _ _ old c.rows.rows.conn.now c.rows.invariant.1
     (λ disk. let way = c.rows.invariant.2 disk in (way.0, way.1)) now moved.survives _
-    (λ was alone. c.is_autocommit-settled.ensures.settled (c.is_autocommit-settled.ensures.value ∙ ap not alone) was)
+    (λ was alone. c.settle.ensures.committed was alone)
     (λ disk. rw (c.in_err-row.was) at (moved.kept disk)) in
     search rules
 

@@ -15,6 +15,7 @@ returns-clause-written g c = rw (← c.quote.view_is) (quote_written (state g.S.
       c.slot_number-slot.ensures.range,
       c.month_number-month.ensures,
       c.mark_value-value.ensures,
+      c.in_ok-receipt.ensures.range,
     ) refl) (rw (
       c.params-to_sql.ensures,
       c.params-to_sql-2.ensures,
@@ -25,4 +26,5 @@ returns-clause-written g c = rw (← c.quote.view_is) (quote_written (state g.S.
       c.collector_number-collector.ensures.value,
       c.slot_number-slot.ensures.value,
       c.mark_text-word.ensures,
+      c.in_ok-receipt.ensures.value,
     ) at c.put_row.ensures))

@@ -5,10 +5,12 @@ use Rattle.cpi_release.specs.PublishedTables.{PublishedTable}
 use Rattle.cpi_store.specs.Office.{Office}
 use Rattle.cpi_store.specs.Tables.{table_until}
 use Rattle.cpi_sql_reads.specs.Headers.{has_release, is_there}
+use Rattle.cpi_sql_rows.specs.Shelf.{IsCleanBook}
 use Rattle.cpi_sql_reads.proofs.HeaderLists.{table_shown, there_has}
 use Rattle.cpi_sql.proofs.Calls.{looks, then_fault, then_read, then_shown}
 use Rattle.cpi_sql.proofs.Counted.{on_ok}
 use Rattle.cpi_sql.proofs.Followed.{lists_sound, tables_of}
+use Rattle.cpi_sql.proofs.TablesTaken.{rests_not, table_stands, table_taken}
 use Rattle.cpi_sql.proofs.sql_book.SqlBookBook.table.Goals as goal
 
 pub returns-then-not-is_there : goal.returns-then-not-is_there
@@ -16,19 +18,25 @@ returns-then-not-is_there g c =
     let now = state g.S.Store c.self.inside.conn in
     let ready = rw (← c.self.view_is) at c.in_ok-ready_headers.ensures.ready in
     let read = rw (← c.self.view_is) at c.in_ok-ready_headers.ensures.reads in
-    let no : c.is_there.result ≡ false = search rules in (
+    let same = rw (← c.self.view_is) at c.in_ok-ready_headers.ensures.now in
+    let no : c.is_there.result ≡ false = search rules in
+    let told = λ (clean : IsCleanBook now). sym no ∙ c.is_there.ensures
+    ∙ ap (is_there c.args.month c.args.revision c.args.until)
+    (c.deref.ensures.value ∙ ((c.self.invariant clean).kept.headers ready).read) in (
       (
         refl,
         (λ _. tt),
-        then_shown _ _ _ _ _ read (λ clean.
-            table_shown now.now.trees c.args.month c.args.revision c.args.until [] false
-            (sym no ∙ c.is_there.ensures ∙ ap (is_there c.args.month c.args.revision c.args.until)
-            (c.deref.ensures.value ∙ ((c.self.invariant clean).kept.headers ready).read)) tt
-            (λ never. absurd (let e = never in cc))
-            ∙ ap (λ (o : Office). option_map (λ (t : PublishedTable). t.levels)
-            (table_until c.args.month (Some c.args.revision) c.args.until o.releases)) (read.keeps.kept clean)),
+        (
+          then_shown _ _ _ _ _ read (λ clean.
+              table_shown now.now.trees c.args.month c.args.revision c.args.until [] false (told clean) tt
+              (λ never. absurd (let e = never in cc))
+              ∙ ap (λ (o : Office). option_map (λ (t : PublishedTable). t.levels)
+              (table_until c.args.month (Some c.args.revision) c.args.until o.releases)) (read.keeps.kept clean)),
+          (λ clean. table_taken (state g.S.Store c.args.self.now.held).now now.now _ _ _ false (same clean) (told clean)
+              ((c.self.invariant clean).kept.headers ready).taken (λ never. absurd (let e = never in cc))),
+        ),
       ),
-      record { reads = tt; always = λ never. absurd never },
+      record { reads = tt },
     )
 
 pub invariant_of-self-2 : goal.invariant_of-self-2
@@ -51,28 +59,37 @@ returns g c =
     let new = state g.S.Store c.ready_table-read.new.conn in
     let ready = rw (← c.self.view_is) at c.in_ok-ready_headers.ensures.ready in
     let read = rw (← c.self.view_is) at c.in_ok-ready_headers.ensures.reads in
-    let yes : c.is_there.result ≡ true = search rules in (
+    let same = rw (← c.self.view_is) at c.in_ok-ready_headers.ensures.now in
+    let yes : c.is_there.result ≡ true = search rules in
+    let before = λ (clean : IsCleanBook new). c.ready_table-read.ensures.look.still.clean clean in
+    let headers = λ (clean : IsCleanBook new). (c.self.invariant (before clean)).kept.headers ready in
+    let told = λ (clean : IsCleanBook new). sym yes ∙ c.is_there.ensures
+    ∙ ap (is_there c.args.month c.args.revision c.args.until) (c.deref.ensures.value ∙ (headers clean).read) in
+    let tables = λ (clean : IsCleanBook new).
+    (c.ready_table-read.ensures.kept clean (c.self.invariant (before clean)).tables
+    (c.deref-2.ensures.value ∙ (headers clean).read) (c.self.invariant (before clean)).kept.lists).levels in
+    let there = on_ok _ c.in_ok-counted.ensures c.ready_table-read.ensures.ready
+    (subst (λ hs. IsTrue (has_release c.args.month c.args.revision hs))
+    (c.deref.ensures.value ∙ sym c.deref-2.ensures.value)
+    (there_has c.args.month c.args.revision c.args.until _ (sym c.is_there.ensures ∙ yes))) in (
       (
         refl,
         (λ _. tt),
-        then_shown _ _ _ _ _ (then_read _ _ _ _ _ _ read (looks now new _ _ (tables_of now _ c.self.invariant)
-            {Shown = λ _. ⊤} _ _ c.ready_table-read.ensures.look c.in_ok-counted.ensures (λ _ _ _. tt)))
-            (λ clean.
-            let before = c.ready_table-read.ensures.look.still.clean clean in
-            let st = c.self.invariant before in
-            let rows = (st.kept.headers ready).read in
-            c.table.ensures ∙ table_shown now.now.trees c.args.month c.args.revision c.args.until
-            c.ready_table-read.new.lists.levels.items true (sym yes ∙ c.is_there.ensures
-            ∙ ap (is_there c.args.month c.args.revision c.args.until) (c.deref.ensures.value ∙ rows))
-            (c.ready_table-read.ensures.kept clean st.tables (c.deref-2.ensures.value ∙ rows) st.kept.lists).levels
-            (λ _. on_ok _ c.in_ok-counted.ensures c.ready_table-read.ensures.ready
-            (subst (λ hs. IsTrue (has_release c.args.month c.args.revision hs))
-            (c.deref.ensures.value ∙ sym c.deref-2.ensures.value)
-            (there_has c.args.month c.args.revision c.args.until _ (sym c.is_there.ensures ∙ yes))))
-            ∙ ap (λ (o : Office). option_map (λ (t : PublishedTable). t.levels)
-            (table_until c.args.month (Some c.args.revision) c.args.until o.releases)) (read.keeps.kept before)),
+        (
+          then_shown _ _ _ _ _ (then_read _ _ _ _ _ _ read (looks now new _ _ (tables_of now _ c.self.invariant)
+              {Shown = λ _. ⊤} _ _ c.ready_table-read.ensures.look c.in_ok-counted.ensures (λ _ _ _. tt)))
+              (λ clean.
+              c.table.ensures ∙ table_shown now.now.trees c.args.month c.args.revision c.args.until
+              c.ready_table-read.new.lists.levels.items true (told clean) (tables clean) (λ _. there)
+              ∙ ap (λ (o : Office). option_map (λ (t : PublishedTable). t.levels)
+              (table_until c.args.month (Some c.args.revision) c.args.until o.releases))
+              (read.keeps.kept (before clean))),
+          (λ clean. table_taken (state g.S.Store c.args.self.now.held).now now.now _ _ _ true (same (before clean))
+              (told clean) (headers clean).taken (λ _. table_stands now.now.trees c.args.month c.args.revision
+              c.ready_table-read.new.lists.levels.items (tables clean) there)),
+        ),
       ),
-      record { reads = tt; always = λ never. absurd never },
+      record { reads = tt },
     )
 
 pub returns-in_err-counted : goal.returns-in_err-counted
@@ -83,9 +100,12 @@ returns-in_err-counted g c =
       (
         refl,
         (λ _. tt),
-        then_fault _ _ _ _ _ refl c.from_residual-in_err-counted.ensures.0
-            (then_read _ _ _ _ _ _ read (looks now new _ _ (tables_of now _ c.self.invariant) {Shown = λ _. ⊤} _ _
-            c.ready_table-read.ensures.look c.in_err-counted.ensures (λ _ _ _. tt))),
+        (
+          then_fault _ _ _ _ _ refl c.from_residual-in_err-counted.ensures.0
+              (then_read _ _ _ _ _ _ read (looks now new _ _ (tables_of now _ c.self.invariant) {Shown = λ _. ⊤} _ _
+              c.ready_table-read.ensures.look c.in_err-counted.ensures (λ _ _ _. tt))),
+          rests_not _ _ c.from_residual-in_err-counted.ensures.0,
+        ),
       ),
-      record { reads = tt; always = λ never. absurd never },
+      record { reads = tt },
     )

@@ -18,7 +18,7 @@ returns c =
       c.to_sql-3.ensures,
       c.to_sql-4.ensures,
       c.to_sql-5.ensures,
-      c.weight_value.ensures.value,
+      c.in_ok-weight.ensures.value,
       c.index_value.ensures.value,
       c.chained_value.ensures.value,
       c.month_change.ensures,
@@ -26,5 +26,5 @@ returns c =
       bound_annual c.args.self.now.year_change,
     ) (level_columns numbers.month numbers.revision (string_bytes c.args.code.now) c.name_text.result.now
     c.flag_number.result c.args.self.now c.requires
-    (rw c.name_text.ensures.value c.name_text.ensures.name) c.weight_value.ensures.range c.index_value.ensures.range
+    (rw c.name_text.ensures.value c.name_text.ensures.name) c.in_ok-weight.ensures.range c.index_value.ensures.range
     c.chained_value.ensures.range c.flag_number.ensures))

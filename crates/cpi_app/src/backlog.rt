@@ -1,0 +1,53 @@
+//! Connections that wait in memory.
+
+use crate::listener::{Listener, NoClock};
+use crate::service::Service;
+use cpi_codes::Moment;
+use cpi_http::Served;
+use cpi_wire::WireFault;
+
+/// A connection that waits to be accepted, or did.
+#[derive(Drop)]
+pub struct Queued {
+    /// Whether it can be accepted.
+    pub is_open: bool,
+    /// The moment that the clock shows when it comes, if any.
+    pub moment: Option<Moment>,
+    /// What its peer sends.
+    pub sent: Vec<u8>,
+    /// What was written to its peer.
+    pub written: Vec<u8>,
+}
+
+/// Connections that come in their order, and after the last of them none. It shows how connections are served whose
+/// bytes and moments are known.
+#[derive(Drop)]
+pub struct Backlog {
+    pub queued: Vec<Queued>,
+    /// How many of them came.
+    pub taken: usize,
+}
+
+impl Listener for Backlog {
+    ghost use Rattle.cpi_app.specs.Backlog.{MeetsNext};
+
+    ghost meets = { MeetsNext };
+
+    fn serve_next<S: Service>(
+        &mut self,
+        service: &mut S,
+    ) -> Result<Option<Result<Served, WireFault>>, NoClock> {
+        let Some(next) = self.queued.get_mut(self.taken) else {
+            return Ok(None);
+        };
+        self.taken += 1;
+        if !next.is_open {
+            return Ok(None);
+        }
+        let Some(now) = next.moment else {
+            return Err(NoClock);
+        };
+        let mut sent = next.sent.as_slice();
+        Ok(Some(service.serve(now, &mut sent, &mut next.written)))
+    }
+}

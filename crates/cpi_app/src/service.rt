@@ -1,0 +1,25 @@
+//! Who serves connections.
+ghost use Rattle.cpi_app.specs.Connection.{Serving, connection};
+
+use cpi_codes::Moment;
+use cpi_http::Served;
+use cpi_wire::WireFault;
+use std::io::{Read, Write};
+
+/// Serves the peers of connections, one after another.
+pub trait Service {
+    /// What serving a connection does to it and to the service.
+    ghost serves: { Serving Self };
+
+    /// Serves one connection at a moment: the reader gives what its peer sends, and the peer is told what is written to
+    /// the writer.
+    fn serve<R: Read, W: Write>(
+        &mut self,
+        now: Moment,
+        reader: &mut R,
+        writer: &mut W,
+    ) -> Result<Served, WireFault>
+        ensures { serves self.old
+            (connection now (R.remaining reader.old) (W.contents writer.old) (W.contents writer.new))
+            result self.new };
+}

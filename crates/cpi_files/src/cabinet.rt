@@ -1,0 +1,34 @@
+//! The place of an office's files.
+ghost use Rattle.std.specs.Prelude.{IfErr, IfOk, IsTrue};
+ghost use Rattle.sqlite_disk.specs.declared.Files.{Files};
+ghost use Rattle.cpi_store.specs.declared.open_fault.OpenFault.{OpenFault};
+
+use cpi_sql::OpenFault;
+use sqlite::{Files, Options};
+use sqlite_disk::Disk;
+
+/// The place of an office's two files, the database file and its log. They are taken from it, and put back.
+pub trait Cabinet {
+    /// What the files are on.
+    type Medium: Disk + Drop;
+
+    /// Which files it gives, and what it is while they are away.
+    ghost gives: { Self → Files Self.Medium → Self → Type 0 };
+
+    /// Why it gives none, and what it is then.
+    ghost refuses: { Self → OpenFault → Self → Type 0 };
+
+    /// What it is once it has the files back.
+    ghost keeps: { Self → Files Self.Medium → Self → Type 0 };
+
+    /// Gives the files, and how to open them. It gives no files that can't be used any more.
+    fn take(&mut self, rt: &HostRuntime) -> Result<(Files<Self::Medium>, Options), OpenFault>
+        ensures given { IfOk result (λ it. gives self.old it.0 self.new) }
+        ensures refused { IfErr result (λ fault. refuses self.old fault self.new) }
+        ensures log { IfOk result (λ it. IsTrue (Self.Medium.Disk.is_usable it.0.log)) }
+        ensures db { IfOk result (λ it. IsTrue (Self.Medium.Disk.is_usable it.0.db)) };
+
+    /// Takes the files back.
+    fn put_back(&mut self, files: Files<Self::Medium>)
+        ensures { keeps self.old files self.new };
+}
