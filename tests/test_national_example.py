@@ -8,13 +8,19 @@ rounding of docs/OFFICE.md, in fractions. A check is a month's table with every 
 these:
 
 - one seed gives the same quotes twice, and another seed gives others;
-- prices move the weights of the second year from its reference month to its link month, and those of the first stand;
+- prices move the weights of the last year from its reference month to its link month; those of the second and of the
+  third are what was spent in the year before, moved to the link month by the mean of that year; those of the first stand;
+- an aggregate comes in the second year; one isn't in it, and is back in the third;
 - as many entries were refused, by 23, 24 and 26, and as many quotes stand, as were counted here;
 - the records that were sent give the same lines when they are replayed at once;
 - each collector was shown the own slots alone, and from a hand-over on those that were handed over, with their last
   prices;
-- the site of the tables has each figure in its file and on its pages, contributions add up, pictures have titles, and
-  pages lead to what is there (lib/site.py).
+- the pack of the tables has each figure, in each of its forms (lib/pack_figures.py, lib/pack_faults.py): items and special
+  aggregates, contributions, annual averages, rates over twelve months, levels with 2025 = 100, breaks; and once more
+  with `rates = published`, the changes between printed indices;
+- its pages have them too, contributions add up, pictures have titles, and pages lead to what is there (lib/site.py).
+
+The pack is made by `examples/national/report`; what reads and computes here shares no code with it.
 """
 
 from __future__ import annotations
@@ -23,21 +29,30 @@ import collections
 import csv
 import json
 import os
+import shutil
 import subprocess
 import sys
 import tempfile
 from collections.abc import Iterable, Iterator
 from functools import partial
+from pathlib import Path
 from typing import Any
 
-from lib.by_the_manual import Month, moving, printed, tables
+from lib.by_the_manual import Month, coming_and_going, moving, printed, tables
 from lib.cases import content
 from lib.harness import Check, Checks, Fault, program_of, words_of
 from lib.nation import EXAMPLE, ZONE, Survey
+from lib.pack_faults import CHANGES, csv_faults, cube_faults, differing, printed_rows, sdmx_faults, workbook_faults
+from lib.pack_figures import Figures, sets_of_the_nation
+from lib.pack_forms import rows_of_csv
 from lib.program import Program
 from lib.records import rows_of
 from lib.site import site_faults
 from second_office.requests import Record
+
+
+YEAR = "2025"
+"""In which the index of the example's pack is 100."""
 
 
 def first_of(faults: Iterable[str]) -> Fault:
@@ -148,9 +163,48 @@ class Ran:
         frozen = [record[4:] for record in self.sent if record[2:4] == ["freeze", month]][-1]
         return None if frozen == wanted.carry else f"the desk carried {frozen}, wanted {wanted.carry}"
 
+    def reported(self, out: str, *words: str) -> Fault:
+        """The pack of the tables, made by the example's report."""
+        command = [os.path.join(EXAMPLE, "report"), "--out", out, *words]
+        made = subprocess.run(command, stdout=subprocess.PIPE, stderr=subprocess.PIPE, text=True, check=False)
+        wanted = 0, f"{os.path.join(out, 'site')}/index.html\n"
+        return None if (made.returncode, made.stdout) == wanted else f"report: {made.returncode}, {made.stderr[-300:]}"
+
+    def as_printed(self) -> Iterator[str]:
+        """The changes of a pack whose office has `rates = published`; without the forms that are compared already."""
+        out = Path(self.folder, "as-printed")
+        out.mkdir()
+        for name in ("tables", "published.csv"):
+            (out / name).symlink_to(Path(self.folder, name))
+        config = Path(EXAMPLE, "office.ini").read_text(encoding="utf-8")
+        own = "rates = published\nwithout = sdmx-csv sdmx-ml json-stat px\n"
+        (out / "office.ini").write_text(config + own, encoding="utf-8")
+        for name in ("aggregates.csv", "announced.csv"):
+            shutil.copy(os.path.join(EXAMPLE, name), out)
+        fault = self.reported(str(out), "--config", str(out / "office.ini"))
+        if fault:
+            yield fault
+            return
+        known = Figures(self.found, sets_of_the_nation(), YEAR, is_from_printed=True)
+        yield from differing("printed.csv", rows_of_csv(out / "site/data/printed.csv"), printed_rows(known))
+        yield from workbook_faults(out / "site", known, CHANGES)
+        if not any(known.changes("00", month)[0] != known.lines["00"][month].monthly for month in known.months):
+            yield "no change is another one by the printed index"
+
+    def pack_checks(self) -> Iterator[Check]:
+        """The pack, form by form."""
+        site, known = Path(self.folder, "site"), Figures(self.found, sets_of_the_nation(), YEAR)
+        tables, first = Path(self.folder, "tables"), self.survey.months[0]
+        yield Check("the pack", lambda: self.reported(self.folder))
+        yield Check("its CSV files", lambda: first_of(csv_faults(site, known, tables)))
+        yield Check("its SDMX", lambda: first_of(sdmx_faults(site, known)))
+        yield Check("its JSON-stat and PX", lambda: first_of(cube_faults(site, known)))
+        yield Check("its workbook", lambda: first_of(workbook_faults(site, known)))
+        yield Check("its pages", lambda: first_of(site_faults(self.folder, known, self.found, first)))
+        yield Check("changes between printed indices", lambda: first_of(self.as_printed()))
+
     def checks(self) -> Iterator[Check]:
         """All of them."""
-        first = self.survey.months[0]
         yield Check("one seed", self.same_seed)
         yield Check("two seeds", self.other_seed)
         yield Check("refusals", self.refusals)
@@ -158,11 +212,12 @@ class Ran:
         yield Check("own slots", lambda: first_of(self.own_slots()))
         yield Check("hand-overs", lambda: first_of(self.handed_over()))
         yield Check("moved weights", lambda: first_of(moving(self.found)))
+        yield Check("an aggregate that comes, and one that is back", lambda: first_of(coming_and_going(self.found)))
         yield Check("the first table", self.first_table)
         for month, wanted in self.found.items():
             yield Check(f"the table of {month}", partial(self.table, month, wanted))
             yield Check(f"the carry list of {month}", partial(self.carried, month, wanted))
-        yield Check("the site", lambda: first_of(site_faults(self.folder, self.found, first)))
+        yield from self.pack_checks()
 
 
 def main() -> int:
@@ -171,7 +226,7 @@ def main() -> int:
     chosen = program_of(words)
     csv.field_size_limit(10**8)
     with Checks() as checks, tempfile.TemporaryDirectory() as folder:
-        checks.note("examples/national/run, and the tables once more: some 20 seconds")
+        checks.note("examples/national/run, and the tables once more: some two minutes")
         checks.run(Ran(chosen.program, chosen.seed, folder).checks(), lanes=1)
     return checks.status
 

@@ -39,7 +39,7 @@ class Office:
         self.items = {row["item"]: row for row in rows_of("items")}
         self.calendar = {row["month"]: row for row in rows_of("calendar")}
         self.months = sorted(self.calendar)
-        self.references = {row["year"]: row["reference"] for row in rows_of("plans")}
+        self.plans = {row["year"]: row for row in rows_of("plans")}
         self.keys = {int(row["collector"]): row["key"] for row in rows_of("collectors")}
         self.series = list(self.assigned())
         self.held = {series: [Held(series.first, series.collector, series.slot)] for series in self.series}
@@ -48,15 +48,16 @@ class Office:
             self.handed[row["month"]] += self.handed_over(row["month"], int(row["collector"]), int(row["to"]))
 
     def assigned(self):
-        """Every outlet prices each item of its kind; a collector's slots are counted outlet by outlet."""
+        """Every outlet prices each item of its kind and region; a collector's slots are counted outlet by outlet."""
         slots = collections.Counter()
         for outlet in self.outlets:
             collector = int(outlet["collector"])
-            for item in sorted(self.items):
-                if self.items[item]["sold_in"] == outlet["kind"]:
+            for item, row in sorted(self.items.items()):
+                if row["sold_in"] == outlet["kind"] and row["region"] in ("", outlet["region"]):
                     slots[collector] += 1
-                    place = collector, slots[collector], int(outlet["outlet"])
-                    yield Series(*place, item, outlet["first"], outlet["last"])
+                    first = max(outlet["first"], row["first"])
+                    last = min(outlet["last"], row["last"] or outlet["last"])
+                    yield Series(collector, slots[collector], int(outlet["outlet"]), item, first, last)
 
     def handed_over(self, month, collector, to):
         """All series of a collector that go on in the month get the next slots of another."""
@@ -75,7 +76,19 @@ class Office:
     def weights(self, year):
         """The weights of a year by aggregate; an aggregate without one isn't in that year's plan."""
         column = f"weight_{year}"
-        return {row["code"]: int(row[column]) for row in self.basket if row[column]}
+        return {row["code"]: int(row[column]) for row in self.basket if row.get(column)}
+
+    def spent(self, year):
+        """What was spent on each aggregate of a year's plan, with the year or the month at whose prices it is; None if
+        the plan's weights are sent as they stand in the basket.
+
+        What wasn't in the plan of the year before has no levels there, so it is at prices of the link month.
+        """
+        spent_in, before = self.plans[year]["spent_in"], str(int(year) - 1)
+        if not spent_in:
+            return None
+        known = self.weights(before)
+        return [(code, it, spent_in if code in known else f"{before}-12") for code, it in self.weights(year).items()]
 
     # ---- the desk's records
 
@@ -87,12 +100,12 @@ class Office:
         yield [("collector", number, key) for number, key in self.keys.items()]
         yield [("assign", *series) for series in self.series]
 
-    def plan(self, year):
-        weights = self.weights(year)
+    def plan(self, year, weights):
+        """The rows of a year's plan with its weights, in parts per million."""
         titles = [("T", row["code"], row["title"]) for row in self.basket]
         placed = [(item, row["aggregate"]) for item, row in self.items.items() if row["aggregate"] in weights]
         rows = [*titles, *(("W", *pair) for pair in weights.items()), *(("I", *pair) for pair in placed)]
-        reference = self.references[year]
+        reference = self.plans[year]["reference"]
         return text_of([*rows, ("R", reference)] if reference else rows)
 
     def window(self, month):

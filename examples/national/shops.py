@@ -11,7 +11,7 @@ from office import moment, rows_of, text_of
 
 SUMMER = [0, 0, 0.1, 0.3, 0.5, 0.8, 1, 1, 0.6, 0.3, 0.1, 0]  # how much of it is in each month, January first
 SALE_MONTHS = ("01", "07")
-CLOSED_MONTHS = 14  # of one outlet each
+CLOSED_MONTHS = 22  # of one outlet each
 PER_MILLE = {"stock": 8, "refused": 1, "gone": 4, "comparable": 4, "other": 2}
 LATE, SLIP, CORRECTED = 0.002, 0.003, 0.002
 
@@ -39,7 +39,7 @@ class Trends:
         levels, trend, unrest = [], 1.0, 0.0
         for turn, month in enumerate(self.months):
             if turn:
-                trend *= 1 + (row["first_year"] if turn <= 12 else row["second_year"]) / 1200
+                trend *= 1 + row[f"change_{month[:4]}"] / 1200
             unrest = 0.8 * unrest + row["unrest"] / 500 * (drawn.random() + drawn.random() - 1)
             levels.append(trend * (1 + unrest) * (1 + row["summer"] / 100 * SUMMER[int(month[5:]) - 1]))
         return levels

@@ -69,9 +69,11 @@ class Year:
         self.weights = {row["code"]: int(row[column]) for row in data("basket") if row[column]}
         self.links = levels.get(december, {})
         self.samples: dict[str, list[Place]] = {code: [] for code in self.weights}
-        reference = {row["year"]: row["reference"] for row in data("plans")}[str(year)]
-        if reference:
-            self.weights = {code: self.moved(code, levels[reference]) for code in self.weights}
+        plan = next(row for row in data("plans") if row["year"] == str(year))
+        if plan["spent_in"]:
+            self.weights = self.worth_in_december([levels[f"{plan['spent_in']}-{at:02}"] for at in range(1, 13)])
+        if plan["reference"]:
+            self.weights = {code: self.moved(code, levels[plan["reference"]]) for code in self.weights}
         self.base: Prices = {}
         for place, (item, _, last) in sorted(survey.series.items()):
             code, quote = survey.items[item]["aggregate"], survey.quotes[december].get(place)
@@ -90,6 +92,22 @@ class Year:
     def moved(self, code: str, then: Levels) -> int:
         """The weight of an aggregate, moved by its prices from the reference month to the link month."""
         return int(nearest(self.weights[code] * self.links[code] / then[code], 1))
+
+    def worth_in_december(self, months: list[Levels]) -> dict[str, int]:
+        """What was spent in a year of some months, at the prices of the link month, as shares of a million: the whole
+        parts of them, and one more for those with the greatest remainders. An aggregate that is new was counted at the
+        prices of the link month."""
+        worth = {code: Fraction(weight) for code, weight in self.weights.items()}
+        for code in worth:
+            if code in self.links:
+                worth[code] *= self.links[code] * 12 / sum(month[code] for month in months)
+        whole = sum(worth.values())
+        found = {code: int(it * MILLIONTHS / whole) for code, it in worth.items()}
+        missing = MILLIONTHS - sum(found.values())
+        remainders = {code: it * MILLIONTHS / whole % 1 for code, it in worth.items()}
+        for code in sorted(remainders, key=lambda code: -remainders[code])[:missing]:
+            found[code] += 1
+        return found
 
     def carry(self, code: str, kept: Prices, now: Quotes, before: Quotes) -> tuple[Prices, bool]:
         """The carried prices of one aggregate, and whether there was nothing to move a missing one by."""
@@ -167,10 +185,34 @@ def tables(survey: Survey) -> dict[str, Month]:
 
 
 def moving(found: dict[str, Month]) -> Iterator[str]:
-    """What is wrong with the weights of the first Januaries: by months, the sums of all items."""
-    sums = [found[month].rows[0].weight for month in sorted(found) if month.endswith("-01")]
-    if [total == 1_000_000 for total in sums] != [True, False]:
+    """What is wrong with the weights of the four years: those that the program moved by prices, from a reference month,
+    don't add up to a million any more; all others do, and those that the office moved aren't what was spent."""
+    januaries = [month for month in sorted(found) if month.endswith("-01")]
+    sums = [found[month].rows[0].weight for month in januaries]
+    if [total == 1_000_000 for total in sums] != [True, True, True, False]:
         yield f"the weights add up to {sums}"
+    for january in januaries[1:3]:
+        spent = {row["code"]: int(row[f"weight_{january[:4]}"] or 0) for row in data("basket")}
+        shares = {code: nearest(Fraction(it * 1_000_000, sum(spent.values())), 1) for code, it in spent.items()}
+        apart = [row.code for row in found[january].rows if abs(row.weight - shares[row.code]) > 1 and "-" in row.code]
+        if len(apart) < 200:
+            yield f"the weights of {january[:4]} are what was spent, but for {len(apart)} of them"
+
+
+def coming_and_going(found: dict[str, Month]) -> Iterator[str]:
+    """What is wrong with the aggregates that the example shows: one that comes in the second year, and one that isn't in
+    the plan of the second year and is back in the third, where it begins at 100 in December before."""
+    by_month = {month: {row.code: row for row in it.rows} for month, it in found.items()}
+    years = sorted({month[:4] for month in found})
+    codes = [{code for code in by_month[f"{year}-01"] if "-" in code} for year in years]
+    come, left = codes[1] - codes[0], codes[0] - codes[1]
+    if (len(come), len(left)) != (1, 1) or not come | left <= codes[2] & codes[3]:
+        yield f"{come} came in {years[1]}, and {left} left"
+    for code, year in [(code, years[1]) for code in come] + [(code, years[2]) for code in left]:
+        for node in (code, code[:8]):  # (its subclass has no other aggregate)
+            row, december = by_month[f"{year}-01"][node], by_month[f"{int(year) - 1}-12"]
+            if node in december or row.level != row.within or row.annual is not None:
+                yield f"{node} doesn't begin in {year}: {row}"
 
 
 def printed(row: Row) -> list[str]:

@@ -34,12 +34,14 @@ def data(name: str) -> list[dict[str, str]]:
         return list(csv.DictReader(file))
 
 
+@functools.lru_cache(None)
 def previous(month: str) -> str:
     """The month before."""
     year, number = map(int, month.split("-"))
     return f"{year}-{number - 1:02}" if number > 1 else f"{year - 1}-12"
 
 
+@functools.lru_cache(None)
 def year_before(month: str) -> str:
     """The same month of the year before."""
     return f"{int(month[:4]) - 1}{month[4:]}"
@@ -55,11 +57,13 @@ class Survey:
         self.series: dict[Place, tuple[str, str, str]] = {}  # item, first and last month
         slots = collections.Counter[int]()
         for outlet in data("outlets"):
-            for item in sorted(self.items):
-                if self.items[item]["sold_in"] == outlet["kind"]:
+            for item, row in sorted(self.items.items()):
+                if row["sold_in"] == outlet["kind"] and row["region"] in ("", outlet["region"]):
                     number = int(outlet["collector"])
                     slots[number] += 1
-                    self.series[number, slots[number]] = item, outlet["first"], outlet["last"]
+                    months = [it for it in self.months if outlet["first"] <= it <= outlet["last"]]
+                    months = [it for it in months if row["first"] <= it <= (row["last"] or it)]
+                    self.series[number, slots[number]] = item, months[0], months[-1]
         self.slots = {place: (place, first, last) for place, (_, first, last) in self.series.items()}
         self.handed: list[tuple[Place, Place, Place, str]] = []  # series, the slots before and after, and the month
         for row in sorted(data("handovers"), key=lambda row: row["month"]):
@@ -124,6 +128,13 @@ def window(month: str) -> tuple[int, int]:
         ahead = 2 if summer_begins <= date.date() < summer_ends else 1
         found.append(int(date.timestamp()) - 3600 * ahead)
     return found[0], found[1]
+
+
+def published_at(month: str) -> int:
+    """The 28th at 09:30 of Central Europe, in seconds since 1970."""
+    summer_begins, summer_ends = (last_sunday(int(month[:4]), at) for at in (3, 10))
+    local = datetime.datetime(int(month[:4]), int(month[5:]), 28, 9, 30, tzinfo=datetime.timezone.utc)
+    return int(local.timestamp()) - 3600 * (2 if summer_begins <= local.date() < summer_ends else 1)
 
 
 def last_sunday(year: int, month: int) -> datetime.date:

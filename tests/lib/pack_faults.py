@@ -1,0 +1,358 @@
+"""The forms of a pack of `cpi-tools publish`, each figure of them, beside the figures that were computed here.
+
+A fault is a line; there is none if a form has each figure, in the digits that PUBLISHING names, and nothing else.
+"""
+
+from __future__ import annotations
+
+import datetime
+import hashlib
+from collections.abc import Callable, Iterable, Iterator, Mapping
+from decimal import Decimal
+from fractions import Fraction
+from functools import cache
+from itertools import zip_longest
+from pathlib import Path
+from typing import Optional, TypeVar
+
+from .nation import published_at
+from .pack_figures import ALL, Figures, Given, Line, december_before, depth
+from .pack_forms import Attributes, px_cells, read_json_stat, read_sdmx_ml, read_sheets, rows_of_csv
+
+Row = Mapping[str, str]
+Key = TypeVar("Key")
+
+
+def text(number: Optional[Fraction], digits: int) -> str:
+    """A number with some decimals, rounded once, halves away from zero; what rounds to nothing has no sign."""
+    if number is None:
+        return ""
+    size = (2 * abs(number.numerator) * 10**digits + number.denominator) // (2 * number.denominator)
+    whole = f"{size // 10**digits}.{size % 10**digits:0{digits}}" if digits else str(size)
+    return f"-{whole}" if size and number < 0 else whole
+
+
+@cache
+def moment(month: str) -> str:
+    """When the table of a month is published, UTC."""
+    return datetime.datetime.fromtimestamp(published_at(month), datetime.timezone.utc).strftime("%Y-%m-%dT%H:%M:%SZ")
+
+
+def differing(name: str, wrote: Iterable[Row], wanted: Iterable[Row]) -> Iterator[str]:
+    """The rows of a file that aren't those that are wanted, in their order."""
+    for own, want in zip_longest(wrote, wanted):
+        if own != want:
+            yield f"{name}: wrote {own}, wanted {want}"
+
+
+def apart(name: str, wrote: Mapping[Key, object], wanted: Mapping[Key, object]) -> Iterator[str]:
+    """The figures of a form, by what names them, that aren't those that are wanted."""
+    for key in wrote.keys() | wanted.keys():
+        if wrote.get(key) != wanted.get(key):
+            yield f"{name}: {key} is {wrote.get(key)}, wanted {wanted.get(key)}"
+
+
+# ---- CSV
+
+
+def line_row(known: Figures, month: str, code: str, line: Line) -> Row:
+    """A row of cpi.csv."""
+    return {
+        "month": month, "revision": "1", "published": moment(month), "code": code,
+        "depth": "" if code in known.sets else str(depth(code)), "title": known.titles[code],
+        "weight": str(line.weight), "index": text(line.within, 6), "chained": text(line.level, 6),
+        "month_change": text(line.monthly, 1), "year_change": text(line.annual, 1),
+        "imputed": str(int(line.is_imputed)), "base": line.base, "break": str(int(line.is_break)),
+    }  # fmt: skip
+
+
+def table_rows(known: Figures, codes: Iterable[str]) -> Iterator[Row]:
+    """The rows of some items, by month."""
+    own = [*codes]
+    for month in known.months:
+        for code in own:
+            line = known.line(code, month)
+            if line:
+                yield line_row(known, month, code, line)
+
+
+ADDED = ("shown_month_change", "shown_year_change", "contribution_month", "contribution_year")
+"""What the file of an item has of the changes of its pages and of its contributions, in percent and points."""
+
+
+def item_rows(known: Figures, code: str) -> Iterator[Row]:
+    """The rows of the file of an item: what it gives to all items, the changes of pages, and the letters of its notes."""
+    for row in table_rows(known, [code]):
+        changes = [text(it, 1) for it in known.changes(code, row["month"])]
+        given = Given(None, None) if code == ALL else known.given(row["month"], code, ALL)
+        added = (*changes, text(given.to_month, 6), text(given.to_year, 6))
+        notes = "".join(letter for letter, is_there in (("i", row["imputed"]), ("b", row["break"])) if is_there == "1")
+        yield {**row, **dict(zip(ADDED, added)), "notes": notes}
+
+
+def given_rows(known: Figures, pairs: Callable[[str], Iterable[tuple[str, str]]]) -> Iterator[Row]:
+    """The contributions of pairs of items, by month."""
+    for month in known.months:
+        for code, to in pairs(month):
+            it = known.given(month, code, to)
+            if it != Given(None, None):
+                own = {"contribution_month": text(it.to_month, 6), "contribution_year": text(it.to_year, 6)}
+                yield {"month": month, "code": code, "of": to, **own}
+
+
+def member_rows(known: Figures) -> Iterator[Row]:
+    """The elementary aggregates of sets, by year."""
+    for name, (_, is_in) in known.sets.items():
+        for month in (month for month in known.months if month.endswith("-01")):
+            for code in known.nodes:
+                line = known.line(code, month)
+                if line and "-" in code and is_in(code):
+                    own = {"code": code, "weight": str(line.weight)}
+                    yield {"id": name, "title": known.titles[name], "year": month[:4], **own}
+
+
+def full_years(known: Figures) -> list[str]:
+    return [month[:4] for month in known.months if month.endswith("-12")]
+
+
+def mean_rows(known: Figures) -> Iterator[Row]:
+    """The means of levels over a year: as they are shown, and of chained levels."""
+    for code in known.lines:
+        for year in full_years(known):
+            mean, changed = known.mean(code, year), known.mean_change(code, year)
+            if mean:
+                base = known.lines[code][f"{year}-01"].base
+                own = {"average": text(known.shown(code, base, mean), 6), "change": text(changed, 1)}
+                named = {"code": code, "title": known.titles[code], "year": year, **own}
+                yield {**named, "reference": known.hundred(code, base), "chained_average": text(mean, 6)}
+
+
+def rate_rows(known: Figures) -> Iterator[Row]:
+    """The rates of twelve months over the twelve before."""
+    for month in known.months[23:]:
+        for code in known.lines:
+            rate = known.rate(code, month)
+            if rate is not None:
+                yield {"month": month, "code": code, "title": known.titles[code], "twelve_month_rate": text(rate, 1)}
+
+
+def level_rows(known: Figures) -> Iterator[Row]:
+    """The levels that are 100 in the reference year."""
+    for month in known.months:
+        for code in known.lines:
+            line = known.line(code, month)
+            if line and known.scale(code, line.base):
+                shown = text(known.shown(code, line.base, line.level), 6)
+                named = {"month": month, "code": code, "title": known.titles[code]}
+                yield {**named, "reference": known.year, "rereferenced": shown}
+
+
+def printed_rows(known: Figures) -> Iterator[Row]:
+    """The index with one decimal, and changes."""
+    for month in known.months:
+        for code in known.lines:
+            line = known.line(code, month)
+            if line:
+                monthly, annual = known.changes(code, month)
+                own = {"reference": known.hundred(code, line.base), "index": text(known.printed(code, month), 1)}
+                told = {"month_change": text(monthly, 1), "year_change": text(annual, 1)}
+                yield {"month": month, "code": code, "title": known.titles[code], **own, **told}
+
+
+def release_rows(known: Figures, tables: Path) -> Iterator[Row]:
+    """Each publication: the first December has no rows."""
+    for month in [december_before(known.months[0]), *known.months]:
+        rows = sum(month in known.lines[code] for code in known.nodes)
+        sha = hashlib.sha256((tables / f"{month}.csv").read_bytes()).hexdigest()
+        yield {"month": month, "revision": "1", "published": moment(month), "rows": str(rows), "sha256": sha}
+
+
+def csv_faults(site: Path, known: Figures, tables: Path) -> Iterator[str]:
+    """All CSV files but those of SDMX."""
+    wanted = {
+        "cpi": table_rows(known, known.nodes),
+        "vintages": [],  # (none of the country's tables was revised)
+        "aggregates": table_rows(known, known.sets),
+        "contributions": given_rows(known, lambda _: known.pairs()),
+        "aggregate-contributions": given_rows(known, known.pairs_of_sets),
+        "aggregate-members": member_rows(known),
+        "averages": mean_rows(known),
+        "twelve-month-rates": rate_rows(known),
+        "rereferenced": level_rows(known),
+        "printed": printed_rows(known),
+        "releases": release_rows(known, tables),
+    }
+    wrote = {path.stem for path in (site / "data").glob("*.csv")}
+    if wrote != {*wanted, "cpi.sdmx"}:
+        yield f"the pack has {sorted(wrote)}"
+    for name, rows in wanted.items():
+        yield from differing(f"{name}.csv", rows_of_csv(site / f"data/{name}.csv"), rows)
+    for code in known.lines:
+        yield from differing(f"{code}.csv", rows_of_csv(site / f"node/{code}.csv"), item_rows(known, code))
+
+
+# ---- SDMX
+
+DIMENSIONS = ("FREQ", "MEASURE", "UNIT_MEASURE", "COICOP18", "TRANSFORMATION", "TIME_PERIOD")
+ATTRIBUTES = ("OBS_VALUE", "BASE_PER", "DECIMALS", "OBS_STATUS", "IMPUTED_PRICES", "REVISION", "EMBARGO_TIME")
+Observations = dict[tuple[str, ...], tuple[str, ...]]
+"""By FREQ, MEASURE, UNIT_MEASURE, COICOP18, TRANSFORMATION and TIME_PERIOD: the value and the attributes."""
+
+
+def item_id(code: str) -> str:
+    """An item in SDMX."""
+    return code if not code[0].isdigit() else "_T" if code == ALL else "CP" + code.replace(".", "")
+
+
+def observations(known: Figures) -> Observations:
+    """All figures as SDMX has them."""
+    found: Observations = {}
+    for code, lines in known.lines.items():
+        bases = known.bases(code)
+        periods = " ".join(known.hundred(code, base) for base in bases)
+        for month in known.months:
+            line, given = lines.get(month), known.given(month, code, ALL) if code != ALL else Given(None, None)
+            for measure, unit, kind, digits, value in figures_of(known, code, line, given):
+                if value is not None:
+                    status = "B" if line and line.is_break and unit == "IX" else "A"
+                    period = {"CPI": periods, "CPIC": " ".join(bases)}[measure] if unit == "IX" else ""
+                    imputed = str(int(line.is_imputed)) if line else ""
+                    key = "M", measure, unit, item_id(code), kind, month
+                    found[key] = text(value, digits), period, str(digits), status, imputed, "1", moment(month)
+        for year in full_years(known):
+            mean, changed = known.mean(code, year), known.mean_change(code, year)
+            if mean:
+                base = lines[f"{year}-01"].base
+                shown = text(known.shown(code, base, mean), 6)
+                status = "B" if lines[f"{year}-01"].is_break else "A"
+                last = status, "", "", moment(f"{year}-12")
+                found["A", "CPI", "IX", item_id(code), "N", year] = shown, periods, "6", *last
+                if changed is not None:
+                    found["A", "CPI", "PC", item_id(code), "G1", year] = text(changed, 1), "", "1", *last
+    return found
+
+
+def figures_of(
+    known: Figures, code: str, line: Optional[Line], given: Given
+) -> Iterator[tuple[str, str, str, int, Optional[Fraction]]]:
+    """Measure, unit, transformation, decimals and value of the figures of an item in a month."""
+    if line:
+        yield "CPI", "IX", "N", 6, known.shown(code, line.base, line.level)
+        yield "CPI", "PC", "G1", 1, line.monthly
+        yield "CPI", "PC", "GY", 1, line.annual
+        yield "CPIC", "IX", "N", 6, line.level
+        yield "CPIW", "PPM", "N", 0, Fraction(line.weight)
+    yield "CTR", "PP", "G1", 6, given.to_month
+    yield "CTR", "PP", "GY", 6, given.to_year
+
+
+def observed(rows: Iterable[Attributes]) -> Observations:
+    """The observations of a form; an attribute that isn't there is empty."""
+    return {tuple(row[name] for name in DIMENSIONS): tuple(row.get(name, "") for name in ATTRIBUTES) for row in rows}
+
+
+def sdmx_faults(site: Path, known: Figures) -> Iterator[str]:
+    """SDMX-CSV and SDMX-ML."""
+    wanted = observations(known)
+    yield from apart("cpi.sdmx.csv", observed(rows_of_csv(site / "data/cpi.sdmx.csv")), wanted)
+    yield from apart("cpi.sdmx.xml", observed(read_sdmx_ml(site / "data/cpi.sdmx.xml")), wanted)
+    if sum(it[3] == "B" for it in wanted.values()) < 10:
+        yield "there is no break"
+
+
+# ---- cubes
+
+Cells = dict[tuple[str, ...], Decimal]
+"""By item, figure and month."""
+
+
+def cells(known: Figures) -> Cells:
+    """All figures as cubes have them."""
+    found: dict[tuple[str, str, str], Optional[Fraction]] = {}
+    for code, lines in known.lines.items():
+        for month, line in lines.items():
+            found[code, "index", month] = known.shown(code, line.base, line.level)
+            found[code, "chained", month] = line.level
+            found[code, "month_change", month] = line.monthly
+            found[code, "year_change", month] = line.annual
+            found[code, "weight", month] = Fraction(line.weight)
+            found[code, "imputed", month] = Fraction(line.is_imputed)
+        if code != ALL:
+            for month in known.months:
+                found[code, "contribution", month] = known.given(month, code, ALL).to_year
+    digits = {"index": 6, "chained": 6, "contribution": 6}
+    return {key: Decimal(text(it, digits.get(key[1], 1))) for key, it in found.items() if it is not None}
+
+
+def cube_faults(site: Path, known: Figures) -> Iterator[str]:
+    """JSON-stat with the statuses of levels, and PX, in which a break is a note."""
+    wanted = cells(known)
+    px: Cells = {key: Decimal(cell) for key, cell in px_cells(site / "data/cpi.px").items()}
+    yield from apart("cpi.px", px, wanted)
+    data, places = read_json_stat(site / "data/cpi.jsonstat.json")
+    values: Cells = {key: data["value"][at] for key, at in places.items() if data["value"][at] is not None}
+    yield from apart("cpi.jsonstat.json", values, {key: it for key, it in wanted.items() if key[1] != "imputed"})
+    statuses = {key: data["status"].get(str(at), "") for key, at in places.items() if key[1] in ("index", "chained")}
+    for (code, _, month), status in statuses.items():
+        line = known.line(code, month)
+        if status != ("b" * line.is_break + "i" * line.is_imputed if line else ""):
+            yield f"cpi.jsonstat.json: {code} in {month} has the status {status!r}, wanted {line}"
+
+
+# ---- the workbook
+
+CHANGES = ("Monthly change", "Annual change")
+SHEETS = ("Index", *CHANGES, "Weights", "Contributions", "Chained level")
+
+AFTER_BREAK = 5
+"""The style of a level after a break, with a line to its left."""
+
+
+def column(number: int) -> str:
+    """`A` of 0, `Z` of 25, `AA` of 26."""
+    return (column(number // 26 - 1) if number > 25 else "") + chr(ord("A") + number % 26)
+
+
+def sheet_cells(known: Figures, figure: str) -> Iterator[tuple[str, str]]:
+    """Place and text of each cell of a sheet of figures, below the months and next to codes and titles."""
+    for at, head in enumerate(["Code", "Title", *known.months]):
+        yield f"{column(at)}1", head
+    for row, (code, lines) in enumerate(known.lines.items(), 2):
+        yield f"A{row}", code
+        yield f"B{row}", known.titles[code]
+        for at, month in enumerate(known.months, 2):
+            value = sheet_value(known, figure, code, month, lines.get(month))
+            if value:
+                yield f"{column(at)}{row}", value
+
+
+def break_cells(known: Figures) -> Iterator[str]:
+    """The places of the levels after a break."""
+    for row, lines in enumerate(known.lines.values(), 2):
+        for at, month in enumerate(known.months, 2):
+            if month in lines and lines[month].is_break:
+                yield f"{column(at)}{row}"
+
+
+def sheet_value(known: Figures, figure: str, code: str, month: str, line: Optional[Line]) -> str:
+    """A figure of a sheet; what an item that left gives to the change on the year is there without a level."""
+    if figure == "Contributions":
+        return "" if code == ALL else text(known.given(month, code, ALL).to_year, 6)
+    if not line:
+        return ""
+    if figure in CHANGES:
+        return text(known.changes(code, month)[CHANGES.index(figure)], 1)
+    if figure == "Weights":
+        return str(line.weight)
+    return text(known.shown(code, line.base, line.level) if figure == "Index" else line.level, 6)
+
+
+def workbook_faults(site: Path, known: Figures, sheets: Iterable[str] = SHEETS) -> Iterator[str]:
+    """Some sheets of figures, and the mark of a break."""
+    all_cells = read_sheets(site / "data/cpi.xlsx")
+    for name in sheets:
+        wrote = {place: value for place, (value, _) in all_cells[name].items()}
+        yield from apart(f"cpi.xlsx, {name}", wrote, {place: value for place, value in sheet_cells(known, name)})
+        marked = {place for place, (_, style) in all_cells[name].items() if style == AFTER_BREAK}
+        if name in ("Index", "Chained level") and marked != {*break_cells(known)}:
+            yield f"cpi.xlsx, {name}: {sorted(marked)} are marked, wanted {sorted(break_cells(known))}"
