@@ -181,6 +181,38 @@ def test_only_the_collectors_that_are_chosen(office: Path) -> None:
     assert sheets_in(out)[0].heading == "Collector 2: Beno"
 
 
+@pytest.mark.parametrize(
+    ("language", "direction", "heading", "left"),
+    [("ar", ' dir="rtl"', "جامع الأسعار 2: Anna", r"[A-Za-z]{2,}"), ("fr", "", "Enquêteur 2 : Anna", r"Collector|sign in|the"),
+     ("es", "", "Encuestador 2: Anna", r"Collector|sign in|the")],
+)  # fmt: skip
+def test_sheets_in_another_language(office: Path, language: str, direction: str, heading: str, left: str) -> None:
+    """The texts are those of the language, and key, code and address stay; what the terminal has is English."""
+    names = named(office.parent / "names.csv", (2, "Anna"))
+    ran, out = printed(office, "--names", names, "--collector", 2, "--language", language)
+    assert ran == (0, told(out, "1 sheet"), "")
+    (found,) = sheets_in(out)
+    assert found.heading == heading and found.key == " ".join([OTHER_KEY[:4]] * 8 + [CHECKS[2]])
+    assert decoded(found.picture) == f"{URL}/collect/#key={OTHER_KEY}&name=Anna"
+    text = out.read_text(encoding="utf-8")
+    assert f'<html lang="{language}"{direction}>' in text
+    shown = re.sub(
+        r"<(style|svg).*?</\1>|<bdi>.*?</bdi>|<p class=\"(address|key-typed)\">.*?</p>|<!DOCTYPE html>",
+        "",
+        text,
+        flags=re.S,
+    )
+    texts = re.findall(r">([^<>]+)<", shown) + re.findall(r'aria-label="([^"]*)"', shown)
+    assert not [it for it in texts if re.search(left, it)]
+
+
+def test_a_language_without_a_catalogue_is_refused(office: Path, capsys: pytest.CaptureFixture[str]) -> None:
+    with pytest.raises(SystemExit) as ended:
+        main(["keys", str(office), "--url", URL, "--out", str(office.parent / "sheets.html"), "--language", "xx"])
+    assert ended.value.code == 2 and "'xx' has no catalogue: one of en, ar, es, fr" in capsys.readouterr().err
+    assert not (office.parent / "sheets.html").exists()
+
+
 def test_a_code_has_its_margin_and_bears_some_dirt() -> None:
     """Four light modules all round; the first two bits of its format (ISO/IEC 18004, 7.9) aren't those of level L."""
     for length in (1, 100, 900):

@@ -8,6 +8,7 @@ from selenium.webdriver.common.action_chains import ActionChains
 from selenium.webdriver.common.keys import Keys
 
 from browser import Browser
+from languages import Speech, Words
 from offices import ANNA
 
 
@@ -37,6 +38,13 @@ class Phone:
 
     def __init__(self, browser: Browser):
         self.browser = browser
+        self.words = Words()
+        self.said = self.words.said
+
+    def speaks(self, speech: Speech) -> None:
+        """The page speaks so from now on."""
+        self.words = Words(speech)
+        self.said = self.words.said
 
     def open(self) -> None:
         self.browser.open("/collect/")
@@ -51,7 +59,7 @@ class Phone:
         self.open()
         self.browser.wait_shown("#sign-in")
         self.give_key(key)
-        self.browser.wait_text("#line", "All sent")
+        self.browser.wait_text("#line", self.said("All sent"))
         self.browser.wait(lambda: self.browser.all("[data-slot]"), "a work list")
         self.browser.run_until("await navigator.serviceWorker.ready")
 
@@ -95,9 +103,9 @@ class Phone:
         """Corrects slot 1 of last month, whose window has closed: the office has 3.20, and refuses 3.10 by 24."""
         self.browser.click("#month-before")
         self.show("all")
-        self.wait_told(1, "Receipt 7")
+        self.wait_told(1, self.said("Receipt {number}", number="7"))
         self.enter(1, "3.10")
-        self.wait_told(1, "Refused")
+        self.wait_told(1, self.said("Refused"))
 
     def leave(self, slot: int) -> None:
         """Closes the form if it is another slot's by now."""
@@ -135,7 +143,7 @@ class Phone:
             slot,
             price,
         )
-        self.wait_told(slot, "To be sent")
+        self.wait_told(slot, self.said("To be sent"))
         self.browser.run("document.getElementById('entry').close();")
 
     def confirm(self) -> None:

@@ -16,6 +16,7 @@ from selenium.webdriver.common.keys import Keys
 
 from browser import Browser
 from conftest import ROOT
+from languages import ENGLISH, Speech
 from offices import ANNA, BEFORE, BENO, DESK, IMAGE, NOBODY, NOW, SCRIPT
 from phone import Phone
 from readable import faults_enlarged, faults_for_keys, faults_of_page
@@ -120,16 +121,18 @@ def test_the_policy_lets_nothing_go_elsewhere(phone: Phone) -> None:
 # ---- entries
 
 
-def test_a_price_gets_its_receipt(phone: Phone, stage: Stage) -> None:
+def test_a_price_gets_its_receipt(phone: Phone, stage: Stage, speech: Speech) -> None:
+    phone.speaks(speech)
+    figure = speech.figure
     phone.sign_in()
-    phone.enter(1, "3,21")
+    phone.enter(1, "3,21" if speech == ENGLISH else figure("3.21"))
     phone.show("all")
-    phone.wait_told(1, f"Receipt {NEXT}")
-    assert "3.21" in phone.told(1)
+    phone.wait_told(1, phone.said("Receipt {number}", number=str(NEXT)))
+    assert figure("3.21") in phone.told(1)
     assert stored(stage, 1) == [("price", 321, NEXT)]
     phone.show("quotes")
     assert phone.browser.text('[data-quote="1"]').split("\n")[0] == "Rice, white"
-    assert f"3.21\t{NEXT}" in phone.browser.text('[data-quote="1"]')
+    assert f"{figure('3.21')}\t{figure(str(NEXT))}" in phone.browser.text('[data-quote="1"]')
     assert phone.browser.faults() == []
 
 
@@ -173,15 +176,17 @@ def test_the_bounds_that_are_shown_are_the_offices(phone: Phone, stage: Stage) -
         assert {**phone.browser.run_until(module, last, low, high), "refused": 26} == told
 
 
-def test_a_price_far_from_the_last_is_confirmed(phone: Phone, stage: Stage) -> None:
+def test_a_price_far_from_the_last_is_confirmed(phone: Phone, stage: Stage, speech: Speech) -> None:
+    phone.speaks(speech)
     phone.sign_in()
-    phone.enter(2, "9.99")
-    phone.browser.wait_text("#entry-refusal", "far from the last one. Look again.")
-    assert "Last price 4.80; without a second look 3.36 to 7.20" in phone.browser.text("#entry-refusal")
+    phone.enter(2, speech.figure("9.99"))
+    phone.browser.wait_text("#entry-refusal", phone.said("This price is far from the last one. Look again."))
+    bounds = "Last price {last}; without a second look {low} to {high} is taken."
+    assert phone.said(bounds, last="4.80", low="3.36", high="7.20") in phone.browser.text("#entry-refusal")
     assert stored(stage, 2) == []
     phone.confirm()
     phone.show("all")
-    phone.wait_told(2, f"Receipt {NEXT}")
+    phone.wait_told(2, phone.said("Receipt {number}", number=str(NEXT)))
     assert stored(stage, 2) == [("price", 999, NEXT)]
 
 
@@ -509,7 +514,7 @@ def test_a_new_version_of_the_files_takes_the_place_of_the_old_one(phone: Phone,
     phone.sign_in()
     browser.run_until("await caches.open('another');")
     before = browser.run_until(VERSION)
-    changed(site, "index.html", "<h1>Price collection</h1>", "<h1>New collection</h1>")
+    changed(site, "index.html", "<h1 data-t>Price collection</h1>", "<h1 data-t>New collection</h1>")
     changed(site, "head.js", '"All sent"', '"All is sent"')
     changed(site, "sw.js", 'const VERSION = "', 'const VERSION = "new')
     phone.open()

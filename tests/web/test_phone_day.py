@@ -14,6 +14,7 @@ from typing import NamedTuple, Optional
 import pytest
 
 from browser import Browser
+from languages import ENGLISH, Speech, Words
 from offices import BEFORE, DESK, NOBODY, NOW
 from phone import Phone
 from stage import Stage
@@ -51,6 +52,11 @@ def money(price: int) -> str:
 def in_digits(text: str, zero: int) -> str:
     """A figure in the digits of another script."""
     return "".join(chr(zero + int(each)) if each.isdigit() else each for each in text)
+
+
+def in_arabic(text: str) -> str:
+    """The same price as an Arabic keyboard writes it: digits, decimal mark, and comma."""
+    return in_digits(text, 0x660).replace(".", "\u066b").replace("\uff0e", "\u066b").replace(",", "\u060c")
 
 
 STYLES = (
@@ -104,14 +110,14 @@ def wire(stage: Stage) -> Iterator[Wire]:
 
 
 @pytest.fixture
-def hand(browser: Browser, wire: Wire, stage: Stage) -> Iterator[Hand]:
-    """A collector with a phone, before the office with all of these shelves."""
+def hand(browser: Browser, wire: Wire, stage: Stage, speech: Speech) -> Iterator[Hand]:
+    """A collector with a phone, before the office with all of these shelves; in English, and in Arabic."""
     register(stage)
     with through(wire, browser):
         browser.size(360, 640)
         browser.cdp("Emulation.setTouchEmulationEnabled", enabled=True)
         try:
-            yield Hand(browser)
+            yield Hand(browser, speech)
         finally:
             browser.cdp("Emulation.setTouchEmulationEnabled", enabled=False)
 
@@ -136,7 +142,7 @@ FORM = """
 const it = document.getElementById("entry");
 if (!it.open || !it.checkVisibility()) return null;
 return [it.dataset.entry, document.querySelector("#entry-outlet bdi").innerText,
-  document.getElementById("entry-item").innerText, document.getElementById("entry-saved").innerText,
+  [...document.querySelectorAll("#entry-item bdi")].map((it) => it.innerText).join(", "), document.getElementById("entry-saved").innerText,
   document.activeElement.id];
 """
 """What a collector sees of the form: whose it is, shop, item, what was saved last, and where the keyboard writes."""
@@ -153,8 +159,9 @@ return top && (element === top || element.contains(top)) ? [x, y] : null;
 class Hand:
     """A finger and a keyboard. Nothing is touched but what is seen, at the place where it is."""
 
-    def __init__(self, browser: Browser):
-        self.browser, self.phone = browser, Phone(browser)
+    def __init__(self, browser: Browser, speech: Speech):
+        self.browser, self.phone, self.speech = browser, Phone(browser), speech
+        self.phone.speaks(speech)
         self.answers = {shelf: found for shelf, _, _, found in DAY}
         self.before: Optional[tuple[str, str]] = None  # item and value of the last save
         self.count = 0
@@ -178,7 +185,7 @@ class Hand:
         """Types, over what is chosen in the price."""
         assert self.browser.run("return document.activeElement.id") == "price"
         self.browser.run("document.activeElement.select()")
-        for each in text:
+        for each in text if self.speech == ENGLISH else in_arabic(text):
             self.browser.cdp("Input.insertText", text=each)
 
     def form(self) -> Optional[list[str]]:
@@ -199,12 +206,16 @@ class Hand:
             key, shop, item, saved, at = seen
             assert at == "price", f"the keyboard isn't at the price of {item}"
             if self.before and saved:
-                assert saved.endswith(f" saved: {self.before[0]}") and self.before[1] in saved, (saved, self.before)
+                begin, end = (
+                    self.phone.said("{entered} saved: {item}").replace("{item}", self.before[0]).split("{entered}")
+                )
+                assert saved.startswith(begin) and saved.endswith(end), (saved, self.before)
+                assert self.before[1] in saved, (saved, self.before)
             found = self.answers.pop((shop, item))
             self.answer(found)
             self.browser.wait(lambda before=key: (self.form() or [None])[0] != before, f"{item} is saved")
             name = item.rpartition(", ")[0]
-            self.before = (name, money(found.value) if isinstance(found.value, int) else "")
+            self.before = (name, self.speech.figure(money(found.value)) if isinstance(found.value, int) else "")
             self.count += 1
 
     def answer(self, found: Found) -> None:
@@ -228,43 +239,57 @@ class Hand:
             self.tap("#entry-confirm" if found.then == "confirmed" else "#entry-refusal [data-reading]")
 
 
+def progress(words: Words, stored: int) -> str:
+    """What the list says of so many rows that are stored, up to its moment."""
+    told = words.said("{stored} of {all} stored, list of {time}", stored=str(stored), all=str(len(DAY)))
+    return told.partition("{time}")[0]
+
+
 def messages(stage: Stage) -> list[str]:
     """What the front was asked by the phone: methods and paths, by its log."""
     return re.findall(r'"((?:GET|POST|PUT) [^"]+)"', stage.logs())
 
 
-def test_a_day_of_350_prices(hand: Hand, wire: Wire, stage: Stage) -> None:
+def work_without_line(hand: Hand) -> None:
+    """There is no line for 60 prices, and in the midst of them the page is loaded anew."""
     browser = hand.browser
+    browser.offline(True)
+    hand.work(40)
+    kept = int(re.findall(r"\d+", browser.text("#line"))[0])
+    one, many = "No line: {count} entry kept on this phone", "No line: {count} entries kept on this phone"
+    told = hand.phone.words.counted(one, many, kept)
+    assert browser.text("#line") == told
+    assert 40 <= kept <= 65  # (some were under way when the line began to hang)
+    browser.driver.refresh()
+    browser.wait_text("#line", told)
+    hand.before = None
+    hand.open_next()
+    hand.work(20)
+    browser.offline(False)
+
+
+def test_a_day_of_350_prices(hand: Hand, wire: Wire, stage: Stage) -> None:
+    browser, words = hand.browser, hand.phone.words
     before = len(messages(stage))
     browser.open(f"/collect/#key={NOBODY}&name=Noor%20B.")
-    browser.wait_text("#progress", "0 of 350 stored")
+    browser.wait_text("#progress", progress(words, 0))
     assert browser.text("#who") == "Noor B."
     browser.run_until("await navigator.serviceWorker.ready")
-    browser.wait_text("#line", "All sent")
+    browser.wait_text("#line", words.said("All sent"))
     hand.open_next()
     hand.work(120)
     # the line hangs in the cellar of a shop, and is cut
     wire.hang()
     hand.work(20)
-    assert "to be sent" in browser.text("#line")
+    waiting = int(re.findall(r"\d+", browser.text("#line"))[0])
+    assert browser.text("#line") == words.counted("{count} to be sent", "{count} to be sent", waiting)
     wire.cut()
     wire.go_on()
-    # there is none for a while, and the page is loaded anew
-    browser.offline(True)
-    hand.work(40)
-    assert browser.text("#line").startswith("No line: ")
-    kept = int(re.findall(r"\d+", browser.text("#line"))[0])
-    assert 40 <= kept <= 65  # (some were under way when the line began to hang)
-    browser.driver.refresh()
-    browser.wait_text("#line", f"No line: {kept} entries kept on this phone")
-    hand.before = None
-    hand.open_next()
-    hand.work(20)
-    browser.offline(False)
+    work_without_line(hand)
     hand.work(150)
     assert hand.form() is None and not hand.answers
-    browser.wait_text("#line", "All sent")
-    browser.wait_text("#progress", "350 of 350 stored")
+    browser.wait_text("#line", words.said("All sent"))
+    browser.wait_text("#progress", progress(words, 350))
     assert not browser.find("#alarm").is_displayed()
     wanted = [[slot, NOW, found.mark, found.value] for _, slot, _, found in DAY]
     stored = stage.quotes(NOBODY)
@@ -272,7 +297,12 @@ def test_a_day_of_350_prices(hand: Hand, wire: Wire, stage: Stage) -> None:
     # (350 of last month, and one for each of these; none was given for a price that was stored twice)
     assert sorted(row[4] for row in stored) == list(range(351, 701))
     assert browser.faults() == []
-    costs_little(messages(stage)[before:], wire.counted().both)
+    catalogue = 0 if hand.speech == ENGLISH else CATALOGUE
+    costs_little(messages(stage)[before:], wire.counted().both - catalogue)
+
+
+CATALOGUE = 8_000
+"""The bytes of the catalogue of a language, as the front sends it, which come on top of the page's."""
 
 
 def costs_little(asked: list[str], size: int) -> None:
@@ -281,4 +311,5 @@ def costs_little(asked: list[str], size: int) -> None:
     lists = [it for it in asked if "/api/" in it or "calendar.json" in it]
     together = len(DAY) - lists.count("POST /api/import")
     assert 0 <= together and len(lists) + together < 400, lists
+    print(f"a day's bytes, with those of the page: {size + together * MOST}")
     assert size + together * MOST < 400_000, (size, together)

@@ -1,17 +1,20 @@
 // The page of a collector. An entry goes to the phone first, then to the office.
-import { find } from "../shared/dom.js";
+import { find, isolated } from "../shared/dom.js";
+import { begin } from "../shared/language.js";
+import { t } from "../shared/texts.js";
 import { showDeadline } from "./deadline.js";
 import * as entry from "./entry.js";
 import * as exported from "./export.js";
 import { notice, showHead } from "./head.js";
+import * as languages from "./languages.js";
 import * as line from "./line.js";
-import { choose, jump } from "./list.js";
+import { choose, jump, render } from "./list.js";
 import * as search from "./search.js";
 import * as session from "./session.js";
 import * as shownMonth from "./shown-month.js";
 import { state } from "./state.js";
 import * as unsent from "./unsent.js";
-import { whyNotKept } from "./wording.js";
+import { pageKeepsNothing } from "./wording.js";
 
 const MINUTE = 60_000; // milliseconds
 
@@ -77,8 +80,8 @@ async function passed() {
 
 /** An error that nothing else has reported: of a browser that keeps nothing, or of the page itself. */
 function told(fault) {
-  return fault instanceof DOMException ? `The page can’t keep what it needs here: ${whyNotKept(fault)}`
-    : `The page met an error: ${fault?.message ?? fault}. Load it anew.`;
+  return fault instanceof DOMException ? pageKeepsNothing(fault)
+    : t("The page met an error: {error}. Load it anew.", { error: isolated(String(fault?.message ?? fault)) });
 }
 
 line.on.gone = session.followOthers;
@@ -86,9 +89,14 @@ line.on.settled = (answered) => {
   entry.settled(answered);
   unsent.settled(answered);
 };
+languages.on.spoken = () => {
+  find("key-fault").textContent = "";
+  notice("");
+  render();
+};
 unsent.on.open = entry.edit;
 unsent.on.dropped = entry.dropped;
-for (const part of [entry, exported, search, session, unsent]) part.listen();
+for (const part of [entry, exported, languages, search, session, unsent]) part.listen();
 listen();
 keepFiles();
-session.start();
+begin().then(languages.spoken).then(session.start);

@@ -2,6 +2,7 @@
 // by that. Moments are in seconds since 1970 UTC, as in the file; the page shows them by the phone's clock.
 import { find } from "../shared/dom.js";
 import { inWords, timeOf, thisMonth } from "../shared/months.js";
+import { locale, t, tn } from "../shared/texts.js";
 import { state } from "./state.js";
 
 const MINUTE = 60, HOUR = 3600, DAY = 86_400;
@@ -37,20 +38,25 @@ export function showDeadline() {
 
 function wordsOf({ month, opens, closes }) {
   const now = seconds();
-  if (now < opens) return `The window of ${inWords(month)} opens on ${timeOf(opens * 1000)}, ${within(opens - now)}.`;
-  if (now < closes) return `The window closes on ${timeOf(closes * 1000)}, ${within(closes - now)}.`;
-  return `The window closed on ${timeOf(closes * 1000)}.`;
+  if (now < opens) {
+    const values = { month: inWords(month), moment: timeOf(opens * 1000), within: within(opens - now) };
+    // t: {moment} is such as 30 November, 18:00; {within} is such as in 2 days
+    return t("The window of {month} opens on {moment}, {within}.", values);
+  }
+  const moment = timeOf(closes * 1000);
+  // t: {moment} is such as 30 November, 18:00; {within} is such as in 2 days
+  if (now < closes) return t("The window closes on {moment}, {within}.", { moment, within: within(closes - now) });
+  return t("The window closed on {moment}.", { moment });
 }
 
 function warning(count) {
-  if (count === 0) return "Everything you entered is stored.";
-  return count === 1 ? "One entry isn’t stored yet." : `${count} entries aren’t stored yet.`;
+  if (count === 0) return t("Everything you entered is stored.");
+  return tn("One entry isn’t stored yet.", "{count} entries aren’t stored yet.", count);
 }
-
-const relative = new Intl.RelativeTimeFormat(document.documentElement.lang);
 
 /** `in 2 days`: never more than is left. */
 function within(left) {
+  const relative = new Intl.RelativeTimeFormat(locale());
   if (left >= 2 * DAY) return relative.format(Math.floor(left / DAY), "day");
   if (left >= 2 * HOUR) return relative.format(Math.floor(left / HOUR), "hour");
   return relative.format(Math.floor(left / MINUTE), "minute");

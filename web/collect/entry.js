@@ -1,6 +1,7 @@
 // The form of one entry: what was found, its price or why there is none, and the second look before it closes.
 import { find } from "../shared/dom.js";
 import { figures, typed } from "../shared/money.js";
+import { t } from "../shared/texts.js";
 import * as drafts from "./drafts.js";
 import * as form from "./form.js";
 import { noticeUntilRead } from "./head.js";
@@ -11,13 +12,13 @@ import { entryAt, isToDo, rowOf, state, storedOf, takeEntries, takeEntry } from 
 import * as store from "./store.js";
 import * as tabs from "./tabs.js";
 import * as unsent from "./unsent.js";
-import { whyNotKept } from "./wording.js";
+import { entryNotKept, slotOf, thisNotKept } from "./wording.js";
 
 let editing = null; // { month, slot, row, entry, stored, seen, isListed, wasToDo, filled, came }
 let isSaving = false;
 let cameAt = -Infinity; // when the form of the next row came, by performance.now()
 
-const UNKNOWN = (slot) => [slot, null, "", "", `Slot ${slot}`, "", null, null, null];
+const UNKNOWN = (slot) => [slot, null, "", "", slotOf(slot), "", null, null, null];
 
 /**
  * Opens the form of a slot, or fills it in anew; of another month than the one shown, from its entry. As it closes, the
@@ -46,16 +47,16 @@ export function edit(slot, month = state.month, isUnsent = false) {
 /** The mark in the form; null, after the form shows a fault or a question, if it can't be kept so. */
 function chosen() {
   const mark = form.markOf();
-  if (!mark) return form.showFault("Choose what you found.");
+  if (!mark) return form.showFault(t("Choose what you found."));
   if (mark === "missing") {
     const value = form.reasonOf();
-    return value ? { mark, value } : form.showFault("Choose a reason.");
+    return value ? { mark, value } : form.showFault(t("Choose a reason."));
   }
   const read = typed(find("price").value);
   if (read?.price) return { mark, value: read.price };
   if (read?.readings) return form.askReading(read.readings);
   form.focusPrice();
-  return form.showFault(`Write the price with figures, such as ${figures(210)}.`);
+  return form.showFault(t("Write the price with figures, such as {price}.", { price: figures(210) }));
 }
 
 /** Keeps what the form says on the phone, and sends it; the form of the next row comes in its place. */
@@ -80,11 +81,11 @@ async function keep(choice) {
     if (kept) goOn(kept, edited, form.typedSince());
   } catch (fault) {
     if (editing !== edited || !isOpen()) { // (its row says that it isn't saved)
-      noticeUntilRead(`An entry isn’t kept: ${whyNotKept(fault)}`);
+      noticeUntilRead(() => entryNotKept(fault));
       return;
     }
     find("price").value = price; // (whatever was typed ahead)
-    form.showFault(`This entry isn’t kept: ${whyNotKept(fault)}`);
+    form.showFault(thisNotKept(fault));
   } finally {
     isSaving = false;
   }
@@ -142,7 +143,7 @@ async function drop() {
     close();
   } else {
     edit(slot, month);
-    form.showFault("The office has answered meanwhile, so it can’t be taken back. Look at it again.");
+    form.showFault(t("The office has answered meanwhile, so it can’t be taken back. Look at it again."));
   }
 }
 

@@ -2,12 +2,16 @@
 // send them: the desk can enter them then.
 import { written } from "../shared/csv.js";
 import { make } from "../shared/dom.js";
+import { t } from "../shared/texts.js";
 import { state } from "./state.js";
 import { whyNotStored } from "./wording.js";
 
 const COLUMNS = ["month", "slot", "outlet", "item", "unit", "mark", "value", "confirmed", "written", "state"];
 
-/** All entries that aren't stored, as CSV (RFC 4180): prices in minor units, the moment of writing in UTC. */
+/**
+ * All entries that aren't stored, as CSV (RFC 4180): prices in minor units, the moment of writing in UTC. The desk reads
+ * it, so its columns and marks have the names of records in every language; the state is for people.
+ */
 function asCsv() {
   const rows = state.entries.map((entry) => {
     const [, , outlet = "", , text = "", unit = ""] = entry.row ?? [];
@@ -19,17 +23,23 @@ function asCsv() {
 
 const SHOWN = 5000; // milliseconds for which the button says what became of a copy
 
-const stateOf = (entry) => (entry.state === "waiting" && !state.refusal ? "to be sent" : whyNotStored(entry));
+const stateOf = (entry) => (entry.state === "waiting" && !state.refusal
+  // t: of an entry, in a column of the file that "Save as a file" writes
+  ? t("to be sent") : whyNotStored(entry));
 
 async function copy({ target }) {
   const isCopied = await navigator.clipboard.writeText(asCsv()).then(() => true, () => false);
-  target.textContent = isCopied ? "Copied" : "The browser refuses it: save a file";
-  setTimeout(() => { target.textContent = "Copy all"; }, SHOWN);
+  // t: what the button "Copy all" says for a few seconds
+  target.textContent = isCopied ? t("Copied") : t("The browser refuses it: save a file");
+  setTimeout(() => { target.textContent = t("Copy all"); }, SHOWN);
 }
 
 function save() {
   const address = URL.createObjectURL(new Blob([asCsv()], { type: "text/csv" }));
-  make("a", { href: address, download: `not-stored-${new Date().toISOString().slice(0, 10)}.csv` }).click();
+  const day = new Date().toISOString().slice(0, 10);
+  // t: the name of a file; {day} is such as 2026-11-27
+  const name = t("not-stored-{day}", { day });
+  make("a", { href: address, download: `${name}.csv` }).click();
   setTimeout(() => URL.revokeObjectURL(address), 60_000);
 }
 

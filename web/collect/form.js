@@ -1,10 +1,11 @@
 // What the form of an entry shows. Price and Save come first: they are seen above the keyboard of a small phone.
 import { find, make } from "../shared/dom.js";
-import { changeOf, figures, shown, typed } from "../shared/money.js";
+import { changeOf, figures, percent, shown, typed } from "../shared/money.js";
 import { inWords } from "../shared/months.js";
+import { parts, t, whole } from "../shared/texts.js";
 import { boundsOf, isOutside } from "./look.js";
 import { keyOfEntry, state } from "./state.js";
-import { inMarks, whyNotStored } from "./wording.js";
+import { article, inMarks, whyNotStored } from "./wording.js";
 
 /** Is called with the reading of a price that the collector has chosen; the page sets it. */
 export const on = { reading: () => {} };
@@ -21,10 +22,9 @@ export function fill({ month, slot, row, entry, stored }) {
   const [mark, value] = entry ? [entry.mark, entry.value] : stored ? [stored[2], stored[3]] : ["price", ""];
   find("entry").dataset.entry = keyOfEntry({ month, slot });
   find("entry-outlet").replaceChildren(make("bdi", {}, outlet), month === state.month ? "" : ` · ${inWords(month)}`);
-  find("entry-item").replaceChildren(make("bdi", {}, text), unit && ", ", make("bdi", {}, unit));
+  find("entry-item").replaceChildren(...article(make("bdi", {}, text), unit && make("bdi", {}, unit)));
   find("entry-last").textContent = lastInWords(row);
-  find("entry-stored").textContent = stored
-    ? `The office has: ${inMarks(stored[2], stored[3])}, receipt ${stored[4]}.` : "";
+  find("entry-stored").textContent = stored ? storedInWords(stored) : "";
   for (const radio of form().mark) {
     radio.checked = radio.value === mark;
     radio.disabled = row[6] === null && isReplacement(radio.value) && radio.value !== mark;
@@ -38,6 +38,11 @@ export function fill({ month, slot, row, entry, stored }) {
   showFields(row);
   showChange(row);
   find("entry").scrollTop = 0;
+}
+
+function storedInWords([, , mark, value, receipt]) {
+  // t: {entered} is such as 3.21, or Sold out
+  return t("The office has: {entered}, receipt {receipt}.", { entered: inMarks(mark, value), receipt: whole(receipt) });
 }
 
 /** What the form has: mark, reason, and price as it is written; null if nothing is written in it. */
@@ -55,7 +60,7 @@ export function putDraft(written, row) {
   showQuestion(null);
   showFields(row);
   showChange(row);
-  find("price-fault").textContent = "You wrote this before, and didn’t save it.";
+  find("price-fault").textContent = t("You wrote this before, and didn’t save it.");
 }
 
 /** Scrolls the form to some of its parts, the first one last, if they are out of sight. */
@@ -64,18 +69,20 @@ function bringIntoSight(...ids) {
 }
 
 function lastInWords(row) {
-  if (row[6] === null) return "There is no last price.";
+  if (row[6] === null) return t("There is no last price.");
   const found = boundsOf(row);
-  const between = found ? ` Taken without a second look: ${shown(found.low)} to ${shown(found.high)}.` : "";
-  return `Last price ${shown(row[6])}.${between}`;
+  if (!found) return t("Last price {last}.", { last: shown(row[6]) });
+  return t("Last price {last}. Taken without a second look: {low} to {high}.", inPrices(found));
 }
+
+const inPrices = ({ last, low, high }) => ({ last: shown(last), low: shown(low), high: shown(high) });
 
 /** Shows what the chosen mark needs. */
 function showFields(row) {
   const mark = markOf();
   find("entry-price").hidden = mark === "missing";
   find("entry-reason").hidden = mark !== "missing";
-  find("entry-hint").textContent = row[6] === null ? "A replacement needs an earlier price of this slot." : "";
+  find("entry-hint").textContent = row[6] === null ? t("A replacement needs an earlier price of this slot.") : "";
 }
 
 /** Shows by how much the price that is being typed differs from the last one. */
@@ -84,12 +91,6 @@ function showChange(row) {
   const isTold = price && row[6] !== null && markOf() !== "missing" && markOf() !== "other";
   find("entry-change").textContent = isTold ? percent(changeOf(price, row[6])) : "";
   find("entry-change").classList.toggle("far", Boolean(isTold) && isOutside(price, boundsOf(row)));
-}
-
-/** `+4.2 %` of 42 tenths of a percent. */
-function percent(tenths) {
-  const size = Math.abs(tenths), sign = tenths > 0 ? "+" : tenths < 0 ? "−" : "±";
-  return `${sign}${Math.floor(size / 10)}.${size % 10} %`;
 }
 
 /** The price field has the focus, with what it has chosen, so that a figure takes its place. */
@@ -129,17 +130,21 @@ export function showFault(text) {
 /** Names the entry that was saved last, and says if the next row is in another shop; null for none. */
 export function showSaved(kept, isElsewhere = false) {
   find("entry").classList.toggle("elsewhere", isElsewhere);
-  if (isElsewhere) find("entry-outlet").prepend("Next shop: ");
+  const outlet = find("entry-outlet");
+  // t: above the form, when the next row is in another shop
+  if (isElsewhere) outlet.replaceChildren(...parts(t("Next shop: {outlet}"), { outlet: outlet.firstChild }));
   const [, , , , text = ""] = kept?.row ?? [];
-  find("entry-saved").replaceChildren(...(kept
-    ? [`${inMarks(kept.mark, kept.value)} saved: `, make("bdi", {}, text)] : []));
+  // t: {entered} is such as 3.21, or Sold out
+  const saved = kept && parts(t("{entered} saved: {item}"),
+    { entered: inMarks(kept.mark, kept.value), item: make("bdi", {}, text) });
+  find("entry-saved").replaceChildren(...(saved ?? []));
 }
 
 /** Asks which price is meant by what was typed; null. */
 export function askReading(readings) {
   showQuestion(null);
   find("entry-refusal").hidden = false;
-  find("entry-refusal").replaceChildren(make("p", {}, "This can be read in more than one way. Which price is it?"),
+  find("entry-refusal").replaceChildren(make("p", {}, t("This can be read in more than one way. Which price is it?")),
     make("div", { class: "actions" }, ...readings.map((price) =>
       make("button", { type: "button", "data-reading": price, onclick: () => on.reading(price) }, shown(price)))));
   bringIntoSight("entry-refusal");
@@ -155,8 +160,11 @@ export function showQuestion(entry) {
   find("entry-save").disabled = isFar || isMoved; // until something is changed
   find("entry-mine").hidden = find("entry-theirs").hidden = !isMoved;
   if (isMoved) {
-    find("entry-mine").textContent = `Mine: ${inMarks(entry.mark, entry.value)}`;
-    find("entry-theirs").textContent = `The stored one: ${inMarks(entry.reply.mark, entry.reply.value)}`;
+    const { mark, value } = entry.reply;
+    // t: a button that sends my own entry; {entered} is such as 3.21, or Sold out
+    find("entry-mine").textContent = t("Mine: {entered}", { entered: inMarks(entry.mark, entry.value) });
+    // t: a button that keeps what the office has; {entered} is such as 3.21, or Sold out
+    find("entry-theirs").textContent = t("The stored one: {entered}", { entered: inMarks(mark, value) });
   }
   find("entry-refusal").replaceChildren(...(entry ? question(entry, isFar, isMoved) : []));
   if (entry) bringIntoSight("entry-refusal", isMoved ? "entry-mine" : "entry-confirm");
@@ -165,10 +173,14 @@ export function showQuestion(entry) {
 function question(entry, isFar, isMoved) {
   if (isMoved) return [whyNotStored(entry)];
   const { reply } = entry;
-  if (!isFar) return [make("strong", {}, `Refused (${reply.refused}).`), ` ${whyNotStored(entry)}`];
-  return [make("strong", {}, "This price is far from the last one. Look again."),
+  if (!isFar) {
+    // t: {number} is the number of the refusal; a sentence that says why comes after it
+    const refused = t("Refused ({number}).", { number: whole(reply.refused) });
+    return [make("strong", {}, refused), " ", whyNotStored(entry)];
+  }
+  return [make("strong", {}, t("This price is far from the last one. Look again.")),
     make("span", { class: "bounds" },
-      `Last price ${shown(reply.last)}; without a second look ${shown(reply.low)} to ${shown(reply.high)} is taken.`)];
+      t("Last price {last}; without a second look {low} to {high} is taken.", inPrices(reply)))];
 }
 
 /** Leaves nothing of a slot in the form. */

@@ -1,7 +1,7 @@
 // The head of the page: who is signed in, the connection to the office, and how much isn't stored. It is seen always.
 import { find, make } from "../shared/dom.js";
+import { locale, t, tn } from "../shared/texts.js";
 import { countOf, state } from "./state.js";
-import { counted } from "./wording.js";
 
 /** Shows all of it. "All sent" appears only when nothing is left on the phone. */
 export function showHead() {
@@ -9,41 +9,65 @@ export function showHead() {
   find("who").replaceChildren(state.name);
   find("line").textContent = state.who ? wordsOf(waiting) : "";
   find("line").dataset.line = state.line === "up" && waiting ? "waiting" : state.line;
-  showAlarm([[state.refusal ? waiting : 0, "not taken"], [refused, "refused"], [look, "to look at"]]);
+  showAlarm([
+    // t: of entries, on the red button of the head; short
+    state.refusal && waiting && tn("{count} not taken", "{count} not taken", waiting),
+    // t: of entries, on the red button of the head; short
+    refused && tn("{count} refused", "{count} refused", refused),
+    // t: of entries, on the red button of the head; short
+    look && tn("{count} to look at", "{count} to look at", look),
+  ].filter(Boolean));
 }
 
-/** The red button: how many entries need the collector, [count, words] of each kind. */
-function showAlarm(counts) {
-  const parts = counts.filter(([count]) => count).map(([count, words]) => make("span", {}, `${count} ${words}`));
-  find("alarm").hidden = parts.length === 0;
-  find("alarm").replaceChildren(make("span", {}, ...parts.flatMap((part, n) => [n ? ", " : "", part])));
+/** The red button: how many entries need the collector, a text of each kind. */
+function showAlarm(told) {
+  const list = new Intl.ListFormat(locale(), { type: "unit", style: "short" }).formatToParts(told);
+  find("alarm").hidden = told.length === 0;
+  find("alarm").replaceChildren(make("span", {},
+    ...list.map(({ type, value }) => (type === "element" ? make("span", {}, value) : value))));
 }
 
 function wordsOf(waiting) {
-  const kept = waiting ? `: ${counted(waiting, "entry", "entries")} kept on this phone` : "";
-  if (state.line === "down") return `No line${kept}`;
-  if (state.line === "busy") return `The office is busy${kept}`;
-  if (state.line === "odd") {
-    // (two lines of a small phone, so that the head doesn't grow)
-    if (waiting === 0) return "The answer made no sense. The page asks again.";
-    return `Not known if ${counted(waiting, "entry is", "entries are")} stored. The page asks again.`;
+  if (state.line === "down") {
+    return waiting ? tn("No line: {count} entry kept on this phone", "No line: {count} entries kept on this phone", waiting)
+      // t: no connection to the office; short
+      : t("No line");
   }
-  if (waiting && state.refusal) return `Not taken${kept}`;
-  if (waiting) return `${waiting} to be sent`;
-  return state.entries.length === 0 ? "All sent" : "";
+  if (state.line === "busy") {
+    return waiting ? tn("The office is busy: {count} entry kept on this phone",
+      "The office is busy: {count} entries kept on this phone", waiting) : t("The office is busy");
+  }
+  if (state.line === "odd") return whenOdd(waiting);
+  if (waiting && state.refusal) {
+    return tn("Not taken: {count} entry kept on this phone", "Not taken: {count} entries kept on this phone", waiting);
+  }
+  // t: of entries, in the head of the page; short
+  if (waiting) return tn("{count} to be sent", "{count} to be sent", waiting);
+  // t: nothing is left on this phone; short
+  return state.entries.length === 0 ? t("All sent") : "";
 }
 
-let lasting = ""; // a text that stays until the collector has read it, or none
+/** (two lines of a small phone, so that the head doesn't grow) */
+function whenOdd(waiting) {
+  // t: at most 60 letters
+  if (waiting === 0) return t("The answer made no sense. The page asks again.");
+  // t: at most 70 letters
+  return tn("Not known if {count} entry is stored. The page asks again.",
+    "Not known if {count} entries are stored. The page asks again.", waiting);
+}
+
+let lasting = () => ""; // gives a text that stays until the collector has read it, or none
 
 /** A text about all of the page, until it is over; or none. */
 export function notice(text) {
-  const told = text || lasting, isLasting = Boolean(told) && told === lasting;
-  const read = isLasting && make("button", { type: "button", onclick: () => noticeUntilRead("") }, "I know");
+  const kept = lasting(), told = text || kept, isLasting = Boolean(told) && told === kept;
+  // t: a button under a notice, which goes away then
+  const read = isLasting && make("button", { type: "button", onclick: () => noticeUntilRead(() => "") }, t("I know"));
   find("notice").replaceChildren(...[told, isLasting && " ", read].filter(Boolean));
   find("notice").hidden = !told;
 }
 
-/** A text about all of the page that stays until the collector has read it; or none. */
+/** A text about all of the page that stays until the collector has read it, as a function gives it; or none. */
 export function noticeUntilRead(text) {
   lasting = text;
   notice("");

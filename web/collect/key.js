@@ -1,6 +1,8 @@
 // A collector's key as it is typed, or as a printed code brings it. A key has 32 characters, 0 to 9 and a to f. On
 // paper a check character comes after them, so that the page finds a slip before anything is sent.
 
+import { t, whole } from "../shared/texts.js";
+
 const LENGTH = 32;
 const ALPHABET = "0123456789abcdefghijklmnopqrstuvwxyz";
 
@@ -16,14 +18,15 @@ export function readKey(text) {
   const typed = text.replace(/[\s-]/g, "").toLowerCase();
   const odd = [...typed.slice(0, LENGTH)].findIndex((each) => !/[0-9a-f]/.test(each));
   if (odd >= 0) {
-    const told = `Character ${odd + 1} can’t be “${[...typed][odd]}”`;
-    return { fault: `${told}: a key has 32 characters, each 0 to 9 or a to f.` };
+    const values = { number: whole(odd + 1), character: [...typed][odd], length: whole(LENGTH) };
+    return { fault: t("Character {number} can’t be “{character}”: a key has {length} characters, each 0 to 9 or a to f.", values) };
   }
   if (typed.length < LENGTH || typed.length > LENGTH + 1) {
-    return { fault: `A key has 32 characters, or 33 with its check character. This one has ${typed.length}.` };
+    const values = { count: whole(typed.length), length: whole(LENGTH), longest: whole(LENGTH + 1) };
+    return { fault: t("A key has {length} characters, or {longest} with its check character. This one has {count}.", values) };
   }
   if (typed.length > LENGTH && !isChecked(typed)) {
-    return { fault: "A character is wrong, or two have changed places: compare the key with the sheet." };
+    return { fault: t("A character is wrong, or two have changed places: compare the key with the sheet.") };
   }
   return { key: typed.slice(0, LENGTH) };
 }

@@ -1,6 +1,5 @@
 // The connection to the office: sends what is due, asks for the lists when they are wanted, and tries again by itself.
 import { NoAnswer } from "../shared/api.js";
-import { toCollector } from "../shared/refusals.js";
 import { notice, showHead } from "./head.js";
 import { render, show, showCounts, touch } from "./list.js";
 import { fetchLists, isOld } from "./lists.js";
@@ -8,6 +7,7 @@ import { dueIn, made, sendAll } from "./send.js";
 import { state, storedOf, takeEntries, takeKept } from "./state.js";
 import * as store from "./store.js";
 import * as tabs from "./tabs.js";
+import { toCollector } from "./wording.js";
 
 const LONGEST_WAIT = 60; // seconds between two tries
 const LONGEST_TIMER = 900; // seconds

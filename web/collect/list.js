@@ -3,6 +3,7 @@
 import { becomes, find, make } from "../shared/dom.js";
 import { shown } from "../shared/money.js";
 import { clockOf, dayOf, inWords } from "../shared/months.js";
+import { t, tc, tn, whole } from "../shared/texts.js";
 import { showDeadline } from "./deadline.js";
 import { draftOf } from "./drafts.js";
 import { showHead } from "./head.js";
@@ -10,7 +11,7 @@ import * as search from "./search.js";
 import { entryOf, isToDo, rowOf, state, storedOf, takeKept } from "./state.js";
 import * as store from "./store.js";
 import * as unsent from "./unsent.js";
-import { inMarks, stillStored, statusOf } from "./wording.js";
+import { inMarks, slotOf, stillStored, statusOf } from "./wording.js";
 
 let open = new Set(); // the slots that To do shows; a row stays there until the view is chosen again
 let tall = new Set(); // those with a line of what the office still has, which stays as long
@@ -69,10 +70,7 @@ export function touch(slots) {
 export function showCounts() {
   const { work = [], at } = state.list ?? {};
   const stored = work.filter(([slot]) => storedOf(slot)).length;
-  const when = at && (new Date(at).toDateString() === new Date().toDateString() ? clockOf(at) : dayOf(at));
-  // (the text keeps its width, so that no line breaks anew, and no row moves)
-  const rest = "\u2007".repeat(String(work.length).length - String(stored).length);
-  find("progress").textContent = state.list ? `${stored} of ${work.length} stored, list of ${when}${rest}` : "";
+  find("progress").textContent = state.list ? progress(stored, work.length, at) : "";
   find("done").hidden = work.length === 0;
   find("done").max = work.length || 1;
   find("done").value = stored;
@@ -82,22 +80,32 @@ export function showCounts() {
   showHead();
 }
 
-const WITHOUT_LIST = {
-  unknown: "Asking the office for the list of this month…",
-  down: "The list of this month isn’t on this phone yet, and there is no line.",
-};
+/** The text keeps its width, so that no line breaks anew, and no row moves. */
+function progress(stored, all, at) {
+  const rest = "\u2007".repeat(String(all).length - String(stored).length);
+  const counts = { stored: whole(stored), all: whole(all) };
+  const isToday = new Date(at).toDateString() === new Date().toDateString();
+  // t: {time} is such as 17:30, when the list came
+  return (isToday ? t("{stored} of {all} stored, list of {time}", { ...counts, time: clockOf(at) })
+    // t: {day} is such as 25 Nov 2026, when the list came
+    : t("{stored} of {all} stored, list of {day}", { ...counts, day: dayOf(at) })) + rest;
+}
+
+function whyNoList() {
+  if (state.line === "unknown") return t("Asking the office for the list of this month…");
+  if (state.line === "down") return t("The list of this month isn’t on this phone yet, and there is no line.");
+  return t("No list of this month yet.");
+}
 
 const empty = (text) => make("p", { class: "empty" }, text);
 
 function listed() {
-  if (!state.list) {
-    return [empty(WITHOUT_LIST[state.line] ?? "No list of this month yet.")];
-  }
+  if (!state.list) return [empty(whyNoList())];
   if (state.view === "quotes") return [quotesTable()];
   const sections = outletSections();
   if (sections.length) return sections;
   const isDone = state.list.work.length > 0;
-  return [empty(isDone ? "All done: everything of this month is stored." : "Nothing to price in this month.")];
+  return [empty(isDone ? t("All done: everything of this month is stored.") : t("Nothing to price in this month."))];
 }
 
 const rowsOf = (outlet) => state.list.work.filter((row) => row[1] === outlet);
@@ -127,7 +135,10 @@ function outletSection(number, rows) {
 
 function countSpan(rows) {
   const count = rows.filter(([slot]) => ["todo", "bad"].includes(statusOf(slot)[0])).length;
-  return make("span", { class: "count" }, count ? `${count} to do` : "all entered");
+  // t: of the rows of an outlet; short
+  return make("span", { class: "count" }, count ? tn("{count} to do", "{count} to do", count)
+    // t: of the rows of an outlet; short
+    : t("all entered"));
 }
 
 function slotButton([slot, , , , text, unit, last]) {
@@ -136,34 +147,43 @@ function slotButton([slot, , , , text, unit, last]) {
   return make("button", { class: "slot", type: "button", "data-slot": slot },
     make("span", { class: "what" },
       make("bdi", { class: "item" }, text),
-      make("span", { class: "unit" }, make("bdi", {}, unit), ` · last ${last === null ? "none" : shown(last)}`)),
+      make("span", { class: "unit" }, make("bdi", {}, unit), " · ", lastOf(last))),
     make("span", { class: "told" },
       make("span", { class: "mark" }, mark), make("span", { class: `chip ${kind}` }, told),
       make("span", { class: "still" }, lineOf(slot))));
 }
 
+function lastOf(price) {
+  // t: there is no last price of this row; short
+  if (price === null) return t("last none");
+  // t: the last price of this row; short
+  return t("last {price}", { price: shown(price) });
+}
+
 /** Whether a draft is kept of a slot, or what the office still has of it. A row that had such a line keeps it. */
 function lineOf(slot) {
-  const told = draftOf({ month: state.month, slot }) ? "Written, not saved" : stillStored(slot);
+  // t: of a row whose form was closed before it was saved; short
+  const told = draftOf({ month: state.month, slot }) ? t("Written, not saved") : stillStored(slot);
   if (told) tall.add(slot);
   return told || (tall.has(slot) ? "\u00a0" : "");
 }
 
 function quotesTable() {
-  if (state.list.quotes.length === 0) return empty("The office has no quote of yours of this month.");
+  if (state.list.quotes.length === 0) return empty(t("The office has no quote of yours of this month."));
   const head = (text, n) => make("th", { scope: "col", class: n ? "number" : null }, text);
-  const heads = ["Item", "Stored", "Receipt"].map(head);
+  // t: the heads of a table: the item, what is stored of it, and the number of its receipt
+  const heads = [t("Item"), tc("head of a column", "Stored"), t("Receipt")].map(head);
   return make("table", { class: "quotes" },
-    make("caption", {}, "What the office has stored for you"),
+    make("caption", {}, t("What the office has stored for you")),
     make("thead", {}, make("tr", {}, ...heads)), make("tbody", {}, ...state.list.quotes.map(quoteRow)));
 }
 
 function quoteRow([slot, , mark, value, receipt]) {
   const row = rowOf(slot);
   return make("tr", { "data-quote": slot },
-    make("td", {}, make("bdi", { class: "item" }, row?.[4] ?? `Slot ${slot}`),
+    make("td", {}, make("bdi", { class: "item" }, row?.[4] ?? slotOf(slot)),
       make("span", { class: "unit" }, make("bdi", {}, row?.[2] ?? ""))),
-    make("td", { class: "number" }, inMarks(mark, value)), make("td", { class: "number" }, receipt));
+    make("td", { class: "number" }, inMarks(mark, value)), make("td", { class: "number" }, whole(receipt)));
 }
 
 // ---- From row to row

@@ -1,5 +1,6 @@
 // Finding a row: by item, unit or outlet as one types, and by folding the outlets that one isn't in.
 import { find } from "../shared/dom.js";
+import { t, tn } from "../shared/texts.js";
 import { rowOf } from "./state.js";
 
 const folded = new Set(); // the numbers of the outlets that are folded
@@ -40,7 +41,8 @@ export function filter() {
     row.hidden = words.length > 0 && !isFound(rowOf(Number(row.dataset.quote)) ?? []);
     if (!row.hidden) count += 1;
   }
-  find("found").textContent = words.length ? `${count} found` : "";
+  // t: of rows, under the search
+  find("found").textContent = words.length ? tn("{count} found", "{count} found", count) : "";
 }
 
 /** Searches for a text, from now on. */
@@ -51,7 +53,8 @@ function searchFor(text) {
 
 /** Says that no row that was found is to do. */
 export function sayNone() {
-  find("found").textContent = "All of these are entered.";
+  // t: none of the rows that were found is left to do
+  find("found").textContent = t("All of these are entered.");
 }
 
 /** Nothing is searched for, and nothing is folded. */

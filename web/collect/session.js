@@ -1,7 +1,7 @@
 // Signing in and out: by a key that is typed, or by the link of a printed code.
 import { ask, NoAnswer } from "../shared/api.js";
 import { find } from "../shared/dom.js";
-import { toCollector } from "../shared/refusals.js";
+import { t, tn } from "../shared/texts.js";
 import * as drafts from "./drafts.js";
 import * as entry from "./entry.js";
 import { noticeUntilRead } from "./head.js";
@@ -15,7 +15,7 @@ import { signedOut, state, takeKept } from "./state.js";
 import * as store from "./store.js";
 import * as tabs from "./tabs.js";
 import * as unsent from "./unsent.js";
-import { counted } from "./wording.js";
+import { toCollector } from "./wording.js";
 
 /** Begins with the key that is kept, or with the one of the link by which the page was opened. */
 export async function start() {
@@ -30,9 +30,10 @@ export async function start() {
 async function follow(link) {
   const { key, fault } = readKey(link.text);
   if (state.key && fault) {
-    noticeUntilRead(`The code you opened isn’t a key. ${fault}`);
+    // t: {fault} is a sentence that says what is wrong with the key
+    noticeUntilRead(() => t("The code you opened isn’t a key. {fault}", { fault }));
   } else if (state.key && state.key !== key) {
-    noticeUntilRead("Another collector is signed in on this phone. Sign out first, then open the code again.");
+    noticeUntilRead(() => t("Another collector is signed in on this phone. Sign out first, then open the code again."));
   } else if (state.key) {
     await store.keepSession(key, link.name || state.name);
     state.name = link.name || state.name;
@@ -78,12 +79,12 @@ async function keyFault(key) {
   try {
     const { work, refused } = await ask("GET", `/work/${state.month}`, { key });
     if (work || refused === 21) return "";
-    return refused === 12 ? "This key isn’t a collector’s." : toCollector({ refused: refused ?? 90 });
+    return refused === 12 ? t("This key isn’t a collector’s.") : toCollector({ refused: refused ?? 90 });
   } catch (fault) {
     if (!(fault instanceof NoAnswer)) throw fault;
-    if (fault.kind === "odd") return "The answer made no sense. Try again in a moment, or on another network.";
-    if (fault.kind !== "line") return "The office is busy. Try again in a moment.";
-    return "There is no line to the office. Sign in once with a line; afterwards the page works without.";
+    if (fault.kind === "odd") return t("The answer made no sense. Try again in a moment, or on another network.");
+    if (fault.kind !== "line") return t("The office is busy. Try again in a moment.");
+    return t("There is no line to the office. Sign in once with a line; afterwards the page works without.");
   }
 }
 
@@ -114,16 +115,22 @@ async function showStorage() {
 
 function askToLeave() {
   const count = state.entries.length, written = drafts.count();
-  find("leaving-text").textContent = (count
-    ? `${counted(count, "entry", "entries")} on this phone ${count === 1 ? "hasn’t" : "haven’t"} been stored by the `
-      + "office. Signing out throws them away."
-    : "Everything you saved has been sent. The key and the lists are removed from this phone.")
-    + (written ? ` What you wrote into ${counted(written, "form", "forms")} and didn’t save is lost.` : "");
+  find("leaving-text").textContent = [whatIsLeft(count), written && whatIsWritten(written)].filter(Boolean).join(" ");
   find("leaving-taken").hidden = count === 0;
-  find("leaving-go").textContent = count ? "Throw away and sign out" : "Sign out";
+  // t: a button of the question of "Sign out"
+  find("leaving-go").textContent = count ? t("Throw away and sign out") : t("Sign out");
   find("leaving").returnValue = "stay";
   find("leaving").showModal();
 }
+
+function whatIsLeft(count) {
+  if (!count) return t("Everything you saved has been sent. The key and the lists are removed from this phone.");
+  return tn("{count} entry on this phone hasn’t been stored by the office. Signing out throws it away.",
+    "{count} entries on this phone haven’t been stored by the office. Signing out throws them away.", count);
+}
+
+const whatIsWritten = (count) => tn("What you wrote into {count} form and didn’t save is lost.",
+  "What you wrote into {count} forms and didn’t save is lost.", count);
 
 async function left() {
   if (find("leaving").returnValue !== "leave") return;
@@ -142,7 +149,7 @@ function cleared() {
   search.forget();
   Object.assign(state, signedOut());
   takeKept(null, []);
-  noticeUntilRead("");
+  noticeUntilRead(() => "");
   render();
 }
 

@@ -1,13 +1,14 @@
 // Keeps the files of the collectors' page, so that it opens without a line. It never touches the office's interface.
-// VERSION is the hash of FILES: tools/pages writes it. What an office sets itself (SET) is kept too, and read anew
-// behind each start, so that the next one has it.
-const VERSION = "60e7d0f1b7f56b2e";
+// VERSION is the hash of FILES and of the catalogues of all languages: tools/pages writes it. What an office sets itself
+// (SET) is kept too, and read anew behind each start, so that the next one has it; and so are the catalogues of languages
+// that this phone has spoken, which the page names.
+const VERSION = "f65891c80f284c1f";
 const FILES = [
   "./", "app.js", "collect.css", "deadline.js", "drafts.js", "entry.js", "export.js", "form.js", "head.js",
-  "icon.svg", "key.js", "line.js", "list.js", "lists.js", "look.js", "manifest.webmanifest", "quotes.js", "search.js",
-  "send.js", "session.js", "shown-month.js", "state.js", "store.js", "tabs.js", "unsent.js", "wording.js",
+  "icon.svg", "key.js", "languages.js", "line.js", "list.js", "lists.js", "look.js", "manifest.webmanifest", "quotes.js",
+  "refused.js", "search.js", "send.js", "session.js", "shown-month.js", "state.js", "store.js", "tabs.js", "unsent.js", "wording.js",
   "../shared/api.js", "../shared/base.css", "../shared/csv.js", "../shared/dom.js", "../shared/money.js",
-  "../shared/months.js", "../shared/refusals.js", "../shared/windows.js", "../shared/words.js",
+  "../shared/language.js", "../shared/languages.js", "../shared/months.js", "../shared/texts.js", "../shared/windows.js",
 ];
 const SET = new URL("../config.js", self.location.href);
 const NAME = `cpi-collect-${VERSION}`;
@@ -18,11 +19,37 @@ self.addEventListener("install", (event) => {
   event.waitUntil((async () => {
     const cache = await caches.open(NAME);
     await cache.addAll([...FILES.map(fresh), fresh(SET)]);
+    // (a language that is gone in this version is no reason to stay with the one before)
+    await Promise.all((await ofLanguages()).map((url) => cache.add(fresh(url)).catch(() => {})));
   })());
 });
 
-// A page says so once it has loaded all of its files: none has files of two versions.
-self.addEventListener("message", () => self.skipWaiting());
+const CATALOGUE = new RegExp(`^${new URL("languages/", self.location.href).href}[A-Za-z-]+\\.json$`);
+
+/** The addresses of the catalogues that the versions before have kept. */
+async function ofLanguages() {
+  const found = new Set();
+  for (const name of await caches.keys()) {
+    if (!name.startsWith("cpi-collect-")) continue;
+    for (const { url } of await (await caches.open(name)).keys()) if (CATALOGUE.test(url)) found.add(url);
+  }
+  return [...found];
+}
+
+/** Keeps a catalogue, unless it is kept already: the one that the browser has loaded, if it is the front's still. */
+async function keep(url) {
+  const cache = await caches.open(NAME);
+  if (CATALOGUE.test(url) && !(await cache.match(url))) {
+    await cache.add(new Request(url, { cache: "no-cache" })).catch(() => {}); // (the next start tries again)
+  }
+}
+
+// A page says "go" once it has loaded all of its files: none has files of two versions. It names a catalogue to keep.
+self.addEventListener("message", (event) => {
+  const { data } = /** @type {MessageEvent} */ (event);
+  if (data === "go") self.skipWaiting();
+  else if (data?.keep) event.waitUntil(keep(data.keep));
+});
 
 self.addEventListener("activate", (event) => {
   event.waitUntil((async () => {

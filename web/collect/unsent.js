@@ -2,9 +2,10 @@
 // What is listed is chosen with the view, so that nothing moves under a finger; the head counts them at any moment.
 import { becomes, find, make } from "../shared/dom.js";
 import { inWords } from "../shared/months.js";
+import { parts, t } from "../shared/texts.js";
 import { entryAt, keyOfEntry, kindOf, rowOf, state, storedOf } from "./state.js";
 import * as store from "./store.js";
-import { inMarks, whyNotStored } from "./wording.js";
+import { article, inMarks, slotOf, whyNotStored } from "./wording.js";
 
 let listed = []; // entries, as they were when they were listed
 const stored = new Map(); // of those: what the office has stored since, as it was sent
@@ -43,16 +44,26 @@ export function settled(answered) {
 function item(then) {
   const now = entryAt(then.month, then.slot), sent = now ? null : stored.get(keyOfEntry(then)) ?? storedAs(then);
   const entry = now ?? sent ?? then;
-  const [, , outlet, , text, unit] = entry.row ?? [null, null, "", null, `Slot ${entry.slot}`, ""];
+  const { outlet, text, unit } = rowIn(entry);
   const where = [make("span", {}, inWords(entry.month)), outlet && " · ", outlet && make("bdi", {}, outlet)];
+  const named = article(make("bdi", { class: "item" }, text), unit && make("bdi", {}, unit));
+  const entered = make("strong", {}, inMarks(entry.mark, entry.value));
   return make("li", { id: `unsent-${entry.month}-${entry.slot}`, "data-unsent": keyOfEntry(entry) },
     make("p", { class: "muted" }, ...where.filter(Boolean)),
-    make("p", {}, make("bdi", { class: "item" }, text), unit && ", ", make("bdi", {}, unit),
-      ": ", make("strong", {}, inMarks(entry.mark, entry.value))),
+    // t: {item} is an item with its unit, {entered} is such as 3.21, or Sold out
+    make("p", {}, ...parts(t("{item}: {entered}"), { item: make("span", {}, ...named), entered })),
     make("p", { class: sent ? "why good" : "why" }, ...becomeOf(then, now, sent)),
     make("div", { class: now ? "actions" : "actions gone" },
-      make("button", { type: "button", "data-do": "open" }, "Open"),
-      make("button", { type: "button", "data-do": "drop" }, "Drop")));
+      // t: a button that opens the form of an entry
+      make("button", { type: "button", "data-do": "open" }, t("Open")),
+      // t: a button that throws away an entry that isn't stored
+      make("button", { type: "button", "data-do": "drop" }, t("Drop"))));
+}
+
+/** The outlet, the item and the unit of an entry; in place of an item that isn't known its slot. */
+function rowIn({ row, slot }) {
+  const [, , outlet, , text, unit] = row ?? [null, null, "", null, slotOf(slot), ""];
+  return { outlet, text, unit };
 }
 
 /** An entry, if the office has what it says: another tab may have sent it. */
@@ -65,22 +76,29 @@ function storedAs(entry) {
 function becomeOf(then, now, sent) {
   const before = whyNotStored(then);
   if (now && whyNotStored(now) === before) return [before];
-  const after = now ? CHANGED[kindOf(now)] : sent ? "Stored." : "It isn’t on this phone any more.";
+  const after = now ? changed(kindOf(now)) : sent ? t("Stored.") : t("It isn’t on this phone any more.");
   return [make("span", { class: "before" }, before), make("span", {}, after)];
 }
 
-const CHANGED = { waiting: "It waits to be sent.", refused: "Refused: open it.", look: "To look at: open it." };
+function changed(kind) {
+  if (kind === "waiting") return t("It waits to be sent.");
+  // t: "open it" is open the entry, by the button Open
+  return kind === "refused" ? t("Refused: open it.") : t("To look at: open it.");
+}
 
 // ---- Dropping one
 
 /** Asks whether an entry is to be dropped. */
 function askToDrop(entry) {
   dropping = entry;
-  const [, , outlet, , text, unit] = entry.row ?? [null, null, "", null, `Slot ${entry.slot}`, ""];
-  find("dropping-text").replaceChildren(make("bdi", {}, [text, unit].filter(Boolean).join(", ")),
-    `: ${inMarks(entry.mark, entry.value)}, ${inWords(entry.month)}`, outlet && ", ", make("bdi", {}, outlet),
-    entry.state === "waiting" ? ". It will be gone from this phone, unless the office has stored it by now."
-      : ". The office hasn’t stored it, and it will be gone from this phone.");
+  const { outlet, text, unit } = rowIn(entry), bdi = (it) => make("bdi", {}, it);
+  const item = make("span", {}, ...article(bdi(text), unit && bdi(unit)));
+  const values = { item, entered: inMarks(entry.mark, entry.value), month: inWords(entry.month), outlet: bdi(outlet) };
+  find("dropping-text").replaceChildren(
+    // t: {item} is an item with its unit, {entered} is such as 3.21, or Sold out, {month} is such as November 2026
+    ...parts(outlet ? t("{item}: {entered}, {month}, {outlet}.") : t("{item}: {entered}, {month}."), values), " ",
+    entry.state === "waiting" ? t("It will be gone from this phone, unless the office has stored it by now.")
+      : t("The office hasn’t stored it, and it will be gone from this phone."));
   find("dropping").returnValue = "keep";
   find("dropping").showModal();
 }

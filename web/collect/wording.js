@@ -1,46 +1,98 @@
 // The words for slots and entries.
 import { shown } from "../shared/money.js";
-import { toCollector } from "../shared/refusals.js";
+import { parts, t, tc, whole } from "../shared/texts.js";
+import { REFUSED } from "./refused.js";
 import { entryOf, kindOf, state, storedOf } from "./state.js";
 
-const MARKS = { price: "Price", comparable: "Comparable article", other: "Other article" };
-const REASONS = { stock: "Sold out", closed: "Shop closed", gone: "No longer sold", refused: "Shop doesn’t tell" };
+/** A refusal in a sentence or two: why, and what to do. */
+export function toCollector({ refused }) {
+  // t: {number} is the number of a refusal that the page has no words for
+  return REFUSED[refused] ? t(REFUSED[refused]) : t("Refusal {number}. Ask the desk.", { number: whole(refused) });
+}
 
-export const counted = (n, one, many) => `${n} ${n === 1 ? one : many}`;
+/** An item with its unit, elements both, as what an element is made of; without its unit if it has none. */
+export function article(item, unit) {
+  if (!unit) return [item];
+  // t: an item and its unit: Rice, long grain, 1 kg
+  return parts(t("{item}, {unit}"), { item, unit });
+}
+
+/** What is shown in place of an item that isn't known. */
+export const slotOf = (slot) => t("Slot {number}", { number: whole(slot) });
 
 /** `3.21`, `Sold out`, `Comparable article, 4.90`. */
 export function inMarks(mark, value) {
-  if (mark === "missing") return REASONS[value] ?? value;
-  return mark === "price" ? shown(value) : `${MARKS[mark]}, ${shown(value)}`;
+  if (mark === "missing") return reason(value);
+  const price = shown(value);
+  if (mark === "price") return price;
+  return mark === "comparable" ? t("Comparable article, {price}", { price }) : t("Other article, {price}", { price });
+}
+
+function reason(value) {
+  const reasons = {
+    // t: why there is no price; short
+    stock: () => t("Sold out"), closed: () => t("Shop closed"),
+    // t: why there is no price; short
+    gone: () => t("No longer sold"), refused: () => t("Shop doesn’t tell"),
+  };
+  return reasons[value]?.() ?? value;
 }
 
 /** The status of a slot: [kind, text]. */
 export function statusOf(slot) {
   const entry = entryOf(slot), stored = storedOf(slot);
-  if (entry) return [["look", "refused"].includes(kindOf(entry)) ? "bad" : "waiting", STATES[kindOf(entry)]];
-  return stored ? ["good", `Receipt ${stored[4]}`] : ["todo", "To do"];
+  if (entry) return stateOf(kindOf(entry));
+  // t: of a row whose price is stored; short
+  if (stored) return ["good", t("Receipt {number}", { number: whole(stored[4]) })];
+  // t: of a row without an entry; short
+  return ["todo", tc("state of a row", "To do")];
 }
 
-const STATES = { waiting: "To be sent", look: "Look again", refused: "Refused" };
+function stateOf(kind) {
+  // t: of an entry that is kept on this phone; short
+  if (kind === "waiting") return ["waiting", t("To be sent")];
+  // t: of an entry that its collector has to look at once more; short
+  if (kind === "look") return ["bad", t("Look again")];
+  // t: of an entry that the office refused; short
+  return ["bad", t("Refused")];
+}
 
 /** The office's quote of a slot whose entry says something else; or no text. */
 export function stillStored(slot) {
   const stored = storedOf(slot);
-  return entryOf(slot) && stored ? `Stored: ${inMarks(stored[2], stored[3])}` : "";
+  // t: what the office still has of a row; short. {entered} is such as 3.21, or Sold out
+  return entryOf(slot) && stored ? t("Stored: {entered}", { entered: inMarks(stored[2], stored[3]) }) : "";
 }
 
 /** Why an entry isn't stored, and what to do, in a sentence or two. */
 export function whyNotStored(entry) {
-  if (entry.state === "waiting") return state.refusal ? toCollector(state.refusal) : "It waits to be sent.";
-  if (entry.state === "moved") {
-    const { mark, value, receipt } = entry.reply;
-    const theirs = `${inMarks(mark, value)} (receipt ${receipt})`;
-    return `The office has ${theirs}, stored since this was written. Which one is right?`;
-  }
-  return toCollector(entry.reply);
+  if (entry.state === "waiting") return state.refusal ? toCollector(state.refusal) : t("It waits to be sent.");
+  if (entry.state !== "moved") return toCollector(entry.reply);
+  const { mark, value, receipt } = entry.reply;
+  const values = { entered: inMarks(mark, value), receipt: whole(receipt) };
+  // t: {entered} is such as 3.21, or Sold out
+  return t("The office has {entered} (receipt {receipt}), stored since this was written. Which one is right?", values);
 }
 
-/** Why something isn't on the phone, from the browser's error. */
-export const whyNotKept = ({ name }) => (name === "QuotaExceededError"
-  ? "there is no room left. Make room on the phone, and save again."
-  : `the browser refuses it (${name}). Let it keep data of this site, or leave the private window.`);
+const isFull = ({ name }) => name === "QuotaExceededError";
+
+/** Why an entry isn't on the phone, from the browser's error, whose name it has. */
+export const entryNotKept = (fault) => (isFull(fault)
+  ? t("An entry isn’t kept: there is no room left. Make room on the phone, and save again.")
+  // t: {error} is the browser's name of an error
+  : t("An entry isn’t kept: the browser refuses it ({error}). Let it keep data of this site, or leave the private window.",
+    { error: fault.name }));
+
+/** The same of the entry in the form. */
+export const thisNotKept = (fault) => (isFull(fault)
+  ? t("This entry isn’t kept: there is no room left. Make room on the phone, and save again.")
+  // t: {error} is the browser's name of an error
+  : t("This entry isn’t kept: the browser refuses it ({error}). Let it keep data of this site, or leave the private window.",
+    { error: fault.name }));
+
+/** The same of what the page itself needs. */
+export const pageKeepsNothing = (fault) => (isFull(fault)
+  ? t("The page can’t keep what it needs here: there is no room left. Make room on the phone, and save again.")
+  // t: {error} is the browser's name of an error
+  : t("The page can’t keep what it needs here: the browser refuses it ({error}). Let it keep data of this site, or leave the "
+    + "private window.", { error: fault.name }));

@@ -14,14 +14,6 @@ export class NoAnswer extends Error {
 /** A body of more bytes than this is refused before it is read. */
 export const MOST_BYTES = 65_536;
 
-/** The key that was typed, with blanks or hyphens perhaps, or null where it is none. */
-export function keyOf(text) {
-  const key = text.replace(/[\s-]/g, "").toLowerCase();
-  return /^[0-9a-f]{32}$/.test(key) ? key : null;
-}
-
-export const NO_KEY = "A key is 32 characters, each 0 to 9 or a to f.";
-
 /** The reply as an object, or a table as { text }. What is asked is given up after so many seconds, or by a signal. */
 export async function ask(method, path, { key, body, seconds = 60, signal } = {}) {
   const headers = key ? { Authorization: `CPI-Key ${key}` } : {};

@@ -12,10 +12,6 @@ export function make(name, attributes = {}, ...children) {
   return filled(document.createElement(name), attributes, name === "bdi" ? children.map(kept) : children);
 }
 
-export function makeSvg(name, attributes = {}, ...children) {
-  return filled(document.createElementNS("http://www.w3.org/2000/svg", name), attributes, children);
-}
-
 function filled(element, attributes, children) {
   for (const [name, value] of Object.entries(attributes)) {
     if (name.startsWith("on")) element.addEventListener(name.slice(2), value);

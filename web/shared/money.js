@@ -1,19 +1,22 @@
 // Prices are whole numbers of minor units; they are shown and typed with a decimal mark. No floating point.
 import { office } from "../config.js";
+import { inDigits, t } from "./texts.js";
 
 export const LEAST = 1;
 export const MOST = 100_000_000;
 
 /** A price as a list shows it, with the currency if the office has set one. */
 export function shown(price) {
-  return figures(price) + (office.currency ? ` ${office.currency}` : "");
+  if (!office.currency) return figures(price);
+  // t: a price with the name of the currency: 3.21 EUR
+  return t("{figures} {currency}", { figures: figures(price), currency: office.currency });
 }
 
-/** A price as it is typed. */
+/** A price as it is typed, in the digits of the office. */
 export function figures(price) {
   const digits = String(price).padStart(office.minorDigits + 1, "0");
-  if (!office.minorDigits) return digits;
-  return digits.slice(0, -office.minorDigits) + office.decimal + digits.slice(-office.minorDigits);
+  if (!office.minorDigits) return inDigits(digits);
+  return inDigits(digits.slice(0, -office.minorDigits) + office.decimal + digits.slice(-office.minorDigits));
 }
 
 /** The price that was typed, as `read` reads it for this office. */
@@ -78,6 +81,13 @@ function valueOf(digit) {
 function priceOf(before, after, minorDigits) {
   const price = Number(before.replace(/\D/g, "") + after.padEnd(minorDigits, "0"));
   return price >= LEAST && price <= MOST ? price : null;
+}
+
+/** `+4.2 %` of 42 tenths of a percent, with the decimal mark and the digits of the office. */
+export function percent(tenths) {
+  const size = Math.abs(tenths), sign = tenths > 0 ? "+" : tenths < 0 ? "−" : "±";
+  // t: a change with its sign, and the percent sign of your language: +4.2 %
+  return t("{change} %", { change: sign + inDigits(`${Math.floor(size / 10)}${office.decimal}${size % 10}`) });
 }
 
 /**

@@ -15,13 +15,6 @@ export function wordsOf({ refused, fault = null }, to, word = null) {
     ?? { because: `refusal ${refused}`, do: "look at OFFICE" };
 }
 
-/** A refusal to a collector, in a sentence or two. */
-export function toCollector(reply) {
-  const found = wordsOf(reply, "collector");
-  const named = { "`confirm`": "the confirm button", "`price`": "a price" };
-  return told([found.because, found.do.replace(/`[^`]*`/g, (code) => named[code] ?? code.slice(1, -1))]);
-}
-
 /** A refusal to the desk of a record with that word, with what the reply tells besides. */
 export function toDesk(reply, word = null) {
   const found = wordsOf(reply, "desk", word);

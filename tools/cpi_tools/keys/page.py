@@ -10,6 +10,7 @@ import segno
 from markupsafe import Markup
 
 from .. import pages
+from ..languages import ENGLISH, Language
 from ..sign_in import address_of_page, link_of, typed_key
 from ..whole_files import write_whole
 
@@ -44,8 +45,8 @@ def code_of(link: str) -> Markup:
     return Markup(code.svg_inline(border=QUIET, dark="#000", light="#fff", omitsize=True))
 
 
-def write_sheets(to: Path, url: str, sheets: Iterable[Sheet]) -> None:
-    """Writes the page, whole or not at all, for its owner only. Raises OSError."""
-    template = pages.environment(TEMPLATES).get_template("keys.html")
+def write_sheets(to: Path, url: str, sheets: Iterable[Sheet], language: Language = ENGLISH) -> None:
+    """Writes the page in a language, whole or not at all, for its owner only. Raises OSError."""
+    template = pages.environment(TEMPLATES, language).get_template("keys.html")
     text = template.render(sheets=[*sheets], address=address_of_page(url))
     write_whole(to, text.encode(), 0o600)

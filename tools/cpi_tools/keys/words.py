@@ -9,6 +9,7 @@ from pathlib import Path
 from typing import Optional
 
 from ..copying import private_copy
+from ..languages import SOURCE, a_language, language_of
 from ..stored import read_copy
 from ..terminal import Fault, Progress, ToolWords, a_file, at_least, because_of, counted, needs
 from .names import LONGEST_NAME, Names, read_names
@@ -55,6 +56,7 @@ def run(chosen: argparse.Namespace) -> int:
     from .. import pages  # (their packages are needed by few tools)
     from .page import sheets_of, write_sheets
 
+    language = language_of(chosen.language)
     pages.refuse_other_files(chosen.out)
     with Progress("cpi-tools keys") as progress:
         progress.now("copying the office")
@@ -62,7 +64,7 @@ def run(chosen: argparse.Namespace) -> int:
         names = read_names(chosen.names, known) if chosen.names else Names({}, ())
         progress.now("drawing the codes")
         try:
-            write_sheets(chosen.out, chosen.url, sheets_of(chosen.url, keys, names.of))
+            write_sheets(chosen.out, chosen.url, sheets_of(chosen.url, keys, names.of), language)
         except OSError as fault:
             raise Fault(because_of(fault)) from fault
     if names.unread:
@@ -112,4 +114,6 @@ def add_words(tools: argparse._SubParsersAction[ToolWords]) -> None:
         metavar="N",
         help="this collector's sheet only; may be given again (else of all)",
     )
+    says = "the language of the sheets, such as fr (else en): one with a catalogue"
+    add("--language", type=a_language, default=SOURCE, metavar="LANG", help=says)
     words.set_defaults(run=run, tool="keys", words=words)

@@ -1,0 +1,265 @@
+"""The catalogues of languages: no text is outside of them, and each is whole."""
+
+from __future__ import annotations
+
+import re
+import shutil
+import subprocess
+import sys
+from collections.abc import Iterable, Iterator
+from html.parser import HTMLParser
+from pathlib import Path
+from typing import Any, Optional
+
+import pytest
+from babel.messages.catalog import Catalog, Message
+from babel.messages.jslexer import Token, tokenize
+
+from conftest import ROOT
+
+sys.path.insert(0, str(ROOT / "tools"))
+
+import catalogues  # noqa: E402
+
+LANGUAGES = catalogues.codes(ROOT / "po")
+SOURCE = catalogues.template(ROOT)
+
+# ---- no text is outside
+
+
+def kept_scripts() -> list[Path]:
+    """The scripts that a phone keeps, without those that `tools/pages` makes of other files."""
+    text = (ROOT / "web/collect/sw.js").read_text(encoding="utf-8")
+    names = re.findall(r'"((?:\.\./shared/)?[a-z-]+\.js)"', text.partition("];")[0])
+    assert len(names) > 20
+    made = ("refused.js", "../shared/languages.js")
+    return [ROOT / "web/collect" / name for name in names if name not in made]
+
+
+TEXT = re.compile(r"[A-Za-z\u2019]{2,} [A-Za-z{]|^[A-Z][a-z]")
+"""A string that looks like a text: two words, or one with a capital letter."""
+
+NO_TEXTS = {"Enter", "QuotaExceededError", "Content-Type", "Retry-After", "why good", "actions gone"}
+"""Names of keys, errors and fields of HTTP, and classes, which no reader sees."""
+
+
+def strings_of(script: str) -> Iterator[tuple[Token, str, str]]:
+    """Each string of a script, with its text, and the function of whose call it is an argument, or none."""
+    calls: list[str] = []
+    before: Optional[Token] = None
+    tokens: Iterable[Token] = tokenize(script, jsx=False, dotted=False)  # type: ignore[func-returns-value]  # (it yields)
+    for token in tokens:
+        if token.value == "(":
+            calls.append(before.value if before and before.type == "name" else "")
+        elif token.value == ")" and calls:
+            calls.pop()
+        elif token.type in ("string", "template_string"):
+            yield token, token.value[1:-1], calls[-1] if calls else ""
+        if "comment" not in token.type:
+            before = token
+
+
+def outside(script: str) -> list[str]:
+    """The texts of a script that are in no catalogue: those in no call of t, tc or tn, and the calls that no extractor finds,
+    within a template string."""
+    found = []
+    for token, text, function in strings_of(script):
+        if token.type == "template_string" and re.search(r"\bt[cn]?\(", text):
+            found.append(f"line {token.lineno}: a call in a template string: {text}")
+        elif function not in ("t", "tc", "tn") and TEXT.search(text) and text not in NO_TEXTS:
+            found.append(f"line {token.lineno}: {text}")
+    return found
+
+
+@pytest.mark.parametrize("path", kept_scripts(), ids=lambda path: str(path.name))
+def test_each_text_of_a_script_is_in_the_catalogues(path: Path) -> None:
+    assert outside(path.read_text(encoding="utf-8")) == []
+
+
+def test_a_text_outside_of_the_catalogues_is_found() -> None:
+    script = 'make("p", {}, "Two words"); make("p", {}, t("Two words")); make("b", {}, `${count} left over`, "Stored");'
+    assert outside(script) == ["line 1: Two words", "line 1: ${count} left over", "line 1: Stored"]
+    assert outside('const a = `${t("Two words")}!`;') == ['line 1: a call in a template string: ${t("Two words")}!']
+
+
+class Unmarked(HTMLParser):
+    """The texts of a page that aren't marked."""
+
+    def __init__(self) -> None:
+        super().__init__()
+        self.found: list[str] = []
+        self._open: list[tuple[str, bool]] = []
+
+    def handle_starttag(self, tag: str, attrs: list[tuple[str, Optional[str]]]) -> None:
+        has = dict(attrs)
+        names = (has.get("data-t") or "text").split() if "data-t" in has else []
+        for name in has:
+            if name in ("aria-label", "placeholder", "title", "alt") and name not in names:
+                self.found.append(f"{tag} {name}: {has[name]}")
+        if tag not in ("meta", "link", "input"):
+            self._open.append(
+                (tag, "text" in names or tag in ("script", "style") or bool(has.get("lang") and tag == "p"))
+            )
+
+    def handle_endtag(self, tag: str) -> None:
+        assert self._open.pop()[0] == tag
+
+    def handle_data(self, data: str) -> None:
+        if re.search(r"[A-Za-z]{2}", data) and not any(is_marked for _, is_marked in self._open) and data != "EN":
+            self.found.append(data.strip())
+
+
+def unmarked(page: str) -> list[str]:
+    """The texts of a page, and of attributes that are read, which aren't marked as translated."""
+    parser = Unmarked()
+    parser.feed(page)
+    return parser.found
+
+
+def test_each_text_of_the_page_is_marked() -> None:
+    page = (ROOT / "web/collect/index.html").read_text(encoding="utf-8")
+    assert unmarked(page) == []
+    assert unmarked(page.replace('<h2 id="month">', '<h2 id="month">Some month')) == ["Some month"]
+    assert unmarked(page.replace(' data-t="placeholder aria-label"', "")) == [
+        "input placeholder: Item or shop", "input aria-label: Find an item, a unit or a shop"
+    ]  # fmt: skip
+
+
+# ---- each catalogue is whole
+
+
+@pytest.mark.parametrize("language", LANGUAGES)
+def test_a_catalogue_is_whole(language: str) -> None:
+    catalog = catalogues.read(ROOT / "po", language)
+    assert [*catalogues.faults(catalog, SOURCE)] == []
+    assert "No national office has reviewed this catalogue yet. Send a correction" in catalog.header_comment
+    assert len({str(message.id) for message in catalog if message.id}) > 150
+
+
+def test_there_are_three_languages_besides_the_source() -> None:
+    assert LANGUAGES == ["ar", "es", "fr"]
+    arabic = catalogues.read(ROOT / "po", "ar")
+    assert arabic.num_plurals == 6
+    assert all(len(set(catalogues.forms_of(it))) > 1 for it in arabic if isinstance(it.id, tuple) and "count" in it.id[1]
+               and it.id[1] not in ("{count} to look at",))  # fmt: skip
+
+
+def spoiled(text: str, string: Any, flags: Iterable[str] = ()) -> list[str]:
+    """What is said of the French catalogue if the translation of a text is another one."""
+    catalog = catalogues.read(ROOT / "po", "fr")
+    message = catalog.get(text)
+    assert message
+    message.string = string
+    message.flags |= {*flags}
+    return [*catalogues.faults(catalog, SOURCE)]
+
+
+def test_what_is_wrong_with_a_catalogue_is_said() -> None:
+    assert spoiled("Sign in", "") == ["'Sign in': it isn't translated"]
+    assert spoiled("Sign in", "Entrer", flags=("fuzzy",)) == [
+        "'Sign in': the translation is marked as not sure (fuzzy)"
+    ]
+    assert spoiled("Slot {number}", "Série {numero}") == [
+        "'Slot {number}': its places are ['number'], and the translation has ['numero']"
+    ]
+    assert spoiled("{count} found", ("un", "")) == ["'{count} found': it isn't translated, or not in each form"]
+    assert spoiled("{count} found", ("un", "{count}", "{count}")) == [
+        "'{count} found': 3 plural forms, the language has 2"
+    ]
+    assert spoiled("{count} found", ("un", "{count}")) == []
+    catalog = catalogues.read(ROOT / "po", "fr")
+    catalog.add("No page says so", "Rien")
+    assert [*catalogues.faults(catalog, SOURCE)] == ["'No page says so': no page has it any more"]
+
+
+def test_plural_forms_that_a_browser_could_not_choose_are_refused() -> None:
+    catalog = catalogues.read(ROOT / "po", "fr")
+    vars(catalog)["_plural_expr"] = "(n != 1)"  # (French counts 0 with 1, by CLDR)
+    assert [*catalogues.faults(catalog, SOURCE)] == [
+        "Plural-Forms: 1 has another form than others of CLDR's category one"
+    ]
+
+
+BY_HAND = {"ar": {"zero": 0, "one": 1, "two": 2, "few": 3, "many": 4, "other": 5}, "es": {"one": 0, "other": 1, "many": 1},
+           "fr": {"one": 0, "other": 1, "many": 1}}  # fmt: skip
+"""The form of each category, by the heads of the catalogues and CLDR's table of plural rules."""
+
+
+@pytest.mark.parametrize("language", LANGUAGES)
+def test_the_forms_of_counts_are_those_of_the_language(language: str) -> None:
+    assert catalogues.forms_by_category(catalogues.read(ROOT / "po", language)) == BY_HAND[language]
+
+
+# ---- another language
+
+
+@pytest.fixture
+def copied(tmp_path: Path) -> Path:
+    """What tools/pages reads and writes, in a folder of its own."""
+    for name in ("web", "po", "tools"):
+        shutil.copytree(ROOT / name, tmp_path / name, ignore=shutil.ignore_patterns("__pycache__"))
+    return tmp_path
+
+
+def pages(root: Path, *words: str) -> subprocess.CompletedProcess[str]:
+    return subprocess.run([root / "tools/pages", *words], capture_output=True, text=True, check=False)
+
+
+def content(root: Path) -> dict[str, bytes]:
+    """Each file, by its name."""
+    paths = [path for path in root.rglob("*") if path.is_file() and "__pycache__" not in path.parts]
+    return {str(path.relative_to(root)): path.read_bytes() for path in paths}
+
+
+def test_a_new_language_is_one_file_that_somebody_translates(copied: Path) -> None:
+    before = content(copied)
+    made = pages(copied, "--new", "pt")
+    assert (made.returncode, made.stdout) == (0, "po/pt.po: translate it, and run tools/pages again\n")
+    after = content(copied)
+    others = {"web/shared/languages.js", "web/collect/sw.js"}  # (the list of languages, and the version of the files)
+    assert {name for name in after if after[name] != before.get(name)} == {
+        "po/pt.po", "web/collect/languages/pt.json", "web/collect/manifest.pt.webmanifest", *others
+    }  # fmt: skip
+    checked = pages(copied, "--check")
+    assert checked.returncode == 1
+    assert "tools/pages: po/pt.po: 'Sign in': it isn't translated\n" in checked.stderr
+    translate(copied / "po/pt.po")
+    assert pages(copied).returncode == 0
+    assert (copied / "web/collect/languages/pt.json").read_text().count("x Sign in x") == 1
+    assert (pages(copied, "--check").returncode, pages(copied, "--check").stderr) == (0, "")
+
+
+def translate(path: Path) -> None:
+    """Writes some translation of each text into a catalogue."""
+    catalog = catalogues.read(path.parent, path.stem)
+    for message in catalog:
+        if message.id:
+            message.string = translation(message, catalog)
+    path.write_text(catalogues.text_of(catalog), encoding="utf-8")
+
+
+def translation(message: Message, catalog: Catalog) -> object:
+    if isinstance(message.id, tuple):
+        return (f"x {message.id[0]} x", *[f"x {message.id[1]} x"] * (catalog.num_plurals - 1))
+    return f"x {message.id} x"
+
+
+@pytest.mark.parametrize(
+    ("word", "said"),
+    [
+        ("xx-none", "'xx-none' is no language that CLDR knows: write it like pt, or zh_Hant"),
+        ("fr", "po/fr.po is there already"),
+    ],
+)
+def test_a_language_that_can_not_be_made_is_one_line(copied: Path, word: str, said: str) -> None:
+    ran = pages(copied, "--new", word)
+    assert (ran.returncode, ran.stderr) == (1, f"tools/pages: {said}\n")
+
+
+def test_a_language_that_is_gone_leaves_nothing(copied: Path) -> None:
+    (copied / "po/es.po").unlink()
+    told = pages(copied, "--check")
+    assert "web/collect/languages/es.json is of a language without a catalogue: tools/pages removes it\n" in told.stderr
+    assert pages(copied).returncode == 0
+    assert not [name for name in content(copied) if re.search(r"\bes\.(json|webmanifest|po)", name)]
+    assert pages(copied, "--check").returncode == 0

@@ -1,0 +1,387 @@
+"""The page of collectors in other languages, at 360 pixels: nothing is cut, covered or left in English."""
+
+from __future__ import annotations
+
+import gettext
+import os
+from collections.abc import Iterator
+from pathlib import Path
+
+import pytest
+from babel.messages.pofile import read_po
+
+from browser import Browser
+from languages import ARABIC, FRENCH, Speech, spoken
+from offices import ANNA, BEFORE, NOW
+from phone import Phone
+from pseudo import pages_with
+from readable import CUT, SEEN, faults_enlarged, faults_for_keys, faults_of_page
+from stage import ROOT, Stage
+from unsent import CLOSED, act, desk
+
+PICTURES = os.environ.get("CPI_PICTURES")
+"""A folder for pictures of each step, if somebody wants to look."""
+
+LEFT = (
+    SEEN
+    + """
+const found = [], isEnglish = (text) => /[A-Za-z]{2,}/.test(text);
+const walker = document.createTreeWalker(document, NodeFilter.SHOW_TEXT);
+for (let node = walker.nextNode(); node; node = walker.nextNode()) {
+  const holder = node.parentElement;
+  if (holder.closest("bdi, script, style, noscript, [data-language], #language")) continue;
+  if (isEnglish(node.data)) found.push(`left: ${node.data}`);
+}
+for (const element of document.querySelectorAll("[aria-label], [placeholder], [title], [alt]")) {
+  for (const name of ["aria-label", "placeholder", "title", "alt"]) {
+    if (isEnglish(element.getAttribute(name) ?? "")) found.push(`left in ${name}: ${element.getAttribute(name)}`);
+  }
+}
+return found;
+"""
+)
+"""Texts in Latin letters, seen or not; those of the office are in elements of their own."""
+
+COVERED = (
+    SEEN
+    + """
+const found = [], range = document.createRange(), texts = [];
+const walker = document.createTreeWalker(open ?? document.body, NodeFilter.SHOW_TEXT);
+for (let node = walker.nextNode(); node; node = walker.nextNode()) {
+  const holder = node.parentElement;
+  if (!node.data.trim() || !isSeen(holder) || holder.closest("#notice, #head, .price-row, noscript, .before")) continue;
+  range.selectNodeContents(node);
+  const shown = holder.closest(".saved, #entry-outlet, #entry-item")?.getBoundingClientRect();
+  for (const box of range.getClientRects()) {
+    if (!box.width || (shown && box.bottom > shown.bottom + 1)) continue;
+    texts.push({ node, box });
+    const frame = holder.closest("button, .chip, label, .notice, .card, summary, dialog")?.getBoundingClientRect();
+    if (box.left < -1 || box.right > innerWidth + 1) found.push(`outside: ${node.data}`);
+    if (frame && (box.left < frame.left - 1 || box.right > frame.right + 1 || box.bottom > frame.bottom + 4)) {
+      found.push(`over its edge: ${node.data}`);
+    }
+  }
+}
+for (const [n, one] of texts.entries()) {
+  for (const other of texts.slice(n + 1)) {
+    if (one.node === other.node) continue;
+    const wide = Math.min(one.box.right, other.box.right) - Math.max(one.box.left, other.box.left);
+    const high = Math.min(one.box.bottom, other.box.bottom) - Math.max(one.box.top, other.box.top);
+    if (wide > 1 && high > 5) found.push(`covered: ${one.node.data} / ${other.node.data}`);
+  }
+}
+return found;
+"""
+)
+"""Texts outside the window or their frame, and those that lie over each other by more than the air between lines."""
+
+
+@pytest.fixture(params=["el", "he"], ids=["longer", "longer-from-the-right"])
+def pseudo(request: pytest.FixtureRequest, stage: Stage, tmp_path: Path) -> Iterator[str]:
+    """A language that nobody speaks, which the office's pages speak meanwhile."""
+    web = pages_with(request.param, tmp_path)
+    with spoken(stage, Speech(request.param), web):
+        yield request.param
+
+
+class Walk:
+    """What is looked at on the way."""
+
+    def __init__(self, browser: Browser, language: str):
+        self.browser, self.language, self.count = browser, language, 0
+
+    def look(self, name: str) -> None:
+        """Nothing is wrong with what is seen now."""
+        self.count += 1
+        browser = self.browser
+        browser.run("if (!document.querySelector('dialog[open]')) scrollTo(0, 0)")
+        if PICTURES:
+            browser.picture(Path(PICTURES) / f"{self.language}-{self.count:02}-{name}.png", is_whole=False)
+        found = [*faults_of_page(browser), *browser.run(CUT), *browser.run(LEFT), *browser.run(COVERED)]
+        found += browser.run(HIDDEN)
+        assert found == [], name
+        assert browser.run("return document.documentElement.lang") == self.language
+
+    def look_at_form(self, name: str) -> None:
+        """The same, with the focus of each part, and twice the size."""
+        self.look(name)
+        assert [*faults_for_keys(self.browser), *faults_enlarged(self.browser)] == [], name
+
+
+def save(phone: Phone, price: str) -> None:
+    phone.browser.type("#price", price)
+    phone.browser.click("#entry-save")
+
+
+def test_nothing_is_cut_covered_or_left_in_english(phone: Phone, stage: Stage, pseudo: str, tmp_path: Path) -> None:
+    browser, walk = phone.browser, Walk(phone.browser, pseudo)
+    phone.open()
+    browser.wait_shown("#sign-in")
+    assert browser.run("return document.documentElement.dir") == ("rtl" if pseudo == "he" else "ltr")
+    walk.look_at_form("sign-in")
+    phone.give_key("x" * 32)
+    walk.look("a key that is none")
+    browser.click("#language")
+    walk.look_at_form("languages")
+    browser.click("#languages form > button")
+    phone.give_key(ANNA)
+    browser.wait(lambda: browser.all("[data-slot]"), "a work list")
+    browser.wait(lambda: browser.run("return document.getElementById('line').dataset.line") == "up")
+    walk.look_at_form("list")
+    phone.edit(3)
+    walk.look("a form without a last price")
+    browser.type("#price", "1,459")
+    browser.click("#entry-save")
+    browser.wait_shown("#entry-refusal")
+    walk.look("a price that can be read in two ways")
+    phone.close()
+    phone.edit(2)
+    walk.look_at_form("form")
+    save(phone, "none")
+    browser.wait(lambda: browser.text("#price-fault"), "a fault")
+    walk.look("no price")
+    save(phone, "99")
+    browser.wait_shown("#entry-confirm")
+    walk.look_at_form("second look")
+    browser.click('#entry input[value="missing"]')
+    walk.look_at_form("a reason")
+    browser.click('#entry input[value="stock"]')
+    browser.click("#entry-save")
+    phone.wait_edited(3)
+    walk.look("the next form, of another shop")
+    phone.close()
+    not_stored(phone, stage, walk)
+    take_out(phone, walk, tmp_path)
+
+
+def not_stored(phone: Phone, stage: Stage, walk: Walk) -> None:
+    """What was refused, without a line and with one."""
+    browser = phone.browser
+    phone.show("all")
+    browser.wait(lambda: browser.run("return document.getElementById('line').dataset.line") == "up")
+    desk(stage, CLOSED)
+    phone.edit(1)
+    save(phone, "3.10")
+    browser.wait_shown("#alarm")
+    if phone.edited():
+        phone.close()
+    walk.look_at_form("refused")
+    browser.click("#alarm")
+    walk.look_at_form("unsent")
+    act(phone, "open", 1)
+    walk.look("a refused form")
+    phone.close()
+    act(phone, "drop", 1)
+    walk.look_at_form("dropping")
+    browser.click('#dropping [value="keep"]')
+    browser.offline(True)
+    phone.edit(4)
+    save(phone, "1.05")
+    browser.wait(lambda: browser.run("return document.getElementById('line').dataset.line") == "down")
+    if phone.edited():
+        phone.close()
+    walk.look("without a line")
+    phone.show("quotes")
+    walk.look("stored")
+    browser.click("#month-before")
+    browser.wait(lambda: phone.month() == BEFORE, "the month before")
+    walk.look("a month that isn't on the phone")
+    browser.click("#month-after")
+
+
+HIDDEN = (
+    SEEN
+    + """
+const pen = document.createElement("canvas").getContext("2d");
+return all("[placeholder]").filter((field) => {
+  const { font, paddingInlineStart, paddingInlineEnd } = getComputedStyle(field);
+  pen.font = font;
+  return pen.measureText(field.placeholder).width > field.clientWidth - parseFloat(paddingInlineStart) - parseFloat(paddingInlineEnd);
+}).map((field) => `cut: ${field.placeholder}`);
+"""
+)
+"""Placeholders that are longer than their field."""
+
+
+EXPORTED = """
+const made = [], create = URL.createObjectURL;
+URL.createObjectURL = (blob) => { made.push(blob); return create.call(URL, blob); };
+let name = "";
+const click = HTMLAnchorElement.prototype.click;
+HTMLAnchorElement.prototype.click = function () { name = this.download; };
+document.querySelector("#leaving [data-do=save]").click();
+Object.assign(URL, { createObjectURL: create });
+HTMLAnchorElement.prototype.click = click;
+return [name, await made[0].text()];
+"""
+
+
+def take_out(phone: Phone, walk: Walk, folder: Path) -> None:
+    """The question of Sign out, and the file of what isn't stored."""
+    browser = phone.browser
+    browser.click("#leave")
+    browser.wait_shown("#leaving")
+    walk.look_at_form("leaving")
+    name, text = browser.run_until(EXPORTED)
+    assert name.endswith(".csv") and not name.startswith("not-stored")
+    head, *rows = text.split("\r\n")
+    assert head == "month,slot,outlet,item,unit,mark,value,confirmed,written,state" and len(rows) == 3
+    for row in rows[:-1]:
+        state = row.rpartition(",")[2]
+        assert state and not any(each.isascii() and each.isalpha() for each in state), row
+
+
+# ---- the choice
+
+
+def choose(phone: Phone, code: str) -> None:
+    """Chooses a language in the head of the page."""
+    phone.browser.click("#language")
+    phone.browser.wait_shown("#languages")
+    phone.browser.click(f'[data-language="{code}"]')
+    phone.browser.wait(lambda: phone.browser.run("return document.documentElement.lang") == code, code)
+
+
+KEPT = "return (await caches.match(new URL('languages/' + arguments[0] + '.json', document.baseURI))) !== undefined"
+
+
+def wait_kept(phone: Phone, code: str) -> None:
+    """Waits until the phone has kept the catalogue of a language."""
+    phone.browser.wait(lambda: phone.browser.run_until(KEPT, code), f"{code} is kept")
+
+
+def test_a_collector_chooses_a_language_and_it_stays_without_a_line(phone: Phone, stage: Stage) -> None:
+    browser = phone.browser
+    phone.open()
+    browser.wait_shown("#sign-in")
+    browser.type("#key", ANNA)
+    choose(phone, "fr")
+    phone.speaks(FRENCH)
+    assert browser.text("#sign-in h2") == phone.said("Sign in")
+    assert browser.run("return document.title") == "Relevé des prix"
+    assert browser.run("return document.getElementById('key').value") == ANNA
+    browser.click("#sign-in-form button.main")
+    browser.wait_text("#line", "Tout est envoyé")
+    browser.wait(lambda: browser.all("[data-slot]"), "a work list")
+    wait_kept(phone, "fr")
+    browser.offline(True)
+    browser.driver.refresh()
+    browser.wait_text("#line", "Hors ligne")
+    browser.wait_text("#month", browser.run("return new Intl.DateTimeFormat('fr', { month: 'long' }).format()"))
+    phone.enter(1, "3.21")
+    browser.wait_text("#line", "Hors ligne : 1 saisie gardée sur ce téléphone")
+    assert browser.faults() == []
+    browser.offline(False)
+    assert stage.wait_for_quotes(ANNA) == [[1, NOW, "price", 321, 10]]
+
+
+def test_a_language_that_is_not_on_the_phone_needs_a_line(phone: Phone, stage: Stage) -> None:
+    phone.sign_in()
+    stage.front.stop()
+    phone.browser.click("#language")
+    phone.browser.click('[data-language="es"]')
+    phone.browser.wait_text("#languages-fault", "aren’t on this phone yet")
+    assert phone.browser.run("return document.documentElement.lang") == "en-GB"
+    stage.front.start()
+    phone.browser.click('[data-language="es"]')
+    phone.browser.wait_text("#show-todo", "Pendientes")
+
+
+def test_what_is_shown_changes_with_the_language_and_nothing_is_lost(phone: Phone, stage: Stage) -> None:
+    """A draft, what is refused, and a notice that stays until it is read."""
+    browser = phone.browser
+    phone.sign_in()
+    phone.refuse_correction()
+    phone.edit(2)
+    browser.type("#price", "5.01")
+    phone.close()
+    phone.wait_told(2, "Written, not saved")
+    browser.run("location.hash = 'key=none'")
+    browser.wait_text("#notice", "The code you opened isn’t a key.")
+    choose(phone, "ar")
+    words = phone.words = type(phone.words)(ARABIC)
+    phone.wait_told(1, words.said("Refused"))
+    phone.wait_told(2, words.said("Written, not saved"))
+    assert browser.text("#alarm") == words.counted("{count} refused", "{count} refused", 1)
+    assert browser.text("#notice").startswith("الرمز الذي فتحته ليس مفتاحًا.")
+    assert browser.run("return [document.documentElement.dir, document.getElementById('manifest').getAttribute('href')]") == [
+        "rtl", "manifest.ar.webmanifest"
+    ]  # fmt: skip
+    phone.edit(2)
+    assert browser.run("return document.getElementById('price').value") == "5.01"
+    assert browser.faults() == []
+
+
+def test_signing_out_leaves_the_language(phone: Phone) -> None:
+    phone.sign_in()
+    choose(phone, "es")
+    phone.browser.click("#leave")
+    phone.browser.click("#leaving-go")
+    phone.browser.wait_shown("#sign-in")
+    assert phone.browser.text("#sign-in h2") == "Iniciar sesión"
+    phone.browser.driver.refresh()
+    phone.browser.wait_text("#sign-in h2", "Iniciar sesión")
+
+
+@pytest.mark.parametrize(
+    ("setting", "spoken_code", "direction"),
+    [("fr-CA", "fr", "ltr"), ("ar-EG", "ar", "rtl"), ("en-US", "en", "ltr"), ("tlh", "en", "ltr"), ("es", "es", "ltr")],
+)
+def test_the_office_sets_the_language(
+    phone: Phone, stage: Stage, setting: str, spoken_code: str, direction: str
+) -> None:
+    with spoken(stage, Speech(setting)):
+        phone.open()
+        phone.browser.wait_shown("#sign-in")
+        code = phone.browser.run_until("return (await import('/shared/texts.js')).spoken()")
+        assert (code, phone.browser.run("return document.documentElement.dir || 'ltr'")) == (spoken_code, direction)
+        loaded = "return performance.getEntriesByType('resource').map((it) => it.name).filter((it) => it.includes('languages/'))"
+        names = [name.rpartition("/")[2] for name in phone.browser.run(loaded)]
+        assert names == ([] if spoken_code == "en" else [f"{spoken_code}.json"])
+
+
+@pytest.mark.parametrize("language", ["ar", "fr", "es"])
+def test_a_browser_takes_the_plural_form_that_gettext_takes(phone: Phone, stage: Stage, language: str) -> None:
+    counts = [0, 1, 2, 3, 10, 11, 99, 100, 101, 102, 103, 111, 1000, 1_000_000]
+    with (ROOT / f"po/{language}.po").open("rb") as file:
+        catalog = read_po(file, locale=language)
+    message = catalog.get("{count} to do")
+    form = gettext.c2py(catalog.plural_expr)  # type: ignore[attr-defined]
+    wanted = [message.string[form(count)].replace("{count}", str(count)) for count in counts]
+    with spoken(stage, Speech(language)):
+        phone.open()
+        phone.browser.wait_shown("#sign-in")
+        told = phone.browser.run_until(
+            "const { tn } = await import('/shared/texts.js');"
+            " return arguments[0].map((count) => tn('{count} to do', '{count} to do', count));",
+            counts,
+        )
+    assert told == wanted
+
+
+@pytest.mark.parametrize("digits", ["arab", "deva", "latn"])
+def test_a_price_that_is_shown_is_read_as_the_same(phone: Phone, stage: Stage, digits: str) -> None:
+    """In the office's digits and with its decimal mark."""
+    speech = Speech("ar", digits, "\u066b" if digits == "arab" else ",")
+    with spoken(stage, speech):
+        phone.open()
+        phone.browser.wait_shown("#sign-in")
+        prices = [1, 9, 10, 99, 100, 321, 123_456, 100_000_000]
+        shown, read = phone.browser.run_until(
+            "const { figures, typed } = await import('/shared/money.js');"
+            " const shown = arguments[0].map(figures); return [shown, shown.map((text) => typed(text)?.price)];",
+            prices,
+        )
+    assert shown == [speech.figure(f"{price // 100}.{price % 100:02}") for price in prices]
+    assert read == prices
+
+
+def test_the_manifest_of_each_language_is_the_same_app(phone: Phone) -> None:
+    phone.open()
+    read = "return (await fetch(arguments[0])).json()"
+    source = phone.browser.run_until(read, "manifest.webmanifest")
+    for code, direction in (("ar", "rtl"), ("fr", "ltr"), ("es", "ltr")):
+        found = phone.browser.run_until(read, f"manifest.{code}.webmanifest")
+        assert (found.pop("lang"), found.pop("dir")) == (code, direction)
+        assert found["name"] != source["name"] and len(found["short_name"]) <= 12
+        assert {**found, "name": source["name"], "short_name": source["short_name"]} == source
