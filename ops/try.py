@@ -2,16 +2,16 @@
 
     ops/try [--address ADDRESS] [--port PORT] [--db FILE] [--zone RULE] [--folder FOLDER] [--program FILE]
 
-The office is the made-up country of examples/national: two years of published tables up to last month, and this month's
-window is open. It is made by the first call in a month, which takes a few minutes, and stays in FOLDER with what is
-sent to it: out/try in the repository, and ~/.cache/sabrethog/out/try where this is installed. With --db it is a copy of
-the office in FILE instead. Nothing else on the machine is changed.
+The office is the made-up country of examples/national: two to three years of published tables up to last month, and
+this month's window is open. It is made by the first call in a month, which takes a minute or more, and stays in FOLDER
+with what is sent to it: out/try in the repository, and ~/.cache/sabrethog/out/try where this is installed. With --db it
+is a copy of the office in FILE instead. Each start publishes its website. Nothing else on the machine is changed.
 
 It listens at this machine alone, or at the ADDRESS of it that is named, for a phone in the same network: who can reach
 that address can read and send what its pages can, so let it be a network that you trust. The certificate is drawn for
 this address by an authority that can speak for no other, whose key is thrown away; it stays for 90 days.
 
-It needs nginx and openssl (Debian: nginx-light, openssl), and Python 3.9 or later. Exit status: 0 after Ctrl-C, 1 where
+It needs nginx, openssl and jinja2 (Debian: nginx-light, openssl, python3-jinja2), and Python 3.9 or later. Exit status: 0 after Ctrl-C, 1 where
 something fails, in one line, 2 where the words are refused.
 
 example: ops/try --address 192.168.1.5
@@ -34,10 +34,12 @@ import contextlib
 import csv
 import datetime
 import fcntl
+import os
 import re
 import secrets
 import shutil
 import subprocess
+import tempfile
 import time
 from collections.abc import Iterator
 from functools import partial
@@ -57,9 +59,12 @@ from cpi_tools.front import (
     standing,
     system_program,
 )
+from cpi_tools.pack.config import Config, read_config
+from cpi_tools.pack.public import Published, from_file
 from cpi_tools.program import Cpi, CpiFailed, add_program, told as told_end
+from cpi_tools.publish import publish
 from cpi_tools.sign_in import address_of_page, link_of
-from cpi_tools.terminal import Fault, ToolWords, because_of, ends_by_signals
+from cpi_tools.terminal import Fault, ToolWords, because_of, ends_by_signals, needs
 from cpi_tools.trials import folder_of_trial
 
 ROOT = Path(__file__).resolve().parents[1]
@@ -67,8 +72,14 @@ ROOT = Path(__file__).resolve().parents[1]
 ZONE = "CET-1CEST,M3.5.0,M10.5.0/3"
 """The clock of the made-up country."""
 
+ANOTHER = Config("TRIAL", "XX", "An office that is tried")
+"""Who publishes the website of an office that --db names."""
+
 CALENDAR = "calendar.json"
 """The windows of the office's calendar, as they were when it started."""
+
+IN_MEMORY = "/dev/shm"
+"""Where the made-up country lives, if it can: a disk would keep each of its 200,000 commands, one after another."""
 
 LOOK_SECONDS = 0.2
 """How often it is looked whether office and front still run."""
@@ -82,16 +93,16 @@ def made_up_country(folder: Path, cpi: Cpi, month: str) -> Path:
     file = folder / f"{month}.db"
     if file.exists():
         return file
-    print("The made-up country lives through two years first: a few minutes, once a month.", flush=True)
-    making = folder / "making"
-    shutil.rmtree(making, ignore_errors=True)
-    making.mkdir()
-    run = [sys.executable, str(ROOT / "examples/national/run"), "--program", str(cpi.path), "--open", month]
-    ran = subprocess.run([*run, "--db", f"{making}/office.db", "--out", f"{making}/out"], stdout=subprocess.DEVNULL)
-    if ran.returncode:
-        raise Fault(f"examples/national/run ended with status {ran.returncode}")
-    (making / "office.db").rename(file)
-    shutil.rmtree(making)
+    print("The made-up country lives through two to three years first: a minute or more, once a month.", flush=True)
+    made = file.with_suffix(".new")
+    room = Path(IN_MEMORY) if os.access(IN_MEMORY, os.W_OK) else folder
+    with tempfile.TemporaryDirectory(prefix="cpi-try-", dir=room) as at:
+        run = [sys.executable, str(ROOT / "examples/national/run"), "--program", str(cpi.path), "--open", month]
+        ran = subprocess.run([*run, "--db", f"{at}/office.db", "--out", f"{at}/out"], stdout=subprocess.DEVNULL)
+        if ran.returncode:
+            raise Fault(f"examples/national/run ended with status {ran.returncode}")
+        shutil.copy(f"{at}/office.db", made)
+    made.rename(file)
     return file
 
 
@@ -101,6 +112,23 @@ def copy_of(office: Path, folder: Path) -> Path:
     shutil.rmtree(copies, ignore_errors=True)
     copies.mkdir()
     return right_copy(office, copies)
+
+
+def write_website(cpi: Cpi, file: Path, folder: Path, is_country: bool) -> None:
+    """The website of what an office has published until now, in `published`; none if that is no table yet."""
+    site = folder / "published"
+    # (each made-up country is another one, whose tables take the place of those before)
+    shutil.rmtree(site, ignore_errors=True)
+    published = from_file(cpi, file, int(time.time()))
+    if any(each.table for each in published):
+        publish(published, of_country(published) if is_country else ANOTHER, site, None, lambda _: None)
+
+
+def of_country(published: list[Published]) -> Config:
+    """Who publishes in the made-up country, whose reference period is its first year, wherever that was moved to. Its
+    address is that of another site."""
+    first = min(each.listed.month for each in published if each.table)
+    return read_config(ROOT / "examples/national/office.ini")._replace(reference=first[:4], address="")
 
 
 class Office:
@@ -115,8 +143,8 @@ class Office:
         """Starts it, and waits until it listens: it reads its whole file first."""
         words = ["serve", "--db", str(self.file), "--port", str(self.port), "--desk-key", self.desk_key]
         words = [str(self.cpi.path), *words, "--limit", "1000000", "--zone", self.zone]
-        pipes = {"stdout": subprocess.PIPE, "stderr": subprocess.PIPE}
-        self.process = subprocess.Popen(words, stdin=subprocess.DEVNULL, **pipes)
+        pipe = subprocess.PIPE
+        self.process = subprocess.Popen(words, stdin=subprocess.DEVNULL, stdout=pipe, stderr=pipe)
         assert self.process.stdout
         if not self.process.stdout.readline():
             self._fail()
@@ -152,7 +180,7 @@ def told(place: Place, office: Office, is_country: bool, folder: Path) -> str:
     rows = [
         ("collectors", address_of_page(place.url), f"key {key}" if is_country else "with their keys"),
         *([("", link, "signs in without typing")] if is_country else []),
-        ("everybody", f"{place.url}/tables/", ""),
+        ("everybody", f"{place.url}/", ""),
         ("the desk", f"{place.url}/desk/", f"key {office.desk_key}"),
     ]
     addresses = "".join(f"  {who:<11} {address}  {key}".rstrip() + "\n" for who, address, key in rows)
@@ -215,6 +243,7 @@ def looked_at(chosen: argparse.Namespace) -> Cpi:
     """The program, once all is there that is needed and the words can be right: before minutes of work."""
     for needed in ("nginx", "openssl"):
         system_program(needed)
+    needs("jinja2", "python3-jinja2")
     cpi = Cpi(chosen.program)
     try:
         cpi.replay([], zone=chosen.zone)
@@ -243,6 +272,8 @@ def serve(chosen: argparse.Namespace, cpi: Cpi, folder: Path) -> int:
     with started(office):
         # (the program has opened the file, so it is an office, and of the tables that are read here)
         write_calendar(file, folder / CALENDAR)
+        print("Its website is written, which takes some seconds, too.", flush=True)
+        write_website(cpi, file, folder, not chosen.db)
         with standing(front, partial(of_a_trial, folder)):
             print(told(place, office, not chosen.db, folder), flush=True)
             watch(office, front)

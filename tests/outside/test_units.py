@@ -1,5 +1,6 @@
 """The office as systemd runs it, in a system of its own that has this one's files: a start returns once the office
-listens, a wrong setting ends it, what may pass is tried again, and a stop leaves one whole file."""
+listens, a wrong setting ends it, what may pass is tried again, and a stop leaves one whole file. An office whose second
+copy was promoted stops for good."""
 
 from __future__ import annotations
 
@@ -43,7 +44,7 @@ COMMANDS = f"""
 dpkg --no-triggers -i cpi.deb > /dev/null
 key={KEY}
 write_key() {{ (umask 077; echo "$key" > /etc/cpi/desk-key); }}
-set_to() {{ sed -i "s|^$1=.*|$1=$2|" /etc/cpi/office.conf; }}
+set_to() {{ sed -i "/^$1=/d" /etc/cpi/office.conf; echo "$1=$2" >> /etc/cpi/office.conf; }}
 start() {{
   systemctl start cpi 2> /dev/null && echo "start: 0" || echo "start: $?"
 }}
@@ -142,16 +143,82 @@ start: 1
 """
 
 
-def test_as_systemd_runs_it(needed: Callable[[str], str], program: Path, tmp_path: Path) -> None:
-    """This asks for root, and for a system that lets it mount."""
+def booted(needed: Callable[[str], str], program: Path, folder: Path, commands: str) -> list[str]:
+    """The lines that commands print in a booted system with the package in it."""
     for name in ("dpkg-deb", "systemd-nspawn"):
         needed(name)
-    subprocess.run([ROOT / "tools/package", "--to", tmp_path, "--program", program], capture_output=True, check=True)
-    (package,) = tmp_path.glob("*.deb")
-    (tmp_path / "commands").write_text(COMMANDS)
-    (tmp_path / "room").mkdir()
+    subprocess.run([ROOT / "tools/package", "--to", folder, "--program", program], capture_output=True, check=True)
+    (package,) = folder.glob("*.deb")
+    (folder / "commands").write_text(commands)
+    (folder / "room").mkdir()
     words = [needed("unshare"), "--mount", "bash", "-euc", BOOT, "boot"]
-    words += [str(tmp_path / "room"), str(package), str(tmp_path / "commands")]
+    words += [str(folder / "room"), str(package), str(folder / "commands")]
     ran = subprocess.run(words, capture_output=True, text=True, check=False, timeout=300)
     assert ran.returncode == 0, ran.stderr
-    assert ran.stdout.splitlines() == WANTED.splitlines()
+    return ran.stdout.splitlines()
+
+
+def test_as_systemd_runs_it(needed: Callable[[str], str], program: Path, tmp_path: Path) -> None:
+    """This asks for root, and for a system that lets it mount."""
+    assert booted(needed, program, tmp_path, COMMANDS) == WANTED.splitlines()
+
+
+SECOND = f"""
+{COMMANDS[: COMMANDS.index('echo "# there is no key"')]}
+follower() {{
+  systemctl show cpi-follow --property=ActiveState --property=ExecMainStatus --value | sort | paste -sd ' '
+}}
+await() {{ for _ in $(seq 600); do "$@" && break; sleep 0.1; done; }}
+has_two() {{ [ -e /srv/copy/copy-1/office.db.json ] && [ -e /srv/copy/copy-2/office.db.json ]; }}
+is_stopped() {{ ! systemctl --quiet is-active cpi; }}
+write_key; set_to CPI_COPY_EVERY 1
+echo "# no place is named"
+systemctl start cpi-follow || true
+await systemctl --quiet is-failed cpi-follow; follower
+echo "# a place that is a folder of this machine"
+install -d -m 700 -o cpi -g cpi /srv/copy
+for unit in cpi-follow cpi-promoted; do
+  mkdir "/etc/systemd/system/$unit.service.d"
+  printf '[Service]\\nReadWritePaths=/srv/copy\\n' > "/etc/systemd/system/$unit.service.d/place.conf"
+done
+set_to CPI_COPY /srv/copy
+systemctl daemon-reload; systemctl enable --quiet cpi-promoted
+echo 0,desk,item,RICE,Rice,1 kg,500,2000 | replay
+start; systemctl is-active cpi-promoted; systemctl start cpi-follow; await has_two; follower
+echo "# the copy is promoted, and the office stops"
+mkdir /srv/second; cpi-tools promote /srv/copy --office /srv/second/office.db | grep -c ' is the office now'
+await is_stopped; sleep 1; state; follower
+echo 9,public,items | cpi replay --db /srv/second/office.db
+echo "# it doesn't start again"
+start; told '^cpi-serve: ' | grep -o 'two offices.*(' || true
+echo "# nor after a boot"
+systemctl stop cpi-promoted; rm /var/lib/cpi/office.db.promoted
+start; systemctl is-active cpi-promoted || true; ls /var/lib/cpi/office.db.promoted
+"""
+
+SECOND_WANTED = """\
+# no place is named
+78 failed
+# a place that is a folder of this machine
+{"done":true}
+start: 0
+active
+0 active
+# the copy is promoted, and the office stops
+1
+0 inactive
+4 failed
+{"items":[["RICE","Rice","1 kg",500,2000]]}
+# it doesn't start again
+start: 1
+two offices that answer are worse than none, so this one doesn't start (
+# nor after a boot
+start: 1
+failed
+/var/lib/cpi/office.db.promoted
+"""
+
+
+def test_a_second_copy_as_systemd_keeps_it(needed: Callable[[str], str], program: Path, tmp_path: Path) -> None:
+    """The units of the first machine, whose place is a folder here; nothing goes over a network."""
+    assert booted(needed, program, tmp_path, SECOND) == SECOND_WANTED.splitlines()

@@ -27,6 +27,7 @@ from cpi_tools.probe_told import Seen
 from cpi_tools.program import Cpi
 from cpi_tools.said import Line
 from cpi_tools.writes import Writes
+from cpi_tools.second_copies import CopyNote, Sum, write_note, write_promotion
 from cpi_tools.stored import Window
 from cpi_tools.terminal import Fault
 from conftest import ROOT
@@ -36,7 +37,7 @@ from offices import TABLES
 from test_ops import needed
 
 NOW = 1_800_000_000
-NOTHING_NAMED = "not checked: the file, writes, backups, the certificate, the clock"
+NOTHING_NAMED = "not checked: the file, writes, backups, the second copy, the certificate, the clock"
 LIST = b'{"tables":[["2025-12",1,1000],["2026-01",1,1799990000],["2026-01",2,1799993600]]}\n'
 TABLES_OF_LIST = (Table(202512, 1, 1000), Table(202601, 1, 1_799_990_000), Table(202601, 2, 1_799_993_600))
 
@@ -436,3 +437,45 @@ def test_a_calendar_that_can_not_be_read_is_told(tmp_path: Path) -> None:
     with pytest.raises(Fault, match=f"the calendar of {path} can't be read: "):
         probe_looks.calendar_of(Backup(path, NOW, 4), None)
     assert probe_looks.calendar_of(None, None) is None
+
+
+# ---- the second copy
+
+
+def note_at(folder: Path, name: str, number: int, copied: int) -> None:
+    (folder / name).mkdir(parents=True, exist_ok=True)
+    write_note(folder / name, CopyNote("/a/office.db", "first", number, copied, Sum(1, "a"), Sum(0, "b"), ()))
+
+
+def test_the_age_of_the_second_copy_is_judged(tmp_path: Path, capsys: pytest.CaptureFixture[str]) -> None:
+    """That of the newer one of the two; the levels are 120 and 600 seconds."""
+    folder = tmp_path / "copy"
+    note_at(folder, "copy-1", 8, NOW - 200)
+    for age, status, told in (
+        (119, 0, "CPI OK: last table"),
+        (120, 1, "CPI WARNING: the second copy is 120 seconds old"),
+        (600, 2, "CPI CRITICAL: the second copy is 600 seconds old"),
+    ):
+        note_at(folder, "copy-2", 9, NOW - age)
+        with answering(LIST) as url:
+            found = ran(capsys, "--url", url, "--copy", folder)
+        assert found[0] == status and found[1].startswith(told)
+        assert f"second_copied_seconds={NOW - age} second_age_seconds={age}" in found[1]
+    with answering(LIST) as url:
+        assert ran(capsys, "--url", url, "--copy", folder, "--copied", "601,700")[0] == 0
+
+
+def test_no_second_copy_and_one_that_was_promoted_are_critical(
+    tmp_path: Path, capsys: pytest.CaptureFixture[str]
+) -> None:
+    (tmp_path / "copy").mkdir()
+    with answering(LIST) as url:
+        assert ran(capsys, "--url", url, "--copy", tmp_path / "copy")[1].startswith(
+            "CPI CRITICAL: there is no second copy"
+        )
+        note_at(tmp_path / "copy", "copy-1", 1, NOW)
+        machine = write_promotion(tmp_path / "copy", NOW).machine
+        status, out = ran(capsys, "--url", url, "--copy", tmp_path / "copy")
+        assert status == 2 and f"the second copy was promoted on {machine}, so there is none any more" in out
+        status, out = ran(capsys, "--url", url, "--copy", tmp_path / "nowhere")
+        assert status == 3 and f"CPI UNKNOWN: {tmp_path / 'nowhere'} is no folder" in out

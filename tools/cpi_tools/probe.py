@@ -19,7 +19,17 @@ from .certificates import certificate_at, place
 from .connections import connections_left
 from .levels import OK, Levels, levels, levels_of_rest
 from .machine_clock import machine_clock
-from .probe_looks import Answer, Backups, asked, backups_of, calendar_of, files_of, late_months, trusting
+from .probe_looks import (
+    Answer,
+    Backups,
+    asked,
+    backups_of,
+    calendar_of,
+    files_of,
+    late_months,
+    second_copy_of,
+    trusting,
+)
 from .probe_told import Seen, judged, nagios_line, prometheus_text
 from .said import Journal, OutputFile, Said
 from .stored import Window
@@ -59,6 +69,7 @@ def look(chosen: argparse.Namespace, now: int) -> Seen:
         fault=fault,
         files=looks.at(files_of, chosen.file) if chosen.file else None,
         backups=backups,
+        second=looks.at(second_copy_of, chosen.copy) if chosen.copy else None,
         late=looks.at(_late, answer, backups, chosen.file, now) if answer else None,
         writes=looks.at(writes_of, chosen.file, said) if said else None,
         left=looks.at(connections_left, said) if said else None,
@@ -112,6 +123,7 @@ def unnamed(chosen: argparse.Namespace) -> tuple[str, ...]:
         "the file": chosen.file,
         "writes": chosen.file or chosen.unit or chosen.output,
         "backups": chosen.backups,
+        "the second copy": chosen.copy,
         "the certificate": chosen.certificate,
         "the clock": chosen.clock,
     }
@@ -136,6 +148,9 @@ from the journal of UNIT, or from the file that the output of `cpi serve` was ap
 reads from the office's log and file whether a write succeeded after that line. If none did, that
 is critical; if one did, it is a warning for some hours (--refused). With --file, but without a
 journal of UNIT and without --output, nobody can know whether writes succeed: status 3.
+
+Second copy: --copy names DEST of cpi-tools follow if that is a folder of this machine, or else the
+room of the follower, which has the note of the copy that was carried last.
 
 Connections: the same lines say when few connections are left of the limit of `cpi serve`.
 """
@@ -169,6 +184,7 @@ LEVELS = (
     ("log", Levels(64, 512), "MiB of the log"),
     ("free", Levels(1024, 256), "MiB left on the disk, from which on downwards"),
     ("age", Levels(26, 50), "hours since the last backup"),
+    ("copied", Levels(120, 600), "seconds since the second copy was made"),
     ("left", Levels(10_000, 1000), "connections left of the limit, from which on downwards"),
     ("days", Levels(21, 7), "days until the certificate ends, from which on downwards"),
 )
@@ -195,6 +211,9 @@ def add_words(tools: argparse._SubParsersAction[ToolWords]) -> None:
         "--output", type=Path, metavar="FILE", help="the file that all output of cpi serve is appended to"
     )
     add("--backups", type=Path, metavar="FOLDER", help="where backups are: the age of the last, and failed drills")
+    add(
+        "--copy", type=Path, metavar="FOLDER", help="where cpi-tools follow keeps the second copy, or its room: the age"
+    )
     add("--certificate", type=place, metavar="FILE|HOST:PORT", help="the front's certificate: its end")
     add("--clock", action="store_true", help="whether this machine's clock is synchronized (a warning if not)")
     add("--prometheus", action="store_true", help="write all figures as Prometheus reads them")

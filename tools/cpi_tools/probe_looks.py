@@ -17,6 +17,7 @@ from typing import NamedTuple, Optional
 
 from .backup import read_note
 from .copying import log_beside, private_copy
+from .second_copies import state_of
 from .stored import Window, stored_office
 from .terminal import Fault, because_of
 
@@ -156,6 +157,24 @@ def backups_of(folder: Path) -> Backups:
     except OSError as fault:
         raise Fault(because_of(fault)) from fault
     return Backups(last, failed)
+
+
+class SecondCopy(NamedTuple):
+    """The newest second copy, by its note: when copying it began, in seconds since 1970 UTC, None if there is no copy;
+    and the machine on which it was promoted, empty if it wasn't."""
+
+    copied: Optional[int]
+    promoted_on: str
+
+
+def second_copy_of(folder: Path) -> SecondCopy:
+    """The second copy that `cpi-tools follow` keeps in a folder, or of which it keeps the last note there. Raises Fault
+    where the folder can't be looked at."""
+    state = state_of(folder)
+    newest = state.newest()
+    return SecondCopy(
+        state.notes[newest].copied if newest else None, state.promotion.machine if state.promotion else ""
+    )
 
 
 def calendar_of(backup: Optional[Backup], file: Optional[Path]) -> Optional[list[Window]]:

@@ -10,7 +10,7 @@ from . import writes
 from .certificates import Certificate
 from .levels import CRITICAL, OK, STATES, UNKNOWN, WARNING, Judgement, state_of, state_of_rest, worst
 from .machine_clock import MachineClock
-from .probe_looks import Answer, Backups, Files, Table
+from .probe_looks import Answer, Backups, Files, SecondCopy, Table
 from .stored import Window
 from .terminal import counted, month_text, time_text
 from .writes import Writes
@@ -35,6 +35,7 @@ class Seen(NamedTuple):
     left: Optional[int] = None
     certificate: Optional[Certificate] = None
     clock: Optional[MachineClock] = None
+    second: Optional[SecondCopy] = None
     unseen: tuple[str, ...] = ()
     unnamed: tuple[str, ...] = ()
 
@@ -51,7 +52,7 @@ class Judged(NamedTuple):
 
 def judged(seen: Seen, chosen: argparse.Namespace) -> Judged:
     """The state of an office: the worst of its parts, by the levels that were chosen; all that aren't well are told."""
-    parts = (_of_answer, _of_files, _of_backups, _of_writes, _of_machine, _of_unseen)
+    parts = (_of_answer, _of_files, _of_backups, _of_second, _of_writes, _of_machine, _of_unseen)
     found = [each for part in parts for each in part(seen, chosen) if each[0] != OK]
     ordered = [told for weight in (CRITICAL, WARNING, UNKNOWN) for state, told in found if state == weight]
     return Judged(worst(state for state, _ in found), tuple(ordered))
@@ -92,6 +93,19 @@ def _of_backups(seen: Seen, chosen: argparse.Namespace) -> Iterator[Judgement]:
         yield CRITICAL, "there is no backup"
     if failed:
         yield CRITICAL, f"after the last backup {counted(failed, 'drill')} failed (.db.bad)"
+
+
+def _of_second(seen: Seen, chosen: argparse.Namespace) -> Iterator[Judgement]:
+    if not seen.second:
+        return
+    copied, promoted_on = seen.second
+    if promoted_on:
+        yield CRITICAL, f"the second copy was promoted on {promoted_on}, so there is none any more"
+    elif copied is None:
+        yield CRITICAL, "there is no second copy"
+    else:
+        seconds = max(0, seen.now - copied)
+        yield state_of(seconds, chosen.copied), f"the second copy is {counted(seconds, 'second')} old"
 
 
 def _of_writes(seen: Seen, chosen: argparse.Namespace) -> Iterator[Judgement]:
@@ -173,6 +187,9 @@ def _figures_of_files(seen: Seen) -> Iterator[Figure]:
         yield "backup_copied_seconds", str(last.copied), "When the last backup was copied, seconds since 1970."
         yield "backup_age_seconds", str(max(0, seen.now - last.copied)), "Age of the last backup."
         yield "backup_bytes", str(last.size), "Size of the last backup."
+    if seen.second and seen.second.copied is not None:
+        yield "second_copied_seconds", str(seen.second.copied), "When the second copy was made, seconds since 1970."
+        yield "second_age_seconds", str(max(0, seen.now - seen.second.copied)), "Age of the second copy."
     if seen.backups:
         yield "failed_drills", str(seen.backups.failed_drills), "Drills that failed after the last backup."
 

@@ -1,0 +1,127 @@
+"""What carries a second copy to another machine: rsync over ssh, or rclone. Each has its own checks and its own access.
+
+`fetch` brings the notes of a place and the mark of its promotion to a folder of this machine; `carry` brings a copy to
+one of the two folders there, its note last.
+"""
+
+from __future__ import annotations
+
+import re
+import shutil
+import subprocess
+from collections.abc import Sequence
+from pathlib import Path
+from typing import Optional, Protocol
+
+from .copying import log_beside
+from .mirrors import PAGE
+from .second_copies import MARK, NAMES, NOTE, OFFICE
+from .terminal import Fault, because_of
+
+SILENCE = 30
+"""Seconds for which a line may carry nothing, and the longest wait for it to begin."""
+
+LONGEST = 3600
+"""Seconds for which one carrying may last: the first one of a large file over a slow line is the longest."""
+
+SSH = "ssh -o BatchMode=yes -o ConnectTimeout=10 -o ServerAliveInterval=10 -o ServerAliveCountMax=3"
+"""The program that reaches the other machine. It asks nobody, and ends when the other side is silent."""
+
+
+class Carrier(Protocol):
+    """What carries to a place on another machine."""
+
+    name: str
+
+    def fetch(self, to: Path) -> None:
+        """Brings the notes of the place and the mark of its promotion to a folder. Raises Fault."""
+
+    def carry(self, copy: Path, to: str) -> None:
+        """Brings a copy with its note to one of the two folders there. Raises Fault."""
+
+
+class Rsync:
+    """A folder of another machine, by rsync over ssh. Of a file only the pages that differ are carried, and rsync
+    compares the sum of the whole file at the end."""
+
+    def __init__(self, machine: str, folder: str, ssh: Optional[str] = None):
+        self.name = f"{machine}:{folder}"
+        self._at = f"{self.name.rstrip('/')}/" if folder else self.name
+        self._words = ["rsync", "--times", f"--timeout={SILENCE}", f"--rsh={ssh or SSH}"]
+
+    def fetch(self, to: Path) -> None:
+        """Files that are gone there go here too."""
+        notes = [f"--include=/{name}/{NOTE}" for name in NAMES]
+        chosen = [*(f"--include=/{name}/" for name in NAMES), *notes, f"--include=/{MARK}", "--exclude=*"]
+        _run([*self._words, "--recursive", "--delete", *chosen, self._at, f"{to}/"], self.name)
+
+    def carry(self, copy: Path, to: str) -> None:
+        """In place, each file on the disk there before the next one begins. A file of the same size and of the time of
+        before is passed over: `taken_and_stamped` gives each change a second of its own."""
+        how = ["--inplace", "--no-whole-file", f"--block-size={PAGE}", "--fsync"]
+        how += ["--perms", "--chmod=D700,F600"]
+        _run([*self._words, *how, *_files_of(copy), f"{self._at}{to}/"], self.name)
+
+
+class Rclone:
+    """A folder of a store that rclone knows. It carries whole files."""
+
+    def __init__(self, remote: str):
+        self.name = f"rclone:{remote}"
+        self._at = f"{remote.rstrip('/')}/" if not remote.endswith(":") else remote
+        self._words = ["rclone", f"--timeout={SILENCE}s", f"--contimeout={SILENCE}s", "--retries=1"]
+
+    def fetch(self, to: Path) -> None:
+        """Files that are gone there go here too."""
+        chosen = [f"--include=/{name}/{NOTE}" for name in NAMES] + [f"--include=/{MARK}"]
+        _run([*self._words, "sync", *chosen, self._at, str(to)], self.name)
+
+    def carry(self, copy: Path, to: str) -> None:
+        """File by file, so that the note is the last one."""
+        for path in map(Path, _files_of(copy)):
+            _run([*self._words, "copyto", str(path), f"{self._at}{to}/{path.name}"], self.name)
+
+
+def _files_of(copy: Path) -> list[str]:
+    """The files of a copy in the order in which they are carried."""
+    return [str(copy / OFFICE), str(log_beside(copy / OFFICE)), str(copy / NOTE)]
+
+
+def carrier_of(dest: str, ssh: Optional[str] = None) -> Optional[Carrier]:
+    """What carries to a place: `rclone:REMOTE:PATH` by rclone, `[USER@]MACHINE:FOLDER` by rsync; None of a folder of
+    this machine, which has a slash before any colon, or no colon."""
+    if dest.startswith("rclone:"):
+        return Rclone(dest.partition(":")[2])
+    machine, colon, folder = dest.partition(":")
+    if not colon or "/" in machine or not machine:
+        return None
+    return Rsync(machine, folder, ssh)
+
+
+def _run(words: Sequence[str], name: str) -> None:
+    """Runs what carries. Raises Fault with the first line that it told."""
+    if not shutil.which(words[0]):
+        raise Fault(f"there is no {words[0]}, which carries to {name}: Debian's package {words[0]} has it")
+    try:
+        ran = subprocess.run(
+            words,
+            stdin=subprocess.DEVNULL,
+            capture_output=True,
+            text=True,
+            errors="replace",
+            timeout=LONGEST,
+            check=False,
+        )
+    except subprocess.TimeoutExpired as fault:
+        raise Fault(f"{name}: {words[0]} didn't end within {LONGEST} seconds") from fault
+    except OSError as fault:
+        raise Fault(f"{words[0]} couldn't be started: {because_of(fault)}") from fault
+    if ran.returncode:
+        raise Fault(f"{name}: {_cause(ran.stderr) or f'{words[0]} ended with status {ran.returncode}'}")
+
+
+def _cause(told: str) -> str:
+    """The line that tells why: rsync ends with one that tells the place in its source, and rclone begins with times."""
+    lines = [re.sub(r"^\d{4}/\d\d/\d\d \S+ (ERROR *: *)?", "", line.strip()) for line in told.splitlines()]
+    others = ("rsync error:", "Warning: Permanently added", "NOTICE:")
+    return next((line for line in lines if line and not line.startswith(others)), "")

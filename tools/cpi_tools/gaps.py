@@ -1,0 +1,210 @@
+"""`cpi-tools gaps FILE --receipts LIST`: which prices somebody has a receipt for, and the office doesn't have.
+
+After a copy was promoted, or a backup restored, the office knows less than those who sent to it. A receipt counts for
+each collector from 1, so the office gives the same numbers again: a receipt that is there may be of another price. So a
+row is there if its slot and month have this mark and value, or a receipt that is later than the row's under which the
+price was put right in the meantime.
+"""
+
+from __future__ import annotations
+
+import argparse
+import csv
+import io
+import re
+import sys
+from collections.abc import Iterable, Iterator
+from pathlib import Path
+from typing import NamedTuple, Optional
+
+from .copying import private_copy
+from .csv_files import Writer, add_safe_csv
+from .stored import REASONS, read_copy
+from .terminal import Fault, Progress, ToolWords, because_of, counted, month_text
+
+HEADS = ("collector", "slot", "month", "mark", "value", "receipt")
+"""The columns of a list."""
+
+MISSING = 3
+"""The exit status if something is missing. A fault has 1, and so has Python if a module isn't there."""
+
+MOST_BYTES = 1 << 26
+"""Bytes of a list that are read: more than a million rows."""
+
+MARKS = ("price", "comparable", "other", "missing")
+"""The marks of an entry; `missing` has a reason as its value."""
+
+
+class Sent(NamedTuple):
+    """A row of a list: a price in minor units, or the reason why it is missing, and the receipt of it."""
+
+    collector: int
+    slot: int
+    month: int
+    mark: str
+    value: str
+    receipt: int
+
+
+class Gap(NamedTuple):
+    """A row that the office doesn't have, and what it has in its place."""
+
+    sent: Sent
+    because: str
+
+
+Stored = dict[tuple[int, int, int], tuple[str, str, int]]
+"""Mark, value and receipt of each stored quote, by collector, slot and month."""
+
+
+# ---- the list
+
+
+def sent_in(text: str, name: str) -> list[Sent]:
+    """The rows of a list, a CSV file with the heads of `HEADS` in any order. Raises Fault, which names the line, if
+    one isn't a row."""
+    rows = csv.reader(io.StringIO(text.lstrip("\ufeff"), newline=""))
+    heads = [head.strip().lower() for head in next(rows, [])]
+    if lacks := [head for head in HEADS if head not in heads]:
+        raise Fault(f"{name}: its first line has no column {lacks[0]}: wanted are {', '.join(HEADS)}")
+    at = [heads.index(head) for head in HEADS]
+    found = []
+    for row in rows:
+        if row:
+            cells = [row[each].strip() if each < len(row) else "" for each in at]
+            found.append(_sent(cells, f"{name}, line {rows.line_num}"))
+    if not found:
+        raise Fault(f"{name} has no row below its heads")
+    return found
+
+
+def _sent(cells: list[str], where: str) -> Sent:
+    """A row. Raises Fault if it is none."""
+    collector, slot, month, mark, value, receipt = cells
+    for head, cell in (("collector", collector), ("slot", slot), ("receipt", receipt)):
+        if not re.fullmatch("[1-9][0-9]{0,6}", cell):
+            raise Fault(f"{where}: {head} is {cell!r}: wanted is a number from 1 on")
+    if not re.fullmatch(r"2[01][0-9]{2}-(0[1-9]|1[0-2])", month):
+        raise Fault(f"{where}: month is {month!r}: wanted is a month like 2026-01")
+    if mark not in MARKS:
+        raise Fault(f"{where}: mark is {mark!r}: wanted is one of {', '.join(MARKS)}")
+    is_value = value in REASONS if mark == "missing" else re.fullmatch("[1-9][0-9]{0,9}", value)
+    if not is_value:
+        wanted = f"one of {', '.join(REASONS)}" if mark == "missing" else "a price in minor units, like 210"
+        raise Fault(f"{where}: value is {value!r}: wanted is {wanted}")
+    return Sent(int(collector), int(slot), int(month[:4]) * 100 + int(month[5:]), mark, value, int(receipt))
+
+
+def read_list(path: Path) -> list[Sent]:
+    """The rows of a file; `-` is standard input. Raises Fault."""
+    try:
+        if str(path) == "-":
+            text, name = sys.stdin.buffer.read(MOST_BYTES + 1), "standard input"
+        else:
+            with path.open("rb") as file:
+                text, name = file.read(MOST_BYTES + 1), str(path)
+    except OSError as fault:
+        raise Fault(because_of(fault)) from fault
+    if len(text) > MOST_BYTES:
+        raise Fault(f"{name} has more than {MOST_BYTES:,} bytes: cut it in pieces")
+    try:
+        return sent_in(text.decode(), name)
+    except UnicodeDecodeError as fault:
+        raise Fault(f"{name} isn't UTF-8: save it as CSV in UTF-8") from fault
+    except csv.Error as fault:
+        raise Fault(f"{name} isn't CSV: {fault}") from fault
+
+
+# ---- what is missing
+
+
+def stored_quotes(file: Path) -> Stored:
+    """The stored quotes of an office's file, read from a private copy. Raises Fault."""
+    with private_copy(file) as copy, read_copy(copy) as office:
+        return {
+            (collector, slot, month): (*_entry(mark, value), receipt)
+            for collector, slot, month, mark, value, receipt in office.all_quotes()
+        }
+
+
+def _entry(mark: str, value: int) -> tuple[str, str]:
+    """Mark and value as they are sent: a reason is stored as a mark."""
+    return ("missing", mark) if mark in REASONS else (mark, str(value))
+
+
+def last_of_each(sent: Iterable[Sent]) -> Iterator[Sent]:
+    """Of each slot and month the row with the greatest receipt: those before it were put right by it."""
+    last = dict[tuple[int, int, int], Sent]()
+    for row in sent:
+        if row[:3] not in last or last[row[:3]].receipt < row.receipt:
+            last[row[:3]] = row
+    yield from last.values()
+
+
+def gaps(sent: Iterable[Sent], stored: Stored) -> list[Gap]:
+    """The rows that the office doesn't have."""
+    return [Gap(row, because) for row in last_of_each(sent) if (because := _because(row, stored.get(row[:3])))]
+
+
+def _because(row: Sent, there: Optional[tuple[str, str, int]]) -> str:
+    """What the office has in place of a row; empty if it has the row, or a later one."""
+    if there is None:
+        return "nothing is stored for this slot and month"
+    mark, value, receipt = there
+    if (mark, value) == (row.mark, row.value) or receipt > row.receipt:
+        return ""
+    return f"{mark} {value} is stored, with receipt {receipt}"
+
+
+# ---- words
+
+DESCRIPTION = """\
+Compares a list of prices that somebody has receipts for with an office's file, and writes a CSV row
+for each that the office doesn't have: after a second copy was promoted, or a backup was restored,
+these have to be sent again. FILE is only read, and cpi may serve it.
+
+LIST is a CSV file with a line of heads: collector, slot, month, mark, value, receipt. The mark is
+price, comparable or other, with a price in minor units as its value, or missing with its reason.
+Of several rows for a slot and month the one with the greatest receipt counts.
+
+Receipts are given again after a promotion. So a row is there if the office has the same mark and
+value for its slot and month, or a later receipt, under which the price was put right meanwhile.
+The same price sent again is safe: a stored one keeps its receipt.
+"""
+
+EPILOG = """\
+example: cpi-tools gaps office.db --receipts sent.csv > missing.csv
+
+exit status: 0 if nothing is missing; 1 if LIST or FILE can't be read; 2 if the words are refused;
+3 if something is missing
+"""
+
+
+def add_words(tools: argparse._SubParsersAction[ToolWords]) -> None:
+    """The tool `gaps`."""
+    words = tools.add_parser(
+        "gaps", help="which prices with a receipt an office doesn't have", description=DESCRIPTION, epilog=EPILOG
+    )
+    words.add_argument("file", type=Path, metavar="FILE", help="the office's file, which is only read")
+    words.add_argument(
+        "--receipts", type=Path, required=True, metavar="LIST", help="what was sent; - is standard input"
+    )
+    add_safe_csv(words)
+    words.set_defaults(run=run, tool="gaps", words=words)
+
+
+def run(chosen: argparse.Namespace) -> int:
+    """Runs the tool by its words; its exit status."""
+    sent = read_list(chosen.receipts)
+    with Progress("cpi-tools gaps") as progress:
+        progress.now(f"reading {chosen.file}")
+        found = gaps(sent, stored_quotes(chosen.file))
+    out = Writer(sys.stdout)
+    if found:
+        out.writerow((*HEADS, "because"))
+    for row, because in found:
+        cells = (row.collector, row.slot, month_text(row.month), row.mark, row.value, row.receipt)
+        out.writerow((*cells, because))
+    told = f"{len(found):,} of {counted(len(sent), 'row')}" if found else f"nothing of {counted(len(sent), 'row')}"
+    print(f"cpi-tools gaps: {told} {'are' if len(found) > 1 else 'is'} missing in {chosen.file}", file=sys.stderr)
+    return MISSING if found else 0

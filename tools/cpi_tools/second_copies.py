@@ -1,0 +1,196 @@
+"""A second copy of an office at another place: two folders that take turns, a note in each, and a mark of a promotion.
+
+    DEST/copy-1/office.db, office.db-wal, office.db.json
+    DEST/copy-2/office.db, office.db-wal, office.db.json
+    DEST/promoted.json
+
+Each round brings the older of the two copies up to date, and writes its note last. So whatever stops a round, the other
+copy is whole. A note has the sums of its file and log, so a copy that was cut off shows even if a note of before is next
+to it. The copy that counts is the one whose note has the greatest number of a round.
+
+The two files of a copy are what a crash could leave at its moment, so `cpi` opens them as they are.
+"""
+
+from __future__ import annotations
+
+import json
+import socket
+import time
+from datetime import datetime, timezone
+from pathlib import Path
+from typing import Any, NamedTuple, Optional
+
+from .copying import log_beside
+from .mirrors import MirroredOffice, Taken, sum_of
+from .terminal import Fault, because_of, is_line
+from .whole_files import write_whole
+
+NAMES = ("copy-1", "copy-2")
+"""The folders that take turns."""
+
+OFFICE = "office.db"
+"""What the office's file is called in a copy."""
+
+NOTE = "office.db.json"
+"""The note on a copy. By its name it comes after file and log, since rsync carries files in the order of their names."""
+
+MARK = "promoted.json"
+"""The mark of a place whose copy was promoted: nothing is carried there any more."""
+
+MOST_BYTES = 1 << 16
+"""Bytes of a note that are read."""
+
+
+class Sum(NamedTuple):
+    """The size of a file in bytes, and its sum (`mirrors`)."""
+
+    size: int
+    sum: str
+
+
+class CopyNote(NamedTuple):
+    """What is written next to a copy: the office's file and its machine; the number of the round; the moment at which
+    copying began, in seconds since 1970 UTC; size and sum of file and log; the last quotes that came new, each with
+    collector, slot, month and receipt."""
+
+    office: str
+    machine: str
+    round: int
+    copied: int
+    file: Sum
+    log: Sum
+    receipts: tuple[tuple[int, int, str, int], ...]
+
+
+class Promotion(NamedTuple):
+    """That the copy of a place was promoted: on which machine, when, and the moment of that copy, in seconds since 1970
+    UTC."""
+
+    machine: str
+    promoted: int
+    copied: int
+
+
+class State(NamedTuple):
+    """What is known of a place: the note of each copy by its folder, if it can be read, and its promotion."""
+
+    notes: dict[str, CopyNote]
+    promotion: Optional[Promotion]
+
+    def of_another(self, office: Path) -> str:
+        """Whose copy is there, if it isn't that of an office's file on this machine; else nothing."""
+        for note in self.notes.values():
+            if (note.machine, note.office) != (socket.gethostname(), str(office.absolute())):
+                return f"{note.office} of {note.machine}"
+        return ""
+
+    def newest(self) -> Optional[str]:
+        """The folder of the newest copy; None if there is none."""
+        by_round = {note.round: name for name, note in self.notes.items()}
+        return by_round[max(by_round)] if by_round else None
+
+    def next(self) -> tuple[str, int]:
+        """The folder of the next round, and its number."""
+        last = max((note.round for note in self.notes.values()), default=0)
+        without = [name for name in NAMES if name not in self.notes]
+        return (without or sorted(NAMES, key=lambda name: self.notes[name].round))[0], last + 1
+
+
+def second_text(moment: int) -> str:
+    """`2026-01-25 09:00:07 UTC` of seconds since 1970."""
+    return datetime.fromtimestamp(moment, timezone.utc).strftime("%Y-%m-%d %H:%M:%S UTC")
+
+
+# ---- what is written at a place
+
+
+def note_of(office: Path, number: int, taken: Taken, mirrored: MirroredOffice, receipts: list[list[Any]]) -> CopyNote:
+    """The note on a round."""
+    file, log = (Sum(each.size, each.sum()) for each in (mirrored.file, mirrored.log))
+    told = tuple((collector, slot, str(month), receipt) for collector, slot, month, receipt in receipts)
+    return CopyNote(str(office.absolute()), socket.gethostname(), number, taken.moment, file, log, told)
+
+
+def write_note(folder: Path, note: CopyNote) -> None:
+    """Writes the note next to a copy, whole or not at all. Raises OSError."""
+    told = {**note._asdict(), "file": note.file._asdict(), "log": note.log._asdict()}
+    write_whole(folder / NOTE, (json.dumps(told) + "\n").encode(), 0o600)
+
+
+def write_promotion(folder: Path, copied: int) -> Promotion:
+    """Writes that the copy of a place, of the moment `copied`, was promoted on this machine now. Raises OSError."""
+    promotion = Promotion(socket.gethostname(), int(time.time()), copied)
+    write_whole(folder / MARK, (json.dumps(promotion._asdict()) + "\n").encode(), 0o644)
+    return promotion
+
+
+# ---- what is read there
+
+
+def state_of(folder: Path) -> State:
+    """What is known of a place that is a folder of this machine. A note that can't be read counts as none: a round was
+    stopped while it was written. Raises Fault if the folder, or the mark of a promotion, can't be read."""
+    if not folder.is_dir():
+        raise Fault(f"{folder} is no folder: make it first, so that nothing is copied to a disk that isn't mounted")
+    notes = {name: note for name in NAMES if (note := _note_at(folder / name / NOTE))}
+    return State(notes, promotion_of(folder))
+
+
+def promotion_of(folder: Path) -> Optional[Promotion]:
+    """The promotion of a place. Raises Fault if its mark can't be read, since nobody knows then what it says."""
+    try:
+        told = json.loads(_text_at(folder / MARK))
+        return Promotion(str(told["machine"]), int(told["promoted"]), int(told["copied"]))
+    except FileNotFoundError:
+        return None
+    except OSError as fault:
+        raise Fault(because_of(fault)) from fault
+    except (ValueError, LookupError, TypeError) as fault:
+        raise Fault(f"{folder / MARK} isn't a mark that cpi-tools wrote") from fault
+
+
+def _text_at(path: Path) -> str:
+    with path.open("rb") as file:
+        return file.read(MOST_BYTES).decode(errors="replace")
+
+
+def _note_at(path: Path) -> Optional[CopyNote]:
+    """A note; None where there is none that is whole. Raises Fault where it can't be read."""
+    try:
+        return note_in(_text_at(path))
+    except FileNotFoundError:
+        return None
+    except OSError as fault:
+        raise Fault(because_of(fault)) from fault
+
+
+def note_in(text: str) -> Optional[CopyNote]:
+    """The note of a text; None if it is none that is whole."""
+    try:
+        told = json.loads(text)
+        file, log = (Sum(int(told[name]["size"]), str(told[name]["sum"])) for name in ("file", "log"))
+        receipts = tuple((int(row[0]), int(row[1]), str(row[2]), int(row[3])) for row in told["receipts"])
+        office, machine = str(told["office"]), str(told["machine"])
+        if not is_line(office + machine):
+            return None
+        return CopyNote(office, machine, int(told["round"]), int(told["copied"]), file, log, receipts)
+    except (ValueError, LookupError, TypeError):
+        return None
+
+
+def fault_of(office: Path, note: CopyNote) -> str:
+    """Why the file of a copy and its log aren't those of a note; empty if they are. Raises OSError."""
+    for path, wanted in ((office, note.file), (log_beside(office), note.log)):
+        try:
+            found = Sum(*sum_of(path))
+        except FileNotFoundError:
+            found = Sum(*EMPTY)
+        if found.size != wanted.size:
+            return f"{path.name} has {found.size:,} bytes, and {wanted.size:,} by its note"
+        if found.sum != wanted.sum:
+            return f"{path.name} hasn't the sum of its note"
+    return ""
+
+
+EMPTY = (0, "e3b0c44298fc1c149afbf4c8996fb92427ae41e4649b934ca495991b7852b855")
+"""The size and the sum of a file without a byte."""
