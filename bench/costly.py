@@ -47,7 +47,7 @@ def keys() -> list[str]:
 
 
 def made_up_country(program: Path, folder: Path) -> Path:
-    """The file of the country; it lives through two years first, which takes some minutes."""
+    """The file of the country; it lives through two to three years first, which takes some minutes."""
     run = [sys.executable, str(ROOT / "examples/national/run"), "--program", str(program), "--open", NOW]
     subprocess.run(
         [*run, "--db", f"{folder}/office.db", "--out", f"{folder}/out"],

@@ -16,7 +16,7 @@ CONNECTIONS = 50
 AWAY = 1.0
 """Seconds until it comes back."""
 
-TIMES, PEERS = 400, 20
+PEERS = 20
 
 
 @contextlib.contextmanager
@@ -43,8 +43,9 @@ def served_again(words: list[str]) -> Iterator[None]:
         keeper.join()
 
 
-def asked(way: Way, is_price: bool) -> list[tuple[float, int]]:
-    """What is waited and answered, where twenty peers ask for lists or send prices under keys that nobody bears."""
+def asked(way: Way, is_price: bool, times: int) -> list[tuple[float, int]]:
+    """What is waited and answered, where twenty peers ask so often for lists, or send prices, under keys that nobody
+    bears."""
 
     def ask(number: int) -> int:
         key = f"{number % 97:032x}"
@@ -53,4 +54,4 @@ def asked(way: Way, is_price: bool) -> list[tuple[float, int]]:
         return way.ask(number, key, "GET", f"/work/{NOW}")[0]
 
     with ThreadPoolExecutor(PEERS) as pool:
-        return list(pool.map(lambda number: timed(lambda: ask(number)), range(TIMES)))
+        return list(pool.map(lambda number: timed(lambda: ask(number)), range(times)))

@@ -1,9 +1,9 @@
 #!/usr/bin/env python3
-"""Writes the records of a national survey, as `cpi replay` reads them: `bench/records.py > FILE`.
+"""Writes the records of a national survey, as `cpi replay` reads them: `bench/records.py [COUNT] > FILE`.
 
 200 collectors of 400 slots each, 50 items, an outlet for each collector, twelve months of a calendar whose
-windows are all open, and then the prices month by month, up to the 1,000,000 records that one replay takes
-(so that the last month stands half). The same records come out each time.
+windows are all open, and then the prices month by month, up to COUNT, which is the 1,000,000 records that one
+replay takes (so that the last month stands half). The same records come out each time.
 """
 
 import random
@@ -47,7 +47,7 @@ def prices(collectors, slots=SLOTS, months=MONTHS):
 
 
 def main():
-    left = LIMIT
+    left = int(sys.argv[1]) if sys.argv[1:] else LIMIT
     for records in (setup(COLLECTORS), prices(range(1, COLLECTORS + 1))):
         for record in records:
             if not left:

@@ -210,16 +210,14 @@ class Releases:
                 whole = sums.setdefault(node, [0, 0])
                 whole[0] += weight * index
                 whole[1] |= is_imputed
-        links, befores, years = (
-            dict(self.rows(LEVELS, it)) for it in (link, last, at - 100)
-        )
+        links, lasts, years = (dict(self.rows(LEVELS, it)) for it in (link, last, at - 100))
         for code, title, weight in nodes:
             base, within = links.get(code, WHOLE), rounded(sums[code][0], weight)
             level = rounded(base * within, WHOLE)
             if not 1 <= level <= MOST:
                 raise Fault(3, code)
             year = base if at % 100 == 12 else years.get(code)
-            by_month = change(base if last == link else befores[code], level)
+            by_month = change(base if last == link else lasts[code], level)
             yield code, title, weight, within, level, by_month, year and change(year, level), sums[code][1]
 
 

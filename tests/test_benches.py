@@ -1,0 +1,163 @@
+#!/usr/bin/python3
+"""Runs every bench in its small size, and compares the form of its output: rows, columns and figures, not times.
+
+    tests/test_benches.py [--program FILE] [--only http]
+
+A bench that ends in a traceback, that a rule of the office refuses, or whose programs write different bytes, says so on
+standard error or by its status. The scripts are run as bench/README.md shows them. It needs `cc`, `g++` or `clang++`,
+jinja2, and nginx with Chromium's packages (tests/web/setup.sh, which this script calls first).
+"""
+
+from __future__ import annotations
+
+import os
+import re
+import subprocess
+import sys
+from functools import partial
+
+from lib.harness import TOP, Check, Checks, Fault, program_of, words_of
+from lib.program import Program
+from lib.with_pytest import none_passed
+
+SECONDS = 300
+"""A bench that takes longer hangs: the slowest takes some ten on a quiet machine."""
+
+LANES = 2
+"""So few at once, since each bench has a program and a yardstick or a client."""
+
+N = r"-?[\d,]+(\.\d+)?"
+"""A figure."""
+
+
+def row(name: str, figures: int, more: str = "") -> str:
+    """The form of a line: a name, so many figures, and what follows them."""
+    return re.escape(name) + rf"(\s+{N}){{{figures}}}" + (rf"\s+{more}" if more else r"\s*")
+
+
+def rows(names: str, figures: int, more: str = "") -> list[str]:
+    """The forms of lines whose names are separated by `/`."""
+    return [row(name, figures, more) for name in names.split("/")]
+
+
+ANY = r".*\S.*"
+"""A line of any words, such as the heads of columns."""
+
+COST = rf"{N} s, {N} s of processor, {N} MB of memory"
+"""What a run of a tool took."""
+
+FREEZES = [*rows("2025-12/2026-01/2026-02", 5), row("the table", 2)]
+FILED = [
+    rf"{month}\s+{kind}(\s+{N}){{3}}" for month in ("2025-12", "2026-01", "2026-02") for kind in ("processor", "wall")
+]
+WAITS = rf"\| (port|front).* \| {N} \| {N} \| (\d+ by (\d+|nothing)(, )?)+ \|"
+
+FORMS: dict[str, list[str]] = {
+    "copies": [ANY, ANY, row("cp and sync", 2), *rows("backup/drill/an open", 3), r"nothing is wrong; .*"],
+    "desk": [
+        rf"{N} quotes a month, {N} MB; an open {N} s",
+        rf"desk month, none left out: {N} s, {N} s beside its open",
+        rf"desk month: {N} s, {N} s beside its two opens",
+        "20 quotes were left out",
+        rf"desk close: {N} s",
+        rf"explain \S+: {N} s",
+        rf"explain all: {N} s",
+        rf"the greatest memory of one of them: {N} MB",
+    ],
+    "filed": [rf"{N} series; {N} rows were written, both times the same ones", ANY, *FILED],
+    "files": [
+        ANY,
+        *rows("cpi/Python, C SQLite in a file", 2, "the same"),
+        "",
+        ANY,
+        *rows("1,000 by key/1,000 by month", 5),
+    ],
+    "freeze": [ANY, *FREEZES],
+    "front": [ANY, ANY, *[WAITS] * 13],
+    "frozen": [ANY, *rows("a quote/a work list/own quotes of a month", 3)],
+    "http": [
+        ANY,
+        *rows("C, bare loop/cpi serve/Python, http.server", 2),
+        rf"after a peer that goes away, over {N} quotes: {N} s",
+    ],
+    "largest": [
+        "800 series in 20 aggregates",
+        *(
+            rf"{name}\s+{N} s wall\s+{N} s processor\s+{N} GB"
+            for name in (
+                "setup and plan",
+                "assignments",
+                *(f"{it} of {m}" for m in ("2025-12", "2026-01") for it in ("quotes", "freeze")),
+            )
+        ),
+    ],
+    "follow": [ANY, ANY, *rows("none/folder/rsync", 5), r"folder: .* whole", r"rsync: .* whole"],
+    "month": [rf"{ANY}the same", *rows("2026-01/2026-02", 3)],
+    "order": [ANY, *rows("  1,000 items/  2,000 items/  2,000 outlets", 3)],
+    "others": [ANY, *rows("     1/     2", 3)],
+    "plan": [
+        rf"{name}\s+{N} ms" for name in ("a plan of 20,000 rows", "the same plan again", "an import of 20,000 rows")
+    ],
+    "publish": [
+        "185 items, 13 months",
+        rf"publish, 13 months: {COST}",
+        rf"the pack: {N} files, {N} MB",
+        rf"--check: {COST}",
+        "185 items, 26 months",
+        rf"publish, 25 months: {COST}",
+        rf"the next month: {COST}",
+        rf"written: {N} files, {N} MB",
+        rf"taken: 28 files, {N} MB",
+    ],
+    "run": [ANY, *rows("C++/C++, a write for each line/cpi/Python, C SQLite in memory", 3, "the same")],
+    "turns": [
+        ANY,
+        *rows("the first answer, with the open/a bare commit of the C library", 2),
+        *(
+            row(f"{what}, {who}{more}", 2)
+            for who in ("one collector", "all in turn")
+            for what, more in (("a quote", ""), ("a work list", ""), ("a work list", ", in memory"))
+        ),
+        row("an assignment of imports", 2),
+        rf"memory: {N} MB over a file of {N}, {N} in memory",
+    ],
+    "work": [ANY, *rows("    1/    2", 3)],
+}
+"""By bench, the forms of its lines."""
+
+
+def fault_of(program: Program, name: str) -> Fault:
+    """What is wrong with the small run of a bench."""
+    words = ["/usr/bin/python3", f"bench/{name}", "--small", "--program", program.path]
+    ran = subprocess.run(words, cwd=TOP, capture_output=True, text=True, timeout=SECONDS, check=False)
+    if ran.returncode or ran.stderr:
+        return f"status {ran.returncode}: {ran.stderr[-500:]}{ran.stdout[-200:]}"
+    lines, forms = ran.stdout.splitlines(), FORMS[name]
+    odd = [line for line, form in zip(lines, forms) if not re.fullmatch(form, line)]
+    if odd or len(lines) != len(forms):
+        return f"{len(lines)} lines, {len(forms)} are wanted; of another form: {odd}"
+    return None
+
+
+def all_are_known() -> Fault:
+    """Whether each bench is run here."""
+    there = {it for it in os.listdir(f"{TOP}/bench") if os.access(f"{TOP}/bench/{it}", os.X_OK) and "." not in it}
+    found = there - {"out"} ^ FORMS.keys()
+    return f"benches that aren't known, or aren't there: {sorted(found)}" if found else None
+
+
+def main() -> int:
+    words = words_of(__doc__)
+    words.add_argument("--only", choices=FORMS, help="one of the benches")
+    chosen = program_of(words)
+    if subprocess.run([f"{TOP}/tests/web/setup.sh"], check=False).returncode:
+        return none_passed("tests/web/setup.sh failed")
+    with Checks() as checks:
+        checks.run([Check("all are known", all_are_known)])
+        chosen_names = [it for it in FORMS if chosen.only in (None, it)]
+        checks.run((Check(it, partial(fault_of, chosen.program, it)) for it in chosen_names), LANES)
+    return checks.status
+
+
+if __name__ == "__main__":
+    sys.exit(main())

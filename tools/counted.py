@@ -1,0 +1,141 @@
+"""How many there are of what makes the sources hard to read: each count of tools/counts, by the text of the files.
+
+Nothing is asked of the toolchain, so each count is by names and by the form of lines; its function says how.
+"""
+
+from __future__ import annotations
+
+import ast
+import re
+from collections import Counter, defaultdict
+from collections.abc import Iterator
+from typing import NamedTuple
+
+from tree import TOP, written_in
+
+LONGEST = 40
+"""A function has at most so many lines: in Rattle those of its body, in Python all of them."""
+
+SHORT = 15
+"""A proof file with fewer lines is short."""
+
+IRREGULAR = frozenset(
+    """begun bound broken brought built chosen done drawn driven fallen felt found given gone grown had held hidden kept
+    known laid left lent lost made meant met paid put read run said seen sent set shaken shown sold spent split stood
+    taken thought thrown told torn won worn written""".split()
+)
+"""Participles that don't end in -ed."""
+
+LITERAL = re.compile(r"(?<![_0-9.])[0-9]{7,}\b")
+RENAMED = re.compile(r"\b[\w◌-]+ as [\w◌-]+")
+USE = re.compile(r"\s*(ghost |pub )*use ")
+SPEC = re.compile(r"(?:(?:abbrev|unfoldable|opaque) )?(?:pub )?(?:record |data )?([^\s(){}:]+) (?:[({].* )?: ")
+FUNCTION = re.compile(r"( *)(pub(?:\([a-z]+\))? )?(?:ghost )?fn (\w+)")
+WORD = re.compile(r"\b\w+\b")
+
+
+class Function(NamedTuple):
+    """A function in Rattle: its file and line, its name, whether other crates can call it, its contract and signature,
+    and its body."""
+
+    file: str
+    line: int
+    name: str
+    is_public: bool
+    body: list[str]
+
+
+def texts(part: str) -> Iterator[tuple[str, list[str]]]:
+    """The files of a part of the crates (src, specs, proofs), but those of cpi_tests, with their lines."""
+    for file in written_in("rattle"):
+        if file.split("/")[2] == part and not file.startswith("crates/cpi_tests/"):
+            yield file, (TOP / file).read_text(encoding="utf-8").splitlines()
+
+
+def renaming_imports(part: str) -> list[str]:
+    """Each `NAME as NAME` of a line that begins with `use`."""
+    return [name for _, lines in texts(part) for line in lines if USE.match(line) for name in RENAMED.findall(line)]
+
+
+def spec_names() -> dict[str, set[str]]:
+    """The names that spec files declare at their margin, and in which files; examples and declared types aside."""
+    found: dict[str, set[str]] = defaultdict(set)
+    for file, lines in texts("specs"):
+        for line in lines if "/declared/" not in file and not file.endswith("Examples.antt") else ():
+            if (name := SPEC.match(line)) and not line.startswith(("use ", "pub use ", "--")):
+                found[name[1]].add(file)
+    return found
+
+
+def participles() -> list[str]:
+    """Spec names of one word that end in -ed, or are one of IRREGULAR."""
+    return sorted(it for it in spec_names() if it in IRREGULAR or re.fullmatch(r"[a-z]{2,}ed", it))
+
+
+def literals(part: str) -> list[str]:
+    """Numbers of seven and more digits without a `_`, which code has, so in clauses and definitions; examples aside."""
+    files = (lines for file, lines in texts(part) if not file.endswith("Examples.antt"))
+    return [it for lines in files for line in lines if not is_comment(line) for it in LITERAL.findall(line)]
+
+
+def is_comment(line: str) -> bool:
+    return line.lstrip().startswith(("//", "--"))
+
+
+def functions() -> list[Function]:
+    """The functions in Rattle. One ends with the first `}` below its `fn`; its body begins with the last `{` at the end
+    of a line that has that margin."""
+    found = []
+    for file, lines in texts("src"):
+        for at, line in enumerate(lines):
+            if not (begins := FUNCTION.match(line)):
+                continue
+            margin = begins[1]
+            last = next((n for n in range(at, len(lines)) if lines[n].startswith(f"{margin}}}")), at)
+            opens = [n for n in range(at, last) if lines[n].endswith("{") and is_at(lines[n], margin, n == at)]
+            body = lines[opens[-1] + 1 : last] if opens else []
+            found.append(Function(file, at + 1, begins[3], begins[2] == "pub ", body))
+    return found
+
+
+def is_at(line: str, margin: str, is_first: bool) -> bool:
+    """Whether a line that opens a body has the margin of its function."""
+    return is_first or line in (f"{margin}{{", f"{margin}) {{") or line.startswith(f"{margin}) ->")
+
+
+def long_functions() -> list[str]:
+    """Functions of more than LONGEST lines, in Rattle and in Python."""
+    rattle = [f"{it.file}:{it.line}" for it in functions() if len(it.body) > LONGEST]
+    return rattle + [
+        f"{file}:{node.lineno}"
+        for file in written_in("python")
+        for node in ast.walk(ast.parse((TOP / file).read_text(encoding="utf-8")))
+        if isinstance(node, (ast.FunctionDef, ast.AsyncFunctionDef))
+        and (node.end_lineno or 0) - node.lineno + 1 > LONGEST
+    ]
+
+
+def short_proofs() -> list[str]:
+    return [file for file, lines in texts("proofs") if len(lines) < SHORT]
+
+
+def never_called() -> list[str]:
+    """Public functions that `main` of `cpi` doesn't reach: a function reaches each that has a name which its body has.
+    As a name may be that of several functions, some that are never called aren't found."""
+    found = functions()
+    named = {it.name for it in found}
+    reaches: dict[str, set[str]] = defaultdict(set)
+    for function in found:
+        code = " ".join(it for it in function.body if not is_comment(it))
+        reaches[function.name] |= named & set(WORD.findall(code))
+    seen, left = {"main"}, ["main"]
+    while left:
+        new = reaches[left.pop()] - seen
+        seen |= new
+        left.extend(new)
+    return [f"{it.file}:{it.line} {it.name}" for it in found if it.is_public and it.name not in seen]
+
+
+def by_crate(places: list[str]) -> Counter[str]:
+    """How many of these places each crate has."""
+    return Counter(it.split("/")[1] for it in places)
