@@ -80,16 +80,12 @@ def of_refused(phone: Phone, price: str) -> None:
 
 
 def of_others(browser: Browser, width: int, desk_key: str, folder: Path) -> None:
-    """The first page, the tables, and the desk's page with something refused."""
+    """The website's first page, its page for choosing, and the desk's page with something refused."""
     browser.open("/")
     browser.picture(folder / f"first-{width}.png")
-    browser.open("/tables/")
-    browser.wait_text("#legend", "All items")
-    browser.wait_text("#releases", "December")
-    for code in ("01", "04"):
-        browser.click(f'#table input[value="{code}"]')
-    browser.run("scrollTo(0, 0)")
-    browser.picture(folder / f"tables-{width}.png", is_whole=True)
+    browser.open("/published/choose.html?items=00+01+04&show=index+year")
+    browser.wait_text("#parts", "Food")
+    browser.picture(folder / f"choose-{width}.png", is_whole=True)
     browser.open("/desk/")
     browser.type("#key", desk_key)
     browser.click("#key-form button.main")

@@ -120,6 +120,12 @@ def with_memory(size: int) -> Callable[[], None]:
     return lambda: resource.setrlimit(resource.RLIMIT_AS, (size, size))
 
 
+def with_data(size: int) -> Callable[[], None]:
+    """So many bytes of memory that a program asks for. Its stack doesn't count: the system grows it by itself, and ends
+    a program whose stack can't grow, whatever that program does."""
+    return lambda: resource.setrlimit(resource.RLIMIT_DATA, (size, size))
+
+
 def with_disk(most: int) -> Callable[[], None]:
     """Files of at most so many bytes; a write past that fails, and kills nobody."""
 

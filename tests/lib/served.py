@@ -59,14 +59,21 @@ ENDED = Ran(0, b"", LIMIT)
 """The end of a program that served as many connections as it was asked for, none of them with a 90."""
 
 
-REPORTS = {REOPENING, REOPENING.replace(REFUSED, b"cpi: out of memory"), b"cpi: the file is open again\n", LIMIT}
+SHAKES = [REFUSED, b"cpi: out of memory"]
+"""Why the book is opened again, as the lines on standard error begin; after the last connection they end there."""
+
+REPORTS = {*(it + b", opening the file again\n" for it in SHAKES), b"cpi: the file is open again\n", LIMIT}
 """The lines on standard error that aren't the fault of an end."""
+
+LAST_REPORTS = {it + b"\n" for it in SHAKES}
+"""Those after the last connection, if the program ends well; else the same words can be the fault."""
 
 
 def without_reports(ran: Ran) -> Ran:
     """The end of a program, with the line of its fault only."""
+    reports = REPORTS if ran.status else REPORTS | LAST_REPORTS
     lines = ran.err.splitlines(keepends=True)
-    return ran._replace(err=b"".join(line for line in lines if line not in REPORTS))
+    return ran._replace(err=b"".join(line for line in lines if line not in reports))
 
 
 def ended_after(responses: Sequence[bytes]) -> Ran:

@@ -1,21 +1,29 @@
-"""The site of the tables of examples/national, beside the tables that were computed here."""
+"""The pages of a pack of examples/national, beside the figures that were computed here."""
 
 from __future__ import annotations
 
 import collections
-import csv
 import datetime
 import html.parser
-import io
 import os
-import subprocess
+import re
 from collections.abc import Iterator
 from fractions import Fraction
+from pathlib import Path
 from typing import Optional
 
-from .by_the_manual import Month, Row, nearest, printed, tenths
+from .by_the_manual import Month
 from .cases import content
-from .nation import EXAMPLE, previous, year_before
+from .nation import previous, year_before
+from .pack_faults import text
+from .pack_figures import ALL, Figures
+from .pack_forms import rows_of_csv
+
+ADDRESS = "https://prices.example/"
+"""Where the site is, as office.ini says."""
+
+ABSENT = "\u2013"
+"""What pages have for a figure that isn't there."""
 
 
 class Page(html.parser.HTMLParser):
@@ -50,27 +58,12 @@ class Page(html.parser.HTMLParser):
             self.rows[-1][-1] += data
 
 
-def csv_of(*path: str) -> csv.DictReader[str]:
-    """The rows of a file, by the names of its columns."""
-    return csv.DictReader(io.StringIO(content(*path).decode(), newline=""))
-
-
-def figure_faults(site: str, found: dict[str, Month]) -> Iterator[str]:
-    """Each figure of the site's file of all months, beside the tables that were computed here."""
-    names = "code", "weight", "index", "chained", "month_change", "year_change", "imputed", "title"
-    wrote = [[row["month"], *(row[name] for name in names)] for row in csv_of(site, "data", "cpi.csv")]
-    wanted = [[month, *printed(row)] for month, it in found.items() for row in it.rows]
-    if len(wrote) != len(wanted):
-        yield f"site: cpi.csv has {len(wrote)} rows, wanted {len(wanted)}"
-    yield from (f"site: wrote {own}, wanted {want}" for own, want in zip(wrote, wanted) if own != want)
-
-
 def contribution_faults(site: str, found: dict[str, Month], first: str) -> Iterator[str]:
     """What the divisions give has to add up to the change of all items, as it is before rounding."""
     levels = {month: {row.code: row.level for row in it.rows}["00"] for month, it in found.items()}
     levels[first] = Fraction(100)
     sums: dict[tuple[str, str], Fraction] = collections.defaultdict(Fraction)
-    for row in csv_of(site, "data", "contributions.csv"):
+    for row in rows_of_csv(Path(site, "data/contributions.csv")):
         if len(row["code"]) == 2 and row["of"] == "00":
             for kind in ("month", "year"):
                 sums[row["month"], kind] += Fraction(row[f"contribution_{kind}"] or 0)
@@ -81,40 +74,89 @@ def contribution_faults(site: str, found: dict[str, Month], first: str) -> Itera
                 yield f"site: contributions of {month} on the {kind} add up to {sums[month, kind]}, wanted {wanted}"
 
 
-def page_faults(site: str, month: str, rows: list[Row]) -> Iterator[str]:
-    """The page of each node of the last month, beside its row: figures, pictures, and where it leads."""
-    name = datetime.date(int(month[:4]), int(month[5:]), 1).strftime("%B %Y")
-    for row in rows:
-        code, page = row.code, Page(site, "node", f"{row.code}.html")
-        shown: list[str] = next((cells for cells in page.rows if cells[0] == name), [])
-        changes = [tenths(change).replace("-", "\u2212") for change in (row.monthly, row.annual)]
-        signed = [f"+{text}" if text.strip("0.")[:1].isdigit() else text for text in changes]
-        wanted = [tenths(nearest(row.level, 10)), tenths(nearest(row.within, 10))]
-        wanted += [f"{text}\u202f%" if text else "\u2013" for text in signed]
-        if shown[1:6] != [*wanted, "i" * row.is_imputed]:
-            yield f"site: the page of {code} shows {shown}, wanted {wanted}"
+def month_of(name: str) -> str:
+    """`2026-01` of the text January 2026."""
+    return datetime.datetime.strptime(name, "%B %Y").strftime("%Y-%m")
+
+
+def signed(number: Optional[Fraction], digits: int) -> str:
+    """A change or a contribution as pages have it."""
+    if number is None:
+        return ABSENT
+    told = text(number, digits)
+    return told.replace("-", "\u2212") if number < 0 or not told.strip("0.") else f"+{told}"
+
+
+def percent(number: Optional[Fraction]) -> str:
+    """A change as pages have it."""
+    return f"{signed(number, 1)}\u202f%" if number is not None else ABSENT
+
+
+def line_faults(known: Figures, code: str, page: Page) -> Iterator[str]:
+    """The months of an item, the latest first: index, index within the year, changes, whether a price was imputed; and a
+    row for each break."""
+    at = next(at for at, cells in enumerate(page.rows) if cells[0] == "Month")
+    rows = [cells for cells in page.rows[at + 1 :] if len(cells) > 1]
+    lines = known.lines[code]
+    if [month_of(cells[0]) for cells in rows] != sorted(lines, reverse=True):
+        yield f"site: the page of {code} has the months {[cells[0] for cells in rows]}"
+        return
+    for cells in rows:
+        month = month_of(cells[0])
+        changes = map(percent, known.changes(code, month))
+        wanted = [text(known.printed(code, month), 1), text(lines[month].within, 1), *changes]
+        # (the last cell has the letters of all notes, of which `i` says that a price was imputed)
+        if cells[1:5] != wanted or ("i" in cells[5]) != lines[month].is_imputed:
+            yield f"site: the page of {code} shows {cells}, wanted {wanted}"
+    breaks = sum(len(cells) == 1 and cells[0].startswith("Break: from ") for cells in page.rows[at:])
+    if breaks != sum(line.is_break for line in lines.values()):
+        yield f"site: the page of {code} has {breaks} breaks"
+
+
+def parts_faults(known: Figures, code: str, page: Page) -> Iterator[str]:
+    """What an item is made of in the last month: share of all weight, change and contribution to the item."""
+    month = known.months[-1]
+    whole, found = known.lines[ALL][month].weight, list[list[str]]()
+    for below in known.below(code):
+        line, given = known.line(below, month), known.given(month, below, code)
+        if line:
+            share = f"{text(Fraction(100 * line.weight, whole), 2)} %"
+            found.append(
+                [known.titles[below], share, percent(known.changes(below, month)[1]), signed(given.to_year, 2)]
+            )
+    at = next(at for at, cells in enumerate(page.rows) if cells[0] == "Month")
+    shown = [cells[:4] for cells in page.rows[1:at] if len(cells) == 5]
+    if sorted(shown) != sorted(found):
+        yield f"site: the page of {code} is made of {sorted(shown)}, wanted {sorted(found)}"
+
+
+def page_faults(site: str, known: Figures) -> Iterator[str]:
+    """The page of each item that is in the last table: figures, pictures, and where it leads."""
+    for code in known.lines:
+        page = Page(site, "node", f"{code}.html")
+        yield from line_faults(known, code, page)
+        if known.line(code, known.months[-1]):
+            yield from parts_faults(known, code, page)
         if page.pictures < 2 or page.titles != page.pictures:
             yield f"site: the page of {code} has {page.pictures} pictures, {page.titles} titles"
         leading = [it for it in page.links if it != "data:," and not it.startswith("#")]
-        lost = [it for it in leading if "//" in it or not is_there(site, "node", it)]
+        lost = [it for it in leading if not leads_to_a_file(site, it)]
         if lost:
             yield f"site: the page of {code} leads to {lost[:3]}"
 
 
-def is_there(*path: str) -> bool:
-    return os.path.isfile(os.path.join(*path))
+def leads_to_a_file(site: str, link: str) -> bool:
+    """Whether a link of an item's page leads to a file of the site, by its address or from the folder of the page."""
+    path, of_site = re.split("[?#]", link)[0], link.startswith(ADDRESS)
+    if of_site:
+        path = path[len(ADDRESS) :] or "index.html"
+    return "//" not in path and os.path.isfile(os.path.join(site, "" if of_site else "node", path))
 
 
-def site_faults(folder: str, found: dict[str, Month], first: str) -> Iterator[str]:
-    """The site of the published tables, beside those that were computed here."""
-    command = [os.path.join(EXAMPLE, "report"), "--out", folder]
-    made = subprocess.run(command, stdout=subprocess.PIPE, stderr=subprocess.PIPE, text=True, check=False)
-    site, last = os.path.join(folder, "site"), max(found)
-    if (made.returncode, made.stdout) != (0, f"{site}/index.html\n"):
-        yield f"report: status {made.returncode}, {made.stdout}, {made.stderr[-300:]}"
-        return
-    yield from figure_faults(site, found)
+def site_faults(folder: str, known: Figures, found: dict[str, Month], first: str) -> Iterator[str]:
+    """The pages of the pack."""
+    site = os.path.join(folder, "site")
     yield from contribution_faults(site, found, first)
-    yield from page_faults(site, last, found[last].rows)
+    yield from page_faults(site, known)
     if len(Page(site, "index.html").rows) < 14:
         yield "site: its first page hasn't all divisions"

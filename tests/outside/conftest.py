@@ -24,12 +24,20 @@ from lib.fixtures import cpi  # noqa: E402, F401
 def pytest_addoption(parser: pytest.Parser) -> None:
     fixtures.pytest_addoption(parser)
     parser.addoption("--leave-out", action="append", default=[], help="what isn't here on purpose")
+    parser.addoption("--kills", type=int, default=100, help="how often the first machine is killed")
 
 
 @pytest.fixture(scope="session")
 def program(request: pytest.FixtureRequest) -> Path:
     """The program cpi."""
     return Path(request.config.getoption("--program"))
+
+
+@pytest.fixture(scope="session")
+def kills(request: pytest.FixtureRequest) -> int:
+    """How often the first machine is killed."""
+    found: int = request.config.getoption("--kills")
+    return found
 
 
 @pytest.fixture(scope="session")

@@ -308,17 +308,40 @@ def test_a_reply_has_no_field_that_only_pages_need(path: str, status: int, is_pa
         assert (answer.read() is not None, answer.status) == (True, status)
     assert {name for name in OF_PAGES if answer.getheader(name)} == (OF_PAGES if is_page else set())
     assert answer.getheader("X-Content-Type-Options") == "nosniff"
-    assert answer.getheader("Cross-Origin-Resource-Policy") == "same-origin"
+    is_public = path == "/api/tables"
+    assert answer.getheader("Cross-Origin-Resource-Policy") == ("cross-origin" if is_public else "same-origin")
+    assert answer.getheader("Access-Control-Allow-Origin") == ("*" if is_public else None)
     policy = answer.headers.get_all("Content-Security-Policy") or []
     assert len(policy) == 1 and policy[0].startswith("default-src 'none'")
     assert (policy[0] == "default-src 'none'") == (not is_page)
+
+
+PUBLIC = ("data/cpi.csv", "picture/00-level.svg", "node/01.csv", "manifest.json", "SHA256SUMS")
+OWN_FILES = ("index.html", "node/01.html", "assets/style.css", "embed/00.html")
+
+
+def test_public_files_are_for_other_sites_and_pages_to_embed_are_framed(front: Front, tmp_path: Path) -> None:
+    """As nginx does it: tests/web/test_pictures_elsewhere.py."""
+    for name in (*PUBLIC, *OWN_FILES):
+        (tmp_path / "site" / name).parent.mkdir(exist_ok=True)
+        (tmp_path / "site" / name).write_text("x")
+        with contextlib.closing(front.line()) as line:
+            line.request("GET", f"/published/{name}")
+            answer = line.getresponse()
+            assert (answer.read(), answer.status) == (b"x", 200)
+        is_public, is_framed = name in PUBLIC, name.startswith("embed/")
+        assert answer.headers.get_all("Access-Control-Allow-Origin") == (["*"] if is_public else None), name
+        resource = "cross-origin" if is_public or is_framed else "same-origin"
+        assert answer.headers.get_all("Cross-Origin-Resource-Policy") == [resource], name
+        (policy,) = answer.headers.get_all("Content-Security-Policy") or []
+        assert f"frame-ancestors {'*' if is_framed else chr(39) + 'none' + chr(39)};" in policy, name
 
 
 def test_the_policy_of_the_published_website_is_its_own(front: Front, tmp_path: Path) -> None:
     """Its bars say in the pages how long they are; all else may have no style of its own."""
     (tmp_path / "site/index.html").write_text("<h1>Prices</h1>")
     policies = {}
-    for path in ("/", "/tables/", "/published/", "/published/index.html"):
+    for path in ("/", "/collect/", "/published/", "/published/index.html"):
         with contextlib.closing(front.line()) as line:
             line.request("GET", path)
             policies[path] = line.getresponse().headers.get_all("Content-Security-Policy") or []
@@ -353,6 +376,59 @@ def test_the_website_and_what_an_office_sets_lie_outside_of_the_pages(front: Fro
             assert answer.getheader("X-Content-Type-Options") == "nosniff"
             assert answer.getheader("Cache-Control") == ("no-store" if status == 404 else "no-cache"), path
     assert answer.getheader("Location") == "/published/"
+
+
+def test_the_website_has_its_own_page_for_a_wrong_address(front: Front, tmp_path: Path) -> None:
+    """At any depth, as long as it is there; nothing else has it."""
+    assert front.asked("GET", "/published/node/nothing.html")[0] == 404
+    (tmp_path / "site/404.html").write_text("<!DOCTYPE html>none here")
+    with contextlib.closing(front.line()) as line:
+        for path, body in (
+            ("/published/nothing", b"<!DOCTYPE html>none here"),
+            ("/published/node/deep/nothing.html", b"<!DOCTYPE html>none here"),
+            ("/nothing", b"404"),
+            ("/api/nothing", b""),
+        ):
+            line.request("GET", path)
+            answer = line.getresponse()
+            assert (answer.status, answer.read()) == (404, body), path
+            assert path.startswith("/api/") or answer.getheader("Cache-Control") == "no-store"
+
+
+def test_cards_feed_and_calendar_are_for_other_sites(front: Front, tmp_path: Path) -> None:
+    (tmp_path / "site/release").mkdir()
+    names = ("release/2026-01-r1.png", "feed.xml", "calendar.ics", "release/2026-01-r1.html", "sitemap.xml")
+    with contextlib.closing(front.line()) as line:
+        for at, name in enumerate(names):
+            (tmp_path / "site" / name).write_text("text")
+            line.request("GET", f"/published/{name}")
+            answer = line.getresponse()
+            answer.read()
+            wanted = ("*", "cross-origin") if at < 3 else (None, "same-origin")
+            names_of = ("Access-Control-Allow-Origin", "Cross-Origin-Resource-Policy")
+            assert (answer.status, *map(answer.getheader, names_of)) == (200, *wanted), name
+
+
+@pytest.mark.parametrize(
+    ("path", "to"),
+    [("/", (302, "/published/")), ("/index.html", (302, "/published/")), ("/tables", (301, "/published/choose.html?")),
+     ("/tables/", (301, "/published/choose.html?")),
+     ("/tables/?items=00+01&from=2026-01", (301, "/published/choose.html?items=00+01&from=2026-01"))],
+)  # fmt: skip
+def test_the_first_page_and_the_tables_are_the_websites(front: Front, tmp_path: Path, path: str, to: object) -> None:
+    """Until there is one, the first page is the one that says so. As nginx does it: tests/web/test_front.py."""
+
+    def led() -> tuple[int, str]:
+        with contextlib.closing(front.line()) as line:
+            line.request("GET", path)
+            answer = line.getresponse()
+            answer.read()
+            return answer.status, answer.getheader("Location") or ""
+
+    assert led() == ((302, "/") if path.startswith("/tables") else (200, ""))
+    (tmp_path / "site/index.html").write_text("<h1>Prices</h1>")
+    (tmp_path / "site/choose.html").write_text("<h1>Choose</h1>")
+    assert led() == to
 
 
 def test_the_calendar_is_only_read_and_not_there_until_it_is_written(front: Front, tmp_path: Path) -> None:

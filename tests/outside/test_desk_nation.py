@@ -1,4 +1,4 @@
-"""The example of national size at the desk, all 25 months while `cpi` runs: carry lists and provisional tables."""
+"""The example of national size at the desk, all 40 months while `cpi` runs: carry lists and provisional tables."""
 
 from __future__ import annotations
 
@@ -49,5 +49,5 @@ def test_carry_lists_and_tables_of_all_months(cpi: Cpi, records: Records, tmp_pa
             if (caller, word) == ("public", "table") and "table" in reply and others[1] == "csv":
                 assert reply["table"].encode() == tables[others[0]]
                 compared.append(others[0])
-    assert len(wanted) == len(set(compared)) == 25
+    assert len(wanted) == len(set(compared)) == 40
     assert sum(bool(codes) for codes in wanted.values()) > 5

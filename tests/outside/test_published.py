@@ -24,7 +24,7 @@ from published import Office, made, shown
 
 Needed = Callable[[str], str]
 
-CONFIG = Config("NSO", "XX", "Office <of> prices", country="Exampleland", reference="2025", currency="crowns")
+CONFIG = Config("NSO", "XX", "Office <of> prices", country="Exampleland", currency="crowns")
 PLACES = {("CPI", "N"): 3, ("CPI", "G1"): 4, ("CPI", "GY"): 5, ("CPIW", "N"): 1}
 """Where the figure of a measure stands in a printed row, by FORMATS."""
 
@@ -165,7 +165,7 @@ def opened(needed: Needed) -> Iterator[Browser]:
 
 
 PAGES = ("index.html", "nodes.html", "node/00.html", "node/01.html", "node/01.1.1.2-01.html", "contract.html",
-         "data.html", "revisions.html", "method.html")  # fmt: skip
+         "data.html", "revisions.html", "method.html", "how-to-read.html", "embed/01.html")  # fmt: skip
 
 OVERLAPS = """(() => {
   // names and figures that lie on one another, or on the line of zero, in a picture or beside a bar
@@ -198,12 +198,12 @@ def test_a_page_has_no_fault_at_a_width(opened: Browser, pack: Path, name: str, 
 def test_a_page_is_gone_through_by_the_keyboard(opened: Browser, pack: Path) -> None:
     """The first stop leads past the ways to other pages, and what has the focus is outlined."""
     opened.open(pack / "contract.html", 360)
-    stops = []
-    for _ in range(13):
+    stops = [""]
+    while stops[-1] != "now" and len(stops) < 30:
         opened.press("Tab")
         stops.append(opened.value("document.activeElement.id || document.activeElement.textContent"))
         assert opened.value("getComputedStyle(document.activeElement).outlineStyle") == "solid", stops
-    assert stops[0] == "To the content" and stops[8:12] == ["amount", "code", "then", "now"]
+    assert stops[1] == "To the content" and stops[-4:] == ["amount", "code", "then", "now"]
 
 
 def test_a_printed_page_keeps_its_bars_and_leaves_the_ways_out(opened: Browser, pack: Path) -> None:

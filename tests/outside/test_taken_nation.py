@@ -1,4 +1,4 @@
-"""The example of national size out and in again: each of its 25 tables byte for byte."""
+"""The example of national size out and in again: each of its 40 tables byte for byte."""
 
 from __future__ import annotations
 
@@ -33,7 +33,7 @@ def wanted(nation: Path) -> Tables:
     """The tables that the example's own run wrote."""
     folder = nation.parent / "out/tables"
     found = {path.stem: path.read_text(encoding="utf-8") for path in sorted(folder.glob("*.csv"))}
-    assert len(found) == 25
+    assert len(found) == 40
     return found
 
 
@@ -55,7 +55,7 @@ def test_as_it_was_taken_out(cpi: Cpi, nation: Path, wanted: Tables, tmp_path: P
 
 
 def test_onto_the_office_that_it_is_of(cpi: Cpi, nation: Path, tmp_path: Path) -> None:
-    """Hand-overs and 25 freezes among it: nothing is refused, and nothing is to be sent."""
+    """Hand-overs and 40 freezes among it: nothing is refused, and nothing is to be sent."""
     assert run(cpi, "take-out", nation, tmp_path / "files").status == 0
     ran = run(cpi, "take-in", tmp_path / "files", "--onto", nation, "--write", tmp_path / "records")
     assert (ran.status, ran.err, ran.out.partition(",")[0]) == (0, "", "nothing new")

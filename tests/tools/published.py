@@ -1,4 +1,5 @@
-"""An office for the tests of what is published: 31 months, a node that leaves, one that comes, and three revisions.
+"""An office for the tests of what is published: 31 months and three revisions. Flour leaves, telephones come, and
+pears leave and are back.
 
 Under embargo are both revisions of the last month, and the second revision of the month two before it.
 """
@@ -25,18 +26,21 @@ LONG_AFTER = 9_000_000_000
 """A moment that no clock shows in the lifetime of these tests: what is published then is under embargo now."""
 
 WEIGHTS = {
-    2025: {"01.1.1.1-01": 400_000, "01.1.1.2-01": 150_000, "07.2.2.1-01": 450_000},
+    2025: {"01.1.1.1-01": 400_000, "01.1.1.2-01": 150_000, "01.1.6.2-01": 100_000, "07.2.2.1-01": 350_000},
     2026: {"01.1.1.1-01": 380_000, "07.2.2.1-01": 420_000, "08.1.1.1-01": 200_000},
-    2027: {"01.1.1.1-01": 390_000, "07.2.2.1-01": 400_000, "08.1.1.1-01": 210_000},
+    2027: {"01.1.1.1-01": 390_000, "01.1.6.2-01": 90_000, "07.2.2.1-01": 310_000, "08.1.1.1-01": 210_000},
 }
-ITEMS = {"RICE": "01.1.1.1-01", "FLOUR": "01.1.1.2-01", "FUEL": "07.2.2.1-01", "PHONE": "08.1.1.1-01"}
+ITEMS = {"RICE": "01.1.1.1-01", "FLOUR": "01.1.1.2-01", "FUEL": "07.2.2.1-01", "PHONE": "08.1.1.1-01",
+         "PEAR": "01.1.6.2-01"}  # fmt: skip
 TITLES = {
     "00": "All items", "01": "Food", "01.1": 'Food, "proper"', "01.1.1": "Cereals", "01.1.1.1": "Rice",
-    "01.1.1.1-01": "Rice, packed", "01.1.1.2": "Flour", "01.1.1.2-01": "Flour & <meal>", "07": "Transport",
+    "01.1.1.1-01": "Rice, packed", "01.1.1.2": "Flour", "01.1.1.2-01": "Flour & <meal>", "01.1.6": "Fruit",
+    "01.1.6.2": "Pears", "01.1.6.2-01": "Pears", "07": "Transport",
     "07.2": "Running", "07.2.2": "Fuels", "07.2.2.1": "Petrol", "07.2.2.1-01": "Petrol", "08": "Communication",
     "08.1": "Equipment", "08.1.1": "Telephones", "08.1.1.1": "Mobile", "08.1.1.1-01": "=Mobile",
 }  # fmt: skip
-CODES = 18
+CODES = 21
+SLOTS = range(1, 2 * len(ITEMS) + 1)
 
 
 class Office(NamedTuple):
@@ -62,13 +66,13 @@ def registered() -> Iterator[str]:
     yield from (record(0, "desk", "item", item, item.title(), "1", 1, 10_000) for item in ITEMS)
     yield record(0, "desk", "outlet", 1, "Harbour market")
     yield record(0, "desk", "collector", 1, KEY)
-    for slot in range(1, 9):
+    for slot in SLOTS:
         yield record(0, "desk", "assign", 1, slot, 1, [*ITEMS][(slot - 1) // 2], "2024-12", "2027-12")
 
 
 def priced(at: int, month: str, drawn: random.Random, prices: dict[int, int]) -> Iterator[str]:
     """A price of each slot; one is missing each May."""
-    for slot in range(1, 9):
+    for slot in SLOTS:
         prices[slot] = max(50, prices.get(slot, 1000 * slot) * drawn.randint(960, 1050) // 1000)
         mark = ("missing", "stock") if slot == 2 and month.endswith("-05") else ("price", prices[slot])
         yield record(at, KEY, "quote", slot, month, *mark)

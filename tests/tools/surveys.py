@@ -12,7 +12,7 @@ import io
 import random
 from collections.abc import Iterator
 from pathlib import Path
-from typing import NamedTuple, Optional
+from typing import NamedTuple
 
 from cpi_tools.program import Cpi, Reply, Session, record
 from lib.offices import RICE_AND_FLOUR, quoted

@@ -27,13 +27,16 @@ from spreadsheets import sheets, written
 from test_sheets import SHEET, changed
 
 RUN = """\
-import resource, sys
+import sys
+from pathlib import Path
 sys.path[:0] = [{tools!r}]
 from cpi_tools.command_line import main
 status = main(sys.argv[1:])
-print(status, resource.getrusage(resource.RUSAGE_SELF).ru_maxrss, file=sys.stderr)
+(most,) = [line.split()[1] for line in Path("/proc/self/status").read_text().splitlines() if line.startswith("VmHWM")]
+print(status, most, file=sys.stderr)
 """
-"""Runs cpi-tools, and prints its status and the most memory that it took, in kilobytes."""
+"""Runs cpi-tools, and prints its status and the most memory that it took, in kilobytes. (`ru_maxrss` would count the
+memory of the tests, from whose process this one is made.)"""
 
 
 def measured(cpi: Cpi, folder: Path, *words: str) -> tuple[int, int]:

@@ -65,7 +65,7 @@ def test_of_a_pack(cpi: Cpi, office: Path, tmp_path: Path) -> None:
     plain, safe = run(cpi, *words, tmp_path / "plain"), run(cpi, *words, tmp_path / "safe", "--safe-csv")
     assert (plain.status, safe.status, safe.err) == (0, 0, "")
     assert plain.err.startswith("cpi-tools publish: in CSV files a spreadsheet would compute 1 text, such as '=1+1': ")
-    for name in ("data/cpi.csv", "data/vintages.csv", "node/01.1.1.1-01.csv"):
+    for name in ("data/cpi.csv", "node/01.1.1.1-01.csv"):
         texts = [(tmp_path / folder / name).read_text("utf-8") for folder in ("plain", "safe")]
         assert f",5,{TITLE},600000," in texts[0] and f",5,'{TITLE},600000," in texts[1]
         # (nothing else differs: -4.5 is a figure)

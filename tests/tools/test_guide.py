@@ -73,7 +73,7 @@ def test_a_backup_is_restored(cpi: Cpi, office: Path, tmp_path: Path) -> None:
 
 def test_each_help_has_an_example_and_narrow_lines() -> None:
     tools = ("backup", "drill", "probe", "doctor", "keys", "calendar", "desk", "explain", "publish", "take-in", "take-out",
-             "next-year")  # fmt: skip
+             "next-year", "follow", "promote", "gaps")  # fmt: skip
     for words in ([], *([tool] for tool in tools)):
         told = subprocess.run([ROOT / "cpi-tools", *words, "--help"], capture_output=True, text=True, check=True).stdout
         assert re.search(r"^example: cpi-tools [\w-]+ .*\boffice\.db\b", told, re.M), told

@@ -25,7 +25,7 @@ from conftest import ROOT
 
 OPS = ROOT / "ops"
 KEY = "0123456789abcdef0123456789abcdef"
-UNITS = ["cpi.service", "cpi-backup.service", "cpi-backup.timer"]
+UNITS = ["cpi.service", "cpi-backup.service", "cpi-backup.timer", "cpi-follow.service", "cpi-promoted.service"]
 
 
 def needed(program: str) -> str:
@@ -54,16 +54,23 @@ def test_the_units_are_verified_by_systemd(tmp_path: Path) -> None:
 def test_what_the_units_start_is_there_and_named_in_the_guide() -> None:
     guide = (ROOT / "docs/RUNNING.md").read_text()
     for name in UNITS:
-        for started in re.findall(r"^Exec\w+=/usr/lib/cpi/(\S+)$", (OPS / name).read_text(), re.M):
+        for started in re.findall(r"^Exec\w+=\+?/usr/lib/cpi/([\w-]+)", (OPS / name).read_text(), re.M):
             assert os.access(OPS / started, os.X_OK)
     assert [path.name for path in sorted(OPS.iterdir()) if f"{path.name}" not in guide] == []
 
 
+ADDED = {"CPI_COPY", "CPI_COPY_EVERY"}
+"""What an office with a second machine adds to its office.conf. (If the package's own file changed, an upgrade of an
+office that has set something in it would ask which file to take.)"""
+
+
 def test_each_variable_of_the_scripts_is_in_the_configuration() -> None:
     told = set(re.findall(r"^(CPI_\w+)=", (OPS / "office.conf").read_text(), re.M))
-    scripts = ("cpi-serve", "cpi-stopped", "cpi-backup")
+    guide = (ROOT / "docs/RUNNING.md").read_text(encoding="utf-8")
+    assert [name for name in sorted(ADDED) if f"a line `{name}=" not in guide] == []
+    scripts = ("cpi-serve", "cpi-stopped", "cpi-backup", "cpi-follow")
     used = {name for path in scripts for name in re.findall(r"CPI_\w+", (OPS / path).read_text())}
-    assert told == used
+    assert told == used - ADDED
 
 
 WRONG = os.EX_CONFIG
@@ -216,6 +223,58 @@ def test_a_place_whose_clock_follows_no_rule_is_told(cpi: Cpi, tmp_path: Path) -
     started = start(cpi, tmp_path, CPI_ZONE="Africa/Casablanca")
     assert (started.status, started.printed, started.told.count("\n")) == (WRONG, "", 1)
     assert "CPI_ZONE is Africa/Casablanca, whose clock follows no rule" in started.told
+
+
+# ---- a second machine
+
+
+def test_an_office_whose_copy_was_promoted_does_not_start(cpi: Cpi, tmp_path: Path) -> None:
+    office, mark = tmp_path / "office.db", tmp_path / "office.db.promoted"
+    mark.write_text("second was promoted 2026-11-27 22:00:00 UTC\n")
+    started = start(cpi, tmp_path, CPI_ZONE="UTC0", CPI_OFFICE=str(office))
+    assert (started.status, started.printed, started.told.count("\n")) == (WRONG, "", 1)
+    assert started.told.startswith(f"cpi-serve: {mark}: second was promoted 2026-11-27 22:00:00 UTC: two offices")
+    assert not (tmp_path / "started").exists()
+    mark.unlink()
+    assert start(cpi, tmp_path, CPI_ZONE="UTC0", CPI_OFFICE=str(office)).status == 0
+
+
+def followed(folder: Path, *words: str, **settings: str) -> Started:
+    """What cpi-follow does, with tools that end with the statuses of a file, one after the other."""
+    next_status = f'status=$(head -n 1 {folder}/statuses); sed -i 1d {folder}/statuses; exit "$status"'
+    for name in ("cpi-tools", "systemctl", "sleep"):
+        script(folder / name, f'echo {name} "$@" >> {folder}/asked\n' + (next_status if name == "cpi-tools" else ""))
+    kept = {"PATH": f"{folder}:{os.environ['PATH']}", "CPI_OFFICE": "office.db", **settings}
+    ran = subprocess.run([OPS / "cpi-follow", *words], env=kept, capture_output=True, text=True, check=False)
+    return Started(ran.returncode, ran.stdout, ran.stderr, folder)
+
+
+def test_the_second_copy_is_kept_as_the_settings_say(tmp_path: Path) -> None:
+    (tmp_path / "statuses").write_text("0\n")
+    assert followed(tmp_path, CPI_COPY="second:copy", CPI_COPY_EVERY="7")[:3] == (0, "", "")
+    asked = "cpi-tools follow office.db second:copy --every 7 --room /var/lib/cpi-follow\n"
+    assert (tmp_path / "asked").read_text() == asked
+    for word in ("", "ask"):
+        none = followed(tmp_path, *([word] if word else []), CPI_COPY="")
+        assert (none.status, none.told.count("\n")) == (WRONG, 1) and "CPI_COPY is empty" in none.told
+
+
+@pytest.mark.parametrize("last", [0, 4])
+def test_the_office_waits_until_its_copy_says_whether_it_was_promoted(last: int, tmp_path: Path) -> None:
+    (tmp_path / "statuses").write_text(f"1\n1\n{last}\n")
+    ended = followed(tmp_path, "ask", CPI_COPY="second:copy")
+    assert (ended.status, ended.told.count("\n")) == (last, 2)
+    asked = ["cpi-tools follow office.db second:copy --ask --room /var/lib/cpi-follow"] * 3
+    assert (tmp_path / "asked").read_text().splitlines() == [asked[0], "sleep 10", asked[1], "sleep 10", asked[2]]
+
+
+@pytest.mark.parametrize("status, asked", [("4", ["systemctl stop cpi.service"]), ("1", []), ("TERM", [])])
+def test_the_office_of_this_machine_stops_if_its_copy_was_promoted(
+    status: str, asked: list[str], tmp_path: Path
+) -> None:
+    assert followed(tmp_path, "stopped", CPI_COPY="second:copy", EXIT_STATUS=status)[:3] == (0, "", "")
+    told = tmp_path / "asked"
+    assert (told.read_text().splitlines() if told.exists() else []) == asked
 
 
 # ---- after a fault, and after a stop

@@ -8,7 +8,7 @@ import json
 import re
 from html.parser import HTMLParser
 from pathlib import Path
-from typing import Optional
+from typing import Any, Optional
 
 import pytest
 
@@ -139,7 +139,8 @@ def office(cpi: Cpi, tmp_path_factory: pytest.TempPathFactory) -> Path:
 
 
 def test_on_the_pages_of_a_website(cpi: Cpi, office: Path, tmp_path: Path) -> None:
-    words = {name: MARK + name for name in ("office", "title", "country", "contact", "licence", "currency")}
+    names = ("office", "title", "country", "contact", "licence", "currency")
+    words: dict[str, Any] = {name: MARK + name for name in names}
     out = tmp_path / "public"
     publish(from_file(cpi, office, 9000), Config(agency="NSO", area="XX", **words), out, None, lambda _: None)
     pages = [*out.rglob("*.html")]

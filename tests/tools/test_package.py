@@ -20,7 +20,7 @@ from cpi_tools.program import Cpi
 from conftest import ROOT
 from test_ops import UNITS, needed
 
-INPUTS = ["tools", "docs", "ops", "web", "examples", "dist", "README.md", "LICENSE", "CHANGELOG.md", "THIRD-PARTY.md",
+INPUTS = ["tools", "docs", "ops", "web", "po", "examples", "dist", "README.md", "LICENSE", "CHANGELOG.md", "THIRD-PARTY.md",
           "SECURITY.md", "CONTRIBUTING.md", "crates.txt"]  # fmt: skip
 """All that a package is made of."""
 
@@ -149,6 +149,7 @@ def test_each_file_of_ops_has_its_place(members: dict[str, tarfile.TarInfo]) -> 
     units, programs, others = {"usr/lib/systemd/system"}, {"usr/lib/cpi"}, {"usr/share/cpi/ops"}
     assert places == {
         "cpi.service": units, "cpi-backup.service": units, "cpi-backup.timer": units, "cpi-serve": programs,
+        "cpi-follow.service": units, "cpi-promoted.service": units, "cpi-follow": programs,
         "cpi-backup": programs, "cpi-stopped": programs, "nginx.conf": others, "Caddyfile": others, "logrotate-cpi": others,
         "try": others, "try.py": others, "office.conf": {"etc/cpi"},
     }  # fmt: skip
@@ -178,13 +179,13 @@ def test_nothing_is_started_by_it(package: Path, members: dict[str, tarfile.TarI
         f"systemd-tmpfiles {root} --create cpi.conf || true",
         "systemctl --system daemon-reload",
         "systemctl --quiet is-active cpi.service; then",
-        "deb-systemd-invoke stop cpi-backup.timer cpi.service",
+        "deb-systemd-invoke stop cpi-backup.timer cpi-follow.service cpi.service",
     }
     needs = re.findall(r"^(?:Depends|Recommends|Suggests): (.*)$", (tmp_path / "told/control").read_text(), re.M)
     assert needs == [
         "libc6 (>= 2.34), python3 (>= 3.9)",
-        "python3-jinja2, python3-segno",
-        "python3-openpyxl, libreoffice-calc-nogui",
+        "python3-jinja2, python3-segno, python3-babel",
+        "python3-openpyxl, libreoffice-calc-nogui, openssh-client, rsync, rclone, librsvg2-bin, fonts-dejavu-core",
     ]
 
 
@@ -354,9 +355,10 @@ def test_it_goes_as_it_came(installed: Path, package: Path, tmp_path: Path) -> N
     """What it made for itself goes, and that its units are enabled; the settings stay until they are purged."""
     dpkg(tmp_path, "--install", package)
     wants = [f"multi-user.target.wants/{UNITS[0]}", f"timers.target.wants/{UNITS[2]}"]
+    wants += [f"multi-user.target.wants/{UNITS[3]}", f"cpi.service.requires/{UNITS[4]}"]
     for want in wants:
         enabled = tmp_path / "etc/systemd/system" / want
-        enabled.parent.mkdir(parents=True)
+        enabled.parent.mkdir(parents=True, exist_ok=True)
         enabled.symlink_to(f"/lib/systemd/system/{enabled.name}")
     dpkg(tmp_path, "--remove", "cpi")
     assert [path for path in tmp_path.rglob("*") if path.is_symlink()] == []

@@ -101,7 +101,8 @@ def test_columns_begin_at_zero() -> None:
 def test_a_gap_in_a_line_is_a_gap() -> None:
     root = parts_of(charts.lines(Picture("g", "Gap", "A gap."), MONTHS[:4], [Line(OWN, [1.0, 2.0, None, 3.0])]))
     path = next(it for it in root.iter(SVG + "path") if it.get("class") == "line own")
-    assert re.sub(r"[\d. ]+", "", path.get("d", "")) == "MLM"
+    # (the month after the gap is a short stroke: a line to nowhere isn't drawn)
+    assert re.sub(r"[\d. ]+", "", path.get("d", "")) == "MLMh"
 
 
 def test_the_marks_of_an_axis_are_round_and_span_the_values() -> None:
@@ -133,7 +134,7 @@ def test_a_page_stands_alone_and_its_texts_are_escaped(tmp_path: Path) -> None:
     bar = charts.track([1.0]).bars[0]
     pages.write_page(pages.environment(own), "page.html", tmp_path / "x.html", name="<i>&", picture=picture, bar=bar)
     text = (tmp_path / "x.html").read_text(encoding="utf-8")
-    assert text.count("&lt;i&gt;&amp;") == 2 and "<i>&" not in text and "<script>" not in text
+    assert text.count("&lt;i&gt;&amp;") == 3 and "<i>&" not in text and "<script>" not in text
     assert "--accent" in text and '<link rel="stylesheet"' not in text
     assert 'viewBox="0 0 400 224"' in text
 

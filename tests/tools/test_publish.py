@@ -12,6 +12,7 @@ import hashlib
 import io
 import json
 import os
+import re
 import subprocess
 import sys
 import zipfile
@@ -37,7 +38,7 @@ from cpi_tools.publish import CannotPublish, check, publish
 from conftest import ROOT
 from lib.served import free_port
 from loads import served
-from published import HIDDEN_REVISION, LAST, LONG_AFTER, REVISED, Office, lived, shown
+from published import CODES, HIDDEN_REVISION, LAST, LONG_AFTER, REVISED, Office, lived, shown
 from test_measures import tea_again, two_years
 
 INI = """\
@@ -49,6 +50,9 @@ country = Exampleland
 reference = 2025
 currency = crowns
 """
+PEARS = "01.1.6"
+"""The class of pears, which leave after 2025 and are back in 2027."""
+
 CONFIG = Config("NSO", "XX", "Office <of> prices", country="Exampleland", reference="2025", currency="crowns")
 
 Rows = dict[tuple[str, int], list[list[str]]]
@@ -107,12 +111,29 @@ def test_the_tidy_file_has_the_digits_of_the_tables(pack: Path, printed: Rows) -
     assert {row["published"] for row in rows if row["month"] == "2025-01"} == {"1970-01-01T00:31:40Z"}
 
 
-def test_vintages_have_every_revision(pack: Path, printed: Rows) -> None:
-    found: Rows = {}
+def test_vintages_have_what_was_revised_once(pack: Path, printed: Rows) -> None:
+    rows = rows_of(pack / "data/vintages.csv")
+    changed = [pair for pair in zip(printed[REVISED, 1], printed[REVISED, 2]) if pair[0] != pair[1]]
+    found = [[row["revision"], *(row[name] for name in FIELDS)] for row in rows]
+    assert found == [[revision, *row] for pair in changed for revision, row in zip("12", pair)]
+    # (the price of rice was revised, which has a part in four nodes above it and in all items)
+    assert [old[0] for old, _ in changed] == ["00", "01", "01.1", "01.1.1", "01.1.1.1", "01.1.1.1-01"]
+    assert {row["month"] for row in rows} == {REVISED}
+
+
+def test_each_table_can_be_made_of_vintages_and_the_latest_figures(pack: Path, printed: Rows) -> None:
+    revised: dict[tuple[str, str], dict[int, list[str]]] = {}
     for row in rows_of(pack / "data/vintages.csv"):
-        found.setdefault((row["month"], int(row["revision"])), []).append([row[name] for name in FIELDS])
-    assert found == {key: rows for key, rows in printed.items() if rows}
-    assert found[REVISED, 1] != found[REVISED, 2]
+        place = revised.setdefault((row["month"], row["code"]), {})
+        place[int(row["revision"])] = [row[name] for name in FIELDS]
+    latest_rows = [(row["month"], [row[name] for name in FIELDS]) for row in rows_of(pack / "data/cpi.csv")]
+    for month, revision in printed:
+        found = []
+        for row_month, fields in latest_rows:
+            if row_month == month:
+                known = revised.get((month, fields[0]), {})
+                found.append(known[max(it for it in known if it <= revision)] if known else fields)
+        assert found == printed[month, revision]
 
 
 def test_tables_are_the_bytes_of_the_program(cpi: Cpi, public_office: Office, pack: Path) -> None:
@@ -135,7 +156,7 @@ class Wanted(NamedTuple):
     revision: str
 
 
-PLACES = {("CPI", "N"): 3, ("CPI", "G1"): 4, ("CPI", "GY"): 5, ("CPIW", "N"): 1}
+PLACES = {("CPIC", "N"): 3, ("CPI", "G1"): 4, ("CPI", "GY"): 5, ("CPIW", "N"): 1}
 """Where the figure of a measure stands in a printed row, by FORMATS."""
 
 
@@ -155,14 +176,27 @@ def wanted_observations(printed: Rows) -> list[Wanted]:
     )
 
 
+def levels_of(pack: Path) -> list[dict[str, str]]:
+    """The rows of cpi.csv with the level that is 100 in the office's own reference period, empty if there is none."""
+    moved = {(it["month"], it["code"]): it["rereferenced"] for it in rows_of(pack / "data/rereferenced.csv")}
+    return [
+        {**row, "rereferenced": moved.get((row["month"], row["code"]), "")} for row in rows_of(pack / "data/cpi.csv")
+    ]
+
+
 def in_csv(path: Path) -> Iterator[Wanted]:
+    """The monthly observations."""
     for row in rows_of(path):
+        if row["FREQ"] != "M":
+            continue
         names = ("MEASURE", "TRANSFORMATION", "COICOP18", "TIME_PERIOD", "OBS_VALUE", "IMPUTED_PRICES", "REVISION")
         yield Wanted(*(row[name] for name in names))
 
 
 def in_xml(path: Path) -> Iterator[Wanted]:
     for found in ElementTree.parse(path).iter("Series"):
+        if found.get("FREQ") != "M":
+            continue
         key = [found.get(name, "") for name in ("MEASURE", "TRANSFORMATION", "COICOP18")]
         for obs in found.iter("Obs"):
             names = ("TIME_PERIOD", "OBS_VALUE", "IMPUTED_PRICES", "REVISION")
@@ -174,7 +208,9 @@ def test_sdmx_has_each_figure_once(
     pack: Path, printed: Rows, name: str, read: Callable[[Path], Iterator[Wanted]]
 ) -> None:
     found = sorted(read(pack / "data" / name))
-    assert [it for it in found if it.measure != "CTR"] == wanted_observations(printed)
+    own = {(it.month, it.item): it.value for it in found if it[:2] == ("CPI", "N")}
+    assert own == {(row["month"], id_of(row["code"])): row["rereferenced"] or row["chained"] for row in levels_of(pack)}
+    assert [it for it in found if it.measure != "CTR" and it[:2] != ("CPI", "N")] == wanted_observations(printed)
     given = {
         (row["month"], id_of(row["code"]), kind): row[column]
         for row in rows_of(pack / "data/contributions.csv")
@@ -187,7 +223,8 @@ def test_sdmx_has_each_figure_once(
 def test_the_head_of_sdmx_csv(pack: Path) -> None:
     first, second = (pack / "data/cpi.sdmx.csv").read_text(encoding="utf-8").splitlines()[:2]
     assert first.startswith("STRUCTURE,STRUCTURE_ID,ACTION,FREQ,REF_AREA,MEASURE,UNIT_MEASURE,COICOP18,TRANSFORMATION,")
-    assert second.startswith("dataflow,NSO:DF_CPI(1.0),I,M,XX,CPI,IX,_T,N,2025-01,")
+    flow = r"dataflow,NSO:DF_CPI\(2026\.1\.[0-9]+\),I,M,XX,CPI,IX,_T,N,2025-01,"
+    assert re.match(flow, second)
 
 
 STRUCTURE = "{http://www.sdmx.org/resources/sdmxml/schemas/v2_1/structure}"
@@ -201,19 +238,17 @@ def test_the_structure_has_each_id_that_the_data_use(pack: Path) -> None:
     attributes = {it.get("id", "") for it in root.iter(STRUCTURE + "Attribute")}
     head, *rows = csv.reader((pack / "data/cpi.sdmx.csv").open(encoding="utf-8", newline=""))
     assert {*head[3:]} == listed | attributes | {"TIME_PERIOD", "OBS_VALUE"}
-    coded = {
-        "FREQ",
-        "REF_AREA",
-        "MEASURE",
-        "UNIT_MEASURE",
-        "COICOP18",
-        "TRANSFORMATION",
-        "OBS_STATUS",
-        "IMPUTED_PRICES",
-    }
+    coded = {"MEASURE", "UNIT_MEASURE", "COICOP18", "TRANSFORMATION", "IMPUTED_PRICES"}
     assert codes.keys() == {f"CL_{name}" for name in coded}
+    shared = {("SDMX", "CL_FREQ", "2.1"), ("SDMX", "CL_AREA", "2.0.1"), ("SDMX", "CL_OBS_STATUS", "2.2")}
     named = [(it.get("class"), it.get("id", "")) for it in root.iter("Ref")]
-    assert sorted(name for kind, name in named if kind == "Codelist") == sorted(codes)
+    lists = {
+        (it.get("agencyID"), it.get("id"), it.get("version"))
+        for it in root.iter("Ref")
+        if it.get("class") == "Codelist"
+    }
+    own = {(it.get("agencyID"), it.get("id"), it.get("version")) for it in root.iter(STRUCTURE + "Codelist")}
+    assert lists == shared | own and len(own) == 5
     concepts = [it.get("id", "") for it in root.iter(STRUCTURE + "Concept")]
     assert sorted(name for kind, name in named if kind == "Concept") == sorted(concepts) == sorted(head[3:])
     for at, name in enumerate(head):
@@ -223,47 +258,179 @@ def test_the_structure_has_each_id_that_the_data_use(pack: Path) -> None:
     assert titles["CP01112-01"] == "Flour & <meal>"
 
 
-def test_no_structure_is_final(published: list[Published], pack: Path, tmp_path: Path) -> None:
-    """The list of items of the first year and that of the last one differ, in the same version: a registry takes the
-    second one only if the first isn't final (SDMX 2.1, section 3, versioning)."""
-    publish(published[:3], CONFIG, tmp_path / "first", None, quiet)
-    kinds = ("Dataflow", "Codelist", "ConceptScheme", "DataStructure")
-    lists = []
-    for folder in (tmp_path / "first", pack):
-        root = ElementTree.parse(folder / "data/structure.sdmx.xml")
-        kept = [it for kind in kinds for it in root.iter(STRUCTURE + kind)]
-        assert len(kept) == 11 and {(it.get("version"), it.get("isFinal")) for it in kept} == {("1.0", "false")}
-        (items,) = [it for it in kept if it.get("id") == "CL_COICOP18"]
-        lists.append(ElementTree.tostring(items))
-    assert lists[0] != lists[1]
+KINDS = ("Dataflow", "Codelist", "ConceptScheme", "DataStructure")
+
+
+def artefacts(folder: Path) -> dict[str, tuple[str, bytes]]:
+    """By id, the version of each artefact and its content, without any version in it."""
+    root = ElementTree.parse(folder / "data/structure.sdmx.xml")
+    found = {}
+    for it in [it for kind in KINDS for it in root.iter(STRUCTURE + kind)]:
+        assert it.get("isFinal") == "false"
+        found[it.get("id", "")] = (it.get("version", ""), ElementTree.tostring(it))
+    return found
+
+
+def numbers_of(version: str) -> list[int]:
+    return [int(it) for it in version.split(".")]
+
+
+def test_a_version_follows_the_content(published: list[Published], pack: Path, tmp_path: Path) -> None:
+    """A registry keeps what it has in a version, and takes other content only in another one. Telephones come in
+    January 2026; a month between changes nothing, and neither do pears that are back in 2027."""
+    found = {}
+    for name, until in (("2025-02", 3), ("2025-12", 13), ("2026-03", 16), ("2027-02", 29)):
+        publish(published[:until], CONFIG, tmp_path / name, None, quiet)
+        found[name] = artefacts(tmp_path / name)
+        assert len(found[name]) == 8
+    assert found["2025-02"] == found["2025-12"]
+    assert found["2026-03"] == found["2027-02"] == artefacts(pack)
+    for name in ("CL_COICOP18", "DSD_CPI", "DF_CPI"):
+        before, after = (numbers_of(found[each][name][0]) for each in ("2025-12", "2026-03"))
+        assert before[:2] == [2025, 1] and after[:2] == [2026, 1]
+    for name in ("CL_MEASURE", "CL_UNIT_MEASURE", "CS_CPI"):
+        assert found["2025-12"][name] == found["2026-03"][name] and found["2026-03"][name][0].startswith("1.0.")
+    # what the configuration changes has another version as well
+    publish(published[:3], CONFIG._replace(ids={"CPI": "IDX"}), tmp_path / "ids", None, quiet)
+    own = artefacts(tmp_path / "ids")
+    assert {name for name in own if own[name][0] != found["2025-02"][name][0]} == {"CL_MEASURE", "DSD_CPI", "DF_CPI"}
+
+
+def test_a_code_has_the_one_above_it(pack: Path, printed: Rows) -> None:
+    root = ElementTree.parse(pack / "data/structure.sdmx.xml")
+    (items,) = [it for it in root.iter(STRUCTURE + "Codelist") if it.get("id") == "CL_COICOP18"]
+    above = {it.get("id", ""): [ref.get("id", "") for ref in it.iter("Ref")] for it in items.iter(STRUCTURE + "Code")}
+    assert above.pop("_T") == []
+    for code in {code for _, code in latest(printed)} - {"00"}:
+        parent = {2: "00", 11: code[:8]}.get(len(code), code[:-2])
+        assert above.pop(id_of(code)) == [id_of(parent)]
+    assert above == {}
+
+
+def test_the_sender_and_the_language_of_titles(published: list[Published], tmp_path: Path) -> None:
+    """An id of a sender has no dot, an agency may have one; the names of our own lists are English."""
+    (tmp_path / "office.ini").write_text(
+        INI.replace("agency = NSO", "agency = NSO.PRICES\nlanguage = cs")
+        + "[sdmx]\nCL_FREQ = SDMX:CL_FREQ(2.2)\nCL_REF_AREA = NSO:CL_REGIONS(1.4)\n"
+    )
+    config = read_config(tmp_path / "office.ini", KNOWN_IDS)
+    publish(published[:3], config, tmp_path / "public", None, quiet)
+    root = ElementTree.parse(tmp_path / "public/data/structure.sdmx.xml")
+    for name in ("structure.sdmx.xml", "cpi.sdmx.xml"):
+        text = (tmp_path / "public/data" / name).read_text(encoding="utf-8")
+        assert '<message:Sender id="NSO_PRICES"/>' in text
+    language = "{http://www.w3.org/XML/1998/namespace}lang"
+    for found in root.iter(STRUCTURE + "Codelist"):
+        names = {name.get(language) for code in found.iter(STRUCTURE + "Code") for name in code.iter(COMMON + "Name")}
+        assert names == ({"cs"} if found.get("id") == "CL_COICOP18" else {"en"})
+    lists = {
+        (it.get("agencyID"), it.get("id"), it.get("version"))
+        for it in root.iter("Ref")
+        if it.get("class") == "Codelist"
+    }
+    assert lists >= {("SDMX", "CL_FREQ", "2.2"), ("NSO", "CL_REGIONS", "1.4"), ("SDMX", "CL_OBS_STATUS", "2.2")}
+
+
+def test_sdmx_has_annual_averages(pack: Path) -> None:
+    rows = [it for it in rows_of(pack / "data/cpi.sdmx.csv") if it["FREQ"] == "A"]
+    found = {(it["TRANSFORMATION"], it["COICOP18"], it["TIME_PERIOD"]): it["OBS_VALUE"] for it in rows}
+    wanted = {}
+    for row in rows_of(pack / "data/averages.csv"):
+        for kind, column in (("N", "average"), ("G1", "change")):
+            if row[column]:
+                wanted[kind, id_of(row["code"]), row["year"]] = row[column]
+    assert found == wanted and len(rows) == len(found) and len(found) > 40
+    assert {(it["MEASURE"], it["OBS_STATUS"], it["REVISION"]) for it in rows} == {("CPI", "A", "")}
+    # the table of December 2025 came out 900 seconds after the beginning of its month
+    assert {it["EMBARGO_TIME"] for it in rows if it["TIME_PERIOD"] == "2025"} == {"1970-01-01T03:35:00Z"}
+    in_file = [it for it in ElementTree.parse(pack / "data/cpi.sdmx.xml").iter("Series") if it.get("FREQ") == "A"]
+    told = {(it.get("TRANSFORMATION"), it.get("COICOP18"), obs.get("TIME_PERIOD")): obs.get("OBS_VALUE")
+            for it in in_file for obs in it.iter("Obs")}  # fmt: skip
+    assert told == found
 
 
 def test_a_series_has_the_base_of_its_item(pack: Path, tmp_path: Path) -> None:
-    """December before it came; of one that left and came again both."""
+    """The reference period of the office, or December before the item came; of one that left and is back both."""
     publish([*two_years(), tea_again()], CONFIG._replace(reference="2026"), tmp_path / "again", None, quiet)
     first = {"CPI", "N"}
     for folder, wanted in (
-        (pack, {"_T": "2024-12", "CP07": "2024-12", "CP08": "2025-12", "CP01112": "2024-12"}),
-        (tmp_path / "again", {"_T": "2025-12", "CP01": "2025-12", "CP02": "2025-12 2027-12", "CP03": "2026-12"}),
+        (pack, {"_T": "2025", "CP07": "2025", "CP08": "2025-12", "CP01112": "2025", "CP0116": "2025 2026-12"}),
+        (tmp_path / "again", {"_T": "2026", "CP01": "2026", "CP02": "2026 2027-12", "CP03": "2026-12"}),
     ):
         rows = rows_of(folder / "data/cpi.sdmx.csv")
         found = {it["COICOP18"]: it["BASE_PER"] for it in rows if {it["MEASURE"], it["TRANSFORMATION"]} == first}
         assert wanted.items() <= found.items()
         assert {it["BASE_PER"] for it in rows if it["UNIT_MEASURE"] != "IX"} == {""}
         levels = [it for it in ElementTree.parse(folder / "data/cpi.sdmx.xml").iter("Series") if it.get("BASE_PER")]
-        assert {it.get("COICOP18"): it.get("BASE_PER") for it in levels} == found
+        assert {it.get("COICOP18"): it.get("BASE_PER") for it in levels if it.get("MEASURE") == "CPI"} == found
+        chained = {it.get("COICOP18"): it.get("BASE_PER") for it in levels if it.get("MEASURE") == "CPIC"}
+        assert chained.keys() == found.keys() and chained["_T"] in ("2024-12", "2025-12")
     rows = rows_of(tmp_path / "again/data/rereferenced.csv")
     # tea is 108 / 105.25 of its mean of 2026 in its December, and not linked to it when it comes again
     assert {it["month"]: it["rereferenced"] for it in rows if it["code"] == "02"}["2026-12"] == "102.612827"
     assert [it["code"] for it in rows if it["month"] == "2028-01"] == ["00", "01"]
 
 
-SHEETS = {"Index": 3, "Monthly change": 4, "Annual change": 5, "Weights": 1}
+def decembers(printed: Rows) -> dict[tuple[str, str], tuple[str, bool]]:
+    """By month and code, the December in which the level is 100, and whether it is the first level after a gap."""
+    found: dict[tuple[str, str], tuple[str, bool]] = {}
+    for month, code in sorted(latest(printed)):
+        earlier = [it for it in found if it[1] == code]
+        is_next = bool(earlier) and months_between(max(earlier)[0], month) == 1
+        december = found[max(earlier)][0] if is_next else f"{int(month[:4]) - 1}-12"
+        found[month, code] = (december, bool(earlier) and not is_next)
+    return found
+
+
+def months_between(one: str, other: str) -> int:
+    return 12 * (int(other[:4]) - int(one[:4])) + int(other[5:]) - int(one[5:])
+
+
+def test_each_level_says_where_it_is_100(pack: Path, printed: Rows) -> None:
+    """In CSV each row, in SDMX the first level after a gap, in the workbook a sheet and a line before that level."""
+    wanted = decembers(printed)
+    assert {code for (_, code), (_, is_break) in wanted.items() if is_break} == {PEARS, PEARS + ".2", PEARS + ".2-01"}
+    for name in ("cpi.csv", "vintages.csv"):
+        for row in rows_of(pack / "data" / name):
+            december, is_break = wanted[row["month"], row["code"]]
+            assert (row["base"], row["break"]) == (december, str(int(is_break)))
+    of_pears = rows_of(pack / f"node/{PEARS}.csv")
+    assert {(it["month"][:4], it["base"]) for it in of_pears} == {("2025", "2024-12"), ("2027", "2026-12")}
+    breaks = {(month, id_of(code)) for (month, code), (_, is_break) in wanted.items() if is_break}
+    broken = [it for it in rows_of(pack / "data/cpi.sdmx.csv") if it["OBS_STATUS"] != "A"]
+    kinds = {("CPI", "N", "B"), ("CPIC", "N", "B")}
+    assert {(it["MEASURE"], it["TRANSFORMATION"], it["OBS_STATUS"]) for it in broken} == kinds
+    assert {(it["TIME_PERIOD"], it["COICOP18"]) for it in broken} == breaks and len(broken) == 2 * len(breaks)
+    in_file = ElementTree.parse(pack / "data/cpi.sdmx.xml").iter("Series")
+    in_file_broken = [(obs.get("TIME_PERIOD"), it.get("COICOP18")) for it in in_file for obs in it
+                      if obs.get("OBS_STATUS") == "B"]  # fmt: skip
+    assert sorted(in_file_broken) == sorted([*breaks, *breaks])
+    book = openpyxl.load_workbook(pack / "data/cpi.xlsx")
+    runs: dict[tuple[str, str], list[str]] = {}
+    for (month, code), (december, _) in sorted(wanted.items()):
+        runs.setdefault((code, december), []).append(month)
+    _, *rows = book["Reference periods"].iter_rows(values_only=True)
+    # (the reference period of the office is 2025, and a run that is linked to it has 100 there)
+    listed = [
+        (code, runs[code, it][0], runs[code, it][-1], "2025" if it == "2024-12" else it) for code, it in sorted(runs)
+    ]
+    assert [(row[0], row[2], row[3], row[4]) for row in rows] == listed
+    assert {row[0] for row in rows if row[5]} == {PEARS, PEARS + ".2", PEARS + ".2-01"}
+    head = [cell.value for cell in book["Index"][1]]
+    lined = {(head[cell.column - 1], row[0].value) for row in book["Index"].iter_rows(min_row=2) for cell in row
+             if cell.border.left.style}  # fmt: skip
+    assert lined == {key for key, (_, is_break) in wanted.items() if is_break}
+
+
+SHEETS = {"Chained level": 3, "Monthly change": 4, "Annual change": 5, "Weights": 1}
 
 
 def test_the_workbook_has_each_figure_as_a_number(pack: Path, printed: Rows) -> None:
     book = openpyxl.load_workbook(pack / "data/cpi.xlsx")
-    assert book.sheetnames == ["Read me", *SHEETS, "Contributions"]
+    figures = ["Index", "Monthly change", "Annual change", "Weights", "Contributions", "Chained level"]
+    assert book.sheetnames == ["Read me", *figures, "Reference periods"]
+    wanted_levels = {(it["month"], it["code"]): it["rereferenced"] or it["chained"] for it in levels_of(pack)}
+    assert figures_of(book["Index"]) == {key: Decimal(it) for key, it in wanted_levels.items()}
     for name, place in SHEETS.items():
         found = figures_of(book[name])
         assert found == {key: Decimal(row[place]) for key, row in latest(printed).items() if row[place]}
@@ -299,9 +466,12 @@ def test_averages_and_other_reference_periods(pack: Path, printed: Rows) -> None
     half = Fraction(1, 2 * 10**6)
     first = [row for row in rows_of(pack / "data/averages.csv") if row["year"] == "2025"]
     assert {row["code"] for row in first} == codes and {row["change"] for row in first} == {""}
-    assert all(abs(Fraction(row["average"]) - means[row["code"]]) <= half for row in first)
+    assert all(abs(Fraction(row["chained_average"]) - means[row["code"]]) <= half for row in first)
+    assert {(row["average"], row["reference"]) for row in first} == {("100.000000", "2025")}
     rows = rows_of(pack / "data/rereferenced.csv")
-    assert {(row["month"], row["code"]) for row in rows} == {key for key in level if key[1] in codes}
+    # (pears are back in 2027, and not linked to their mean of 2025)
+    linked = {key for key in level if key[1] in codes and not (key[0] > "2026" and key[1].startswith(PEARS))}
+    assert {(row["month"], row["code"]) for row in rows} == linked
     for row in rows:
         wanted = 100 * level[row["month"], row["code"]] / means[row["code"]]
         assert abs(Fraction(row["rereferenced"]) - wanted) <= half
@@ -354,7 +524,7 @@ def test_the_command_writes_checks_and_tells(
     words = [*source, "--config", str(tmp_path / "office.ini")]
     out = tmp_path / "new" / "public"
     assert main([*words, "--out", str(out)]) == 0
-    assert capsys.readouterr().out == f"{out}: 31 tables up to 2027-05, 18 items\n"
+    assert capsys.readouterr().out == f"{out}: 31 tables up to 2027-05, {CODES} items\n"
     assert {name for name, _ in texts(out)} == {name for name, _ in texts(pack)}
     assert [(name, data) for name, data in texts(out)] == [(name, data) for name, data in texts(pack)]
     assert main([*words, "--check", str(out)]) == 0
@@ -498,6 +668,9 @@ def test_the_sums_are_those_of_the_files(pack: Path) -> None:
         ("[office]\nagency = A\narea = X\noffice = O\nreference = 25\n", "reference: 25 is neither"),
         ("[office]\nagency = A\narea = X\noffice = O\nminor_digits = 5\n", "minor_digits: 5 isn't 0 to 4"),
         ("[office]\nagency = A\narea = X\noffice = O\nwithout = csv\n", "without: csv is none of sdmx-csv, sdmx-ml"),
+        ("[office]\nagency = A\narea = X\noffice = O\nlanguage = Czech\n", "language: Czech is no language"),
+        ("[office]\nagency = A\narea = X\noffice = O\nrates = x\n", "rates: x is neither exact nor published"),
+        ("[office]\nagency = A\narea = X\noffice = O\n[sdmx]\nCL_FREQ = CL_FREQ\n", "CL_FREQ = CL_FREQ: no id of"),
         ("[office]\nagency = A\narea = X\noffice = O\ncolour = red\n", "colour is no word of"),
         ("[office]\nagency = A\narea = X\noffice = O\n[sdmx]\nX = Y\n", "X is no id that"),
         ("[office]\nagency = A\narea = X\noffice = O\n[sdmx]\nCPI = a.b\n", "CPI = a.b: no id of SDMX"),

@@ -18,10 +18,11 @@ import surveys
 from cpi_tools.pack.config import Config
 from cpi_tools.pack.pictures import of_imputed, of_node
 from cpi_tools.pack.public import Listed, Published, from_file
+from cpi_tools.pack.shown import Shown
 from cpi_tools.pack.tables import Series
 from cpi_tools.program import Cpi
 from cpi_tools.publish import publish
-from published import CODES, LONG_AFTER, REVISED
+from published import CODES, LONG_AFTER, REVISED, shown
 from test_measures import over_another_december, tea_again, two_years
 
 CONFIG = Config("NSO", "XX", "Office <of> prices", country="Exampleland", reference="2025", currency="crowns")
@@ -47,13 +48,18 @@ def by_hand(tmp_path_factory: pytest.TempPathFactory) -> Path:
 def again(tmp_path_factory: pytest.TempPathFactory) -> Path:
     """The site of two years by hand and a January, in which tea comes again."""
     out = tmp_path_factory.mktemp("again") / "public"
-    publish([*two_years(), tea_again()], CONFIG._replace(reference="2026"), out, None, lambda _: None)
+    publish([*two_years(), tea_again()], CONFIG._replace(reference=""), out, None, lambda _: None)
     return out
 
 
 def words_of(path: Path) -> str:
     """The words of a page without its elements, each space once."""
-    text = re.sub(r"<(style|script).*?</\1>", "", path.read_text(encoding="utf-8"), flags=re.S)
+    return words(path.read_text(encoding="utf-8"))
+
+
+def words(page: str) -> str:
+    """The words of a page's text."""
+    text = re.sub(r"<(style|script).*?</\1>", "", page, flags=re.S)
     return " ".join(html.unescape(re.sub(r"<[^>]*>", " ", text)).split())
 
 
@@ -97,6 +103,51 @@ def test_what_left_and_came_again_has_two_bases(again: Path) -> None:
         None,
         11 * 10**7,
     )
+
+
+def drawn_in(picture: str, kind: str) -> list[list[float]]:
+    """The values of a line of a picture, a list for each of its parts, read off by the marks of its axis."""
+    marks = re.findall(r'class="end" x="[^"]+" y="([\d.]+)">(\u2212?[\d.]+)</text>', picture)
+    (low_y, low), (high_y, high) = [
+        (float(y) - 4, float(text.replace("\u2212", "-"))) for y, text in (marks[0], marks[-1])
+    ]
+    (path,) = re.findall(rf'class="line {kind}" d="([^"]*)"', picture)
+    parts = [re.findall(r"[\d.]+ ([\d.]+)", part) for part in path.split("M")[1:]]
+    return [[low + (high - low) * (low_y - float(y)) / (low_y - high_y) for y in part] for part in parts]
+
+
+def are_near(found: list[list[float]], wanted: list[list[float]]) -> bool:
+    """Whether two lines are the same, but for a tenth of a pixel."""
+    both = [*zip((it for part in found for it in part), (it for part in wanted for it in part))]
+    return [len(it) for it in found] == [len(it) for it in wanted] and all(abs(one - it) < 0.05 for one, it in both)
+
+
+def test_all_items_are_drawn_with_the_month_of_the_item_as_100() -> None:
+    """Milk came in 2027: 106 from January on, and all items are 99.75 / 105 = 95 in January 2026 and 104 in 2027."""
+    level = of_node(Shown(Series(two_years())), "03")[0]
+    assert level.unit == "December 2026 = 100" and "Title of 00 , with December 2026 = 100 too." in words(
+        str(level.key)
+    )
+    assert are_near(drawn_in(level.picture, "own"), [[106] * 12])
+    assert are_near(drawn_in(level.picture, "other"), [[95, *[102.75 / 1.05] * 10, 100, *[104] * 12]])
+    whole = of_node(Shown(Series(two_years())), "01")[0]
+    assert are_near(drawn_in(whole.picture, "other"), [[99.75, *[102.75] * 10, 105, *[109.2] * 12]])
+    assert "=" not in words(str(whole.key))
+
+
+def test_an_item_that_is_back_is_drawn_after_a_mark(again: Path) -> None:
+    """Tea is 110 in January 2028, with December 2027 = 100; all items are 105 there."""
+    level = of_node(Shown(Series([*two_years(), tea_again()])), "02")[0]
+    assert are_near(drawn_in(level.picture, "own"), [[*[105] * 11, 108], [110]])
+    before = [99.75, *[102.75] * 10, 105, *[109.2] * 12]
+    assert are_near(drawn_in(level.picture, "other"), [before, [105]])
+    assert level.picture.count('class="break"') == 1
+    assert "From 105.0 in January 2026 to 108.0 in December 2026. 110.0 in January 2028." in level.picture
+    assert "Mark: a break, from January 2028 on December 2027 = 100." in words(str(level.key))
+    told = words_of(again / "node/02.html")
+    assert "Index (December 2025 = 100, from January 2028 on December 2027 = 100)" in told
+    note = "Break: from January 2028 on, December 2027 = 100. These levels aren't linked to the earlier ones below. Dec"
+    assert note in told and "Break:" not in words_of(again / "node/01.html")
 
 
 def test_annual_contributions_over_a_december_under_embargo_are_not_told(tmp_path: Path) -> None:
@@ -246,11 +297,12 @@ def test_a_year_before_that_was_revised_is_told_beside_the_change(published: lis
 
 def test_what_left_long_ago_has_its_pictures() -> None:
     """Pictures show 61 months at most: of tea, which is in the first of seven years alone, up to its last month."""
-    series = Series(seven_years())
-    level, _, month = of_node(series, "02")
+    shown = Shown(Series(seven_years()))
+    level, _, month = of_node(shown, "02")
     assert "From 100.0 in January 2020 to 100.0 in December 2020." in level.picture
-    assert month.name == "Change on the month before" and "in January 2020" in month.picture
-    whole = of_node(series, "00")[0].picture
+    assert month.name == "Change on the month before"
+    assert "0.0 percent from January 2020 to December 2020." in month.picture
+    whole = of_node(shown, "00")[0].picture
     assert "From 100.0 in December 2021 to 100.0 in December 2026." in whole
 
 
@@ -296,7 +348,8 @@ def test_a_node_has_its_page_and_its_file(site: Path) -> None:
     head, *rows = (site / "node/01.csv").read_text(encoding="utf-8").splitlines()
     assert head.startswith("month,revision,published,code,depth,title,weight,index,chained,")
     whole = (site / "data/cpi.csv").read_text(encoding="utf-8").splitlines()
-    assert rows == [line for line in whole if line.split(",")[3] == "01"] and len(rows) == 29
+    plain = [line for line in whole if line.split(",")[3] == "01"]
+    assert [line.rsplit(",", 5)[0] for line in rows] == plain and len(rows) == 29
 
 
 def test_a_node_has_its_months_by_hand(by_hand: Path) -> None:
@@ -364,14 +417,17 @@ class Links(HTMLParser):
 
 def test_pages_lead_to_what_is_there_and_to_nothing_else(site: Path) -> None:
     pages = sorted(site.rglob("*.html"))
-    assert len(pages) == 6 + CODES
+    # (a page for each release that has rows, their list, the calendar, and the page that is shown if there is none)
+    assert len(pages) == 8 + 2 * CODES + len(shown()) - 1 + 3
     for page in pages:
         links = Links()
         links.feed(page.read_text(encoding="utf-8"))
         for link in links.links:
             if not link.startswith(("#", "data:,")):
                 assert "//" not in link
-                name, _, anchor = link.partition("#")
+                path, _, anchor = link.partition("#")
+                name, _, choice = path.partition("?")
+                assert not choice or name.endswith("choose.html")
                 assert (page.parent / name).resolve().is_file(), (page.name, link)
                 assert not anchor or f'id="{anchor}"' in (page.parent / name).read_text(encoding="utf-8"), link
         assert len(links.ids) == len(set(links.ids)) and links.unnamed == 0, page
@@ -381,6 +437,11 @@ def test_pages_lead_to_what_is_there_and_to_nothing_else(site: Path) -> None:
 def test_a_page_asks_nothing_of_another_machine(site: Path) -> None:
     for path in [*site.rglob("*.html"), *site.glob("assets/*")]:
         text = path.read_text(encoding="utf-8")
+        if path.name == "choose.js":
+            # (it asks for files of the site, by their names from its page on)
+            assert [*re.findall(r"fetch\((.*?)[,)]", text)] == ["name"]
+            assert not re.search(r"(?:textOf|itemOf)\([`\"](?:/|\.|[a-z]+:)", text)
+            text = text.replace("fetch(name", "")
         reaching = r"@import|url\(|fetch\(|XMLHttpRequest|WebSocket|document\.cookie|localStorage"
         assert not re.findall(reaching, text), path
 
@@ -411,7 +472,8 @@ def test_the_calculator_by_hand(site: Path) -> None:
     program = """const c = require(process.argv[1]);
     const told = JSON.parse(process.argv[2]).map(([text, then, now, decimals]) => {
       const amount = c.amountOf(text, 2);
-      const [first, second] = [then, now].map((level) => c.levelUsed(level, decimals));
+      const item = { levels: [then, now], tenths: [then, now].map((it) => Number(c.clause(1n, 100000n, BigInt(it)))) };
+      const [first, second] = [0, 1].map((month) => c.levelUsed(item, month, decimals));
       return amount === null ? null : c.moneyText(c.clause(amount, first, second), 2).replaceAll("\\u202f", " ");
     });
     console.log(JSON.stringify(told));"""
@@ -434,7 +496,8 @@ def test_the_calculator_refuses_months_that_are_not_linked(site: Path) -> None:
     assert json.loads(told) == ["", left, lacks, lacks, ""]
 
 
-def test_the_calculator_has_the_published_levels(site: Path, published: list[Published]) -> None:
+def test_the_calculator_has_the_published_levels(published: list[Published], tmp_path: Path) -> None:
+    site = site_of(published, tmp_path / "public")
     text = (site / "assets/levels.js").read_text(encoding="utf-8")
     data = json.loads(text[len("window.LEVELS = ") : -2])
     assert data["items"].keys() == {"00", "01", "01.1", "07", "07.2", "08", "08.1"}

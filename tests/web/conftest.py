@@ -15,11 +15,13 @@ sys.dont_write_bytecode = True
 sys.path[:0] = [str(HERE), str(ROOT / "tools"), str(ROOT / "tests")]
 
 from browser import Browser  # noqa: E402
+from languages import ARABIC, ENGLISH, Speech, spoken  # noqa: E402
 from cpi_tools.program import Cpi  # noqa: E402
 from lib.fixtures import cpi, pytest_addoption  # noqa: E402, F401
 from offices import lived  # noqa: E402
 from phone import Phone  # noqa: E402
 from stage import Stage  # noqa: E402
+from websites import published  # noqa: E402
 
 
 @pytest.fixture(scope="session")
@@ -38,6 +40,12 @@ def standing(cpi: Cpi, made: Path, tmp_path_factory: pytest.TempPathFactory) -> 
     stage.close()
 
 
+@pytest.fixture(scope="session")
+def website(standing: Stage, tmp_path_factory: pytest.TempPathFactory) -> Path:
+    """The website of the office; no test writes to it."""
+    return published(standing.cpi, standing.made, tmp_path_factory.mktemp("website"))
+
+
 @pytest.fixture
 def stage(standing: Stage) -> Stage:
     """A fresh office behind the front."""
@@ -54,10 +62,22 @@ def running(standing: Stage, tmp_path_factory: pytest.TempPathFactory) -> Iterat
 
 
 @pytest.fixture
-def browser(stage: Stage, running: Browser) -> Browser:
-    """A Chromium that has kept nothing, before a fresh office."""
+def browser(stage: Stage, running: Browser) -> Iterator[Browser]:
+    """A Chromium that has kept nothing, before a fresh office. Its pages are closed before the next test's office is there,
+    so that test counts no message of theirs."""
     running.fresh()
-    return running
+    yield running
+    running.fresh()
+
+
+@pytest.fixture(params=[ENGLISH, ARABIC], ids=["english", "arabic"])
+def speech(request: pytest.FixtureRequest, stage: Stage) -> Iterator[Speech]:
+    """An office whose pages are in English, and one whose pages are in Arabic, with Arabic digits."""
+    if request.param == ENGLISH:
+        yield ENGLISH
+    else:
+        with spoken(stage, request.param):
+            yield request.param
 
 
 @pytest.fixture

@@ -63,13 +63,14 @@ class Relay:
             threading.Thread(target=self._hand_on, args=(client,), daemon=True).start()
 
     def _hand_on(self, client: socket.socket) -> None:
+        seen, times = self.seen, self.times  # those of the test in which the connection began
         with client, contextlib.suppress(OSError), socket.create_connection(("127.0.0.1", self.to)) as office:
             head, body = whole_message(client)
             if not head:
                 return
             with self.lock:
-                self.seen.append((head, body))
-                self.times.append(time.monotonic())
+                seen.append((head, body))
+                times.append(time.monotonic())
             is_command = not head.startswith(b"GET")
             instead = self.instead if is_command else None
             if instead and not instead[1]:

@@ -47,9 +47,10 @@ class Stage:
         self.office_port, relay_port, plain_port = free_port(), free_port(), free_port()
         self.relay = Relay(relay_port, self.office_port)
         self.plain_port = plain_port
-        self.calendar = folder / "calendar.json"
+        self.calendar, self.published = folder / "calendar.json", folder / "published"
         plain, web = f"127.0.0.1:{plain_port}", ROOT / "web"
-        place = Place("localhost", "127.0.0.1", free_port(), plain, relay_port, web, calendar=self.calendar)
+        own = {"calendar": self.calendar, "published": self.published}
+        place = Place("localhost", "127.0.0.1", free_port(), plain, relay_port, web, **own)
         draw_certificate(folder, place.host)
         self.front = Front(ROOT / "ops/nginx.conf", folder, place)
         self.context = ssl.create_default_context(cafile=str(folder / "ca.crt"))
@@ -65,10 +66,10 @@ class Stage:
     # ---- the office
 
     def fresh(self) -> None:
-        """A fresh office of the same content, without a calendar for its pages, and a front that has kept nothing of the
-        one before."""
+        """A fresh office of the same content, without a calendar for its pages and without a website, and a front that
+        has kept nothing of the one before. (A test's website is a link to its folder.)"""
         self.stop_office()
-        for name in ("office.db-wal", "office.db-shm", self.calendar.name):
+        for name in ("office.db-wal", "office.db-shm", self.calendar.name, self.published.name):
             (self.folder / name).unlink(missing_ok=True)
         shutil.copy(self.made, self.db)
         self.relay.fresh()
@@ -81,6 +82,15 @@ class Stage:
         self.start_office()
         if not self.front.process:
             self.front.start()
+
+    def speaks(self, config: str, web: Path = ROOT / "web") -> None:
+        """The front stands anew with a `config.js`, and perhaps over another folder of pages; `front.stop` and
+        `front.start` give it its own again."""
+        file = self.folder / "config.js"
+        file.write_text(config, encoding="utf-8")
+        own = str(ROOT / "web")
+        self.front.stop()
+        self.front.start(lambda text: text.replace(f"{own}/config.js", str(file)).replace(f"{own};", f"{web};"))
 
     def start_office(self, limit: int = 1_000_000) -> None:
         """Starts it, for so many connections."""

@@ -12,8 +12,11 @@ import time
 from collections import Counter
 from collections.abc import Callable, Iterator
 from concurrent.futures import ThreadPoolExecutor
+from pathlib import Path
 from threading import Semaphore
 from typing import Optional, TypeVar
+
+import pytest
 
 from conftest import ROOT
 from cpi_tools.command_line import main
@@ -219,7 +222,61 @@ def test_the_website_and_what_an_office_sets_lie_outside_of_the_pages(stage: Sta
             assert answer.fields["Cache-Control"] == ("no-cache" if status == 200 else "no-store")
             assert answer.fields["X-Content-Type-Options"] == "nosniff"
             assert stage.ask("POST", path, body="x").status != 200
-        assert answer.fields["Location"] == "https://localhost/published/"
+        assert answer.fields["Location"] == "/published/"
+
+
+@pytest.mark.parametrize(
+    ("path", "to"),
+    [("/", (302, "/published/")), ("/index.html", (302, "/published/")), ("/tables", (301, "/published/choose.html")),
+     ("/tables/", (301, "/published/choose.html")), ("/tables/app.js", (301, "/published/choose.html")),
+     ("/tables/?items=00+01&from=2026-01", (301, "/published/choose.html?items=00+01&from=2026-01"))],
+)  # fmt: skip
+def test_the_first_page_and_the_tables_are_the_websites(stage: Stage, tmp_path: Path, path: str, to: object) -> None:
+    """Until there is one, the first page is the one that says so."""
+
+    def led() -> tuple[int, str]:
+        answer = stage.ask("GET", path)
+        assert answer.fields["Cache-Control"] == ("no-cache" if answer.status == 200 else "no-store")
+        return answer.status, answer.fields.get("Location", "")
+
+    assert led() == ((302, "/") if path.startswith("/tables") else (200, ""))
+    for name in ("index.html", "choose.html"):
+        (tmp_path / name).write_text("<h1>Prices</h1>")
+    stage.published.symlink_to(tmp_path)
+    assert led() == to
+    assert stage.ask("GET", "/tablesx").status == 404 and stage.ask("POST", path, body="x").status == 403
+
+
+def test_the_website_has_its_own_page_for_a_wrong_address(stage: Stage) -> None:
+    """At any depth, as long as it is there; nothing else has it. A calendar has its type."""
+    site = stage.folder / "lost"
+    site.mkdir()
+    (site / "calendar.ics").write_text("BEGIN:VCALENDAR\r\n" * 100)
+    stage.front.stop()
+    with standing(Front(stage.front.source, stage.folder, stage.front.place._replace(published=site))):
+        assert stage.ask("GET", "/published/nothing").status == 404
+        (site / "404.html").write_text("<!DOCTYPE html>none here")
+        for path in ("/published/nothing", "/published/node/deep/nothing.html", "/nothing", "/api/nothing"):
+            answer = stage.ask("GET", path)
+            is_own = answer.body == b"<!DOCTYPE html>none here"
+            assert answer.status == 404 and is_own == path.startswith("/published/"), path
+            assert answer.fields["Cache-Control"] == "no-store"
+        answer = stage.ask("GET", "/published/calendar.ics")
+        assert answer.fields["Content-Type"] == "text/calendar; charset=utf-8"
+
+
+def test_cards_feed_and_calendar_are_for_other_sites(stage: Stage) -> None:
+    """Pages of releases aren't: only what other sites show or read."""
+    site = stage.folder / "shared"
+    (site / "release").mkdir(parents=True)
+    names = ("release/2026-01-r1.png", "feed.xml", "calendar.ics", "release/2026-01-r1.html", "sitemap.xml")
+    for name in names:
+        (site / name).write_text("text")
+    stage.front.stop()
+    with standing(Front(stage.front.source, stage.folder, stage.front.place._replace(published=site))):
+        found = [stage.ask("GET", f"/published/{name}").fields for name in names]
+        assert [it.get("Access-Control-Allow-Origin") for it in found] == ["*"] * 3 + [None] * 2
+        assert [it["Cross-Origin-Resource-Policy"] for it in found] == ["cross-origin"] * 3 + ["same-origin"] * 2
 
 
 def test_the_calendar_is_asked_for_again_each_time_and_not_there_until_it_is_written(stage: Stage) -> None:
@@ -242,7 +299,7 @@ def test_the_calendar_is_asked_for_again_each_time_and_not_there_until_it_is_wri
 
 
 def test_the_policy_of_the_pages(stage: Stage) -> None:
-    for path in ("/", "/collect/", "/tables/", "/desk/", "/collect/sw.js", "/config.js", "/nothing", "/api"):
+    for path in ("/", "/collect/", "/desk/", "/collect/sw.js", "/config.js", "/nothing", "/api"):
         fields = stage.ask("GET", path).fields
         policy = fields["Content-Security-Policy"]
         assert policy.startswith("default-src 'none'; script-src 'self'; style-src 'self'; ")
@@ -273,8 +330,11 @@ def test_a_reply_has_no_field_that_only_pages_need(stage: Stage) -> None:
         assert answer.status == status, (method, path)
         assert answer.fields["Content-Security-Policy"] == "default-src 'none'"
         assert answer.fields["X-Content-Type-Options"] == "nosniff"
-        assert answer.fields["Cross-Origin-Resource-Policy"] == "same-origin"
-        return set(answer.fields)
+        # (published tables are for everybody, and for pages and scripts of other sites too)
+        is_public = path.startswith("/api/table")
+        assert answer.fields["Cross-Origin-Resource-Policy"] == ("cross-origin" if is_public else "same-origin")
+        assert answer.fields.get("Access-Control-Allow-Origin") == ("*" if is_public else None)
+        return {*answer.fields} - {"Access-Control-Allow-Origin"}
 
     for asked_for in (
         ("POST", "/api/import", ANNA, f"quote,1,{NOW},price,321\n", 200),
@@ -306,7 +366,7 @@ def test_pages_name_nothing_outside_and_hold_no_script_of_their_own() -> None:
         assert named == set(), path
         if path.suffix == ".html":
             assert not re.search(r"<script(?![^>]*\bsrc=)|<style|\sstyle=|\son\w+=", text), path
-            assert '<html lang="en-GB">' in text and "<title>" in text, path
+            assert '<html lang="en-GB">' in text and re.search(r"<title[ >]", text), path
         # (nothing moves by itself, so nobody has to ask for less of it)
         assert not re.search(r"\b(animation|transition|scroll-behavior)\b|@keyframes|\.animate\(|behavior:", text), path
         assert not re.search(r"innerHTML|outerHTML|insertAdjacentHTML|document\.write|eval\(|new Function", text), path

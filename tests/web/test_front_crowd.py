@@ -31,7 +31,7 @@ BUSY = (8.0, 6.0)
 """Seconds after which the office stands still, and for how many: more than `EVERY`, so all collectors wait at once."""
 
 FOLDERS = ("collect", "shared")
-FILES = [f"/{folder}/{path.name}" for folder in FOLDERS for path in (ROOT / "web" / folder).iterdir()]
+FILES = [f"/{folder}/{it.name}" for folder in FOLDERS for it in (ROOT / "web" / folder).iterdir() if it.is_file()]
 LISTS = (f"/work/{NOW}", "/items", f"/work/{NOW}", f"/quotes/{NOW}/{NOW}")
 """What a page of the collectors asks the office for while its user signs in."""
 

@@ -2,41 +2,32 @@
 
 from __future__ import annotations
 
-from collections.abc import Iterator
 from pathlib import Path
 
 import pytest
 
 from browser import Browser
 from conftest import ROOT
-from cpi_tools.command_line import main
-from cpi_tools.program import Cpi
 from stage import Stage
 
-PAGES = ("index.html", "nodes.html", "node/01.1.1.1.html", "contract.html", "data.html", "revisions.html")
+PAGES = (
+    "index.html",
+    "nodes.html",
+    "choose.html",
+    "node/01.1.1.1.html",
+    "contract.html",
+    "data.html",
+    "revisions.html",
+)
 
 PLACED = "return [...document.querySelectorAll('.track b')].every((it) => getComputedStyle(it).left !== 'auto')"
 
 
-@pytest.fixture(scope="module")
-def pack(cpi: Cpi, made: Path, tmp_path_factory: pytest.TempPathFactory) -> Path:
-    """A folder with a pack in it, as `published`."""
-    folder = tmp_path_factory.mktemp("pages")
-    config = folder / "office.ini"
-    config.write_text("[office]\nagency = NSO\narea = XX\noffice = Office of prices\n", encoding="utf-8")
-    words = ["publish", "--db", str(made), "--at", "1000000", "--config", str(config), "--program", str(cpi.path)]
-    assert main([*words, "--out", str(folder / "published")]) == 0
-    return folder
-
-
 @pytest.fixture
-def front(stage: Stage, pack: Path) -> Iterator[Stage]:
+def front(stage: Stage, website: Path) -> Stage:
     """A front whose website is the pack."""
-    stage.front.stop()
-    stage.front.start(lambda text: text.replace(f"alias {ROOT}/web/published/;", f"alias {pack}/published/;"))
-    yield stage
-    stage.front.stop()
-    stage.front.start()
+    stage.published.symlink_to(website)
+    return stage
 
 
 def test_the_pages_show_all_that_they_have(front: Stage, browser: Browser) -> None:
@@ -71,9 +62,9 @@ def test_the_calculator_computes(front: Stage, browser: Browser) -> None:
         ("SHA256SUMS", "text/plain; charset=utf-8"),
     ],
 )
-def test_a_file_has_its_type_and_its_bytes(front: Stage, pack: Path, name: str, kind: str) -> None:
+def test_a_file_has_its_type_and_its_bytes(front: Stage, website: Path, name: str, kind: str) -> None:
     answer = front.ask("GET", f"/published/{name}")
     assert (answer.status, answer.fields["Content-Type"]) == (200, kind)
-    assert answer.body == (pack / "published" / name).read_bytes()
+    assert answer.body == (website / name).read_bytes()
     packed = front.ask("GET", f"/published/{name}", Accept_Encoding="gzip").fields
     assert ("Content-Encoding" in packed) == (not name.endswith(".xlsx"))

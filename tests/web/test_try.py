@@ -93,11 +93,14 @@ def test_it_tells_where_to_point_a_phone_and_stops_at_ctrl_c(trial: Trial) -> No
     link = re.search(rf"^ +{url}/collect/#key=([0-9a-f]{{32}})&name=Collector%201 +signs in ", trial.told, re.M)
     desk = re.search(rf"^  the desk +{url}/desk/ +key ([0-9a-f]{{32}})$", trial.told, re.M)
     assert collector and desk and link, trial.told
-    assert f"everybody   {url}/tables/" in trial.told
+    assert f"everybody   {url}/\n" in trial.told
     assert f"{url}/ca.crt" in trial.told and fingerprint(trial.folder / "ca.crt") in trial.told
     known = (ROOT / "examples/national/collectors.csv").read_text().splitlines()[1].split(",")[1]
     assert collector[1] == link[1] == known
-    assert [trial.get(path)[0] for path in ("/", "/collect/", "/tables/", "/desk/", "/api/tables")] == [200] * 5
+    paths = ("/published/", "/published/choose.html", "/collect/", "/desk/", "/api/tables")
+    assert [trial.get(path)[0] for path in paths] == [200] * 5
+    assert [trial.get(path)[0] for path in ("/", "/tables/")] == [302, 301]
+    assert "in February 2011" in trial.get("/published/")[1].decode().partition("<h1>")[2].replace("In ", "in ")
     assert trial.get("/ca.crt") == (200, (trial.folder / "ca.crt").read_bytes())
     assert trial.get(f"/api/work/{NOW}", ANNA)[0] == 200
     assert trial.get(f"/api/work/{NOW}", desk[1])[0] == 403  # (the desk has no work list)
@@ -187,10 +190,10 @@ def test_the_made_up_country_may_be_moved_to_another_year(cpi: Cpi, tmp_path: Pa
     assert "All items in 2030-12: " in told[1]
     plain = sorted((tmp_path / "plain/tables").iterdir())
     moved = sorted((tmp_path / "moved/tables").iterdir())
-    later = [path.name.replace("2024", "2029").replace("2025", "2030") for path in plain]
+    later = [f"{int(path.name[:4]) + 5}{path.name[4:]}" for path in plain]
     assert later == [path.name for path in moved]
     assert [path.read_bytes() for path in plain] == [path.read_bytes() for path in moved]
-    assert len(plain) == 13
+    assert len(plain) == 25
     *_, window, table = (tmp_path / "moved/records.csv").read_text().splitlines()
     assert window.partition(",desk,")[2] == "calendar,2031-01,2031-01-01T00:00,2031-03-01T00:00,2031-03-01T00:00"
     assert table.endswith(",public,table,2030-12,text")

@@ -7,7 +7,7 @@ so none can cross an axis. A month is a text like `2026-01`; colours and letters
 
 from __future__ import annotations
 
-from collections.abc import Iterable, Iterator, Sequence
+from collections.abc import Collection, Iterable, Iterator, Sequence
 from math import floor
 from typing import NamedTuple, Optional
 
@@ -20,6 +20,15 @@ LEFT, RIGHT, TOP, FOOT = 40, 14, 16, 41
 
 MOST_MONTHS = 61
 """Months that a picture shows at most: the last ones, five years and the month that they are against."""
+
+LEAST_POINTS, LEAST_PERCENT = 1.0, 0.5
+"""What the axis of lines and that of columns span at least, so that an axis doesn't make much of a tenth."""
+
+VALUE_WIDE = 44
+"""How wide the value at the end of a line is at most, on a telephone too."""
+
+WIDEST = 24
+"""How wide a column is at most, however few there are."""
 
 OWN, OTHER = "own", "other"
 """The classes of a line: what the picture is of, and what stands beside it, which is broken."""
@@ -40,10 +49,12 @@ class Picture(NamedTuple):
 
 
 class Line(NamedTuple):
-    """A line of a picture: OWN or OTHER, and a value for each month, None where there is a gap."""
+    """A line of a picture: OWN or OTHER, and a value for each month, None where there is a gap. `last` is its last value
+    as a text, which is written next to it: a float could be rounded to another one."""
 
     kind: str
     values: Sequence[Optional[float]]
+    last: str = ""
 
 
 # ---- the axes
@@ -122,49 +133,88 @@ def svg(picture: Picture, parts: Iterable[str]) -> Markup:
 # ---- lines and columns over months
 
 
-def lines(picture: Picture, months: Sequence[str], drawn: Sequence[Line], has_zero: bool = False) -> Markup:
-    """Lines over months, the last value of the picture's own written beside it.
+def lines(
+    picture: Picture,
+    months: Sequence[str],
+    drawn: Sequence[Line],
+    has_zero: bool = False,
+    breaks: Collection[str] = (),
+    marks: Collection[str] = (),
+) -> Markup:
+    """Lines over months, the last value of the picture's own written next to it.
 
-    `has_zero` begins the axis at zero, or crosses it there. At least one value has to be known.
+    `has_zero` begins the axis at zero, or crosses it there. There is a mark before each month
+    of `breaks` and of `marks`; at a break all lines begin anew. At least one value has to be known.
     """
     months = months[-MOST_MONTHS:]
-    drawn = [Line(kind, values[-MOST_MONTHS:]) for kind, values in drawn]
+    drawn = [it._replace(values=it.values[-MOST_MONTHS:]) for it in drawn]
     known = [value for line in drawn for value in line.values if value is not None]
     known += [0.0] if has_zero else []
-    room = (max(known) - min(known)) / 10
+    room = max((max(known) - min(known)) / 10, (LEAST_POINTS - max(known) + min(known)) / 2)
     frame = Frame(months, steps(min(known) - room, max(known) + room))
-    parts = [*frame.axes()]
+    begins = [at for at, month in enumerate(months) if month in breaks]
+    marked = [at for at, month in enumerate(months) if month in breaks or month in marks]
+    places = [frame.x(at - 0.5) for at in marked]
+    path = "".join(f"M{x:.1f} {TOP}V{HEIGHT - FOOT}" for x in places)
+    parts = [*frame.axes(), *([f'<path class="break" d="{path}"/>'] if path else [])]
     for line in sorted(drawn, key=lambda it: it.kind, reverse=True):
-        parts += _line(frame, line)
+        parts += _line(frame, line, begins)
+        parts += _last(frame, line, places) if line.last else []
     return svg(picture, parts)
 
 
-def _line(frame: Frame, line: Line) -> Iterator[str]:
-    path, is_begun = [], False
-    for at, value in enumerate(line.values):
-        if value is not None:
-            path.append(f"{'L' if is_begun else 'M'}{frame.x(at):.1f} {frame.y(value):.1f}")
-        is_begun = value is not None
-    yield f'<path class="line {line.kind}" d="{"".join(path)}"/>'
+def _line(frame: Frame, line: Line, begins: Collection[int]) -> Iterator[str]:
+    """A line, parted at its gaps and at the months with which it begins anew."""
+    path = "".join(_part(frame, part) for part in _parts(line.values, begins))
+    yield f'<path class="line {line.kind}" d="{path}"/>'
+
+
+def _last(frame: Frame, line: Line, places: Collection[float]) -> Iterator[str]:
+    """A dot at the last value of a line, and the value; `places` are those of marks, which no value is written across."""
     ends = [(at, value) for at, value in enumerate(line.values) if value is not None]
-    if not ends or line.kind != OWN:
-        return
     at, value = ends[-1]
     before = next((earlier for _, earlier in reversed(ends[:-1]) if earlier != value), value)
     x, y = frame.x(at), frame.y(value)
     # (above where the line came from below, below where it came from above; within the picture)
     written = max(y - 9, TOP - 2) if value >= before else min(y + 19, HEIGHT - FOOT - 4)
     yield f'<circle class="dot" cx="{x:.1f}" cy="{y:.1f}" r="3.5"/>'
-    yield f'<text class="end value" x="{x + 5:.1f}" y="{written:.1f}">{value:.1f}</text>'
+    end = x + 5
+    for place in sorted(places, reverse=True):
+        end = place - 4 if end - VALUE_WIDE < place < end else end
+    yield f'<text class="end value" x="{end:.1f}" y="{written:.1f}">{line.last}</text>'
+
+
+def _parts(values: Sequence[Optional[float]], begins: Collection[int]) -> Iterator[list[tuple[int, float]]]:
+    """The parts of a line that are joined, each a list of months and values: a gap or a break ends one."""
+    part: list[tuple[int, float]] = []
+    for at, value in enumerate(values):
+        if part and (value is None or at in begins):
+            yield part
+            part = []
+        if value is not None:
+            part.append((at, value))
+    if part:
+        yield part
+
+
+def _part(frame: Frame, part: Sequence[tuple[int, float]]) -> str:
+    """The path of a part; one month by itself is a short stroke, since a line to nowhere isn't drawn."""
+    if len(part) == 1:
+        at, value = part[0]
+        return f"M{frame.x(at) - 3:.1f} {frame.y(value):.1f}h6"
+    return "M" + "L".join(f"{frame.x(at):.1f} {frame.y(value):.1f}" for at, value in part)
 
 
 def columns(picture: Picture, months: Sequence[str], values: Sequence[Optional[float]]) -> Markup:
     """A column for each month, from zero up or down, the last one darker. At least one value has to be known."""
     months, values = months[-MOST_MONTHS:], values[-MOST_MONTHS:]
     known = [value for value in values if value is not None]
-    frame = Frame(months, steps(min(0.0, *known, 0.0), max(0.0, *known, 0.0)))
+    low, high = min(0.0, *known, 0.0), max(0.0, *known, 0.0)
+    if high - low < LEAST_PERCENT:
+        low, high = (low, low + LEAST_PERCENT) if high > 0 or low == 0 else (-LEAST_PERCENT, 0.0)
+    frame = Frame(months, steps(low, high))
     last = max(at for at, value in enumerate(values) if value is not None)
-    wide = (WIDTH - LEFT - RIGHT) / len(months) * 0.66
+    wide = min((WIDTH - LEFT - RIGHT) / len(months) * 0.66, WIDEST)
     drawn: dict[str, str] = {}
     for at, value in enumerate(values):
         if value is None:

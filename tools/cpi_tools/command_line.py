@@ -8,13 +8,33 @@ import sys
 from collections.abc import Iterator, Sequence
 from typing import Optional
 
-from . import backup, calendar_file, desk, doctor, drill, explain, keys, next_year, probe, publish, take_in, take_out
+from . import (
+    backup,
+    calendar_file,
+    desk,
+    doctor,
+    drill,
+    explain,
+    follow,
+    gaps,
+    keys,
+    moved_weights,
+    next_year,
+    probe,
+    promote,
+    publish,
+    take_in,
+    take_out,
+)
 from .csv_files import formulas_told
 from .output import shown_outputs
 from .terminal import Fault, ToolWords, ends_by_signals, is_line
 from .version import ShowVersion
 
-TOOLS = (backup, drill, probe, doctor, keys, calendar_file, desk, explain, publish, take_in, take_out, next_year)
+TOOLS = (
+    backup, drill, follow, promote, gaps, probe, doctor, keys, calendar_file, desk, explain, publish, take_in, take_out, next_year,
+    moved_weights,
+)  # fmt: skip
 
 
 def parser() -> ToolWords:

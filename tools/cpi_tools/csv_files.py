@@ -12,6 +12,7 @@ from __future__ import annotations
 import argparse
 import contextlib
 import csv
+import io
 import re
 import sys
 from collections.abc import Iterable, Iterator
@@ -50,6 +51,30 @@ class Formulas:
 
 
 _of_run: ContextVar[Formulas] = ContextVar("formulas", default=Formulas(False))
+
+
+def is_safe() -> bool:
+    """Whether files of this run are written with an apostrophe before such a text."""
+    return _of_run.get().is_safe
+
+
+class Cells(dict[str, str]):
+    """Texts of others as they are written in a cell, each looked at once."""
+
+    def __init__(self) -> None:
+        super().__init__()
+        self._formulas = _of_run.get()
+
+    def __missing__(self, text: str) -> str:
+        found = self[text] = line_of([self._formulas.cell(text)])
+        return found
+
+
+def line_of(cells: Iterable[object]) -> str:
+    """The line of some cells, without its end."""
+    text = io.StringIO()
+    csv.writer(text, lineterminator="").writerow(cells)
+    return text.getvalue()
 
 
 class Writer:

@@ -37,11 +37,23 @@ def rounded(over: int, under: int) -> int:
     return (2 * over + under) // (2 * under)
 
 
+def scaled(over: int, under: int, digits: int) -> int:
+    """over / under in units of the last of some decimals, rounded to the nearest, halves away from zero (under > 0)."""
+    size = rounded(abs(over) * 10**digits, under)
+    return -size if over < 0 else size
+
+
 def decimal(over: int, under: int, digits: int) -> str:
     """over / under with some decimals, rounded to the nearest, halves away from zero (under > 0)."""
-    size = rounded(abs(over) * 10**digits, under)
-    sign = "-" if over < 0 and size else ""
-    return f"{sign}{size // 10**digits}.{size % 10**digits:0{digits}}" if digits else f"{sign}{size}"
+    return fixed(scaled(over, under, digits), digits)
+
+
+def fixed(units: int, digits: int) -> str:
+    """A whole number of units of the last of some decimals as it is printed: `-0.3` of -3 and one decimal."""
+    if not digits:
+        return str(units)
+    text = f"{abs(units):0{digits + 1}}"
+    return f"{'-' if units < 0 else ''}{text[:-digits]}.{text[-digits:]}"
 
 
 def points(millionths: int, digits: int = 6) -> str:
@@ -55,7 +67,7 @@ def tenths(value: Optional[int]) -> str:
     """Tenths of a percent as a table prints them, `-0.3`; empty where there is no change."""
     if value is None:
         return ""
-    return f"{'-' if value < 0 else ''}{abs(value) // 10}.{abs(value) % 10}"
+    return fixed(value, 1)
 
 
 def with_sign(text: str) -> str:

@@ -8,6 +8,7 @@ as filters, `others` and `isolated`. `web/shared/dom.js` has the rule for the pa
 
 from __future__ import annotations
 
+import functools
 import re
 from collections.abc import Sequence
 from html import escape
@@ -25,6 +26,7 @@ QUOTE = '"'
 QUOTED = re.compile(f"{QUOTE}([^{QUOTE}]*){QUOTE}")
 
 
+@functools.lru_cache(maxsize=10_000)
 def closed(text: str) -> str:
     """A text that can't leave its element: each isolate of its own is closed, what would close another one is left out,
     and what would begin a paragraph is a space."""

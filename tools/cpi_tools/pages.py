@@ -14,6 +14,7 @@ import jinja2
 from markupsafe import Markup
 
 from . import charts, exact
+from .languages import ENGLISH, Language
 from .others import isolated, others
 from .terminal import Fault, because_of
 from .whole_files import in_place_of
@@ -50,8 +51,9 @@ def style() -> Markup:
     return Markup((TEMPLATES / "style.css").read_text(encoding="utf-8"))
 
 
-def environment(own: Optional[Path] = None) -> jinja2.Environment:
-    """The templates of a tool, whose own stand in a folder; a name that isn't handed in is a fault."""
+def environment(own: Optional[Path] = None, language: Language = ENGLISH) -> jinja2.Environment:
+    """The templates of a tool, whose own stand in a folder; a name that isn't handed in is a fault. What a template has in
+    `{% trans %}` or `_()` is a text of the language."""
     folders = [TEMPLATES] if own is None else [own, TEMPLATES]
     made = jinja2.Environment(
         loader=jinja2.FileSystemLoader([str(folder) for folder in folders]),
@@ -60,7 +62,11 @@ def environment(own: Optional[Path] = None) -> jinja2.Environment:
         trim_blocks=True,
         lstrip_blocks=True,
         auto_reload=False,
+        extensions=["jinja2.ext.i18n"],
     )
+    made.install_gettext_callables(language.gettext, language.ngettext, newstyle=True)  # type: ignore[attr-defined]
+    made.policies["ext.i18n.trimmed"] = True
+    made.globals["language"] = language
     made.filters.update(FILTERS)
     made.globals["style"] = style
     return made
@@ -88,3 +94,8 @@ def write_page(pages: jinja2.Environment, template: str, to: Path, **named: obje
     beside = to.with_name(f".{to.name}.part")
     with in_place_of(to, beside):
         beside.write_bytes(text.encode())
+
+
+def write_new(pages: jinja2.Environment, template: str, to: Path, **named: object) -> None:
+    """Writes one of thousands of pages into a folder that takes its place as a whole later."""
+    to.write_bytes(pages.get_template(template).render(named).encode())

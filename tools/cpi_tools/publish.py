@@ -7,15 +7,21 @@ embargo. Nothing depends on the clock: the same published tables give the same b
 from __future__ import annotations
 
 import argparse
+import sys
 import tempfile
 import time
-from collections.abc import Callable
+from collections.abc import Iterable
 from pathlib import Path
 from typing import NamedTuple, Optional
 
+from .card_drawing import NOT_DRAWN, cards_after, cards_like
 from .csv_files import add_safe_csv, compared_only
-from .folders import refuse_shared, written_folder
-from .pack.config import FORMS, Config, read_config
+from .folders import behind_link, refuse_shared, written_folder
+from .pack.aggregated import series_of
+from .pack.before import Before
+from .pack.cards import NO_CARDS, Cards, has_cards
+from .pack.config import Config, read_config
+from .pack.figures import Known
 from .pack.manifest import (
     MANIFEST,
     Manifest,
@@ -27,18 +33,18 @@ from .pack.manifest import (
     write_sums,
 )
 from .pack.measures import Contributions
-from .pack.public import Published, from_file, from_url
-from .pack.sdmx import KNOWN_IDS, write_data
-from .pack.structure import write_structure
+from .pack.part import Now, known_of, write_part
+from .pack.public import Published
+from .pack.sdmx import KNOWN_IDS
+from .pack.signature import Sign, Signature, signature_in, unsigned
+from .pack.specials import Membership
+from .pack.shown import Shown
 from .pack.tables import Series
-from .pack.tidy import write_all
-from .pack.workbook import write_workbook
-from .probe import address
-from .program import Cpi, add_program
-from .terminal import Fault, Progress, ToolWords, at_least, because_of, counted, needs, time_text
-
-Now = Callable[[str], None]
-"""Is told what is being done."""
+from .pack.tidy import write_whole
+from .pack.years import Archives, earlier_years, first_of
+from .signing import kept, signed_by
+from .sources import add_source, read_source, test_source
+from .terminal import Fault, Progress, ToolWords, because_of, counted, needs, time_text
 
 SHOWN_DIFFERENCES = 20
 """Files that --check names at most."""
@@ -49,57 +55,82 @@ class CannotPublish(Fault):
 
 
 class Pack(NamedTuple):
-    """What a pack is made of: its tables, who publishes, and the SHA-256 of the manifest before, if there is one."""
+    """What a pack is made of: its tables, who publishes, the SHA-256 of the manifest before, if there is one, and what
+    signs a manifest and what draws cards, if anything does."""
 
     series: Series
     config: Config
     previous: Optional[str]
+    sign: Sign = unsigned
+    cards: Cards = NO_CARDS
 
 
 # ---- writing
 
 
-def write_pack(pack: Pack, folder: Path, now: Now) -> None:
-    """Writes all files of a pack into an empty folder."""
+def write_pack(pack: Pack, folder: Path, now: Now, before: Before) -> None:
+    """Writes all files of a pack into an empty folder; those that are the same in the pack before are taken from it."""
     # (here, since the packages of its pages needn't be there for the other tools)
     from .pack.site import Site
 
-    series, config, previous = pack
-    contributions = Contributions(series)
+    series, config = pack.series, pack.config
+    signature = _write_manifest(pack, folder)
+    now("what each month is computed from")
+    contributions, shown = Contributions(series), Shown(series, config.reference, config.rates)
     data = folder / "data"
-    (data / "tables").mkdir(parents=True)
-    for source in series.sources:
-        (data / "tables" / source.name).write_bytes(source.table)
-    now("CSV files")
-    write_all(series, contributions, config.reference, data)
-    if any(map(config.has, FORMS)):
-        now("SDMX files")
-        write_data(series, contributions, config, data)
-        write_structure(series, config, data / "structure.sdmx.xml")
-    now("the workbook")
-    write_workbook(series, contributions, config, data / "cpi.xlsx")
-    site = Site(series, contributions, config, folder)
-    (folder / MANIFEST).write_text(manifest_text(series, previous), encoding="utf-8")
+    sums = _write_tables(series, data / "tables", before)
+    first = first_of(series, config.years)
+    years = earlier_years(series, first)
+    if years:
+        Archives(series, contributions.unexplained, shown, config).write(years, data, before, now)
+    write_whole(series, shown, data)
+    recent = known_of(series.part(first, series.every[-1]), contributions.unexplained, shown)
+    write_part(recent, config, data, now)
+    site = Site(Known(series, contributions, shown), config, folder, signature, pack.cards, recent)
     site.write(lambda done, of: now(f"pages, {done} of {of}"))
     now("sums")
-    write_sums(folder)
+    write_sums(folder, {**sums, **before.taken})
+
+
+def _write_tables(series: Series, folder: Path, before: Before) -> dict[str, str]:
+    """Writes the bytes of the program, or takes those that are there; their sums by their names in the pack."""
+    folder.mkdir(parents=True)
+    sums = {}
+    for source in series.sources:
+        name, table = f"data/tables/{source.name}", source.table
+        sums[name] = source.sha256
+        if not before.take_same(name, folder / source.name, table, source.sha256):
+            (folder / source.name).write_bytes(table)
+    return sums
+
+
+def _write_manifest(pack: Pack, folder: Path) -> Optional[Signature]:
+    """Writes the manifest, and its signature if it is signed."""
+    manifest = manifest_text(pack.series, pack.previous).encode()
+    (folder / MANIFEST).write_bytes(manifest)
+    signature = pack.sign(manifest)
+    if signature:
+        signature.write(folder)
+    return signature
 
 
 def publish(
-    published: list[Published],
+    published: Iterable[Published],
     config: Config,
     out: Path,
     before: Optional[Path],
     now: Now,
     is_draft: bool = False,
+    key: Optional[Path] = None,
 ) -> Series:
     """Writes a pack beside the folder `out` and puts it in its place; its tables.
 
     A draft is readable for its owner alone, and takes the place of no pack that others can read. `before` is the
-    manifest before, else that of `out` where a pack stands there. Raises Fault, and leaves `out` as it is, where a
-    table that was published is another one now, or is there no more.
+    manifest before, else that of `out` where a pack stands there. `key` signs the manifest. Raises Fault, and leaves
+    `out` as it is, where a table that was published is another one now, or is there no more, and where a pack that is
+    signed would be replaced by one that isn't.
     """
-    series = Series(published)
+    series = series_of(published, config.specials)
     if is_draft:
         refuse_shared(out, "a draft")
     with written_folder(out, MANIFEST, is_private=is_draft) as new:
@@ -108,7 +139,11 @@ def publish(
         for manifest in (standing, last):
             if manifest is not None:
                 _refuse_changes(manifest, series)
-        write_pack(Pack(series, config, previous_of(last, series)), new, now)
+        if key is None and signature_in(out):
+            raise CannotPublish(f"{out} is signed, and the new pack wouldn't be: --sign names the key")
+        cards = cards_after(out) if config.address else NO_CARDS
+        pack = Pack(series, config, previous_of(last, series), signed_by(key, config.agency), cards)
+        write_pack(pack, new, now, Before(behind_link(out) if standing else None))
     return series
 
 
@@ -118,19 +153,20 @@ def _refuse_changes(before: Manifest, series: Series) -> None:
         raise CannotPublish(changed)
 
 
-def check(published: list[Published], config: Config, out: Path, before: Optional[Path], now: Now) -> list[str]:
+def check(published: Iterable[Published], config: Config, out: Path, before: Optional[Path], now: Now) -> list[str]:
     """A line for each file of a pack that isn't what is written now.
 
-    Which manifest was before it is taken from the pack itself, or is `before`.
+    Which manifest was before it is taken from the pack itself, or is `before`. A signature can't be made anew without
+    the key: that of the pack is taken, and has to hold for the manifest that is written now.
     """
-    series = Series(published)
+    series = series_of(published, config.specials)
     previous = previous_of(read_manifest(before), series) if before else read_manifest(out / MANIFEST).previous
     try:
         with tempfile.TemporaryDirectory(prefix="cpi-pack-") as folder:
             new = Path(folder) / "pack"
             new.mkdir()
             with compared_only():
-                write_pack(Pack(series, config, previous), new, now)
+                write_pack(Pack(series, config, previous, kept(out), cards_like(out)), new, now, Before())
             now(f"comparing with {out}")
             return list(differences(out, new))
     except OSError as fault:
@@ -149,7 +185,8 @@ still to come is refused, but with --draft. A pack that stands in FOLDER is repl
 but where one of its tables is another one now, or isn't there any more. If FOLDER is a symbolic
 link, the folder that it leads to is replaced, and the link stays. manifest.json has the
 SHA-256 of each table and of the manifest before: that of the pack that stands in FOLDER, or
---previous.
+--previous. With --sign KEY it is signed by ssh-keygen, and a page says how anybody checks that; KEY
+is a private key, or a public one whose private key an agent has.
 """
 
 EPILOG = """\
@@ -169,40 +206,49 @@ def add_words(tools: argparse._SubParsersAction[ToolWords]) -> None:
         epilog=EPILOG,
     )
     add = words.add_argument
-    source = words.add_mutually_exclusive_group(required=True)
-    source.add_argument("--url", type=address, help="the address of an office that is served: what is out now")
-    source.add_argument("--db", type=Path, metavar="FILE", help="an office's file, which is only read")
-    add("--at", type=at_least(0), metavar="SECONDS", help="with --db: what is out at this moment, seconds since 1970")
+    add_source(words)
     add("--draft", action="store_true", help="take a moment that is still to come: FOLDER is then for its owner alone")
     add("--config", type=Path, required=True, metavar="FILE", help="who publishes, under which names")
     to = words.add_mutually_exclusive_group(required=True)
     to.add_argument("--out", type=Path, metavar="FOLDER", help="where the pack is written")
     to.add_argument("--check", type=Path, metavar="FOLDER", help="write nothing: tell which files of a pack differ")
+    add("--sign", type=Path, metavar="KEY", help="with --out: sign the manifest with this key, by ssh-keygen")
     add("--previous", type=Path, metavar="MANIFEST", help="the manifest before, where the pack stands elsewhere")
     add_safe_csv(words)
-    add_program(words)
     words.set_defaults(run=run, tool="publish", words=words)
 
 
 def run(chosen: argparse.Namespace) -> int:
     """Runs the tool by its words; its exit status."""
-    if (chosen.db is None) != (chosen.at is None):
-        chosen.words.error("--db and --at go together")
+    test_source(chosen)
+    if chosen.sign and chosen.check:
+        chosen.words.error("--sign goes with --out; --check tests the signature that is there")
     if chosen.at is not None:
         _refuse_what_is_to_come(chosen)
     needs("jinja2", "python3-jinja2")
     config = read_config(chosen.config, KNOWN_IDS)
     with Progress("cpi-tools publish") as progress:
-        published = _read(chosen, progress)
+        published = read_source(chosen, progress)
         if chosen.check:
             found = check(published, config, chosen.check, chosen.previous, progress.now)
         else:
-            series = publish(published, config, chosen.out, chosen.previous, progress.now, chosen.draft)
+            words = chosen.out, chosen.previous, progress.now, chosen.draft, chosen.sign
+            series = publish(published, config, *words)
     if chosen.check:
         return _told(chosen.check, found)
     of = f"{counted(len(series.vintages), 'table')} up to {series.months[-1]}, {counted(len(series.titles), 'item')}"
     print(f"{chosen.out}: {of}")
+    _tell_unknown(config, series)
+    if config.address and not has_cards(chosen.out):
+        print(f"cpi-tools publish: releases have no cards: {NOT_DRAWN}", file=sys.stderr)
     return 0
+
+
+def _tell_unknown(config: Config, series: Series) -> None:
+    """A line on standard error for what special aggregates name and no table has: it may come, or be a slip."""
+    unknown = [*Membership(config.specials).unknown(series.titles)]
+    if unknown:
+        print(f"cpi-tools publish: special aggregates name what no table has: {', '.join(unknown)}", file=sys.stderr)
 
 
 def _refuse_what_is_to_come(chosen: argparse.Namespace) -> None:
@@ -214,22 +260,12 @@ def _refuse_what_is_to_come(chosen: argparse.Namespace) -> None:
         )
 
 
-def _read(chosen: argparse.Namespace, progress: Progress) -> list[Published]:
-    """The published tables, by the way that the words name."""
-
-    def told(done: int, of: int) -> None:
-        progress.now(f"tables, {done} of {of}")
-
-    progress.now("the list of tables")
-    if chosen.url:
-        return from_url(chosen.url, told)
-    return from_file(Cpi(chosen.program), chosen.db, chosen.at, told)
-
-
 def _told(folder: Path, found: list[str]) -> int:
     """Tells what --check found."""
     for line in found[:SHOWN_DIFFERENCES]:
         print(f"{folder}: {line}")
+    if cards_like(folder) == Cards(None, folder):
+        print(f"{folder}: cards of releases weren't compared: {NOT_DRAWN}")
     if not found:
         print(f"{folder}: every file is as it is written now")
         return 0

@@ -335,6 +335,16 @@ class StoredOffice:
         text = "SELECT month, mark, value, receipt FROM quote_2 WHERE collector = ? AND slot = ?"
         return {month: (mark, value, receipt) for month, mark, value, receipt in self.ask(text, *slot)}
 
+    def last_quotes(self, most: int) -> list[tuple[int, int, int, int]]:
+        """Collector, slot, month and receipt of the quotes that came new last, the latest first. (A quote that was put
+        right stays in its row.)"""
+        text = "SELECT collector, slot, month, receipt FROM quote_2 ORDER BY rowid DESC LIMIT ?"
+        return [(collector, slot, month, receipt) for collector, slot, month, receipt in self.ask(text, most)]
+
+    def all_quotes(self) -> Iterator[tuple[int, int, int, str, int, int]]:
+        """Collector, slot, month, mark, value and receipt of each stored quote."""
+        yield from self._link.execute("SELECT collector, slot, month, mark, value, receipt FROM quote_2")
+
     def latest_quotes(self, month: int) -> dict[Slot, tuple[int, str]]:
         """Month and mark of the latest quote of each slot up to a month, where it has one."""
         text = "SELECT collector, slot, mark, max(month) FROM quote_2 WHERE month <= ? GROUP BY collector, slot"
@@ -360,6 +370,17 @@ def read_copy(copy: Path) -> Iterator[StoredOffice]:
             yield office
     except sqlite3.Error as fault:
         raise NotAnOffice(f"{copy.name} can't be read as an office: {fault}") from fault
+
+
+@contextlib.contextmanager
+def unchanged_office(path: Path) -> Iterator[StoredOffice]:
+    """The rows of a file and its log, neither of which is written: what the C library makes next to them goes again.
+    Raises sqlite3.Error where it is no database."""
+    try:
+        with contextlib.closing(sqlite3.connect(f"{path.absolute().as_uri()}?mode=ro", uri=True)) as link:
+            yield StoredOffice(link)
+    finally:
+        path.with_name(f"{path.name}-shm").unlink(missing_ok=True)
 
 
 @contextlib.contextmanager

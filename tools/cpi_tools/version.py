@@ -9,7 +9,6 @@ from __future__ import annotations
 
 import argparse
 import hashlib
-import os
 import subprocess
 from collections.abc import Iterator, Sequence
 from pathlib import Path

@@ -4,6 +4,7 @@ from __future__ import annotations
 
 import contextlib
 import os
+import shutil
 import tempfile
 from collections.abc import Iterator
 from pathlib import Path
@@ -38,3 +39,12 @@ def write_whole(to: Path, content: bytes, mode: int) -> None:
         file.flush()
         os.fchmod(number, mode)
         os.fsync(number)
+
+
+def link_or_copy(path: Path, to: Path) -> None:
+    """A second link to a file, at a place where nothing is; a copy if the file system or its rules have no links.
+    Neither file may be written in place from then on. Raises OSError."""
+    try:
+        os.link(path, to)
+    except OSError:
+        shutil.copyfile(path, to)

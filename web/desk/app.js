@@ -1,5 +1,5 @@
 // The page of the desk: sends records, a plan, a window, a freeze, and tells in words what the office answered.
-import { ask, keyOf, MOST_BYTES, NO_KEY } from "../shared/api.js";
+import { ask, MOST_BYTES } from "../shared/api.js";
 import { written } from "../shared/csv.js";
 import { find, make } from "../shared/dom.js";
 import { thisMonth } from "../shared/months.js";
@@ -7,7 +7,7 @@ import { toDesk } from "../shared/refusals.js";
 import * as calendar from "./calendar.js";
 import * as embargo from "./embargo.js";
 import { sendRecords, stop } from "./records.js";
-import { bearer, busy, bytesOf, hasKey, noAnswer, takesFiles, tell } from "./told.js";
+import { bearer, busy, bytesOf, hasKey, keyOf, NO_KEY, noAnswer, takesFiles, tell } from "./told.js";
 
 const SECONDS = 300; // that a plan or a freeze may take
 

@@ -8,7 +8,11 @@ const windows = new Map(); // month: { month, opens, closes } in seconds since 1
 let isNew = false; // whether a window was set since the file was offered
 let link = null; // to the file that is offered now
 
-/** Notes the fields of a record that the office has carried out. */
+/**
+ * Notes the fields of a record that the office has carried out.
+ *
+ * @param {string[]} fields
+ */
 export function carriedOut([word, month, opens, closes]) {
   if (word !== "calendar") return;
   const isCounted = [opens, closes].every((text) => /^[0-9]+$/.test(text));

@@ -14,7 +14,11 @@ const moments = new Map(); // month: when its table is published, as it was sent
 const frozen = new Set(); // months that were frozen from here
 const fresh = new Set(); // months whose window was set, or that were frozen, since the last warning
 
-/** Notes the fields of a record that the office has carried out. */
+/**
+ * Notes the fields of a record that the office has carried out.
+ *
+ * @param {string[]} fields
+ */
 export function carriedOut([word, month, , , publishes]) {
   if (word === "calendar") moments.set(month, publishes);
   else if (word === "freeze") frozen.add(month);

@@ -7,6 +7,14 @@ const MOST_BYTES = 50_000_000; // of a file: what is longer is work for `cpi rep
 /** The desk's key: in this page alone. */
 export const bearer = { key: null };
 
+/** The key that was typed, with blanks or hyphens perhaps, or null where it is none. */
+export function keyOf(text) {
+  const key = text.replace(/[\s-]/g, "").toLowerCase();
+  return /^[0-9a-f]{32}$/.test(key) ? key : null;
+}
+
+export const NO_KEY = "A key is 32 characters, each 0 to 9 or a to f.";
+
 export function tell(place, kind, ...content) {
   find(place).replaceChildren(make("p", { class: `notice ${kind}`.trim() }, ...content));
 }

@@ -33,16 +33,17 @@ def in_words(figures: list[str]) -> str:
     return " and ".join([*filter(None, [", ".join(figures[:-1])]), figures[-1]])
 
 
-def hidden_bases(series: Series, row: Row) -> dict[str, str]:
+def hidden_bases(series: Series, row: Row, has_changes: bool = True) -> dict[str, str]:
     """By month, the figures of a row of the last month that are computed from a revision of it that isn't published
-    yet: figures that the published levels don't give, each computed again as the office computes and rounds it."""
+    yet: figures that the published levels don't give, each computed again as the office computes and rounds it. Without
+    its changes only the index is looked at."""
     month = series.months[-1]
     found: Figures = defaultdict(list)
     if not series.is_row_linked(month, row):
         found[link_of(month)].append(INDEX)
-    if not series.is_change_shown(month, row, False):
+    if has_changes and not series.is_change_shown(month, row, False):
         found[before(month)].append(ON_MONTH)
-    if not series.is_change_shown(month, row, True):
+    if has_changes and not series.is_change_shown(month, row, True):
         found[before(month, 12)].append(ON_YEAR)
     return {earlier: in_words(figures) for earlier, figures in found.items()}
 
@@ -61,9 +62,8 @@ def revised_bases(series: Series, row: Row, hidden: frozenset[str]) -> Iterator[
     figures[before(month)].append(ON_MONTH)
     if row.year_change is not None:
         figures[before(month, 12)].append(ON_YEAR)
-    for old, new in zip(series.vintages, series.vintages[1:]):
-        then, now = old.rows.get(row.code), new.rows.get(row.code)
-        is_latest = new is series.latest[new.month] and old.month == new.month
-        if is_latest and new.month in figures and new.month not in hidden and then and now:
-            if then.chained != now.chained:
+    for old, new in series.revised:
+        if new is series.latest[new.month] and new.month in figures and new.month not in hidden:
+            then, now = old.rows.get(row.code), new.rows.get(row.code)
+            if then and now and then.chained != now.chained:
                 yield Base(old, new, (then.chained, now.chained), in_words(figures[new.month]))

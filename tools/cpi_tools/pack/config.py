@@ -6,24 +6,41 @@ import configparser
 import re
 from collections.abc import Mapping
 from pathlib import Path
-from typing import NamedTuple
+from typing import NamedTuple, Optional
 
 from ..terminal import Fault, because_of
+from .clocks import UTC, Clock, NoZone, clock_of
+from .dated import Dated, dated_of, value_in
+from .planned import Planned, read_planned
+from .shown import EXACT, RATES
+from .specials import Special, read_specials
 
 ID = re.compile(r"[A-Za-z0-9_$@-]{1,60}")
 NAME = re.compile(r"[A-Za-z][A-Za-z0-9_-]{0,59}")
 """An id that stands in XML as a name too, so that it begins with a letter."""
 
 AGENCY = re.compile(r"[A-Za-z][A-Za-z0-9_-]*(\.[A-Za-z][A-Za-z0-9_-]*)*")
+LANGUAGE = re.compile(r"[a-z]{2,3}(-[A-Za-z0-9]{2,8})*")
+LIST = re.compile(r"[A-Za-z][A-Za-z0-9_.-]*:[A-Za-z0-9_@$-]+\([0-9]+(\.[0-9]+)*\)")
 REFERENCE = re.compile(r"2[01][0-9]{2}(-(0[1-9]|1[0-2]))?")
+ADDRESS = re.compile(r"https?://[A-Za-z0-9.-]+(:[0-9]{1,5})?(/[A-Za-z0-9._~-]+)*/?")
 
 NAMES = ("agency", "area", "office", "title", "country", "contact", "licence", "reference", "currency", "minor_digits",
-         "without")  # fmt: skip
+         "without", "aggregates", "rates", "language", "provisional", "address", "zone",
+         "calendar", "years")  # fmt: skip
 NEEDED = ("agency", "area", "office")
 
 
-FORMS = ("sdmx-csv", "sdmx-ml")
-"""The forms of the observations that a pack may be without; in a national one each is a quarter of all bytes."""
+SDMX_FORMS = ("sdmx-csv", "sdmx-ml")
+JSON_STAT, PX = "json-stat", "px"
+PICTURES = "pictures"
+FORMS = (*SDMX_FORMS, JSON_STAT, PX, PICTURES)
+"""The forms of the observations that a pack may be without; in a national one they are most of all bytes. Without
+pictures there are no files of them, and no pages to embed; those in the pages stay."""
+
+
+MOST_PROVISIONAL = 24
+"""Months that can be provisional at most."""
 
 
 class BadConfig(Fault):
@@ -31,25 +48,29 @@ class BadConfig(Fault):
 
 
 class KnownIds(NamedTuple):
-    """The ids of SDMX that an office can have otherwise: those that are names in XML too, those of codes, and the
-    groups in which each is another."""
+    """The ids of SDMX that an office can have otherwise: those that are names in XML too, those of codes, the groups in
+    which each is another, and those of shared lists, whose value is like `SDMX:CL_FREQ(2.1)`."""
 
     names: frozenset[str] = frozenset()
     codes: frozenset[str] = frozenset()
     apart: tuple[frozenset[str], ...] = ()
+    lists: frozenset[str] = frozenset()
 
     @property
     def all(self) -> frozenset[str]:
         """All of them."""
-        return self.names | self.codes
+        return self.names | self.codes | self.lists
 
 
 class Config(NamedTuple):
     """Who publishes.
 
-    `agency` and `area` are ids of SDMX, `reference` is a year or a month whose level is 100 in the re-referenced series
-    (empty: there are none), `currency` and `minor_digits` (0 to 4) are those of the calculator's amounts, `without` has
-    the forms that aren't written, and `ids` are the office's own ids of SDMX by those that are used else.
+    `agency` and `area` are ids of SDMX, `reference` is a year or a month whose level is 100 (empty: December before an
+    item came), `rates` is what changes are computed from (`shown.RATES`), `currency` and `minor_digits` (0 to 4) are
+    those of the calculator's amounts, `without` has the forms that aren't written, `language` is that of titles, `ids`
+    are the office's own ids of SDMX by those that are used else, `specials` its special aggregates, `provisional` is how
+    many of the last months it may still revise (0 to MOST_PROVISIONAL), and `years` how many years are in the files of
+    the folder `data` (None: as many as don't make them large).
     """
 
     agency: str
@@ -64,6 +85,24 @@ class Config(NamedTuple):
     minor_digits: int = 2
     without: frozenset[str] = frozenset()
     ids: Mapping[str, str] = {}
+    specials: tuple[Special, ...] = ()
+    rates: str = EXACT
+    language: str = "en"
+    provisional: int = 0
+    address: str = ""
+    clock: Clock = UTC
+    planned: tuple[Planned, ...] = ()
+    references: tuple[Dated, ...] = ()
+    all_rates: tuple[Dated, ...] = ()
+    years: Optional[int] = None
+
+    def reference_in(self, month: str) -> str:
+        """The reference period of the release of a month."""
+        return value_in(self.references, month) if self.references else self.reference
+
+    def rates_in(self, month: str) -> str:
+        """What changes of the release of a month are computed from."""
+        return value_in(self.all_rates, month) if self.all_rates else self.rates
 
     def has(self, form: str) -> bool:
         """Whether the observations are written in a form."""
@@ -75,9 +114,10 @@ class Config(NamedTuple):
 
 
 def read_config(path: Path, known: KnownIds = KnownIds()) -> Config:
-    """The sections `[office]` and `[sdmx]` of a file; `known` are the ids that the latter may name.
+    """The sections `[office]` and `[sdmx]` of a file; `known` are the ids that the latter may name. The file of special
+    aggregates, if there is one, is named from the folder of this file.
 
-    Raises BadConfig.
+    Raises BadConfig or BadSpecials.
     """
     parser = configparser.ConfigParser(interpolation=None)
     parser.optionxform = str  # type: ignore[assignment]
@@ -95,14 +135,28 @@ def read_config(path: Path, known: KnownIds = KnownIds()) -> Config:
     # (a word without a value is as one that isn't there; a value of several lines is one)
     found = {name: " ".join(value.split()) for name, value in parser["office"].items() if value.strip()}
     ids = dict(parser["sdmx"]) if "sdmx" in parser else {}
+    specials, calendar = found.pop("aggregates", ""), found.pop("calendar", "")
     try:
-        return _config(found, ids, known)
+        config = _config(found, ids, known, read_specials(path.parent / specials) if specials else ())
     except BadConfig as fault:
         raise BadConfig(f"{path}: {fault}") from None
+    return config._replace(planned=read_planned(path.parent / calendar, config.clock)) if calendar else config
 
 
-def _config(found: dict[str, str], ids: dict[str, str], known: KnownIds) -> Config:
+def _config(found: dict[str, str], ids: dict[str, str], known: KnownIds, specials: tuple[Special, ...]) -> Config:
     """The values of both sections, tested."""
+    _test_words(found)
+    references, all_rates = _dated(found, "reference"), _dated(found, "rates")
+    _test_dated(references, all_rates)
+    numbers, without = _numbers(found), _without(found)
+    _test_ids(ids, known)
+    found["address"] = _address(found)
+    named = {"ids": ids, "specials": specials, "clock": _clock(found), "references": references, "all_rates": all_rates}
+    return Config(**found, without=without, **numbers, **named)  # type: ignore[arg-type]
+
+
+def _test_words(found: dict[str, str]) -> None:
+    """Raises BadConfig if a word of [office] is none, or lacks, or one of those that are ids and languages isn't one."""
     for name in found:
         if name not in NAMES:
             raise BadConfig(f"{name} is no word of [office]; its words are {', '.join(NAMES)}")
@@ -113,16 +167,66 @@ def _config(found: dict[str, str], ids: dict[str, str], known: KnownIds) -> Conf
         raise BadConfig(f"agency: {found['agency']} is no id of an agency, such as NSO")
     if not ID.fullmatch(found["area"]):
         raise BadConfig(f"area: {found['area']} is no code of an area, such as XX")
-    if found.get("reference") and not REFERENCE.fullmatch(found["reference"]):
-        raise BadConfig(f"reference: {found['reference']} is neither a year like 2025 nor a month like 2025-12")
+    if not LANGUAGE.fullmatch(found.get("language", "en")):
+        raise BadConfig(f"language: {found['language']} is no language such as en or pt-BR")
+
+
+def _test_dated(references: tuple[Dated, ...], all_rates: tuple[Dated, ...]) -> None:
+    """Raises BadConfig if a reference period or a rule for changes isn't one."""
+    for it in references:
+        if not REFERENCE.fullmatch(it.value):
+            raise BadConfig(f"reference: {it.value} is neither a year like 2025 nor a month like 2025-12")
+    for it in all_rates:
+        if it.value not in RATES:
+            raise BadConfig(f"rates: {it.value} is neither {' nor '.join(RATES)}")
+
+
+def _numbers(found: dict[str, str]) -> dict[str, Optional[int]]:
+    """Takes the words that are numbers."""
     digits = found.pop("minor_digits", "2")
     if digits not in ("0", "1", "2", "3", "4"):
         raise BadConfig(f"minor_digits: {digits} isn't 0 to 4")
+    provisional = found.pop("provisional", "0")
+    if provisional not in map(str, range(MOST_PROVISIONAL + 1)):
+        raise BadConfig(f"provisional: {provisional} isn't a number of months from 0 to {MOST_PROVISIONAL}")
+    years = found.pop("years", "")
+    if years and not re.fullmatch("[1-9][0-9]?", years):
+        raise BadConfig(f"years: {years} isn't 1 to 99")
+    return {"minor_digits": int(digits), "provisional": int(provisional), "years": int(years) if years else None}
+
+
+def _without(found: dict[str, str]) -> frozenset[str]:
+    """Takes the forms that aren't written."""
     without = frozenset(found.pop("without", "").replace(",", " ").split())
     for form in sorted(without - {*FORMS}):
         raise BadConfig(f"without: {form} is none of {', '.join(FORMS)}")
-    _test_ids(ids, known)
-    return Config(**found, minor_digits=int(digits), without=without, ids=ids)
+    return without
+
+
+def _address(found: dict[str, str]) -> str:
+    """The address of the site, which ends with a slash; empty if there is none."""
+    if not ADDRESS.fullmatch(found.get("address", "https://a")):
+        raise BadConfig(f"address: {found['address']} is no address of a site, such as https://prices.example/index/")
+    return f"{found['address'].rstrip('/')}/" if "address" in found else ""
+
+
+def _clock(found: dict[str, str]) -> Clock:
+    """Takes the office's zone."""
+    try:
+        return clock_of(found.pop("zone", ""))
+    except NoZone as fault:
+        raise BadConfig(f"zone: {fault}") from None
+
+
+def _dated(found: dict[str, str], name: str) -> tuple[Dated, ...]:
+    """The values of a word that may change with a release, of which the last stays in its place; none if it is one."""
+    try:
+        values = dated_of(found[name]) if name in found else ()
+    except ValueError as fault:
+        raise BadConfig(f"{name}: {fault}") from None
+    if values:
+        found[name] = values[-1].value
+    return values
 
 
 def _test_ids(ids: dict[str, str], known: KnownIds) -> None:
@@ -130,7 +234,8 @@ def _test_ids(ids: dict[str, str], known: KnownIds) -> None:
     for name, own in ids.items():
         if name not in known.all:
             raise BadConfig(f"{name} is no id that [sdmx] can name; they are {', '.join(sorted(known.all))}")
-        if not (NAME if name in known.names else ID).fullmatch(own):
+        form = LIST if name in known.lists else NAME if name in known.names else ID
+        if not form.fullmatch(own):
             raise BadConfig(f"{name} = {own}: no id of SDMX")
     for group in known.apart:
         others = [ids.get(name, name) for name in sorted(group)]

@@ -1,47 +1,155 @@
-"""The figures of a node in a month as texts, for forms that have a column or a series for each kind of them.
+"""The figures of all nodes in all months, for forms that have a column or a series for each kind of them.
 
-Each is handed the contributions of all tables, a month, a code, and the node's row, None where it has none in that
-month; an empty text says that there is no figure. Digits are those of the printed table, or six for a contribution.
+A figure is a whole number of units of its last decimal: digits are those of the printed table, or six for what is
+computed here, which is rounded once. Those of thousands of nodes are kept in a column for each month, and become texts
+when a form asks for those of a node; an empty text says that there is no figure.
 """
 
 from __future__ import annotations
 
-from collections.abc import Callable
-from typing import Optional
+from array import array
+from collections.abc import Callable, Iterable
+from typing import NamedTuple, Optional
 
-from ..exact import ALL_ITEMS, points, tenths
+from ..exact import ALL_ITEMS, Ratio, fixed, scaled
 from .measures import Contributions
-from .tables import Row
-from .tidy import written
+from .rows import NO_CHANGE, NO_ROWS, Named
+from .shown import EXACT, Shown
+from .tables import Series
 
-Figure = Callable[[Contributions, str, str, Optional[Row]], str]
-
-
-def level(_: Contributions, __: str, ___: str, row: Optional[Row]) -> str:
-    """The chained level."""
-    return points(row.chained) if row else ""
+NONE = NO_CHANGE
+"""What a column has if there is no figure."""
 
 
-def month_change(_: Contributions, __: str, ___: str, row: Optional[Row]) -> str:
-    """The change on the month before, in percent."""
-    return tenths(row.month_change) if row else ""
+class Figure(NamedTuple):
+    """A kind of figure: its name, its decimals, and those of all nodes in a month."""
+
+    name: str
+    digits: int
+    of_month: Callable[[Known, str], Iterable[Optional[int]]]
 
 
-def year_change(_: Contributions, __: str, ___: str, row: Optional[Row]) -> str:
-    """The change on the year before, in percent."""
-    return tenths(row.year_change) if row else ""
+class _Texts(dict[int, str]):
+    """The texts of figures of which there are few different ones."""
+
+    def __init__(self, digits: int):
+        super().__init__()
+        self._digits = digits
+
+    def __missing__(self, units: int) -> str:
+        found = self[units] = "" if units == NONE else fixed(units, self._digits)
+        return found
 
 
-def weight(_: Contributions, __: str, ___: str, row: Optional[Row]) -> str:
-    """The weight in use."""
-    return str(row.weight) if row else ""
+def _six_decimals(units: int) -> str:
+    if units == NONE:
+        return ""
+    text = f"{units:07}" if units >= 0 else f"{units:08}"
+    return f"{text[:-6]}.{text[-6:]}"
 
 
-def given_month(contributions: Contributions, month: str, code: str, _: Optional[Row]) -> str:
-    """The contribution to the monthly change of all items, in percentage points; all items give none to themselves."""
-    return "" if code == ALL_ITEMS else written(contributions.to_month(month, code, ALL_ITEMS), 6)
+class Known:
+    """What figures are taken from: the tables, what nodes give, and what readers are shown."""
+
+    def __init__(self, series: Series, contributions: Contributions, shown: Shown):
+        self.series, self.contributions, self.shown = series, contributions, shown
+        self.titles = series.all_titles
+        self.codes = tuple(self.titles)
+        self._at = {code: at for at, code in enumerate(self.codes)}
+        self._columns: dict[str, list[array[int]]] = {}
+        self._places: tuple[Optional[Named], list[Optional[int]]] = None, []
+        self._texts: dict[int, Callable[[int], str]] = {
+            0: _Texts(0).__getitem__,
+            1: _Texts(1).__getitem__,
+            6: _six_decimals,
+        }
+
+    def columns(self, figure: Figure) -> list[array[int]]:
+        """A kind of figure by month and then by code: made once, NONE if there is none."""
+        found = self._columns.get(figure.name)
+        if found is None:
+            found = self._columns[figure.name] = [
+                array("q", (NONE if it is None else it for it in figure.of_month(self, month)))
+                for month in self.series.months
+            ]
+        return found
+
+    def texts(self, figure: Figure, code: str) -> list[str]:
+        """A kind of figure of a node in all months, as texts."""
+        at, text = self._at[code], self._texts[figure.digits]
+        return [text(column[at]) for column in self.columns(figure)]
+
+    def texts_of_month(self, figure: Figure, month: int) -> list[str]:
+        """A kind of figure of all nodes in a month, which is counted from 0, as texts."""
+        return [*map(self._texts[figure.digits], self.columns(figure)[month])]
+
+    def values(self, month: str, name: str) -> list[Optional[int]]:
+        """A column of a month's table, such as `chained`, in the order of codes."""
+        series = self.series
+        rows = series.latest[month].rows if month in series.latest else NO_ROWS
+        if self._places[0] is not rows.named:
+            self._places = rows.named, [rows.place(code) for code in series.titles]
+        column = getattr(rows, name)
+        found = [None if place is None else column[place] for place in self._places[1]]
+        of_sets = (it.rows.get(month) for it in series.specials.values())
+        return found + [None if row is None else getattr(row, name) for row in of_sets]
 
 
-def given_year(contributions: Contributions, month: str, code: str, _: Optional[Row]) -> str:
-    """The contribution to the annual change of all items, of a node that left in the year too."""
-    return "" if code == ALL_ITEMS else written(contributions.to_year(month, code, ALL_ITEMS), 6)
+def _levels(known: Known, month: str) -> Iterable[Optional[int]]:
+    return _shown(known, month, 6)
+
+
+def _printed(known: Known, month: str) -> Iterable[Optional[int]]:
+    return _shown(known, month, 1)
+
+
+def _shown(known: Known, month: str, digits: int) -> Iterable[Optional[int]]:
+    for code, chained in zip(known.codes, known.values(month, "chained")):
+        yield None if chained is None else scaled(*known.shown.of_level(chained, month, code), digits)
+
+
+def _changes(name: str, is_annual: bool) -> Callable[[Known, str], Iterable[Optional[int]]]:
+    def of_month(known: Known, month: str) -> Iterable[Optional[int]]:
+        if known.shown.rates == EXACT:
+            return known.values(month, name)
+        return (known.shown.change(month, code, is_annual) for code in known.codes)
+
+    return of_month
+
+
+def _given(is_annual: bool) -> Callable[[Known, str], Iterable[Optional[int]]]:
+    def of_month(known: Known, month: str) -> Iterable[Optional[int]]:
+        contributions = known.contributions
+        given = contributions.to_year if is_annual else contributions.to_month
+        return (None if code == ALL_ITEMS else _millionths(given(month, code, ALL_ITEMS)) for code in known.codes)
+
+    return of_month
+
+
+def _millionths(value: Optional[Ratio]) -> Optional[int]:
+    return None if value is None else scaled(value.over, value.under, 6)
+
+
+LEVEL = Figure("level", 6, _levels)
+"""The level with the office's own reference period, if it has one."""
+
+PRINTED = Figure("printed", 1, _printed)
+"""The same as pages show it, rounded once to one decimal."""
+
+CHAINED = Figure("chained", 6, lambda known, month: known.values(month, "chained"))
+"""The chained level, 100 in December before the node came."""
+
+MONTH_CHANGE = Figure("month change", 1, _changes("month_change", False))
+YEAR_CHANGE = Figure("year change", 1, _changes("year_change", True))
+"""The changes on the month and on the year before, in percent, as they are shown."""
+
+WEIGHT = Figure("weight", 0, lambda known, month: known.values(month, "weight"))
+"""The weight in use."""
+
+IMPUTED = Figure("imputed", 0, lambda known, month: known.values(month, "is_imputed"))
+"""1 if a price at or below the node was imputed, else 0."""
+
+GIVEN_MONTH = Figure("given on the month", 6, _given(False))
+GIVEN_YEAR = Figure("given on the year", 6, _given(True))
+"""The contributions to the changes of all items, in percentage points, on the year of a node that left in it too; all
+items give none to themselves."""

@@ -10,7 +10,7 @@ from __future__ import annotations
 import filecmp
 import hashlib
 import json
-from collections.abc import Iterator
+from collections.abc import Iterator, Mapping
 from pathlib import Path
 from typing import Any, NamedTuple, Optional
 
@@ -92,7 +92,7 @@ def files_of(folder: Path) -> list[str]:
     return sorted(it.relative_to(folder).as_posix() for it in folder.rglob("*") if not it.is_dir())
 
 
-def _sum_of(path: Path) -> str:
+def sum_of(path: Path) -> str:
     """SHA-256 of a file, in hexadecimal; it may be larger than what is to be held in memory."""
     found = hashlib.sha256()
     with path.open("rb") as file:
@@ -101,9 +101,9 @@ def _sum_of(path: Path) -> str:
     return found.hexdigest()
 
 
-def write_sums(folder: Path) -> None:
-    """Writes the sums of all files of a folder."""
-    lines = (f"{_sum_of(folder / name)}  {name}\n" for name in files_of(folder))
+def write_sums(folder: Path, known: Mapping[str, str]) -> None:
+    """Writes the sums of all files of a folder, some of which are known."""
+    lines = (f"{known.get(name) or sum_of(folder / name)}  {name}\n" for name in files_of(folder))
     (folder / SUMS).write_text("".join(lines), encoding="utf-8")
 
 

@@ -16,50 +16,64 @@ millionths of a point.
 
 from __future__ import annotations
 
-from collections.abc import Iterator
+from collections.abc import Iterable
 from typing import NamedTuple, Optional
 
-from ..exact import ALL_ITEMS, HUNDRED, Ratio, parent_of
-from .tables import Row, Series, before, link_of
+from ..exact import HUNDRED, Ratio
+from .tables import Series, before, link_of
 
 
-def month_contribution(series: Series, month: str, code: str, of: str) -> Optional[Ratio]:
-    """Percentage points that a node gives to another's change on the month before; None where there is none."""
-    now, whole = series.row(month, code), series.row(month, of)
-    if now is None or whole is None:
-        return None
-    if month.endswith("-01"):
-        return Ratio(100 * now.weight * (now.within - HUNDRED), whole.weight * HUNDRED)
-    then, whole_then = series.row(before(month), code), series.row(before(month), of)
-    if then is None or whole_then is None:
-        return None
-    return Ratio(100 * now.weight * (now.within - then.within), whole.weight * whole_then.within)
+class Whole:
+    """What all contributions to a node in a month have in common: its own weights and indices in the months that count.
 
+    They can be asked for of each node at or below it, of any elementary aggregate of a special aggregate, and of a
+    special aggregate to all items.
+    """
 
-def year_contribution(series: Series, month: str, code: str, of: str) -> Optional[Ratio]:
-    """Percentage points that a node gives to another's change on the year before; None where there is none."""
-    now, whole = series.row(month, code), series.row(month, of)
-    if whole is None or whole.year_change is None:
-        return None
-    if month.endswith("-12"):
-        return Ratio(now.weight * (now.within - HUNDRED), whole.weight * 10**6) if now else None
-    link, then = link_of(month), before(month, 12)
-    whole_link, whole_then = series.row(link, of), series.row(then, of)
-    if whole_link is None or whole_then is None:
-        return None
-    old = _old_year(series.row(link, code), series.row(then, code), whole_then)
-    if now is None:
-        return old
-    moved = whole_link.within * now.weight * (now.within - HUNDRED)
-    new = Ratio(moved, whole_then.within * whole.weight * 10**6)
-    return new.plus(old) if old else new
+    def __init__(self, series: Series, month: str, of: str):
+        self._series, self._month = series, month
+        self._earlier, self._link, self._year = before(month), link_of(month), before(month, 12)
+        self._is_january, self._is_december = month.endswith("-01"), month.endswith("-12")
+        self._now, self._then = series.weighed(month, of), series.weighed(self._earlier, of)
+        self._at_link, self._a_year_ago = series.weighed(self._link, of), series.weighed(self._year, of)
+        row = series.row(month, of)
+        self._has_annual = row is not None and row.year_change is not None
 
+    def to_month(self, code: str) -> Optional[Ratio]:
+        """Percentage points that a node gives to the change on the month before; None if there is none."""
+        now, whole = self._series.weighed(self._month, code), self._now
+        if now is None or whole is None:
+            return None
+        if self._is_january:
+            return Ratio(100 * now[0] * (now[1] - HUNDRED), whole[0] * HUNDRED)
+        then, whole_then = self._series.weighed(self._earlier, code), self._then
+        if then is None or whole_then is None:
+            return None
+        return Ratio(100 * now[0] * (now[1] - then[1]), whole[0] * whole_then[1])
 
-def _old_year(link: Optional[Row], then: Optional[Row], whole_then: Row) -> Optional[Ratio]:
-    """The part of an annual contribution up to December."""
-    if link is None or then is None:
-        return None
-    return Ratio(100 * then.weight * (link.within - then.within), whole_then.weight * whole_then.within)
+    def to_year(self, code: str) -> Optional[Ratio]:
+        """Percentage points that a node gives to the change on the year before; None if there is none."""
+        whole = self._now
+        if whole is None or not self._has_annual:
+            return None
+        now = self._series.weighed(self._month, code)
+        if self._is_december:
+            return Ratio(now[0] * (now[1] - HUNDRED), whole[0] * 10**6) if now else None
+        whole_link, whole_then = self._at_link, self._a_year_ago
+        if whole_link is None or whole_then is None:
+            return None
+        old = self._old_year(code, whole_then)
+        if now is None:
+            return old
+        new = Ratio(whole_link[1] * now[0] * (now[1] - HUNDRED), whole_then[1] * whole[0] * 10**6)
+        return new.plus(old) if old else new
+
+    def _old_year(self, code: str, whole_then: tuple[int, int]) -> Optional[Ratio]:
+        """The part of an annual contribution up to December."""
+        link, then = self._series.weighed(self._link, code), self._series.weighed(self._year, code)
+        if link is None or then is None:
+            return None
+        return Ratio(100 * then[0] * (link[1] - then[1]), whole_then[0] * whole_then[1])
 
 
 class Contribution(NamedTuple):
@@ -74,17 +88,28 @@ class Contribution(NamedTuple):
 class Contributions:
     """The contributions of all months; of a month whose changes aren't those of the published levels there are none."""
 
-    def __init__(self, series: Series):
+    def __init__(self, series: Series, unexplained: Optional[Iterable[tuple[str, bool]]] = None):
+        """`unexplained` are the months without contributions, if they are known: `Series.unexplained`."""
         self.series = series
-        self.unexplained = frozenset(series.unexplained())
+        self.unexplained = frozenset(series.unexplained() if unexplained is None else unexplained)
+        self._month, self._wholes = "", dict[str, Whole]()
+
+    def whole(self, month: str, to: str) -> Whole:
+        """What the contributions to a node in a month have in common; those of one month are kept."""
+        if month != self._month:
+            self._month, self._wholes = month, {}
+        found = self._wholes.get(to)
+        if found is None:
+            found = self._wholes[to] = Whole(self.series, month, to)
+        return found
 
     def to_month(self, month: str, code: str, to: str) -> Optional[Ratio]:
         """What a node gives to the change on the month before of one at or above it."""
-        return None if (month, False) in self.unexplained else month_contribution(self.series, month, code, to)
+        return None if (month, False) in self.unexplained else self.whole(month, to).to_month(code)
 
     def to_year(self, month: str, code: str, to: str) -> Optional[Ratio]:
         """What a node gives to the change on the year before of one at or above it."""
-        return None if (month, True) in self.unexplained else year_contribution(self.series, month, code, to)
+        return None if (month, True) in self.unexplained else self.whole(month, to).to_year(code)
 
     def of(self, month: str, code: str, to: str) -> Contribution:
         """What a node gives to both changes of one at or above it."""
@@ -95,24 +120,13 @@ class Contributions:
         found = (self.of(month, code, to) for code in self.series.children(to))
         return [each for each in found if each.to_month is not None or each.to_year is not None]
 
-    def all(self, month: str) -> Iterator[Contribution]:
-        """Of each node to all items, and to the node above it where that is another."""
-        for code in self.series.titles:
-            above = parent_of(code)
-            if above is None:
-                continue
-            for to in (ALL_ITEMS,) if above == ALL_ITEMS else (ALL_ITEMS, above):
-                found = self.of(month, code, to)
-                if found.to_month is not None or found.to_year is not None:
-                    yield found
-
 
 # ---- averages, in points
 
 
 def average(series: Series, code: str, year: int) -> Optional[Ratio]:
     """The mean of a node's twelve levels in a year; None where one is missing."""
-    total = _twelve(series, code, [f"{year:04}-{number:02}" for number in range(1, 13)])
+    total = series.twelve(f"{year:04}-12").get(code)
     return None if total is None else Ratio(total, 12 * 10**6)
 
 
@@ -130,19 +144,8 @@ def full_years(series: Series) -> list[int]:
 
 def twelve_month_rate(series: Series, month: str, code: str) -> Optional[Ratio]:
     """The mean level of the twelve months up to this one against that of the twelve before, in percent."""
-    now, then = (_twelve(series, code, [before(month, by) for by in months]) for months in (range(12), range(12, 24)))
+    now, then = series.twelve(month).get(code), series.twelve(before(month, 12)).get(code)
     return Ratio(100 * (now - then), then) if now and then else None
-
-
-def _twelve(series: Series, code: str, months: list[str]) -> Optional[int]:
-    """The sum of a node's levels in some months, in millionths; None where one is missing."""
-    total = 0
-    for month in months:
-        row = series.row(month, code)
-        if row is None:
-            return None
-        total += row.chained
-    return total
 
 
 # ---- another reference period, in points
@@ -156,9 +159,9 @@ def reference_level(series: Series, code: str, reference: str) -> Optional[Ratio
     if len(reference) == 4:
         return average(series, code, int(reference))
     if reference == series.base:
-        return Ratio(100, 1) if series.row(series.months[0], code) else None
-    row = series.row(reference, code)
-    return Ratio(row.chained, 10**6) if row else None
+        return None if series.level(series.every[0], code) is None else Ratio(100, 1)
+    level = series.level(reference, code)
+    return None if level is None else Ratio(level, 10**6)
 
 
 def months_linked_to(series: Series, code: str, reference: str) -> list[str]:
@@ -166,10 +169,10 @@ def months_linked_to(series: Series, code: str, reference: str) -> list[str]:
 
     They are all its months, but where it left the index and came again.
     """
-    first = f"{reference}-01" if len(reference) == 4 else series.months[0] if reference == series.base else reference
+    first = f"{reference}-01" if len(reference) == 4 else series.every[0] if reference == series.base else reference
     return next((run for run in series.runs(code) if first in run), [])
 
 
-def rereferenced(row: Row, base: Ratio) -> Ratio:
-    """A level of a node where that of the reference period is 100."""
-    return Ratio(100 * row.chained * base.under, base.over * 10**6)
+def rereferenced(chained: int, base: Ratio) -> Ratio:
+    """A level of a node, in points, if that of the reference period is 100."""
+    return Ratio(100 * chained * base.under, base.over * 10**6)

@@ -2,25 +2,41 @@
 
 from __future__ import annotations
 
-from collections.abc import Sequence
+import functools
+from collections.abc import Iterator, Sequence
 from typing import NamedTuple, Optional
 
 from markupsafe import Markup
 
 from .. import charts
 from ..charts import OTHER, OWN, Line, Picture, month_name
-from ..exact import ALL_ITEMS, decimal, depth_of
-from ..others import isolated, others
-from .tables import Row, Series, link_of
+from ..exact import ALL_ITEMS, HUNDRED, decimal, depth_of
+from ..others import Worded, isolated, of_others, others
+from .shown import Shown, period_name
+from .tables import Row, Series, before
+
+LEVEL, YEAR, MONTH, IMPUTED = "level", "year", "month", "imputed"
+"""The kinds of pictures, by which their files are named."""
 
 
 class Chart(NamedTuple):
-    """A picture with its name and its unit, and a key to its lines."""
+    """A picture with its kind, its name and its unit, and what its lines and its marks are, where it has any."""
 
+    kind: str
     name: str
     unit: str
     picture: Markup
-    key: Markup = Markup("")
+    full: Worded = of_others("")
+    broken: Worded = of_others("")
+    marks: str = ""
+
+    @property
+    def key(self) -> Markup:
+        """What its lines and its marks are, as elements of a page."""
+        if not self.broken:
+            return Markup("")
+        told = Markup("<b>Full line</b>: {}. <i>Broken line</i>: {}.").format(others(self.full), others(self.broken))
+        return told + Markup(" {}").format(self.marks) if self.marks else told
 
 
 def _of(row: Optional[Row], name: str, scale: int) -> Optional[float]:
@@ -34,49 +50,132 @@ def _ends(values: Sequence[Optional[float]], months: Sequence[str]) -> list[tupl
     return [(month, value) for month, value in zip(months, values) if value is not None]
 
 
-def of_node(series: Series, code: str) -> list[Chart]:
+def of_node(shown: Shown, code: str) -> list[Chart]:
     """The level, beside that of all items, and both changes: up to the last month of the node."""
-    title, whole, all_rows = series.titles[code], series.rows(ALL_ITEMS), series.rows(code)
-    end = max(at for at, row in enumerate(all_rows, 1) if row)
-    span = slice(max(0, end - charts.MOST_MONTHS), end)
-    months, rows = series.months[span], all_rows[span]
-    found = [_level(series, code, months, rows, whole[span])]
-    for name, key in (("year_change", "year"), ("month_change", "month")):
+    series, title = shown.series, shown.series.title(code)
+    end = next(at for at in range(len(series.months), 0, -1) if series.level(series.months[at - 1], code) is not None)
+    months = series.months[max(0, end - charts.MOST_MONTHS) : end]
+    rows = [shown.row(month, code) for month in months]
+    found = [_level(shown, code, months)]
+    for name, kind in (("year_change", YEAR), ("month_change", MONTH)):
         values = [_of(row, name, 10) for row in rows]
         known = _ends(values, months)
         if known:
-            (low_month, low), (high_month, high) = (most(known, key=lambda it: it[1]) for most in (min, max))
-            says = f"Between {charts.signed(low)} percent in {month_name(low_month)}"
-            says += f" and {charts.signed(high)} percent in {month_name(high_month)}."
             # (what isn't known yet isn't drawn: the annual change begins with the second year)
             first = months.index(known[0][0])
-            picture = Picture(key, f"{isolated(title)}: change on the {key} before", says)
+            picture = Picture(kind, f"{isolated(title)}: change on the {kind} before", _between(known))
             drawn = charts.columns(picture, months[first:], values[first:])
-            found.append(Chart(f"Change on the {key} before", "Percent", drawn))
+            found.append(Chart(kind, f"Change on the {kind} before", "Percent", drawn))
     return found
 
 
-def base_text(series: Series, code: str) -> str:
-    """Where the level of a node is 100, anew where it left the index and came again."""
-    first, *others = [(run[0], f"{month_name(link_of(run[0]))} = 100") for run in series.runs(code)]
+def _between(known: Sequence[tuple[str, float]]) -> str:
+    """The least and the greatest of some changes in percent, each with its month."""
+    (low_month, low), (high_month, high) = (most(known, key=lambda it: it[1]) for most in (min, max))
+    if len(known) == 1:
+        return f"{charts.signed(low)} percent in {month_name(low_month)}."
+    if low == high:
+        return f"{charts.signed(low)} percent from {month_name(known[0][0])} to {month_name(known[-1][0])}."
+    return (
+        f"Between {charts.signed(low)} percent in {month_name(low_month)}"
+        f" and {charts.signed(high)} percent in {month_name(high_month)}."
+    )
+
+
+def base_text(shown: Shown, code: str) -> str:
+    """The period in which the level of a node is 100, and the next one if the node left the index and came again."""
+    first, *others = [(month, f"{period_name(hundred)} = 100") for month, hundred in shown.hundreds(code)]
     return "".join([first[1], *(f", from {month_name(month)} on {base}" for month, base in others)])
 
 
-def _level(
-    series: Series, code: str, months: Sequence[str], rows: Sequence[Optional[Row]], whole: Sequence[Optional[Row]]
-) -> Chart:
-    """The level of a node in some months, beside that of all items."""
-    title, levels = series.titles[code], [_of(row, "chained", 10**6) for row in rows]
-    known = _ends(levels, months)
-    says = f"From {known[0][1]:.1f} in {month_name(known[0][0])} to {known[-1][1]:.1f} in {month_name(known[-1][0])}."
-    lines, key = [Line(OWN, levels)], Markup("")
+def _level(shown: Shown, code: str, months: Sequence[str]) -> Chart:
+    """The level of a node in some months, beside that of all items, which is 100 in the same period as the node's."""
+    series, title = shown.series, shown.series.title(code)
+    # (a first month alone is no line: it is drawn from the December before it, which it is linked to)
+    months = [before(months[0]), *months] if len(months) == 1 else months
+    texts = [_text(shown, month, code) for month in months]
+    levels = [_number(shown, month, code) for month in months]
+    breaks, marks = (
+        [month for month in found if months[0] < month <= months[-1]]
+        for found in (series.starts(code)[1:], series.marks(code))
+    )
+    lines = [Line(OWN, levels, next(filter(None, reversed(texts))))]
     if code != ALL_ITEMS:
-        lines.append(Line(OTHER, [_of(row, "chained", 10**6) for row in whole]))
-        key = Markup("<b>Full line</b>: {}. <i>Broken line</i>: {}.").format(
-            others(title), others(series.titles[ALL_ITEMS])
-        )
-    drawn = charts.lines(Picture("level", f"{isolated(title)}: index", says), months, lines)
-    return Chart("Index", base_text(series, code), drawn, key)
+        lines.append(Line(OTHER, [_beside(shown, code, month) for month in months]))
+    picture = Picture(LEVEL, f"{isolated(title)}: index", " ".join(_said([*zip(months, texts)], breaks)))
+    drawn = charts.lines(picture, months, lines, breaks=breaks, marks=marks)
+    chart = Chart(LEVEL, "Index", base_text(shown, code), drawn)
+    if code == ALL_ITEMS:
+        return chart
+    return chart._replace(
+        full=of_others(title), broken=_beside_text(shown, code), marks=_marked(shown, code, breaks, marks)
+    )
+
+
+def _chained(shown: Shown, month: str, code: str) -> Optional[int]:
+    """The chained level of a node in a month; in December before its first month it is 100."""
+    chained = shown.series.level(month, code)
+    return HUNDRED if chained is None and month < shown.series.months[0] else chained
+
+
+def _number(shown: Shown, month: str, code: str) -> Optional[float]:
+    """A level as a number for a picture."""
+    chained = _chained(shown, month, code)
+    if chained is None:
+        return None
+    level = shown.of_level(chained, month, code)
+    return level.over / level.under
+
+
+@functools.lru_cache(maxsize=1000)
+def _of_all(shown: Shown, month: str) -> Optional[float]:
+    """The level of all items, which is in the picture of each of thousands of items."""
+    return _number(shown, month, ALL_ITEMS)
+
+
+def _text(shown: Shown, month: str, code: str) -> str:
+    """A level with one decimal; empty if there is none."""
+    chained = _chained(shown, month, code)
+    return "" if chained is None else decimal(*shown.of_level(chained, month, code), 1)
+
+
+def _beside(shown: Shown, code: str, month: str) -> Optional[float]:
+    """The level of all items in a month, if they are 100 in the period in which a node's level is."""
+    chained = _chained(shown, month, ALL_ITEMS)
+    if chained is None:
+        return None
+    if shown.is_rereferenced(month, code):
+        return _of_all(shown, month)
+    return 100 * chained / shown.series.level_in(shown.series.base_of(month, code), ALL_ITEMS)
+
+
+def _beside_text(shown: Shown, code: str) -> Worded:
+    """What a picture says of the line of all items: their title, and their period if they are shown elsewhere with
+    another one."""
+    periods, title = [hundred for _, hundred in shown.hundreds(code)], shown.series.title(ALL_ITEMS)
+    if periods == [hundred for _, hundred in shown.hundreds(ALL_ITEMS)]:
+        return of_others(title)
+    if len(periods) == 1:
+        return Worded(f"{{}}, with {period_name(periods[0])} = 100 too", title)
+    return Worded("{}, each time with the same period = 100", title)
+
+
+def _marked(shown: Shown, code: str, breaks: Sequence[str], marks: Sequence[str]) -> str:
+    """What the marks of a picture are."""
+    told = [f"from {month_name(month)} on {period_name(shown.hundred(month, code))} = 100" for month in breaks]
+    told += [f"from {month_name(month)} on other items are in it" for month in marks if month not in breaks]
+    return f"Mark: a break, {'; '.join(told)}." if told else ""
+
+
+def _said(levels: Sequence[tuple[str, str]], breaks: Sequence[str]) -> Iterator[str]:
+    """The first level and the last one, of each part between two breaks."""
+    limits = ["", *breaks, "9999-12"]
+    for begin, end in zip(limits, limits[1:]):
+        part = [(month_name(month), text) for month, text in levels if text and begin <= month < end]
+        if len(part) == 1:
+            yield f"{part[0][1]} in {part[0][0]}."
+        elif part:
+            yield f"From {part[0][1]} in {part[0][0]} to {part[-1][1]} in {part[-1][0]}."
 
 
 class Imputed(NamedTuple):
@@ -85,7 +184,12 @@ class Imputed(NamedTuple):
 
     last: str
     figures: list[tuple[str, str]]
-    picture: Markup
+    chart: Chart
+
+    @property
+    def picture(self) -> Markup:
+        """The picture by itself."""
+        return self.chart.picture
 
 
 def of_imputed(series: Series) -> Imputed:
@@ -95,8 +199,10 @@ def of_imputed(series: Series) -> Imputed:
         rows = series.latest[month].rows
         imputed = sum(row.weight for row in rows.values() if row.is_imputed and depth_of(row.code) == 5)
         shares.append(decimal(100 * imputed, rows[ALL_ITEMS].weight, 0))
-    values = [float(it) for it in shares]
-    says = f"Between {min(values):.0f} and {max(values):.0f} percent of the weight."
-    picture = Picture("imputed", "Weight of the aggregates in which a price was imputed", says)
+    low, high = (most(shares, key=int) for most in (min, max))
+    says = f"Between {low} and {high} percent of the weight." if low != high else f"{low} percent of the weight."
+    name = "Aggregates in which a price was imputed"
+    picture = Picture(IMPUTED, name, says)
     figures = [(month_name(month), share) for month, share in zip(months, shares)][::-1]
-    return Imputed(shares[-1], figures, charts.columns(picture, months, values))
+    drawn = charts.columns(picture, months, [float(it) for it in shares])
+    return Imputed(shares[-1], figures, Chart(IMPUTED, name, "Percent of all weight", drawn))

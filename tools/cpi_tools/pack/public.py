@@ -10,12 +10,14 @@ from __future__ import annotations
 import hashlib
 import http.client
 import json
+import os
 import re
+import tempfile
 import urllib.error
 import urllib.request
-from collections.abc import Callable
+from collections.abc import Callable, Iterator
 from pathlib import Path
-from typing import Any, NamedTuple
+from typing import IO, Any, NamedTuple
 
 from ..copying import private_copy
 from ..program import Cpi, record
@@ -45,6 +47,11 @@ class Listed(NamedTuple):
     revision: int
     moment: int
 
+    @property
+    def file_name(self) -> str:
+        """The name of its own file, `2026-01-r1.csv`."""
+        return f"{self.month}-r{self.revision}.csv"
+
 
 class Published(NamedTuple):
     """A table as it was published: where it is listed, and its bytes as CSV."""
@@ -53,14 +60,52 @@ class Published(NamedTuple):
     table: bytes
 
     @property
+    def name(self) -> str:
+        """The name of its own file."""
+        return self.listed.file_name
+
+    @property
     def sha256(self) -> str:
         """The sum of its bytes, in hexadecimal."""
         return hashlib.sha256(self.table).hexdigest()
 
+
+class Source(NamedTuple):
+    """A published table whose bytes are in a file with others: where it is listed, their sum, where they are."""
+
+    listed: Listed
+    sha256: str
+    file: IO[bytes]
+    begin: int
+    size: int
+
     @property
     def name(self) -> str:
-        """The name of its file, `2026-01-r1.csv`."""
-        return f"{self.listed.month}-r{self.listed.revision}.csv"
+        """The name of its own file."""
+        return self.listed.file_name
+
+    @property
+    def table(self) -> bytes:
+        """Its bytes."""
+        self.file.seek(self.begin)
+        return self.file.read(self.size)
+
+
+IN_MEMORY = 1 << 24
+"""Bytes of tables that are kept in memory; those of thirty years of a national office are in a file without a name."""
+
+
+class Sources:
+    """Keeps the bytes of published tables."""
+
+    def __init__(self) -> None:
+        self._file: IO[bytes] = tempfile.SpooledTemporaryFile(IN_MEMORY)
+
+    def add(self, published: Published) -> Source:
+        """Keeps those of one."""
+        begin = self._file.seek(0, os.SEEK_END)
+        self._file.write(published.table)
+        return Source(published.listed, published.sha256, self._file, begin, len(published.table))
 
 
 def listed_in(reply: Any) -> list[Listed]:
@@ -82,30 +127,36 @@ def from_file(cpi: Cpi, path: Path, at: int, told: Told = untold) -> list[Publis
 
     Raises NotPublic, CopyFailed or CpiFailed.
     """
+    return [*read_file(cpi, path, at, told)]
+
+
+def read_file(cpi: Cpi, path: Path, at: int, told: Told = untold) -> Iterator[Published]:
+    """The same, one table after the other, so that only one of them is in memory."""
     with private_copy(path) as copy, cpi.session(copy) as office:
         listed = listed_in(office.ask(record(at, "public", "tables")))
-        found = []
-        for each in listed:
+        for done, each in enumerate(listed, 1):
             reply = office.ask(record(at, "public", "table", each.month, "csv", each.revision))
             if not isinstance(reply.get("table"), str):
                 raise NotPublic(f"the table of {each.month}, revision {each.revision}, isn't answered: {reply}")
-            found.append(Published(each, reply["table"].encode()))
-            told(len(found), len(listed))
-    return found
+            yield Published(each, reply["table"].encode())
+            told(done, len(listed))
 
 
 def from_url(url: str, told: Told = untold) -> list[Published]:
     """What the public reads now at the address of an office, such as `http://127.0.0.1:8080`. Raises NotPublic."""
+    return [*read_url(url, told)]
+
+
+def read_url(url: str, told: Told = untold) -> Iterator[Published]:
+    """The same, one table after the other, so that only one of them is in memory."""
     base = url.rstrip("/")
     try:
         listed = listed_in(json.loads(_got(f"{base}/tables")))
     except ValueError as fault:
         raise NotPublic(f"{base}/tables isn't the list of an office's tables") from fault
-    found = []
-    for each in listed:
-        found.append(Published(each, _got(f"{base}/table/{each.month}/csv/{each.revision}")))
-        told(len(found), len(listed))
-    return found
+    for done, each in enumerate(listed, 1):
+        yield Published(each, _got(f"{base}/table/{each.month}/csv/{each.revision}"))
+        told(done, len(listed))
 
 
 def _got(address: str) -> bytes:

@@ -6,32 +6,36 @@ character of an id, so `00` is `_T`, `01.1.1.1` is `CP01111` and `01.1.1.1-01` i
 
 | MEASURE | TRANSFORMATION | UNIT_MEASURE | what |
 |---|---|---|---|
-| `CPI` | `N` | `IX` | chained level, 100 in the first December |
+| `CPI` | `N` | `IX` | level, with the office's own reference period or 100 in the first December |
+| `CPIC` | `N` | `IX` | chained level, 100 in the first December, if the office has a reference period of its own |
 | `CPI` | `G1`, `GY` | `PC` | change on the month before, on the year before |
 | `CPIW` | `N` | `PPM` | weight in use |
 | `CTR` | `G1`, `GY` | `PP` | contribution to these changes of all items |
 
-OBS_STATUS is `A` (normal value) throughout: `I` of its code list means that a receiver of the data imputed the whole
-observation. That a price at or below the node was imputed is an attribute of its own, IMPUTED_PRICES.
+FREQ is `M`, and `A` for annual averages of `CPI` (`N`) and their changes on the year before (`G1`).
+
+OBS_STATUS is `B` (break) for the first level of a node that is back, which isn't linked to the earlier ones, and of a
+special aggregate with other members, and `A` (normal value) else. `I` of its code list means that a receiver of the data imputed the whole observation. That a price
+at or below the node was imputed is an attribute of its own, IMPUTED_PRICES.
 """
 
 from __future__ import annotations
 
 import contextlib
-import csv
-from collections.abc import Iterator, Mapping
+from collections.abc import Iterator, Mapping, Sequence
 from pathlib import Path
-from typing import NamedTuple, TextIO, Union
+from typing import NamedTuple, Optional, TextIO, Union
 
-from ..exact import ALL_ITEMS
+from ..csv_files import line_of
 from . import figures
+from .artefacts import SHARED, CodeList, Reference, fixed, item_id, items, version_of
 from .config import Config, KnownIds
-from .figures import Figure
+from .figures import Figure, Known
+from .measures import average_change, full_years
 from .markup import attributes_of
-from .measures import Contributions
-from .tables import Series, Table, iso, link_of
+from .tables import Series, iso, link_of
+from .tidy import written
 
-VERSION = "1.0"
 FLOW, DEFINITION, SCHEME = "DF_CPI", "DSD_CPI", "CS_CPI"
 
 DIMENSIONS = ("FREQ", "REF_AREA", "MEASURE", "UNIT_MEASURE", "COICOP18", "TRANSFORMATION")
@@ -41,11 +45,11 @@ OBS_ATTRIBUTES = ("OBS_STATUS", "IMPUTED_PRICES", "REVISION", "EMBARGO_TIME")
 NEEDED = ("OBS_STATUS", "DECIMALS")
 
 LISTS: Mapping[str, tuple[str, Mapping[str, str]]] = {
-    "FREQ": ("Frequency", {"M": "Monthly"}),
     "MEASURE": (
         "Measure",
         {
             "CPI": "Consumer price index",
+            "CPIC": "Consumer price index, December before the item came = 100",
             "CPIW": "Weight in the consumer price index",
             "CTR": "Contribution to the change of all items",
         },
@@ -58,16 +62,17 @@ LISTS: Mapping[str, tuple[str, Mapping[str, str]]] = {
         "Transformation",
         {"N": "As it is", "G1": "Change on the period before", "GY": "Change on the same period a year before"},
     ),
-    "OBS_STATUS": ("Observation status", {"A": "Normal value"}),
     "IMPUTED_PRICES": ("Prices imputed at or below the item", {"0": "None", "1": "At least one"}),
 }
 """The code lists that don't depend on the tables: their titles, and the name of each code."""
 
 CONCEPTS: Mapping[str, str] = {
+    "FREQ": "Frequency",
     **{name: title for name, (title, _) in LISTS.items()},
+    "OBS_STATUS": "Observation status",
     "REF_AREA": "Reference area",
     "COICOP18": "Item, by COICOP 2018",
-    TIME: "Month",
+    TIME: "Month or year",
     VALUE: "Observation",
     "BASE_PER": "Base period",
     "DECIMALS": "Decimals",
@@ -78,12 +83,18 @@ CONCEPTS: Mapping[str, str] = {
 FIXED = {TIME, VALUE}
 """The concepts whose ids are those of SDMX itself."""
 
-CODES = [frozenset(codes) for name, (_, codes) in LISTS.items() if name != "IMPUTED_PRICES"]
+CODES = [
+    *(frozenset(codes) for name, (_, codes) in LISTS.items() if name != "IMPUTED_PRICES"),
+    frozenset({"M", "A"}),
+    frozenset({"A", "B"}),
+]
+"""Groups of codes in which each is another; `A` is a frequency, and a status."""
 
 KNOWN_IDS = KnownIds(
     names=frozenset({*CONCEPTS, FLOW, DEFINITION, SCHEME} - FIXED),
     codes=frozenset().union(*CODES),
     apart=(frozenset(CONCEPTS), *CODES),
+    lists=frozenset(f"CL_{concept}" for concept in SHARED),
 )
 """The ids that an office can have otherwise."""
 
@@ -95,30 +106,49 @@ class Measure(NamedTuple):
     transformation: str
     unit: str
     decimals: int
-    figure: Figure
+    figure: Optional[Figure]
 
 
 MEASURES = (
-    Measure("CPI", "N", "IX", 6, figures.level),
-    Measure("CPI", "G1", "PC", 1, figures.month_change),
-    Measure("CPI", "GY", "PC", 1, figures.year_change),
-    Measure("CPIW", "N", "PPM", 0, figures.weight),
-    Measure("CTR", "G1", "PP", 6, figures.given_month),
-    Measure("CTR", "GY", "PP", 6, figures.given_year),
+    Measure("CPI", "N", "IX", 6, figures.LEVEL),
+    Measure("CPI", "G1", "PC", 1, figures.MONTH_CHANGE),
+    Measure("CPI", "GY", "PC", 1, figures.YEAR_CHANGE),
+    Measure("CPIC", "N", "IX", 6, figures.CHAINED),
+    Measure("CPIW", "N", "PPM", 0, figures.WEIGHT),
+    Measure("CTR", "G1", "PP", 6, figures.GIVEN_MONTH),
+    Measure("CTR", "GY", "PP", 6, figures.GIVEN_YEAR),
 )
 
 
-def item_id(code: str) -> str:
-    """The id of a node."""
-    return "_T" if code == ALL_ITEMS else "CP" + code.replace(".", "")
+class Structure(NamedTuple):
+    """What an office maintains: its code lists by concept, and the versions of its concepts, its definition of the data
+    structure and its dataflow."""
+
+    lists: dict[str, CodeList]
+    concepts: Reference
+    definition: Reference
+    flow: Reference
 
 
-class Observation(NamedTuple):
-    """A figure with its month and its attributes."""
+def structure_of(series: Series, config: Config) -> Structure:
+    """The artefacts of some tables. A version follows what an artefact refers to, too."""
+    lists = {name: fixed(config, title, codes) for name, (title, codes) in LISTS.items()}
+    lists["COICOP18"] = items(series, config, CONCEPTS["COICOP18"])
+    month = ".".join(lists["COICOP18"].version.split(".")[:2]).replace(".", "-")
+    ids = {name: config.id(name) for name in CONCEPTS}
+    concepts = version_of((CONCEPTS, ids))
+    content = [{name: it.version for name, it in lists.items()}, concepts, ids, dict(config.ids), config.title]
+    definition, flow = (version_of([name, *content], month) for name in (DEFINITION, FLOW))
+    versions = {SCHEME: concepts, DEFINITION: definition, FLOW: flow}
+    own = (Reference(config.agency, config.id(name), version) for name, version in versions.items())
+    return Structure(lists, *own)
 
-    month: str
-    value: str
-    attributes: tuple[str, ...]
+
+Attributes = tuple[str, ...]
+"""What is said of an observation, in the order of OBS_ATTRIBUTES; most have the same as others of their month."""
+
+Observation = tuple[str, str, Attributes]
+"""A figure: its month or year, the figure itself, and its attributes."""
 
 
 class Observed(NamedTuple):
@@ -126,43 +156,93 @@ class Observed(NamedTuple):
 
     key: tuple[str, ...]
     attributes: tuple[str, ...]
-    observations: list[Observation]
+    observations: Sequence[Observation]
 
 
-def observed(series: Series, contributions: Contributions, config: Config) -> Iterator[Observed]:
+class Months:
+    """The months of the observations, and the attributes that theirs can have."""
+
+    def __init__(self, known: Known, config: Config):
+        self._known = known
+        tables = [known.series.latest[month] for month in known.series.months]
+        of = [[(config.id(id), str(it.revision), iso(it.moment)) for it in tables] for id in ("A", "B")]
+        # (by whether it is after a break, then by month, then by whether a price was imputed)
+        self._attributes = [
+            [{it: (status, it, revision, moment) for it in ("", "0", "1")} for status, revision, moment in found]
+            for found in of
+        ]
+
+    def observations(self, it: Measure, code: str) -> list[Observation]:
+        """The figures of a node."""
+        known, months = self._known, self._known.series.months
+        assert it.figure
+        values, imputed = (known.texts(figure, code) for figure in (it.figure, figures.IMPUTED))
+        breaks = known.series.marks(code) if it.unit == "IX" else ()
+        said = self._attributes[0]
+        if breaks:
+            said = [self._attributes[month in breaks][at] for at, month in enumerate(months)]
+        return [(month, value, of[flag]) for month, value, flag, of in zip(months, values, imputed, said) if value]
+
+
+def observed(known: Known, config: Config) -> Iterator[Observed]:
     """All series that have an observation, in the order of the table above and of codes."""
-    tables = [(series.latest[month], iso(series.latest[month].moment)) for month in series.months]
+    months = Months(known, config)
     for it in MEASURES:
+        if it.figure is figures.CHAINED and not config.reference:
+            continue
         ids = [config.id(each) for each in (it.measure, it.unit, it.transformation)]
-        for code in series.titles:
-            key = (config.id("M"), config.area, *ids[:2], item_id(code), ids[2])
-            found = [*_observations(it, contributions, code, tables, config.id("A"))]
+        for code in known.codes:
+            found = months.observations(it, code)
             if found:
-                # (a node that left and came again has two, one after the other)
-                bases = " ".join(link_of(run[0]) for run in series.runs(code)) if it.unit == "IX" else ""
+                key = (config.id("M"), config.area, *ids[:2], item_id(code), ids[2])
+                yield Observed(key, (_bases(it, known, code), str(it.decimals)), found)
+    yield from _annual(known, config)
+
+
+def _annual(known: Known, config: Config) -> Iterator[Observed]:
+    """The annual averages of all nodes, and their changes on the year before."""
+    series, shown = known.series, known.shown
+    rates = Measure("CPI", "G1", "PC", 1, None)
+    for it in (Measure("CPI", "N", "IX", 6, None), rates):
+        ids = [config.id(each) for each in (it.measure, it.unit, it.transformation)]
+        years = full_years(series)
+        for code in known.codes:
+            found = []
+            for year in years:
+                value = average_change(series, code, year) if it is rates else shown.average(code, year)
+                if value is not None:
+                    found.append(_of_year(known, config, code, year, written(value, it.decimals)))
+            if found:
+                key = (config.id("A"), config.area, *ids[:2], item_id(code), ids[2])
+                bases = "" if it is rates else " ".join(hundred for _, hundred in shown.hundreds(code))
                 yield Observed(key, (bases, str(it.decimals)), found)
 
 
-def _observations(
-    it: Measure, contributions: Contributions, code: str, tables: list[tuple[Table, str]], status: str
-) -> Iterator[Observation]:
-    for table, moment in tables:
-        row = table.rows.get(code)
-        value = it.figure(contributions, table.month, code, row)
-        if value:
-            imputed = str(int(row.is_imputed)) if row else ""
-            yield Observation(table.month, value, (status, imputed, str(table.revision), moment))
+def _of_year(known: Known, config: Config, code: str, year: int, value: str) -> Observation:
+    """A figure of a year, which is out when the tables of all its months are."""
+    months = [month for month in known.series.months if month.startswith(f"{year:04}-")]
+    moment = max(known.series.latest[month].moment for month in months)
+    is_broken = any(month in known.series.marks(code) for month in months)
+    return f"{year:04}", value, (config.id("B" if is_broken else "A"), "", "", iso(moment))
 
 
-def write_data(series: Series, contributions: Contributions, config: Config, folder: Path) -> None:
+def _bases(it: Measure, known: Known, code: str) -> str:
+    """The periods in which a series of levels is 100: of a node that left and is back two, one after the other."""
+    if it.figure is figures.LEVEL:
+        return " ".join(hundred for _, hundred in known.shown.hundreds(code))
+    return " ".join(map(link_of, known.series.starts(code))) if it.figure is figures.CHAINED else ""
+
+
+def write_data(known: Known, config: Config, folder: Path) -> None:
     """Writes the observations in each form that the pack has, as `cpi.sdmx.csv` and `cpi.sdmx.xml`."""
+    structure = structure_of(known.series, config)
     with contextlib.ExitStack() as files:
         forms: list[Union[CsvForm, XmlForm]] = []
         if config.has("sdmx-csv"):
-            forms.append(CsvForm(files.enter_context(opened(folder / "cpi.sdmx.csv")), config))
+            forms.append(CsvForm(files.enter_context(opened(folder / "cpi.sdmx.csv")), structure, config))
         if config.has("sdmx-ml"):
-            forms.append(XmlForm(files.enter_context(opened(folder / "cpi.sdmx.xml")), series, config))
-        for found in observed(series, contributions, config):
+            forms.append(XmlForm(files.enter_context(opened(folder / "cpi.sdmx.xml")), structure, known.series, config))
+        for found in observed(known, config):
             for each in forms:
                 each.add(found)
         for each in forms:
@@ -180,16 +260,27 @@ def opened(path: Path) -> TextIO:
 class CsvForm:
     """SDMX-CSV 2.0: a row an observation."""
 
-    def __init__(self, file: TextIO, config: Config):
+    def __init__(self, file: TextIO, structure: Structure, config: Config):
         names = [config.id(name) for name in (*DIMENSIONS, TIME, VALUE, *SERIES_ATTRIBUTES, *OBS_ATTRIBUTES)]
-        self._start = ["dataflow", f"{config.agency}:{config.id(FLOW)}({VERSION})", "I"]
-        self._rows = csv.writer(file, lineterminator="\n")
-        self._rows.writerow(["STRUCTURE", "STRUCTURE_ID", "ACTION", *names])
+        flow = structure.flow
+        self._start = ["dataflow", f"{flow.agency}:{flow.id}({flow.version})", "I"]
+        self._file = file
+        self._ends: dict[Attributes, str] = {}
+        file.write(line_of(["STRUCTURE", "STRUCTURE_ID", "ACTION", *names]) + "\n")
 
     def add(self, found: Observed) -> None:
         """Writes a series."""
-        start, attributes = [*self._start, *found.key], found.attributes
-        self._rows.writerows([*start, it.month, it.value, *attributes, *it.attributes] for it in found.observations)
+        start, attributes = line_of([*self._start, *found.key]), line_of(found.attributes)
+        lines = []
+        for month, value, said in found.observations:
+            end = self._ends.get(said) or self._end(said)
+            lines.append(f"{start},{month},{value},{attributes},{end}")
+        self._file.write("".join(lines))
+
+    def _end(self, said: Attributes) -> str:
+        """The end of the lines of some attributes."""
+        end = self._ends[said] = line_of(said) + "\n"
+        return end
 
     def end(self) -> None:
         """Nothing stands behind the last row."""
@@ -201,13 +292,27 @@ class CsvForm:
 class XmlForm:
     """SDMX-ML 2.1, StructureSpecificData."""
 
-    def __init__(self, file: TextIO, series: Series, config: Config):
+    def __init__(self, file: TextIO, structure: Structure, series: Series, config: Config):
         self._file, self._config = file, config
-        file.write(_data_head(series, config))
+        self._ends: dict[Attributes, str] = {}
+        file.write(_data_head(structure, series, config))
 
     def add(self, found: Observed) -> None:
         """Writes a series."""
-        self._file.write(_series_xml(found, self._config))
+        named = zip((*DIMENSIONS, *SERIES_ATTRIBUTES), (*found.key, *found.attributes))
+        lines = [f"<Series{attributes_of({self._config.id(name): value for name, value in named})}>\n"]
+        for month, value, said in found.observations:
+            # (months, figures and the ids of attributes have no character that would have to be escaped)
+            end = self._ends.get(said) or self._end(said)
+            lines.append(f'<Obs {TIME}="{month}" {VALUE}="{value}"{end}')
+        self._file.write("".join(lines) + "</Series>\n")
+
+    def _end(self, said: Attributes) -> str:
+        """The end of the observations of some attributes."""
+        names = [self._config.id(name) for name in OBS_ATTRIBUTES]
+        told = "".join(f' {name}="{each}"' for name, each in zip(names, said) if each)
+        end = self._ends[said] = f"{told}/>\n"
+        return end
 
     def end(self) -> None:
         """Writes the end of the data set."""
@@ -224,17 +329,17 @@ def message_header(series: Series, config: Config, name: str, structure: str = "
     return (
         f"<message:Header>\n<message:ID>{config.id(name)}_{series.months[-1]}</message:ID>\n"
         f"<message:Test>false</message:Test>\n<message:Prepared>{iso(series.moment)}</message:Prepared>\n"
-        f"<message:Sender{attributes_of({'id': config.agency})}/>\n{structure}</message:Header>\n"
+        f"<message:Sender{attributes_of({'id': config.agency.replace('.', '_')})}/>\n{structure}</message:Header>\n"
     )
 
 
-def _data_head(series: Series, config: Config) -> str:
-    """What stands before the series: namespaces, header, and the beginning of the data set."""
-    definition = config.id(DEFINITION)
+def _data_head(own: Structure, series: Series, config: Config) -> str:
+    """What is before the series: namespaces, header, and the beginning of the data set."""
+    definition, version = own.definition.id, own.definition.version
     model = "urn:sdmx:org.sdmx.infomodel.datastructure.DataStructure"
-    space = f"{model}={config.agency}:{definition}({VERSION}):ObsLevelDim:{TIME}"
+    space = f"{model}={config.agency}:{definition}({version}):ObsLevelDim:{TIME}"
     named = {"structureID": definition, "namespace": space, "dimensionAtObservation": TIME}
-    reference = {"agencyID": config.agency, "id": definition, "version": VERSION, "class": "DataStructure"}
+    reference = {"agencyID": config.agency, "id": definition, "version": version, "class": "DataStructure"}
     structure = (
         f"<message:Structure{attributes_of(named)}>\n<common:Structure>\n<Ref{attributes_of(reference)}/>\n"
         "</common:Structure>\n</message:Structure>\n"
@@ -247,15 +352,3 @@ def _data_head(series: Series, config: Config) -> str:
         f'<message:DataSet ss:structureRef="{definition}" xsi:type="own:DataSetType"'
         ' ss:dataScope="DataStructure" action="Information">\n'
     )
-
-
-def _series_xml(found: Observed, config: Config) -> str:
-    """A series with its observations."""
-    named = zip((*DIMENSIONS, *SERIES_ATTRIBUTES), (*found.key, *found.attributes))
-    lines = [f"<Series{attributes_of({config.id(name): value for name, value in named})}>\n"]
-    names = [config.id(name) for name in OBS_ATTRIBUTES]
-    for month, value, attributes in found.observations:
-        # (months, figures and the ids of attributes have no character that would have to be escaped)
-        told = "".join(f' {name}="{each}"' for name, each in zip(names, attributes) if each)
-        lines.append(f'<Obs {TIME}="{month}" {VALUE}="{value}"{told}/>\n')
-    return "".join(lines) + "</Series>\n"

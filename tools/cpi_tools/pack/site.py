@@ -1,4 +1,5 @@
-"""The website of a pack: static pages that need no network and no cookie, and no script but for the calculator's sums.
+"""The website of a pack: static pages that need no network and no cookie, and a script only for the calculator's sums,
+for the search and for a PNG of a picture.
 
 Each page says what it knows by the latest published tables. Shown figures are rounded once from what is published;
 the files beside the pages have all digits.
@@ -8,36 +9,51 @@ from __future__ import annotations
 
 import json
 import shutil
+from collections import defaultdict
 from collections.abc import Callable, Sequence
-from fractions import Fraction
 from pathlib import Path
-from typing import NamedTuple, Optional
+from typing import Optional
 
-from .. import charts
 from ..charts import month_name
-from ..exact import ALL_ITEMS, HUNDRED, Ratio, depth_of
+from ..exact import ALL_ITEMS, HUNDRED, decimal, depth_of, rounded
 from ..others import isolated
-from ..pages import TEMPLATES, environment, write_page
+from ..pages import TEMPLATES, environment, write_new, write_page
 from .bases import hidden_bases, hidden_months, revised_bases
-from .config import Config
-from .measures import Contributions, reference_level
-from .pictures import of_imputed, of_node
-from .public import Published
-from .tables import Row, Series, Table, link_of
-from .tidy import HEAD, figure_row, write_rows
+from .cards import NO_CARDS, Cards
+from .chooser import ITEM_HEAD, item_ends, item_rows, known_to_page, write_chooser
+from .config import PICTURES, Config
+from .drawings import drawing
+from .example import change, given
+from .figures import Known
+from .given import Given, lead_of, sorted_values, values_of, with_bars
+from .headline import headline
+from .measures import reference_level
+from .month_rows import MonthRows
+from .notes import NAMES, SAYS, Notes, present
+from .pictures import Chart, base_text, of_imputed, of_node
+from .public import Source
+from .release_site import ReleaseSite
+from .revised import all_revised
+from .shown import EXACT, RATES_SAY, period_name
+from .signature import Signature
+from .specials import Special
+from .tables import Row, Table, before, link_of
+from .tidy import Lines, write_lines, write_rows
 from .wording import FILTERS, day, page_of, share
 
 HERE = Path(__file__).resolve().parent
 
 CLAUSE_DEPTH = 2
-"""The calculator offers all items, divisions and groups."""
+"""The calculator offers all items, divisions and groups, and special aggregates."""
 
-FILES = ("cpi.xlsx", "cpi.csv", "vintages.csv", "contributions.csv", "averages.csv", "twelve-month-rates.csv",
-         "rereferenced.csv", "releases.csv", "cpi.sdmx.csv", "cpi.sdmx.xml", "structure.sdmx.xml")  # fmt: skip
+FILES = ("cpi.xlsx", "printed.csv", "cpi.csv", "vintages.csv", "contributions.csv", "aggregates.csv",
+         "aggregate-contributions.csv", "aggregate-members.csv", "averages.csv", "twelve-month-rates.csv",
+         "rereferenced.csv", "releases.csv", "cpi.sdmx.csv", "cpi.sdmx.xml", "structure.sdmx.xml", "cpi.jsonstat.json",
+         "cpi.px")  # fmt: skip
 """The files of the folder `data`, as they are offered."""
 
-GREATEST_DIFFERENCES = 10
-"""Nodes whose levels a revision changed that its page shows."""
+MOST_CODES = 5
+"""Elementary aggregates that a page names one by one where others belong to a special aggregate."""
 
 Told = Callable[[int, int], None]
 
@@ -45,163 +61,243 @@ Told = Callable[[int, int], None]
 # ---- what pages show
 
 
-class Given(NamedTuple):
-    """What a node next below another gives to its change: a row of a table, with its bar."""
-
-    code: str
-    title: str
-    row: Optional[Row]
-    value: Ratio
-    bar: charts.Bar
+def _codes(codes: set[str]) -> str:
+    """Some codes, or how many they are."""
+    return ", ".join(sorted(codes)) if len(codes) <= MOST_CODES else f"{len(codes)} elementary aggregates"
 
 
-class Revised(NamedTuple):
-    """A further revision with the one before, how many levels differ, and the greatest differences: code, old, new."""
-
-    old: Table
-    new: Table
-    differing: int
-    greatest: list[tuple[str, int, int]]
-
-
-def _standing(root: str, here: str) -> dict[str, object]:
-    """Where a page stands: `root` leads from it to the folder of the site."""
-    return {"root": root, "here": here, "style_at": f"{root}assets/style.css"}
+def _standing(root: str, here: str, path: str) -> dict[str, object]:
+    """Where a page is: `root` leads from it to the folder of the site, and `page_path` from there to it."""
+    return {"root": root, "here": here, "style_at": f"{root}assets/style.css", "page_path": path}
 
 
 class Site:
     """Writes the pages of a pack into its folder."""
 
-    def __init__(self, series: Series, contributions: Contributions, config: Config, folder: Path):
-        self.series, self.contributions, self.config, self.folder = series, contributions, config, folder
+    def __init__(
+        self,
+        known: Known,
+        config: Config,
+        folder: Path,
+        signature: Optional[Signature] = None,
+        cards: Cards = NO_CARDS,
+        recent: Optional[Known] = None,
+    ):
+        """`recent` are the figures of the months that pages show, else all of them."""
+        self.known, self.series, self.contributions, self.shown = known, known.series, known.contributions, known.shown
+        series, self.config, self.folder = known.series, config, folder
+        self.recent = recent or known
+        self.month_rows = MonthRows(self.shown)
+        self.lines, self.tables = Lines(series), [series.latest[month] for month in series.months]
         self.month = series.months[-1]
         # (in the month before all others each item that begins there has 100, which a contract can count from)
         self.clause_months = [*([series.base] if series.base in series.latest else []), *series.months]
         self.hidden = hidden_months(series)
+        self.notes = Notes(self.shown, config.provisional)
         self.pages = environment(HERE / "templates")
         self.pages.filters.update(FILTERS)
+        self._set_globals(signature)
+        self.releases = ReleaseSite(known, config, cards)
+        self.releases.prepare(self.pages)
+
+    def _set_globals(self, signature: Optional[Signature]) -> None:
+        """What each template knows."""
         self.pages.globals.update(
-            config=config,
-            series=series,
+            config=self.config,
+            series=self.series,
             month=self.month,
-            table=series.last,
-            whole=series.last.rows[ALL_ITEMS],
-            base=series.base,
+            table=self.series.last,
+            whole=self._row(self.month, ALL_ITEMS),
+            base=self.series.base,
+            signature=signature,
+            shown=self.shown,
+            rates=RATES_SAY[self.shown.rates],
+            period=period_name,
+            level_of=lambda chained, month, code: decimal(*self.shown.of_level(chained, month, code), 1),
             share=share,
             depth_of=depth_of,
+            note_names=NAMES,
+            provisional_text=self.notes.provisional_text,
+            headline_of=headline,
         )
 
     def write(self, told: Told) -> None:
         """All pages; tells how many of how many nodes have theirs."""
+        self._write_own()
+        (self.folder / "node").mkdir()
+        if self.config.has(PICTURES):
+            (self.folder / "picture").mkdir()
+            (self.folder / "embed").mkdir()
+        write_chooser(self.series, self.folder)
+        codes = [*self.series.all_titles]
+        for done, code in enumerate(codes, 1):
+            self._node_page(code)
+            told(done, len(codes))
+        self.releases.write(self.pages, self.folder)
+
+    def _write_own(self) -> None:
+        """The pages of the site's own folder, and what all pages share."""
         shutil.copytree(HERE / "assets", self.folder / "assets")
         shutil.copyfile(TEMPLATES / "style.css", self.folder / "assets" / "style.css")
         (self.folder / "assets" / "levels.js").write_text(self._levels(), encoding="utf-8")
         self._page("index.html", **self._home())
         self._page("nodes.html")
-        self._page("contract.html", items=self.series.down_to(CLAUSE_DEPTH), months=self.clause_months)
-        self._page("revisions.html", revised=self._revised(), sources=self._sources(), unexplained=self._unexplained())
-        self._page("data.html", files=self._files(), lacking=self._lacking())
+        self._page("contract.html", items=self._clause_items(), months=self.clause_months)
+        self._page(
+            "revisions.html",
+            revised=all_revised(self.series.vintages),
+            sources=self._sources(),
+            unexplained=self._unexplained(),
+        )
+        files = self._files()
+        first_year, years = self.recent.series.months[0][:4], self._years()
+        data = {"files": files, "years": years, "first_year": first_year, "lacking": self._lacking()}
+        self._page("data.html", **data, dataset=self.releases.dataset(files))
         self._page("method.html")
-        (self.folder / "node").mkdir()
-        for done, code in enumerate(self.series.titles, 1):
-            self._node_page(code)
-            told(done, len(self.series.titles))
+        changes = [change(self.shown, self.month, is_annual) for is_annual in (True, False)]
+        part = given(Known(self.series, self.contributions, self.shown), self.month)
+        self._page("how-to-read.html", changes=[*filter(None, changes)], part=part, says=SAYS)
+        self._page("choose.html", known=known_to_page(self.series, self.config), says=SAYS)
+        if self.pages.globals["signature"]:
+            self._page("check.html")
 
     def _page(self, template: str, **named: object) -> None:
         """Writes a page of the site's own folder, which has the name of its template."""
-        write_page(self.pages, template, self.folder / template, **_standing("", template), **named)
+        write_page(self.pages, template, self.folder / template, **_standing("", template, template), **named)
 
     def _node_page(self, code: str) -> None:
         """Writes the page of a node and the file beside it."""
         to = self.folder / "node" / page_of(code)
-        write_page(self.pages, "node.html", to, **_standing("../", page_of(code)), **self._node(code))
-        write_rows(self.folder / "node" / f"{code}.csv", HEAD, self._history(code))
+        charts, stands = of_node(self.shown, code), _standing("../", page_of(code), f"node/{page_of(code)}")
+        write_new(self.pages, "node.html", to, **stands, **self._node(code), charts=charts)
+        notes = self.notes.by_month(code)
+        if code in self.series.specials:
+            write_rows(self.folder / "node" / f"{code}.csv", ITEM_HEAD, item_rows(self.known, notes, code))
+        else:
+            more = item_ends(self.known, notes, code)
+            lines = [self.lines.of_node(self.tables, code, more)]
+            write_lines(self.folder / "node" / f"{code}.csv", ITEM_HEAD, lines)
+        if self.config.has(PICTURES):
+            self._pictures(code, [*charts, *([of_imputed(self.series).chart] if code == ALL_ITEMS else [])])
+
+    def _pictures(self, code: str, charts: Sequence[Chart]) -> None:
+        """Writes each picture of a node as a file, and the page that other sites embed, which shows the first one if
+        its address names none."""
+        title = self.series.title(code)
+        source = f"{isolated(self.config.office)}, {isolated(self.config.title)}, up to {month_name(self.month)}"
+        source += f". {self.notes.provisional_text}" if self.config.provisional else ""
+        for it in charts:
+            to = self.folder / "picture" / f"{code}-{it.kind}.svg"
+            to.write_bytes(drawing(it, title, f"Source: {source}").encode())
+        to = self.folder / "embed" / page_of(code)
+        write_new(self.pages, "embed.html", to, code=code, title=title, charts=[*charts][::-1])
 
     # ---- what stands on each page
 
     def _given(self, month: str, to: str, is_annual: bool) -> tuple[list[Given], str]:
         """What the nodes next below one give to its change, the greatest first, and where zero is on the track."""
-        parts = self.contributions.below(month, to)
-        values = [(it.code, it.to_year if is_annual else it.to_month) for it in parts]
-        found = [(code, value) for code, value in values if value is not None]
-        found.sort(key=lambda it: (-Fraction(*it[1]), it[0]))
-        track = charts.track([value.over / value.under for _, value in found])
-        rows = [
-            Given(code, self.series.titles[code], self.series.row(month, code), value, bar)
-            for (code, value), bar in zip(found, track.bars)
-        ]
-        return rows, track.zero
+        return with_bars(self.shown, month, sorted_values(self.contributions.below(month, to), is_annual))
 
     def _home(self) -> dict[str, object]:
-        whole = self.series.last.rows[ALL_ITEMS]
+        whole = self._row(self.month, ALL_ITEMS)
         is_annual = whole.year_change is not None
         change = whole.month_change if whole.year_change is None else whole.year_change
         rows, zero = self._given(self.month, ALL_ITEMS, is_annual)
-        # (the first row gives most to a rise, the last one to a fall)
-        ends = rows[::-1] if change < 0 else rows
-        most = [it for it in ends[:1] if it.value.over * (-1 if change < 0 else 1) > 0]
-        against = [it for it in ends[-1:] if it.value.over * (-1 if change < 0 else 1) < 0]
-        total = Ratio(0, 1)
-        for it in rows:
-            total = total.plus(it.value)
+        of_specials = (self.contributions.of(self.month, name, ALL_ITEMS) for name in self.series.specials)
+        specials, special_zero = with_bars(self.shown, self.month, values_of(of_specials, is_annual))
         return {
+            "specials": specials,
+            "special_zero": special_zero,
             "is_annual": is_annual,
             "change": change,
             "rows": rows,
             "zero": zero,
-            "most": most[0] if most else None,
-            "against": against[0] if against else None,
-            "total": total,
-            "hidden": hidden_bases(self.series, whole),
+            "lead": lead_of(rows, change),
+            "hidden": self._hidden(ALL_ITEMS),
             "revised": [*revised_bases(self.series, whole, self.hidden)],
-            "charts": of_node(self.series, ALL_ITEMS),
+            "charts": of_node(self.shown, ALL_ITEMS),
+            "letters": self.notes.by_month(ALL_ITEMS).get(self.month, ""),
+            "sentences": self.notes.sentences(self.month, ALL_ITEMS),
             "imputed": of_imputed(self.series),
         }
 
     def _node(self, code: str) -> dict[str, object]:
-        row = self.series.row(self.month, code)
+        row = self.shown.row(self.month, code)
         is_annual = row is not None and row.year_change is not None
         rows, zero = self._given(self.month, code, is_annual) if row else ([], "0")
-        rows_of_months = zip(self.series.months, self.series.rows(code))
-        history = [(self.series.latest[month], it) for month, it in rows_of_months if it]
+        months = self._months(code)
+        marks = self._marks(code)
+        history = [month for month in months if self.series.level(month, code) is not None]
         given = self.contributions.of(self.month, code, ALL_ITEMS)
+        notes = self.notes.by_month(code, history)
         return {
             "code": code,
-            "title": self.series.titles[code],
+            "title": self.series.title(code),
+            "special": self._special(code),
+            "marks": marks,
+            "notes": defaultdict(str, notes),
+            "present": present(notes),
+            "sentences": self.notes.sentences(self.month, code),
             "row": row,
             "is_annual": is_annual,
             "rows": rows,
             "zero": zero,
             "is_untold": bool(self.series.children(code)) and (self.month, is_annual) in self.contributions.unexplained,
-            "hidden": hidden_bases(self.series, row) if row else {},
+            "hidden": self._hidden(code),
             "revised": [*revised_bases(self.series, row, self.hidden)] if row else [],
             "path": self.series.path(code),
-            "history": history[::-1],
+            "last": history[-1],
+            "months": self.month_rows.of(code, history[::-1], notes, marks),
+            "is_whole": len(months) == len(self.series.months),
             "given": given.to_year if is_annual else given.to_month,
-            "last_base": link_of(self.series.runs(code)[-1][0]),
-            "charts": of_node(self.series, code),
+            "base_text": base_text(self.shown, code),
         }
 
-    def _history(self, code: str) -> list[Sequence[object]]:
-        """The rows of a node in all months, with the columns of cpi.csv."""
-        tables = [self.series.latest[month] for month in self.series.months]
-        return [figure_row(table, table.rows[code]) for table in tables if code in table.rows]
+    def _months(self, code: str) -> list[str]:
+        """The months that the page of a node shows: those of the files of `data`, or the last year that it was in."""
+        if self.recent is self.known or self.series.level(self.recent.series.months[0], code) is not None:
+            return self.recent.series.months
+        last = max(month for run in self.series.runs(code) for month in run)
+        first = min(self.recent.series.months[0], f"{last[:4]}-01")
+        return [month for month in self.series.months if first <= month]
 
-    def _revised(self) -> list[Revised]:
-        """Each further revision with the one before, the last first."""
-        found = []
-        for old, new in zip(self.series.vintages, self.series.vintages[1:]):
-            if old.month == new.month:
-                levels = [(code, old.rows[code].chained, row.chained) for code, row in new.rows.items()]
-                differing = [it for it in levels if it[1] != it[2]]
-                differing.sort(key=lambda it: (-abs(it[2] - it[1]), it[0]))
-                found.append(Revised(old, new, len(differing), differing[:GREATEST_DIFFERENCES]))
-        return found[::-1]
+    def _row(self, month: str, code: str) -> Row:
+        """The row of a node that has one."""
+        found = self.shown.row(month, code)
+        assert found
+        return found
+
+    def _hidden(self, code: str) -> dict[str, str]:
+        """By month, the figures of the last month that rest on a revision under embargo; of a special aggregate none,
+        and no change that is computed from the printed index."""
+        row = self.series.row(self.month, code)
+        is_none = row is None or code in self.series.specials
+        return {} if is_none or row is None else hidden_bases(self.series, row, self.shown.rates == EXACT)
+
+    def _special(self, code: str) -> Optional[Special]:
+        """What the office says of a special aggregate; None of a node."""
+        return next((it for it in self.config.specials if it.id == code), None)
+
+    def _marks(self, code: str) -> dict[str, str]:
+        """By month with a mark, what is said of it."""
+        found = {
+            month: f"Break: from {month_name(month)} on, {period_name(hundred)} = 100. These levels aren't linked to"
+            " the earlier ones below."
+            for month, hundred in self.shown.hundreds(code)[1:]
+        }
+        if code in self.series.specials:
+            it = self.series.specials[code]
+            for month in it.changes:
+                now, then = ({*it.members[year]} for year in (month[:4], link_of(month)[:4]))
+                parts = [("came", now - then), ("left", then - now)]
+                said = "; ".join(f"{what}: {_codes(codes)}" for what, codes in parts if codes)
+                found[month] = f"Break: from {month_name(month)} on, other elementary aggregates are in it ({said})."
+        return found
 
     def _unexplained(self) -> list[tuple[str, bool]]:
         return sorted(self.contributions.unexplained)
 
-    def _sources(self) -> list[tuple[Table, Published]]:
+    def _sources(self) -> list[tuple[Table, Source]]:
         return [*zip(self.series.vintages, self.series.sources)][::-1]
 
     def _files(self) -> list[tuple[str, int]]:
@@ -209,20 +305,59 @@ class Site:
         found = [(self.folder / "data" / name) for name in FILES]
         return [(it.name, it.stat().st_size) for it in found if it.is_file()]
 
+    def _years(self) -> list[tuple[str, int]]:
+        """The archives of earlier years with their sizes in bytes, the last first."""
+        return [(it.stem, it.stat().st_size) for it in sorted(self.folder.glob("data/years/*.zip"), reverse=True)]
+
     def _lacking(self) -> list[str]:
         """The nodes that have no level in the whole reference period."""
         if not self.config.reference:
             return []
-        return [code for code in self.series.titles if not reference_level(self.series, code, self.config.reference)]
+        return [
+            code for code in self.series.all_titles if not reference_level(self.series, code, self.config.reference)
+        ]
+
+    def _clause_items(self) -> list[str]:
+        """What the calculator offers."""
+        return [*self.series.down_to(CLAUSE_DEPTH), *self.series.specials]
 
     def _item(self, code: str) -> dict[str, object]:
         """Title and levels of a node for the calculator."""
         levels = [row.chained if row else None for row in self.series.rows(code)]
         begun = [] if len(self.clause_months) == len(levels) else [HUNDRED if levels[0] else None]
-        return {"title": isolated(self.series.titles[code]), "levels": begun + levels}
+        found = [
+            None if chained is None else self.shown.of_level(chained, month, code)
+            for month, chained in zip(self.clause_months, begun + levels)
+        ]
+        millionths, tenths = ([it and rounded(parts * it.over, it.under) for it in found] for parts in (10**6, 10))
+        hundreds = [
+            [self.clause_months.index(max(before(month), self.clause_months[0])), period_name(hundred)]
+            for month, hundred in self.shown.hundreds(code)
+        ]
+        named = {"title": isolated(self.series.title(code)), "isSet": code in self.series.specials}
+        return {**named, "levels": millionths, "tenths": tenths, "hundreds": hundreds}
+
+    def _earlier(self) -> list[dict[str, object]]:
+        """The earlier revisions of months, for the addresses of results that were computed from them: by item, the level
+        in millionths and in tenths of a point."""
+        found: list[dict[str, object]] = []
+        for table in self.series.vintages:
+            if table is not self.series.latest[table.month] and table.month in self.clause_months:
+                # (the month before all others has no rows: what begins there has 100)
+                rows = table.rows or self.series.latest[self.series.months[0]].rows
+                levels = {
+                    code: rows[code].chained if table.rows else HUNDRED
+                    for code in self.series.down_to(CLAUSE_DEPTH)
+                    if code in rows
+                }
+                exact = {code: self.shown.of_level(it, table.month, code) for code, it in levels.items()}
+                items = {code: [rounded(it.over * by, it.under) for by in (10**6, 10)] for code, it in exact.items()}
+                named = {"month": self.clause_months.index(table.month), "revision": table.revision}
+                found.append({**named, "published": day(table.moment), "sum": table.sha256, "items": items})
+        return found
 
     def _levels(self) -> str:
-        """What the calculator counts with, as a script: levels in millionths of a point, as whole numbers."""
+        """What the calculator counts with, as a script: levels in millionths and in tenths of a point."""
         series, months = self.series, self.clause_months
         tables = [series.latest[month] for month in months]
         data = {
@@ -233,6 +368,9 @@ class Site:
             "revisions": [table.revision for table in tables],
             "published": [day(table.moment) for table in tables],
             "sums": [table.sha256 for table in tables],
-            "items": {code: self._item(code) for code in series.down_to(CLAUSE_DEPTH)},
+            "office": isolated(self.config.office),
+            "title": isolated(self.config.title),
+            "earlier": self._earlier(),
+            "items": {code: self._item(code) for code in self._clause_items()},
         }
         return f"window.LEVELS = {json.dumps(data, separators=(',', ':'))};\n"

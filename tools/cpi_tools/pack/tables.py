@@ -7,48 +7,23 @@ wouldn't is none.
 
 from __future__ import annotations
 
+import bisect
+import copy
 import csv
 import functools
-import io
-import re
-import sys
-from collections.abc import Iterable, Iterator, Mapping, Sequence
+from collections.abc import Iterable, Iterator, Sequence
 from datetime import datetime, timezone
 from typing import NamedTuple, Optional
 
-from ..exact import ALL_ITEMS, HUNDRED, at_and_above, depth_of, parent_of, points, rounded, tenths
+from ..exact import ALL_ITEMS, HUNDRED, at_and_above, depth_of, parent_of, rounded
 from ..terminal import Fault
-from .public import Published
-
-CODE = re.compile(r"00|(0[1-9]|1[0-3])(\.[0-9](\.[0-9](\.[0-9](-(0[1-9]|[1-9][0-9]))?)?)?)?")
-FIGURES = re.compile(
-    r"([1-9][0-9]*),(0|[1-9][0-9]*)\.([0-9]{6}),(0|[1-9][0-9]*)\.([0-9]{6}),"
-    r"(-?)(?<!-(?=0\.0))(0|[1-9][0-9]*)\.([0-9]),(?:(-?)(?<!-(?=0\.0))(0|[1-9][0-9]*)\.([0-9]))?,([01])"
-)
-"""Weight, index within the year, chained level, both changes, and 1 where a price was imputed: each in one spelling."""
+from .public import Published, Sources
+from .rows import Row as Row
+from .rows import NO_CHANGE, NO_ROWS, Rows, rows_of
 
 
 class NotATable(Fault):
     """Bytes that aren't a printed table; one line."""
-
-
-class Row(NamedTuple):
-    """A node in a month's table: `within` is the index in the year, 100 in December before; `chained` the level."""
-
-    code: str
-    weight: int
-    within: int
-    chained: int
-    month_change: int
-    year_change: Optional[int]
-    is_imputed: bool
-    title: str
-
-    @property
-    def texts(self) -> tuple[str, str, str, str, str, str]:
-        """Weight, index, level, both changes and 1 or 0 for imputed, in the digits of the printed table."""
-        changes = tenths(self.month_change), tenths(self.year_change)
-        return (str(self.weight), points(self.within), points(self.chained), *changes, str(int(self.is_imputed)))
 
 
 class Table(NamedTuple):
@@ -58,41 +33,28 @@ class Table(NamedTuple):
     revision: int
     moment: int
     sha256: str
-    rows: Mapping[str, Row]
+    rows: Rows
 
 
-def row_of(fields: Sequence[str]) -> Row:
-    """A row of a printed table. Raises ValueError where it is none."""
-    if len(fields) != 8 or not CODE.fullmatch(fields[0]):
-        raise ValueError(",".join(fields))
-    found = FIGURES.fullmatch(",".join(fields[1:7]))
-    if not found:
-        raise ValueError(",".join(fields))
-    weight, within, within_part, level, level_part, *changes, imputed = found.groups()
-    monthly, annual = _change(*changes[:3]), None if changes[4] is None else _change(*changes[3:])
-    # (the same few thousand codes and titles come again in each month: one copy of each is kept)
-    code, title = sys.intern(fields[0]), sys.intern(fields[7])
-    numbers = int(weight), int(within + within_part), int(level + level_part)
-    return Row(code, *numbers, monthly, annual, imputed == "1", title)
-
-
-def _change(sign: str, whole: str, part: str) -> int:
-    """Tenths of a percent of the parts of a change."""
-    return -int(whole + part) if sign else int(whole + part)
-
-
-def table_of(published: Published) -> Table:
-    """A published table, read exactly. Raises NotATable."""
+def table_of(published: Published, last: Rows = NO_ROWS) -> Table:
+    """A published table, read exactly, which shares with the rows of another one what they have in common. Raises
+    NotATable."""
     month, revision, moment = published.listed
+    data = published.table
     try:
-        text = io.StringIO(published.table.decode(), newline="")
-        rows = [row_of(fields) for fields in csv.reader(text, strict=True)]
-        by_code = {row.code: row for row in rows}
-        if sorted(by_code) != [row.code for row in rows] or (rows and ALL_ITEMS not in by_code):
-            raise ValueError("its codes aren't in order")
+        rows = rows_of(data.decode(), last)
     except (ValueError, csv.Error) as fault:
         raise NotATable(f"{month}, revision {revision}: no row of a table: {str(fault)[:100]}") from fault
-    return Table(month, revision, moment, published.sha256, by_code)
+    return Table(month, revision, moment, published.sha256, rows)
+
+
+def tables_of(published: Iterable[Published]) -> Iterator[tuple[Published, Table]]:
+    """Some published tables, each of which shares with the one before what they have in common. Raises NotATable."""
+    last = NO_ROWS
+    for each in published:
+        found = table_of(each, last)
+        last = found.rows or last
+        yield each, found
 
 
 # ---- months
@@ -117,39 +79,88 @@ def iso(moment: int) -> str:
     return datetime.fromtimestamp(moment, timezone.utc).strftime("%Y-%m-%dT%H:%M:%SZ")
 
 
+class Aggregated(NamedTuple):
+    """A special aggregate, which no table has: its title, its rows by month, the first months of its runs, the months
+    from which other elementary aggregates belong to it than before, these by year, and the greatest nodes wholly in it.
+    """
+
+    title: str
+    rows: dict[str, Row]
+    starts: list[str]
+    changes: list[str]
+    members: dict[str, tuple[str, ...]]
+    cover: list[str]
+
+    def part(self, last: str) -> Aggregated:
+        """The same up to a month, but for the greatest nodes in it, on which later tables have a say."""
+        return Aggregated(
+            self.title,
+            {month: row for month, row in self.rows.items() if month <= last},
+            [month for month in self.starts if month <= last],
+            [month for month in self.changes if month <= last],
+            {year: members for year, members in self.members.items() if year <= last[:4]},
+            [],
+        )
+
+
 # ---- all tables
 
-NO_ROWS: Mapping[str, Row] = {}
+NONE: Sequence[str] = ()
 
 
 class Series:
     """All published tables.
 
-    `vintages` are all of them by month and revision, `latest` the latest revision by month, `months` those whose table
-    has rows, `titles` each code of any of these with its latest title, in the order of codes. Raises NotATable where
-    there is none with rows.
+    `vintages` are all of them by month and revision, `latest` the latest revision by month, `every` the months whose
+    table has rows, `titles` each code of any of these with its latest title, in the order of codes, `specials` the
+    special aggregates by id, which `aggregated` computes. What is asked of a code below can be asked of such an id too.
+    `months` are those whose figures are written: all of them, but of a `part`. Raises NotATable where there is none
+    with rows.
     """
 
     def __init__(self, published: Iterable[Published]):
-        self.sources = sorted(published)
-        self.vintages = [table_of(each) for each in self.sources]
+        kept = Sources()
+        found = sorted(((kept.add(each), table) for each, table in tables_of(published)), key=lambda it: it[0][0])
+        self.sources, self.vintages = [source for source, _ in found], [table for _, table in found]
         self.latest = {table.month: table for table in self.vintages}
-        self.months = [month for month, table in self.latest.items() if table.rows]
+        self.months = self.every = [month for month, table in self.latest.items() if table.rows]
         if not self.months:
             raise NotATable("no table with rows is published yet")
-        found = {row.code: row.title for month in self.months for row in self.latest[month].rows.values()}
-        self.titles = dict(sorted(found.items()))
+        self.titles = self.every_title = _titles(self.latest[month].rows for month in self.months)
         self._rows = {month: table.rows for month, table in self.latest.items()}
-        self._children: dict[str, list[str]] = {}
-        for code in self.titles:
-            above = parent_of(code)
-            if above is not None:
-                self._children.setdefault(above, []).append(code)
+        self.specials: dict[str, Aggregated] = {}
+        self._starts = _starts(self.latest[month] for month in self.months)
+        self._twelve: dict[str, dict[str, int]] = {}
+        self._children = _children(self.titles)
+
+    def part(self, first: str, last: str) -> Series:
+        """The tables up to a December or the last month, as if no later one were there; the figures of the months from
+        a January on are written, of the nodes that are in one of these or in one of the year before."""
+        part = copy.copy(self)
+        part.__dict__.pop("revised", None)
+        found = [(source, table) for source, table in zip(self.sources, self.vintages) if table.month <= last]
+        part.sources, part.vintages = [source for source, _ in found], [table for _, table in found]
+        part.latest = {month: table for month, table in self.latest.items() if month <= last}
+        part.every = [month for month in self.every if month <= last]
+        part.months = [month for month in part.every if first <= month]
+        part.every_title = _titles(part.latest[month].rows for month in part.every)
+        written = {*_titles(part.latest[month].rows for month in part.every if before(first, 12) <= month)}
+        part.titles = {code: title for code, title in part.every_title.items() if code in written}
+        part._rows = {month: table.rows for month, table in part.latest.items()}
+        kept = ((code, [month for month in starts if month <= last]) for code, starts in self._starts.items())
+        part._starts = {code: starts for code, starts in kept if starts}
+        part._children = _children(part.titles)
+        part.specials = {}
+        for name, it in self.specials.items():
+            if any(before(first, 12) <= month <= last for month in it.rows):
+                part.specials[name] = it.part(last)
+        part._twelve = {}
+        return part
 
     @property
     def base(self) -> str:
         """The first month, a December, whose level is 100."""
-        return link_of(self.months[0])
+        return link_of(self.every[0])
 
     @property
     def last(self) -> Table:
@@ -161,41 +172,119 @@ class Series:
         """When the last of them was published: the moment of all that is written, in seconds since 1970 UTC."""
         return max(table.moment for table in self.vintages)
 
+    @functools.cached_property
+    def revised(self) -> list[tuple[Table, Table]]:
+        """Each further revision, after the one before."""
+        return [pair for pair in zip(self.vintages, self.vintages[1:]) if pair[0].month == pair[1].month]
+
     def row(self, month: str, code: str) -> Optional[Row]:
         """The row of a node in the latest revision of a month."""
-        return self._rows.get(month, NO_ROWS).get(code)
+        rows = self._rows.get(month, NO_ROWS)
+        place = rows.place(code)
+        if place is not None:
+            return rows.at(place)
+        return self.specials[code].rows.get(month) if code in self.specials else None
+
+    def weighed(self, month: str, code: str) -> Optional[tuple[int, int]]:
+        """The weight in use of a node and its index within the year, in the latest revision of a month."""
+        rows = self._rows.get(month, NO_ROWS)
+        place = rows.place(code)
+        if place is not None:
+            return rows.weight[place], rows.within[place]
+        row = self.specials[code].rows.get(month) if code in self.specials else None
+        return (row.weight, row.within) if row else None
+
+    def level(self, month: str, code: str) -> Optional[int]:
+        """The level of a node in the latest revision of a month, in millionths of a point."""
+        rows = self._rows.get(month, NO_ROWS)
+        place = rows.place(code)
+        if place is not None:
+            return rows.chained[place]
+        row = self.specials[code].rows.get(month) if code in self.specials else None
+        return row.chained if row else None
+
+    def twelve(self, month: str) -> dict[str, int]:
+        """By code, the sum of the levels of the twelve months up to one, in millionths of a point; a node that has no
+        level in one of them isn't there."""
+        found = self._twelve.get(month)
+        if found is None:
+            found = self._twelve[month] = self._sums([before(month, by) for by in range(12)])
+        return found
+
+    def _sums(self, months: list[str]) -> dict[str, int]:
+        tables = [self._rows.get(month, NO_ROWS) for month in months]
+        sums = zip(tables[0].named.codes, zip(*(rows.levels_for(tables[0]) for rows in tables)))
+        found = {code: sum(levels) for code, levels in sums if None not in levels}
+        for name, it in self.specials.items():
+            if all(month in it.rows for month in months):
+                found[name] = sum(it.rows[month].chained for month in months)
+        return found
 
     def rows(self, code: str) -> list[Optional[Row]]:
         """The rows of a node in all months."""
-        return [self.latest[month].rows.get(code) for month in self.months]
+        return [self.row(month, code) for month in self.months]
+
+    @property
+    def all_titles(self) -> dict[str, str]:
+        """The titles of all nodes by code, and then those of special aggregates by id."""
+        return {**self.titles, **{name: it.title for name, it in self.specials.items()}}
+
+    def title(self, code: str) -> str:
+        """The title of a node."""
+        return self.specials[code].title if code in self.specials else self.titles[code]
+
+    def level_in(self, month: str, code: str) -> int:
+        """A node's level in a month, in millionths of a point: 100 in the first month of all."""
+        found = self.level(month, code)
+        return HUNDRED if found is None else found
 
     def link_level(self, month: str, code: str) -> int:
         """What a node's level in the month of a year is linked to, in millionths of a point: 100 in its first year."""
-        row = self.row(link_of(month), code)
-        return row.chained if row else HUNDRED
+        return self.level_in(link_of(month), code)
 
     def runs(self, code: str) -> list[list[str]]:
         """The months of a node, parted where it left the index and came again: the levels of two parts aren't linked.
 
         Each part has a base of its own, December before its first month.
         """
-        found: list[list[str]] = []
-        for at, (month, row) in enumerate(zip(self.months, self.rows(code))):
-            if row is None:
-                continue
-            if found and found[-1][-1] == self.months[at - 1]:
-                found[-1].append(month)
-            else:
-                found.append([month])
-        return found
+        limits = [*self.starts(code), "9999-12"]
+        months = [month for month in self.every if self.level(month, code) is not None]
+        return [[month for month in months if first <= month < end] for first, end in zip(limits, limits[1:])]
+
+    def starts(self, code: str) -> list[str]:
+        """The first month of each of a node's runs."""
+        return self.specials[code].starts if code in self.specials else self._starts.get(code, [])
+
+    def base_of(self, month: str, code: str) -> str:
+        """The December in which the level of a node is 100, for a level of this month.
+
+        A month in which the node has no level has the base of the run before it, or else of the first one.
+        """
+        starts = self.starts(code) or [month]
+        if len(starts) == 1:
+            return link_of(starts[0])
+        return link_of(starts[max(0, bisect.bisect_right(starts, month) - 1)])
+
+    def is_break(self, month: str, code: str) -> bool:
+        """Whether a node is back in this month, so that its level isn't linked to its earlier ones."""
+        return month in self.starts(code)[1:]
+
+    def marks(self, code: str) -> Sequence[str]:
+        """The months whose level is after a break: the node is back, or it is a special aggregate to which other
+        elementary aggregates belong than in the month before."""
+        starts = self._starts.get(code)
+        if starts and len(starts) == 1:
+            return NONE
+        changes = self.specials[code].changes if code in self.specials else []
+        return [*self.starts(code)[1:], *changes]
 
     def children(self, code: str) -> list[str]:
-        """The nodes next below one, in any month."""
-        return self._children.get(code, [])
+        """The nodes next below one, in any month; of a special aggregate the greatest ones that are wholly in it."""
+        return self.specials[code].cover if code in self.specials else self._children.get(code, [])
 
     def path(self, code: str) -> list[str]:
         """The nodes above one, from all items down."""
-        return [*at_and_above(code)][:0:-1]
+        return [ALL_ITEMS] if code in self.specials else [*at_and_above(code)][:0:-1]
 
     def down_to(self, depth: int) -> list[str]:
         """The nodes of at most a depth: 0 all items, 1 divisions, .. 5 elementary aggregates."""
@@ -207,21 +296,19 @@ class Series:
         """The level that a node's change on the month before is against, by the published tables."""
         if month.endswith("-01"):
             return self.link_level(month, code)
-        row = self.row(before(month), code)
-        return row.chained if row else None
+        return self.level(before(month), code)
 
     def year_base(self, month: str, code: str) -> Optional[int]:
         """The level that a node's change on the year before is against, by the published tables."""
         if month.endswith("-12"):
             return self.link_level(month, code)
-        row = self.row(before(month, 12), code)
-        return row.chained if row else None
+        return self.level(before(month, 12), code)
 
     def is_change_shown(self, month: str, row: Row, is_annual: bool) -> bool:
         """Whether a row's change, if it has one, is that of the published levels."""
         change = row.year_change if is_annual else row.month_change
         base = (self.year_base if is_annual else self.month_base)(month, row.code)
-        return change is None or (base is not None and change == _rounded_change(base, row.chained))
+        return change is None or (base is not None and change == rounded_change(base, row.chained))
 
     def is_shown(self, month: str, is_annual: bool) -> bool:
         """Whether the changes of a month are those of the published levels.
@@ -232,7 +319,16 @@ class Series:
         """
         if is_annual and not self.is_linked(month):
             return False
-        return all(self.is_change_shown(month, row, is_annual) for row in self.latest[month].rows.values())
+        rows, by = self._rows[month], 12 if is_annual else 1
+        is_from_link = month.endswith("-12" if is_annual else "-01")
+        earlier = self._rows.get(link_of(month) if is_from_link else before(month, by), NO_ROWS)
+        for change, base, level in zip(
+            rows.year_change if is_annual else rows.month_change, earlier.levels_for(rows), rows.chained
+        ):
+            base = HUNDRED if base is None and is_from_link else base
+            if change != NO_CHANGE and (base is None or change != rounded_change(base, level)):
+                return False
+        return True
 
     def is_row_linked(self, month: str, row: Row) -> bool:
         """Whether a row's level is its index within the year on the published level of December before."""
@@ -240,17 +336,54 @@ class Series:
 
     def is_linked(self, month: str) -> bool:
         """Whether each level of a month is its index within the year on the published level of December before."""
-        return all(self.is_row_linked(month, row) for row in self.latest[month].rows.values())
+        rows = self._rows[month]
+        links = self._rows.get(link_of(month), NO_ROWS).levels_for(rows)
+        return all(
+            level == rounded((HUNDRED if link is None else link) * within, HUNDRED)
+            for level, link, within in zip(rows.chained, links, rows.within)
+        )
 
     def unexplained(self) -> Iterator[tuple[str, bool]]:
         """The months, and whether it is the annual change, whose changes aren't those of the published levels."""
-        for month in self.months:
+        for month in self.every:
             for is_annual in (False, True):
                 if not self.is_shown(month, is_annual):
                     yield month, is_annual
 
 
-def _rounded_change(then: int, now: int) -> int:
+def _titles(tables: Iterable[Rows]) -> dict[str, str]:
+    """The latest title of each code, in the order of codes; tables are in the order of months."""
+    found: dict[str, str] = {}
+    last = NO_ROWS.named
+    for rows in tables:
+        if rows.named is not last:
+            last = rows.named
+            found.update(zip(last.codes, last.titles))
+    return dict(sorted(found.items()))
+
+
+def _children(codes: Iterable[str]) -> dict[str, list[str]]:
+    """By node, those next below it."""
+    found: dict[str, list[str]] = {}
+    for code in codes:
+        above = parent_of(code)
+        if above is not None:
+            found.setdefault(above, []).append(code)
+    return found
+
+
+def _starts(tables: Iterable[Table]) -> dict[str, list[str]]:
+    """By code, the months whose table has it while the one before hasn't; tables are in the order of months."""
+    found: dict[str, list[str]] = {}
+    earlier = NO_ROWS
+    for table in tables:
+        for code in table.rows.keys() - earlier.keys():
+            found.setdefault(code, []).append(table.month)
+        earlier = table.rows
+    return found
+
+
+def rounded_change(then: int, now: int) -> int:
     """The change between two levels in tenths of a percent, a fall rounded as a rise of its size."""
     size = rounded(1000 * abs(now - then), then)
     return size if now >= then else -size

@@ -3,26 +3,26 @@
 from __future__ import annotations
 
 from collections.abc import Iterable, Iterator, Sequence
+from itertools import groupby, repeat
 from pathlib import Path
 from typing import Optional
 
 from .. import csv_files
-from ..exact import Ratio, decimal, depth_of
-from .measures import (
-    Contributions,
-    average,
-    average_change,
-    full_years,
-    months_linked_to,
-    reference_level,
-    rereferenced,
-    twelve_month_rate,
-)
+from ..exact import ALL_ITEMS, Ratio, decimal, depth_of, parent_of, tenths
+from .figures import GIVEN_MONTH, GIVEN_YEAR, LEVEL, MONTH_CHANGE, PRINTED, YEAR_CHANGE, Known
+from .measures import Contribution, average, average_change, full_years, twelve_month_rate
+from .rows import NO_CHANGE, Rows
+from .shown import Shown
 from .tables import Row, Series, Table, iso
 
 HEAD = ("month", "revision", "published", "code", "depth", "title", "weight", "index", "chained", "month_change",
-        "year_change", "imputed")  # fmt: skip
-"""The columns of cpi.csv, of vintages.csv and of each node's file."""
+        "year_change", "imputed", "base", "break")  # fmt: skip
+"""The columns of cpi.csv, of vintages.csv and of each node's file: `base` is the month in which the level is 100, and
+`break` is 1 if the level isn't linked to those of the months before, or if other elementary aggregates are in it."""
+
+
+PRINTED_HEAD = ("month", "code", "title", "reference", "index", "month_change", "year_change")
+AVERAGE_HEAD = ("code", "title", "year", "average", "change", "reference", "chained_average")
 
 
 def write_rows(path: Path, head: Sequence[str], rows: Iterable[Sequence[object]]) -> None:
@@ -38,65 +38,185 @@ def written(value: Optional[Ratio], digits: int) -> str:
     return "" if value is None else decimal(value.over, value.under, digits)
 
 
-def figure_row(table: Table, row: Row) -> Sequence[object]:
+def figure_row(series: Series, table: Table, row: Row) -> Sequence[object]:
     """A node in a month, with the columns of HEAD, in the digits that the program printed."""
-    named = table.month, table.revision, iso(table.moment), row.code, depth_of(row.code), row.title
-    return (*named, *row.texts)
+    depth = "" if row.code in series.specials else depth_of(row.code)
+    named = table.month, table.revision, iso(table.moment), row.code, depth, row.title
+    is_break = table.month in series.marks(row.code)
+    return (*named, *row.texts, series.base_of(table.month, row.code), int(is_break))
 
 
-def write_all(series: Series, contributions: Contributions, reference: str, folder: Path) -> None:
-    """All CSV files of a pack but those of SDMX and of the nodes; `reference` is a year, a month, or empty."""
-    latest = (figure_row(series.latest[month], row) for month in series.months for row in _rows_of(series, month))
-    write_rows(folder / "cpi.csv", HEAD, latest)
-    vintages = (figure_row(table, row) for table in series.vintages for row in table.rows.values())
-    write_rows(folder / "vintages.csv", HEAD, vintages)
+class Lines:
+    """The same as lines of CSV, made from the columns of tables."""
+
+    def __init__(self, series: Series):
+        self._series, self._titles = series, csv_files.Cells()
+        self._tenths = {NO_CHANGE: ""}
+        self._tables: dict[tuple[str, int], str] = {}
+
+    def of_node(self, tables: Iterable[Table], code: str, ends: Iterable[Sequence[str]] = repeat(())) -> str:
+        """The lines of a node in some tables, with further cells at the end of each."""
+        series, marks, depth = self._series, frozenset(self._series.marks(code)), depth_of(code)
+        is_whole = len(series.starts(code)) == 1
+        base, found = series.base_of(series.every[-1], code), []
+        for table, end in zip(tables, ends):
+            place = table.rows.place(code)
+            if place is not None:
+                more = ",".join(("", *end))
+                head = self._tables.get(table[:2]) or self._head(table)
+                its_base = base if is_whole else series.base_of(table.month, code)
+                is_break = "1" if table.month in marks else "0"
+                found.append(f"{head}{code},{depth},{self.figures(table.rows, place)},{its_base},{is_break}{more}\n")
+        return "".join(found)
+
+    def of_table(self, table: Table) -> str:
+        """The lines of all nodes of a table."""
+        return "".join(map(self.line, repeat(table), table.rows.named.codes, range(len(table.rows))))
+
+    def line(self, table: Table, code: str, place: int) -> str:
+        """The line of a node, which is at a place of the table."""
+        month = table.month
+        head = self._tables.get(table[:2]) or self._head(table)
+        is_break = "1" if month in self._series.marks(code) else "0"
+        figures = self.figures(table.rows, place)
+        return f"{head}{code},{depth_of(code)},{figures},{self._series.base_of(month, code)},{is_break}\n"
+
+    def figures(self, rows: Rows, place: int) -> str:
+        """Title and figures of a row."""
+        title, within, chained = self._titles[rows.named.titles[place]], rows.within[place], rows.chained[place]
+        monthly, annual = self._change(rows.month_change[place]), self._change(rows.year_change[place])
+        return (
+            f"{title},{rows.weight[place]},{within // 1_000_000}.{within % 1_000_000:06},"
+            f"{chained // 1_000_000}.{chained % 1_000_000:06},{monthly},{annual},{rows.is_imputed[place]}"
+        )
+
+    def gone(self, table: Table, code: str) -> str:
+        """The line of a node that an earlier revision of the month has, and this one hasn't: without figures."""
+        title = self._titles[self._series.title(code)] if code in self._series.titles else ""
+        return f"{self._head(table)}{code},{depth_of(code)},{title}{',' * 8}\n"
+
+    def _head(self, table: Table) -> str:
+        """What is the same in all lines of a table."""
+        found = self._tables[table[:2]] = f"{table.month},{table.revision},{iso(table.moment)},"
+        return found
+
+    def _change(self, value: int) -> str:
+        found = self._tenths.get(value)
+        if found is None:
+            found = self._tenths[value] = tenths(value)
+        return found
+
+
+def write_lines(path: Path, head: Sequence[str], lines: Iterable[str]) -> None:
+    """Writes a CSV file of lines, each with its end."""
+    with path.open("w", encoding="utf-8", newline="") as file:
+        file.write(csv_files.line_of(head) + "\n")
+        file.writelines(lines)
+
+
+def write_months(known: Known, folder: Path) -> None:
+    """The CSV files with rows for months, but those of SDMX, of special aggregates and of the nodes."""
+    series, shown = known.series, known.shown
+    lines = Lines(series)
+    write_lines(folder / "cpi.csv", HEAD, (lines.of_table(series.latest[month]) for month in series.months))
+    write_lines(folder / "contributions.csv", CONTRIBUTION_HEAD, _contribution_lines(known))
+    write_lines(folder / "printed.csv", PRINTED_HEAD, _printed_lines(known))
+    write_lines(folder / "twelve-month-rates.csv", ("month", "code", "title", "twelve_month_rate"), _rate_lines(series))
+    if shown.reference:
+        names = ("month", "code", "title", "reference", "rereferenced")
+        write_lines(folder / "rereferenced.csv", names, _rereferenced_lines(known))
+
+
+def write_whole(series: Series, shown: Shown, folder: Path) -> None:
+    """The CSV files that are of all years: each publication, what revisions changed, and averages."""
     releases = ((it.month, it.revision, iso(it.moment), len(it.rows), it.sha256) for it in series.vintages)
     write_rows(folder / "releases.csv", ("month", "revision", "published", "rows", "sha256"), releases)
-    names = ("month", "code", "of", "contribution_month", "contribution_year")
-    write_rows(folder / "contributions.csv", names, _contribution_rows(series, contributions))
-    write_rows(folder / "averages.csv", ("code", "title", "year", "average", "change"), _average_rows(series))
-    write_rows(folder / "twelve-month-rates.csv", ("month", "code", "title", "twelve_month_rate"), _rate_rows(series))
-    if reference:
-        names = ("month", "code", "title", "reference", "rereferenced")
-        write_rows(folder / "rereferenced.csv", names, _rereferenced_rows(series, reference))
+    write_lines(folder / "vintages.csv", HEAD, _vintage_lines(series))
+    write_rows(folder / "averages.csv", AVERAGE_HEAD, _average_rows(shown))
 
 
-def _rows_of(series: Series, month: str) -> Iterable[Row]:
-    return series.latest[month].rows.values()
+def _vintage_lines(series: Series) -> Iterator[str]:
+    """The lines of the nodes that a further revision changed: as they were at first, and as each revision that changed
+    them has them. All others are in `cpi.csv`."""
+    lines = Lines(series)
+    for _, found in groupby(series.vintages, key=lambda it: it.month):
+        tables = [*found]
+        for code in sorted(_revised(tables)):
+            earlier = ""
+            for table in tables:
+                place = table.rows.place(code)
+                text = "" if place is None else lines.figures(table.rows, place)
+                if text != earlier:
+                    yield lines.line(table, code, place) if place is not None else lines.gone(table, code)
+                earlier = text
 
 
-def _contribution_rows(series: Series, contributions: Contributions) -> Iterator[Sequence[object]]:
+def _revised(tables: Sequence[Table]) -> set[str]:
+    """The nodes that have other figures or another title in two revisions of a month."""
+    found: set[str] = set()
+    for old, new in zip(tables, tables[1:]):
+        found |= old.rows.keys() ^ new.rows.keys()
+        found |= {code for code in old.rows.keys() & new.rows.keys() if old.rows[code] != new.rows[code]}
+    return found
+
+
+CONTRIBUTION_HEAD = ("month", "code", "of", "contribution_month", "contribution_year")
+
+
+def contribution_row(month: str, it: Contribution) -> Sequence[object]:
     """Percentage points with six decimals."""
-    for month in series.months:
-        for it in contributions.all(month):
-            yield month, it.code, it.of, written(it.to_month, 6), written(it.to_year, 6)
+    return month, it.code, it.of, written(it.to_month, 6), written(it.to_year, 6)
 
 
-def _average_rows(series: Series) -> Iterator[Sequence[object]]:
-    """Averages in points with six decimals; their change in percent with one."""
-    years = full_years(series)
-    for code, title in series.titles.items():
+def _contribution_lines(known: Known) -> Iterator[str]:
+    """Of each node to all items, and to the node above it if that is another."""
+    above = [(code, parent_of(code)) for code in known.series.titles]
+    for at, month in enumerate(known.series.months):
+        given = (known.texts_of_month(figure, at) for figure in (GIVEN_MONTH, GIVEN_YEAR))
+        for (code, parent), to_month, to_year in zip(above, *given):
+            if to_month or to_year:
+                yield f"{month},{code},{ALL_ITEMS},{to_month},{to_year}\n"
+            if parent not in (None, ALL_ITEMS):
+                it = known.contributions.of(month, code, str(parent))
+                if it.to_month is not None or it.to_year is not None:
+                    yield f"{month},{code},{parent},{written(it.to_month, 6)},{written(it.to_year, 6)}\n"
+
+
+def _printed_lines(known: Known) -> Iterator[str]:
+    """The figures of the pages: the index with one decimal, and the changes in percent."""
+    titles = csv_files.Cells()
+    for at, month in enumerate(known.series.months):
+        columns = (known.texts_of_month(figure, at) for figure in (PRINTED, MONTH_CHANGE, YEAR_CHANGE))
+        for (code, title), index, *changes in zip(known.titles.items(), *columns):
+            if index:
+                yield f"{month},{code},{titles[title]},{known.shown.hundred(month, code)},{index},{','.join(changes)}\n"
+
+
+def _average_rows(shown: Shown) -> Iterator[Sequence[object]]:
+    """Averages in points with six decimals, as shown and of chained levels; their change in percent with one."""
+    series, years = shown.series, full_years(shown.series)
+    for code, title in series.all_titles.items():
         for year in years:
-            mean = average(series, code, year)
+            mean, chained = shown.average(code, year), average(series, code, year)
             if mean is not None:
-                yield code, title, year, written(mean, 6), written(average_change(series, code, year), 1)
+                changed, hundred = average_change(series, code, year), shown.hundred(f"{year:04}-01", code)
+                yield code, title, year, written(mean, 6), written(changed, 1), hundred, written(chained, 6)
 
 
-def _rate_rows(series: Series) -> Iterator[Sequence[object]]:
+def _rate_lines(series: Series) -> Iterator[str]:
     """Percent with one decimal."""
-    for month in series.months[23:]:
-        for code, title in series.titles.items():
+    titles = csv_files.Cells()
+    for month in series.months:
+        for code, title in series.all_titles.items():
             rate = twelve_month_rate(series, month, code)
             if rate is not None:
-                yield month, code, title, written(rate, 1)
+                yield f"{month},{code},{titles[title]},{written(rate, 1)}\n"
 
 
-def _rereferenced_rows(series: Series, reference: str) -> Iterator[Sequence[object]]:
+def _rereferenced_lines(known: Known) -> Iterator[str]:
     """Points with six decimals; a node without a level in the whole reference period, or a link to it, has no row."""
-    bases = {code: reference_level(series, code, reference) for code in series.titles}
-    linked = {code: {*months_linked_to(series, code, reference)} for code, base in bases.items() if base}
-    for month in series.months:
-        for row in _rows_of(series, month):
-            base = bases[row.code]
-            if base is not None and month in linked[row.code]:
-                yield month, row.code, series.titles[row.code], reference, written(rereferenced(row, base), 6)
+    titles, shown = csv_files.Cells(), known.shown
+    for at, month in enumerate(known.series.months):
+        for (code, title), level in zip(known.titles.items(), known.texts_of_month(LEVEL, at)):
+            if level and shown.is_rereferenced(month, code):
+                yield f"{month},{code},{titles[title]},{shown.reference},{level}\n"

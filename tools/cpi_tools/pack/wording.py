@@ -43,4 +43,16 @@ def page_of(code: str) -> str:
     return f"{code}.html"
 
 
-FILTERS: dict[str, Callable[..., Any]] = {"pp": pp, "day": day, "moved": moved, "inner": inner, "page": page_of}
+def sign(text: str) -> str:
+    """A number as it is read, with its sign: `+0.3`."""
+    return with_sign(text)
+
+
+FILTERS: dict[str, Callable[..., Any]] = {
+    "pp": pp,
+    "day": day,
+    "moved": moved,
+    "inner": inner,
+    "page": page_of,
+    "sign": sign,
+}

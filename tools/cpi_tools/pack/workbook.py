@@ -11,18 +11,19 @@ from collections.abc import Iterable, Iterator, Sequence
 from pathlib import Path
 from typing import NamedTuple
 
+from ..exact import ALL_ITEMS
 from . import figures
 from .config import Config
-from .figures import Figure
+from .figures import Figure, Known
 from .markup import attributes_of, text_of
-from .measures import Contributions
-from .tables import Series, iso
+from .shown import RATES_SAY
+from .tables import iso
 
 WHEN_ZIPPED = (1980, 1, 1, 0, 0, 0)
 """The time of each member."""
 
-PLAIN, BOLD, ONE_DECIMAL, TWO_DECIMALS, WHOLE = range(5)
-"""The styles of cells, as STYLES has them."""
+PLAIN, BOLD, ONE_DECIMAL, TWO_DECIMALS, WHOLE, AFTER_BREAK = range(6)
+"""The styles of cells, as `_styles` has them."""
 
 
 class Sheet(NamedTuple):
@@ -34,24 +35,32 @@ class Sheet(NamedTuple):
 
 
 SHEETS = (
-    Sheet("Index", ONE_DECIMAL, figures.level),
-    Sheet("Monthly change", ONE_DECIMAL, figures.month_change),
-    Sheet("Annual change", ONE_DECIMAL, figures.year_change),
-    Sheet("Weights", WHOLE, figures.weight),
-    Sheet("Contributions", TWO_DECIMALS, figures.given_year),
+    Sheet("Index", ONE_DECIMAL, figures.LEVEL),
+    Sheet("Monthly change", ONE_DECIMAL, figures.MONTH_CHANGE),
+    Sheet("Annual change", ONE_DECIMAL, figures.YEAR_CHANGE),
+    Sheet("Weights", WHOLE, figures.WEIGHT),
+    Sheet("Contributions", TWO_DECIMALS, figures.GIVEN_YEAR),
 )
+CHAINED = Sheet("Chained level", ONE_DECIMAL, figures.CHAINED)
+"""A sheet that is there if the office has a reference period of its own."""
 
-NAMES = ("Read me", *(sheet.name for sheet in SHEETS))
+
+def sheets_of(config: Config) -> tuple[Sheet, ...]:
+    """The sheets of figures."""
+    return (*SHEETS, CHAINED) if config.reference else SHEETS
 
 
-def write_workbook(series: Series, contributions: Contributions, config: Config, path: Path) -> None:
+def write_workbook(known: Known, config: Config, path: Path) -> None:
     """Writes the workbook."""
+    sheets = sheets_of(config)
+    names = ["Read me", *(sheet.name for sheet in sheets), "Reference periods"]
     with zipfile.ZipFile(path, "w") as archive:
-        for name, text in FIXED.items():
+        for name, text in _fixed(names).items():
             _put(archive, name, [text])
-        _put(archive, "xl/worksheets/sheet1.xml", _read_me(series, config))
-        for number, sheet in enumerate(SHEETS, 2):
-            _put(archive, f"xl/worksheets/sheet{number}.xml", _sheet(series, contributions, sheet))
+        _put(archive, "xl/worksheets/sheet1.xml", _read_me(known, config))
+        for number, sheet in enumerate(sheets, 2):
+            _put(archive, f"xl/worksheets/sheet{number}.xml", _sheet(known, sheet))
+        _put(archive, f"xl/worksheets/sheet{len(names)}.xml", _reference_periods(known))
 
 
 def _put(archive: zipfile.ZipFile, name: str, parts: Iterable[str]) -> None:
@@ -100,16 +109,31 @@ def _sheet_head(widths: Sequence[tuple[int, int, int]], pane: str = "") -> str:
 
 
 SHEET_FOOT = "</sheetData></worksheet>\n"
+FIRST_ROW_STAYS = '<pane ySplit="1" topLeftCell="A2" activePane="bottomLeft" state="frozen"/>'
 
 
-def _read_me(series: Series, config: Config) -> Iterator[str]:
+def _read_me(known: Known, config: Config) -> Iterator[str]:
+    series = known.series
     yield _sheet_head([(1, 1, 18), (2, 2, 100)])
     lines = [
         (config.title, f"{config.office}, {config.country or config.area}"),
         ("Months", f"{series.months[0]} to {series.months[-1]}, the latest revision of each"),
         ("Published", iso(series.moment)),
-        ("Index", f"Chained level, {series.base} = 100 (of an item that came later, the December before)"),
-        ("Changes", "Percent, rounded from the levels before rounding, halves away from zero"),
+        (
+            "Index",
+            f"Level, {known.shown.hundred(series.months[-1], ALL_ITEMS)} = 100, unless the sheet Reference periods has"
+            " another period for the item",
+        ),
+        (
+            "Break",
+            "A line to the left of a level: the item is back, and the level isn't linked to the earlier ones; or"
+            " other elementary aggregates belong to a special aggregate than before",
+        ),
+        ("Changes", f"Percent, {RATES_SAY[known.shown.rates]}; halves away from zero"),
+        (
+            "Chained level",
+            f"{series.base} = 100; of an item that came later, December before" if config.reference else "",
+        ),
         ("Weights", "As in use in the month's year; parts per million, unless prices moved them"),
         ("Contributions", "To the annual change of all items, in percentage points; six decimals are stored"),
         ("Licence", config.licence),
@@ -120,20 +144,39 @@ def _read_me(series: Series, config: Config) -> Iterator[str]:
     yield SHEET_FOOT
 
 
-def _sheet(series: Series, contributions: Contributions, of: Sheet) -> Iterator[str]:
+def _sheet(known: Known, of: Sheet) -> Iterator[str]:
     """A row for each node, a column for each month."""
+    series = known.series
     pane = '<pane xSplit="2" ySplit="1" topLeftCell="C2" activePane="bottomRight" state="frozen"/>'
     yield _sheet_head([(1, 1, 13), (2, 2, 44), (3, 2 + len(series.months), 10)], pane)
     yield _text_row(1, ["Code", "Title", *series.months], BOLD)
-    columns = [column_name(at) for at in range(2, 2 + len(series.months))]
-    tables = [(month, series.latest[month].rows) for month in series.months]
-    for number, (code, title) in enumerate(series.titles.items(), 2):
+    columns, usual = [column_name(at) for at in range(2, 2 + len(series.months))], [of.style] * len(series.months)
+    for number, (code, title) in enumerate(series.all_titles.items(), 2):
         cells = [text_cell(f"A{number}", code), text_cell(f"B{number}", title)]
-        for column, (month, rows) in zip(columns, tables):
-            figure = of.figure(contributions, month, code, rows.get(code))
+        marks = series.marks(code) if of.figure in (figures.LEVEL, figures.CHAINED) else []
+        styles = [AFTER_BREAK if month in marks else of.style for month in series.months] if marks else usual
+        for column, style, figure in zip(columns, styles, known.texts(of.figure, code)):
             if figure:
-                cells.append(f'<c r="{column}{number}" s="{of.style}"><v>{figure}</v></c>')
+                cells.append(f'<c r="{column}{number}" s="{style}"><v>{figure}</v></c>')
         yield f'<row r="{number}">{"".join(cells)}</row>\n'
+    yield SHEET_FOOT
+
+
+def _reference_periods(known: Known) -> Iterator[str]:
+    """A row for each run of months of a node whose levels are linked to one another."""
+    series = known.series
+    yield _sheet_head([(1, 1, 13), (2, 2, 44), (3, 5, 12), (6, 6, 60)], FIRST_ROW_STAYS)
+    yield _text_row(1, ["Code", "Title", "First month", "Last month", "100 in", "Note"], BOLD)
+    number = 1
+    for code, title in series.all_titles.items():
+        for at, run in enumerate(series.runs(code)):
+            number += 1
+            changes = [month for month in series.marks(code) if run[0] < month <= run[-1]]
+            notes = ["Back after a break: not linked to the levels before"] if at else []
+            notes += [f"Other elementary aggregates from {month} on" for month in changes]
+            texts = [code, title, run[0], run[-1], known.shown.hundred(run[0], code), "; ".join(notes)]
+            cells = (text_cell(f"{column_name(place)}{number}", text) for place, text in enumerate(texts) if text)
+            yield f'<row r="{number}">{"".join(cells)}</row>\n'
     yield SHEET_FOOT
 
 
@@ -143,9 +186,9 @@ PACKAGE = "http://schemas.openxmlformats.org/package/2006"
 SPREADSHEET = "application/vnd.openxmlformats-officedocument.spreadsheetml"
 
 
-def _content_types() -> str:
+def _content_types(count: int) -> str:
     parts = {"/xl/workbook.xml": "sheet.main", "/xl/styles.xml": "styles"}
-    parts.update({f"/xl/worksheets/sheet{number}.xml": "worksheet" for number in range(1, len(NAMES) + 1)})
+    parts.update({f"/xl/worksheets/sheet{number}.xml": "worksheet" for number in range(1, count + 1)})
     told = "".join(
         f'<Override PartName="{name}" ContentType="{SPREADSHEET}.{kind}+xml"/>' for name, kind in parts.items()
     )
@@ -162,39 +205,44 @@ def _relations(targets: Sequence[tuple[str, str]]) -> str:
     return f'{PROLOGUE}<Relationships xmlns="{PACKAGE}/relationships">{told}</Relationships>\n'
 
 
-def _workbook() -> str:
+def _workbook(names: Sequence[str]) -> str:
     sheets = "".join(
         f"<sheet{attributes_of({'name': name, 'sheetId': str(number), 'r:id': f'rId{number}'})}/>"
-        for number, name in enumerate(NAMES, 1)
+        for number, name in enumerate(names, 1)
     )
     return f'{PROLOGUE}<workbook xmlns="{MAIN}" xmlns:r="{RELATIONS}"><sheets>{sheets}</sheets></workbook>\n'
 
 
 def _styles() -> str:
-    """The styles by their numbers: plain, bold, one decimal, two decimals, whole with a comma at thousands."""
-    numbers = ((0, 0), (0, 1), (164, 0), (2, 0), (3, 0))
+    """The styles by their numbers: plain, bold, one decimal, two decimals, whole with a comma at thousands, and one
+    decimal with a line to its left."""
+    numbers = ((0, 0, 0), (0, 1, 0), (164, 0, 0), (2, 0, 0), (3, 0, 0), (164, 0, 1))
     cells = "".join(
-        f'<xf numFmtId="{form}" fontId="{font}" fillId="0" borderId="0" xfId="0" applyNumberFormat="1" applyFont="1"/>'
-        for form, font in numbers
+        f'<xf numFmtId="{form}" fontId="{font}" fillId="0" borderId="{border}" xfId="0" applyNumberFormat="1"'
+        f' applyFont="1" applyBorder="{border}"/>'
+        for form, font, border in numbers
     )
+    none = "<right/><top/><bottom/><diagonal/></border>"
     letters = '<sz val="11"/><name val="Calibri"/>'
     return (
         f'{PROLOGUE}<styleSheet xmlns="{MAIN}"><numFmts count="1"><numFmt numFmtId="164" formatCode="0.0"/></numFmts>'
         f'<fonts count="2"><font>{letters}</font><font><b/>{letters}</font></fonts>'
         '<fills count="2"><fill><patternFill patternType="none"/></fill><fill><patternFill patternType="gray125"/>'
-        '</fill></fills><borders count="1"><border><left/><right/><top/><bottom/><diagonal/></border></borders>'
+        f'</fill></fills><borders count="2"><border><left/>{none}<border><left style="medium">'
+        f'<color rgb="FF000000"/></left>{none}</borders>'
         '<cellStyleXfs count="1"><xf numFmtId="0" fontId="0" fillId="0" borderId="0"/></cellStyleXfs>'
         f'<cellXfs count="{len(numbers)}">{cells}</cellXfs>'
         '<cellStyles count="1"><cellStyle name="Normal" xfId="0" builtinId="0"/></cellStyles></styleSheet>\n'
     )
 
 
-SHEET_FILES = tuple(("worksheet", f"worksheets/sheet{number}.xml") for number in range(1, len(NAMES) + 1))
-
-FIXED = {
-    "[Content_Types].xml": _content_types(),
-    "_rels/.rels": _relations([("officeDocument", "xl/workbook.xml")]),
-    "xl/workbook.xml": _workbook(),
-    "xl/_rels/workbook.xml.rels": _relations([*SHEET_FILES, ("styles", "styles.xml")]),
-    "xl/styles.xml": _styles(),
-}
+def _fixed(names: Sequence[str]) -> dict[str, str]:
+    """The members without a figure, for a book of some sheets."""
+    sheets = [("worksheet", f"worksheets/sheet{number}.xml") for number in range(1, len(names) + 1)]
+    return {
+        "[Content_Types].xml": _content_types(len(names)),
+        "_rels/.rels": _relations([("officeDocument", "xl/workbook.xml")]),
+        "xl/workbook.xml": _workbook(names),
+        "xl/_rels/workbook.xml.rels": _relations([*sheets, ("styles", "styles.xml")]),
+        "xl/styles.xml": _styles(),
+    }

@@ -1,0 +1,155 @@
+"""The index clause of the website, by the file that its page loads: results by revisions, addresses, texts to take."""
+
+from __future__ import annotations
+
+import json
+import shutil
+import subprocess
+from fractions import Fraction
+from pathlib import Path
+from typing import Any
+
+import pytest
+
+from conftest import ROOT
+from cpi_tools.pack.config import Config
+from cpi_tools.pack.public import Published
+from cpi_tools.pack.specials import Special
+from cpi_tools.publish import publish
+from published import REVISED
+
+pytestmark = pytest.mark.skipif(shutil.which("node") is None, reason="node isn't there")
+
+SCRIPT = ROOT / "tools/cpi_tools/pack/assets/contract.js"
+CONFIG = Config(
+    "NSO", "XX", "Office of prices", currency="crowns", specials=(Special("FOOD", "All food", ("01",), ()),)
+)
+OLD, NEW = (f"{REVISED}-r{number}.csv" for number in (1, 2))
+
+
+@pytest.fixture(scope="module")
+def levels(published: list[Published], tmp_path_factory: pytest.TempPathFactory) -> Path:
+    """The levels of an office with a revised month."""
+    out = tmp_path_factory.mktemp("clause") / "public"
+    publish(published, CONFIG, out, None, lambda _: None)
+    return out / "assets/levels.js"
+
+
+def asked(levels: Path, expression: str, *given: object) -> Any:
+    """The value of an expression over `c`, the script, `data`, its levels, and `given`."""
+    program = "globalThis.window = {}; require(process.argv[2]); const data = window.LEVELS;"
+    program += "const c = require(process.argv[1]), given = JSON.parse(process.argv[3]);"
+    program += "const plain = (_, it) => (typeof it === 'bigint' ? String(it) : it);"
+    program += f" console.log(JSON.stringify({expression}, plain));"
+    words = ["node", "-e", program, str(SCRIPT), str(levels), json.dumps(given)]
+    return json.loads(subprocess.run(words, capture_output=True, text=True, check=True).stdout)
+
+
+def level(published: list[Published], name: str, code: str) -> Fraction:
+    """The chained level of an item in a published table."""
+    (table,) = [it.table.decode() for it in published if it.name == name]
+    (row,) = [line.split(",") for line in table.splitlines() if line.startswith(f"{code},")]
+    return Fraction(row[3])
+
+
+def rounded_up(value: Fraction, digits: int) -> int:
+    """A value in units of its last decimal, halves upwards."""
+    return int(value * 10**digits + Fraction(1, 2))
+
+
+def amount(published: list[Published], names: tuple[str, str], code: str, digits: int) -> str:
+    """What 1,000.00 come to between two tables, in minor units."""
+    then, now = (rounded_up(level(published, name, code), digits) for name in names)
+    return str(rounded_up(Fraction(100_000 * now, then), 0))
+
+
+RESULT = "(({ values, revisions }) => c.computed(values, revisions, data).result)(c.readAddress(given[0], data))"
+
+
+def address(then: str, now: str, decimals: int, more: str = "", code: str = "01") -> str:
+    return f"amount=1000&code={code}&then={then}&now={now}&decimals={decimals}{more}"
+
+
+@pytest.mark.parametrize("decimals", [1, 6])
+def test_an_address_gives_the_result_of_its_revisions(levels: Path, published: list[Published], decimals: int) -> None:
+    """Before and after the month was revised; without a revision the latest one counts."""
+    base = "2025-06-r1.csv"
+    old, new = (amount(published, (base, it), "01", decimals) for it in (OLD, NEW))
+    assert old != new
+    for more, wanted in (("&now-revision=1", old), ("&now-revision=2", new), ("", new)):
+        assert asked(levels, RESULT, address("2025-06", REVISED, decimals, more)) == wanted
+    back = amount(published, (OLD, "2027-05-r1.csv"), "01", decimals)
+    assert asked(levels, RESULT, address(REVISED, "2027-05", decimals, "&then-revision=1&now-revision=1")) == back
+
+
+def test_the_address_of_a_result_gives_it_again(levels: Path) -> None:
+    """An address that is read and written again is the same one, and names both revisions and the period."""
+    whole = "amount=1000.50&code=00&then=2025-06&now=2026-03&decimals=6&then-revision=1&now-revision=1&hundred=December+2024"
+    read = (
+        "(({ values, revisions }) => c.addressOf(c.computed(values, revisions, data)))(c.readAddress(given[0], data))"
+    )
+    assert asked(levels, read, whole) == f"#{whole}"
+    assert "now-revision=2" in asked(levels, read, address("2025-06", REVISED, 1))
+
+
+def test_a_later_revision_is_told_with_what_it_comes_to(levels: Path, published: list[Published]) -> None:
+    notices = "(({ values, ...asked }) => c.noticesOf(c.computed(values, asked.revisions, data), asked, data))(c.readAddress(given[0], data))"
+    revised, latest = asked(levels, notices, address("2025-06", REVISED, 1, "&now-revision=1"))
+    index = rounded_up(level(published, NEW, "01"), 1)
+    assert revised.startswith(
+        f"March 2026 was revised after revision 1: its index is {index // 10}.{index % 10} by revision 2"
+    )
+    minor = amount(published, ("2025-06-r1.csv", NEW), "01", 1)
+    assert f"By the latest revisions the new amount is {minor[:-5]}\u202f{minor[-5:-2]}.{minor[-2:]} " in latest
+    assert asked(levels, notices, address("2025-06", REVISED, 1)) == []
+    (other,) = asked(levels, notices, address("2025-06", REVISED, 1, "&hundred=2025"))
+    assert "with 2025 = 100. The office publishes it with December 2024 = 100 now" in other
+    (of_set,) = asked(levels, notices, address("2025-06", REVISED, 1, "&now-revision=1", "FOOD"))
+    assert "asks for revision 1 of March 2026. A special aggregate is computed from the latest revisions" in of_set
+
+
+@pytest.mark.parametrize(
+    ("text", "said"),
+    [
+        ("code=99", "The address has code=99. It has to be an item that the form offers."),
+        ("code=toString", "The address has code=toString. It has to be an item that the form offers."),
+        ("toString=1", "The address has \u201ctoString\u201d, which this page doesn't know. It knows amount, code,"),
+        (
+            "then=2031-01",
+            "The address has then=2031-01. It has to be a month such as 2024-12, from December 2024 to May 2027.",
+        ),
+        ("decimals=2", "The address has decimals=2. It has to be 1 or 6."),
+        ("now=2026-03&now-revision=3", "The address has now-revision=3. March 2026 has the revisions 1 to 2."),
+        ("now=2026-03&now-revision=x", "The address has now-revision=x. March 2026 has the revisions 1 to 2."),
+        ("then-revision=1", "The address has then-revision=1. It needs the month too."),
+        ("item=00", "The address has \u201citem\u201d, which this page doesn't know. It knows amount, code,"),
+    ],
+)
+def test_an_address_that_asks_in_vain_is_told_so(levels: Path, text: str, said: str) -> None:
+    """What was read, and what it can be; all else of the address is taken."""
+    asked_for = asked(levels, "c.readAddress(given[0], data)", f"amount=5&{text}")
+    assert len(asked_for["faults"]) == 1 and asked_for["faults"][0].startswith(said)
+    assert asked_for["values"]["amount"] == "5" and asked_for["revisions"] == {}
+
+
+def test_the_texts_to_take(levels: Path, published: list[Published]) -> None:
+    texts = "(({ values, revisions }) => { const it = c.computed(values, revisions, data);"
+    texts += (
+        " return [c.clauseText(it, data), c.resultText(it, data, 'https://there')]; })(c.readAddress(given[0], data))"
+    )
+    clause, result = asked(levels, texts, address("2025-06", REVISED, 1, "&now-revision=1", "00"))
+    plain = {ord(it): None for it in "\u2068\u2069"}
+    then, now = (rounded_up(level(published, name, "00"), 1) for name in ("2025-06-r1.csv", OLD))
+    then_text, now_text = (f"{it // 10}.{it % 10}" for it in (then, now))
+    begins = "The amount follows the Consumer price index, All items (00), of Office of prices, as it is printed, with one decimal."
+    assert clause.translate(plain).startswith(
+        f"{begins} It counts from the index of June 2025: {then_text} (revision 1, "
+    )
+    assert "with December 2024 = 100" in clause and "to the nearest 0.01, halves upwards" in clause
+    assert f"March 2026: {now_text} (revision 1, published 1 January 1970" in result and result.endswith(
+        ". https://there"
+    )
+    minor = amount(published, ("2025-06-r1.csv", OLD), "00", 1)
+    assert f"{now_text} / {then_text} = {minor[:-5]}\u202f{minor[-5:-2]}.{minor[-2:]} crowns." in result.translate(
+        plain
+    )

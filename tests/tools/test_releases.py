@@ -1,0 +1,175 @@
+"""The pages of releases: what each says, and that it stays when later tables come."""
+
+from __future__ import annotations
+
+import re
+from collections.abc import Iterable
+from pathlib import Path
+
+import pytest
+
+from cpi_tools.pack.config import Config
+from cpi_tools.pack.dated import Dated, dated_of, value_in
+from cpi_tools.pack.public import Listed, Published
+from cpi_tools.publish import publish
+from published import REVISED
+from test_measures import tea_again, two_years
+from test_site import words_of
+
+ADDRESS = "https://prices.example/index/"
+CONFIG = Config("NSO", "XX", "Office <of> prices", country="Exampleland", reference="2025", address=ADDRESS)
+
+
+def made(published: Iterable[Published], out: Path, config: Config = CONFIG) -> Path:
+    """The pack of some tables."""
+    publish([*published], config, out, None, lambda _: None)
+    return out
+
+
+@pytest.fixture(scope="module")
+def by_hand(tmp_path_factory: pytest.TempPathFactory) -> Path:
+    """The site of the two years that were worked by hand, and of January 2028, in which tea is back."""
+    out = tmp_path_factory.mktemp("by-hand") / "public"
+    return made([*two_years(), tea_again()], out, CONFIG._replace(reference=""))
+
+
+def main_of(page: Path) -> str:
+    """What is on a page between its head and its foot."""
+    found = re.search(r"<main.*</main>", page.read_text(encoding="utf-8"), flags=re.S)
+    assert found
+    return found[0]
+
+
+# ---- what a page says
+
+
+def test_a_release_is_told_in_the_figures_of_its_month(by_hand: Path) -> None:
+    """December 2026: coffee gave 0.75 * 4 points and tea 0.25 * 8, 5 together; all items went from 102.75 to 105."""
+    told = words_of(by_hand / "release/2026-12-r1.html")
+    assert "In December 2026 consumer prices were 5.0 percent higher than a year before" in told
+    assert "Most came from title of 01 (+3.00 percentage points). Against the month before, prices rose by 2.2" in told
+    assert "Index, December 2025 = 100 105.0" in told
+    assert "Title of 01 75.00 % +4.0 % +3.00 Title of 02 25.00 % +8.0 % +2.00 Title of 00 100.00 % +5.0 % +5.00" in told
+    assert "00 Title of 00 100.00 % 105.0 +2.2 % +5.0 % 01 Title of 01 75.00 % 104.0 +2.0 % +4.0 %" in told
+    assert "Nothing was revised after the release of November 2026 and up to this one." in told
+    assert "(1970): Consumer price index , December 2026. Published 1 January 1970, 00:00 UTC." in told
+    assert f"{ADDRESS}release/2026-12-r1.html" in told
+
+
+def test_a_january_says_what_came_and_left(by_hand: Path) -> None:
+    """Milk came in 2027 and tea left; tea is back in 2028, with December before as 100, and milk left."""
+    told = words_of(by_hand / "release/2027-01-r1.html")
+    assert "From this month on the weights of 2027 count. The index is linked in December 2026" in told
+    assert "Came with this month: Title of 03 03 . Left with this month: Title of 02 02 ." in told
+    assert "03 Title of 03 (December 2026 = 100)" in told
+    again = words_of(by_hand / "release/2028-01-r1.html")
+    assert "Came with this month: Title of 02 02 . Left with this month: Title of 03 03 ." in again
+    assert "02 Title of 02 (December 2027 = 100)" in again
+    assert "weights of" not in words_of(by_hand / "release/2027-02-r1.html")
+    assert "This is the first release." in words_of(by_hand / "release/2026-01-r1.html")
+
+
+def told_then(page: Path) -> dict[str, object]:
+    """What the first page and the page of a release both say: headline, lead, figures, and the table of contributions.
+    Both are in folders of their own, and lead to items by another way. Only the first page has the letters of notes."""
+    text = page.read_text(encoding="utf-8").replace('href="../', 'href="')
+    text = re.sub(r'<sup class="marks">.*?</sup>', "", text)
+    patterns = {"h1": r"<h1>.*?</h1>", "lead": r'<p class="lead">.*?</p>', "cards": r'<dl class="cards">.*?</dl>'}
+    found: dict[str, object] = {name: re.findall(form, text, flags=re.S)[0] for name, form in patterns.items()}
+    found["given"] = re.findall(r"<h2>What contributed</h2>(.*?)<h2", text, flags=re.S)[0].strip()
+    found["notes"] = re.findall(r'<p class="note">[^<]* was revised.*?</p>', text)
+    return found
+
+
+@pytest.mark.parametrize("month", ["2025-01", "2025-12", REVISED, "2026-04", "2027-01", "2027-05"])
+def test_a_page_says_what_the_first_page_said_on_its_day(
+    published: list[Published], tmp_path: Path, month: str
+) -> None:
+    """The first page of the pack that was made on the day of the release is the other way to the same figures."""
+    (of,) = (it for it in published if it.listed[:2] == (month, 1))
+    then = made([it for it in published if it.listed.moment <= of.listed.moment], tmp_path / "then", reference(month))
+    now = made(published, tmp_path / "now")
+    assert told_then(now / f"release/{month}-r1.html") == told_then(then / "index.html")
+
+
+def reference(month: str) -> Config:
+    """The configuration as it could be in a month: no table of all of 2025 is there before its December."""
+    return CONFIG._replace(reference="2025" if month >= "2025-12" else "")
+
+
+def test_a_revision_says_what_it_changed(published: list[Published], tmp_path: Path) -> None:
+    site = made(published, tmp_path / "public")
+    told = words_of(site / f"release/{REVISED}-r2.html")
+    assert "March 2026, revision 2, published" in told and "This is a further revision of March 2026." in told
+    tables = {it.listed.revision: it.table for it in published if it.listed.month == REVISED}
+    old, new = ({row.split(b",")[0]: row.split(b",")[3] for row in tables[it].splitlines()} for it in (1, 2))
+    differing = sum(old[code] != level for code, level in new.items())
+    assert f"{differing} of {len(new)} levels differ." in told and 0 < differing < len(new)
+    after = words_of(site / "release/2026-04-r1.html")
+    assert "After the release of March 2026 and up to this one the office revised: March 2026, revision 2" in after
+    assert "Nothing was revised after the release of April 2026" in words_of(site / "release/2026-05-r1.html")
+
+
+# ---- that it stays
+
+
+def runs(published: list[Published]) -> list[list[Published]]:
+    """What is published on the days of three monthly releases; the third one is after a revision."""
+    moments = [it.listed.moment for it in published if it.listed[:2] in {("2026-02", 1), (REVISED, 1), ("2026-04", 1)}]
+    return [[it for it in published if it.listed.moment <= moment] for moment in sorted(moments)]
+
+
+def test_addresses_and_pages_stay_over_three_monthly_runs(published: list[Published], tmp_path: Path) -> None:
+    """Each run takes the place of the one before. No address is lost, and of the pages of releases only that of the
+    month that was revised changes: by the line that leads to the revision."""
+    before: dict[str, bytes] = {}
+    for number, tables in enumerate(runs(published)):
+        site = made(tables, tmp_path / "public")
+        now = {it.relative_to(site).as_posix(): it.read_bytes() for it in site.rglob("*") if it.is_file()}
+        assert before.keys() <= now.keys()
+        stay = {name for name in before if name.startswith(("release/", "data/tables/"))}
+        changed = {name for name in stay if before[name] != now[name]}
+        assert changed == ({f"release/{REVISED}-r1.html"} if number == 2 else set())
+        assert len(stay) >= 2 * len([it for it in (runs(published)[number - 1] if number else []) if it.table])
+        before, earlier = now, before
+    old, new = (it[f"release/{REVISED}-r1.html"].decode().splitlines() for it in (earlier, before))
+    added = [line for line in new if line not in old]
+    assert len(new) == len(old) + 1 and [line for line in new if line not in added] == old
+    assert f'<a href="{REVISED}-r2.html">Revision 2 of March 2026</a>' in added[0]
+    # (what was written month by month is what is written at once)
+    at_once = made(runs(published)[-1], tmp_path / "at-once")
+    whole = {it.relative_to(at_once).as_posix(): it.read_bytes() for it in at_once.rglob("*") if it.is_file()}
+    assert {name for name in before if before[name] != whole.get(name)} <= {"manifest.json", "SHA256SUMS"}
+
+
+def test_another_reference_period_leaves_earlier_releases_as_they_are(tmp_path: Path) -> None:
+    """From January 2027 on 2026 = 100. Its mean is 102.6875, so January 2027 is 10920 / 102.6875 = 106.3."""
+    tables = two_years()[:14]
+    config = CONFIG._replace(reference="")
+    old = made(tables[:-1], tmp_path / "old", config)
+    values = (Dated("2025-12"), Dated("2026", "2027-01"))
+    new = made(tables, tmp_path / "new", config._replace(reference="2026", references=values))
+    for page in sorted(it.name for it in (old / "release").glob("*.html")):
+        assert main_of(new / "release" / page) == main_of(old / "release" / page)
+    told = words_of(new / "release/2027-01-r1.html")
+    assert "Index, 2026 = 100 106.3" in told
+    listed = words_of(new / "releases.html")
+    assert "January 2027 106.3 +4.0 % +9.5 %" in listed and "December 2026 105.0 +2.2 % +5.0 %" in listed
+
+
+def test_values_that_change_with_a_release_are_read(tmp_path: Path) -> None:
+    found = dated_of("2015, 2025 from 2026-01,2030-12 from 2031-06")
+    assert found == (Dated("2015"), Dated("2025", "2026-01"), Dated("2030-12", "2031-06"))
+    shown = [value_in(found, month) for month in ("2001-01", "2025-12", "2026-01", "2031-05", "2031-06")]
+    assert shown == ["2015", "2015", "2025", "2025", "2030-12"]
+    for text in ("2015, 2025", "2015 from 2020-01", "2015 from 2020-01, 2025", "2015 2025", "", "2015, 2025 from 2026",
+                 "2015, 2025 from 2026-01, 2030 from 2026-01"):  # fmt: skip
+        with pytest.raises(ValueError):
+            dated_of(text)
+
+
+def test_a_month_of_the_base_has_no_page(by_hand: Path) -> None:
+    """The first December has no rows, so there is nothing to say."""
+    names = sorted(it.stem for it in (by_hand / "release").glob("*.html"))
+    assert names[0] == "2026-01-r1" and len(names) == 25
+    assert Listed("2025-12", 1, 0) in [it.listed for it in two_years()]

@@ -1,0 +1,288 @@
+"""Packs of many years: archives of the earlier ones, which the next pack takes, byte for byte as if it were the first."""
+
+from __future__ import annotations
+
+import csv
+import hashlib
+import io
+import json
+import os
+import signal
+import subprocess
+import sys
+import zipfile
+from collections.abc import Iterator
+from pathlib import Path
+
+import pytest
+
+from cpi_tools.pack import years
+from cpi_tools.pack.config import BadConfig, Config, read_config
+from cpi_tools.pack.manifest import differences, files_of
+from cpi_tools.pack.public import Listed, Published
+from cpi_tools.pack.specials import Special
+from cpi_tools.pack.tables import Series
+from cpi_tools.publish import check, publish
+from conftest import ROOT
+
+SETS = (Special("FRUIT", "Fruit", ("01.1.6",)), Special("REST", "Without food", ("00",), ("01",)))
+CONFIG = Config("NSO", "XX", "Office of prices", reference="2025", years=1, specials=SETS)
+ARCHIVES = ["data/years/2025.zip", "data/years/2026.zip"]
+
+
+def quiet(_: str) -> None:
+    pass
+
+
+def written(published: list[Published], config: Config, out: Path) -> Path:
+    publish(published, config, out, None, quiet)
+    return out
+
+
+def anew(published: list[Published], config: Config, out: Path, manifest: Path) -> Path:
+    """The pack of the same tables from nothing, whose manifest follows the same one."""
+    out.parent.mkdir(exist_ok=True)
+    publish(published, config, out, manifest if manifest.exists() else None, quiet)
+    return out
+
+
+def inodes(pack: Path, names: list[str]) -> list[int]:
+    return [(pack / name).stat().st_ino for name in names]
+
+
+def rows_of(data: bytes) -> list[dict[str, str]]:
+    return [*csv.DictReader(io.StringIO(data.decode(), newline=""))]
+
+
+def revised(one: Published, code: str) -> Published:
+    """A second revision of a table, in which the level of a node is a millionth higher."""
+    lines = [line.split(",") for line in one.table.decode().splitlines(keepends=True)]
+    for line in lines:
+        if line[0] == code:
+            line[3] = f"{line[3][:-1]}{(int(line[3][-1]) + 1) % 10}"
+    listed = Listed(one.listed.month, 2, one.listed.moment + 1)
+    return Published(listed, "".join(map(",".join, lines)).encode())
+
+
+# ---- what is in which file
+
+
+@pytest.fixture(scope="module")
+def pack(published: list[Published], tmp_path_factory: pytest.TempPathFactory) -> Path:
+    return written(published, CONFIG, tmp_path_factory.mktemp("years") / "public")
+
+
+@pytest.fixture(scope="module")
+def whole(published: list[Published], tmp_path_factory: pytest.TempPathFactory) -> Path:
+    """The pack of the same tables in which all years are in the files of the folder data."""
+    return written(published, CONFIG._replace(years=None), tmp_path_factory.mktemp("whole") / "public")
+
+
+def archived(pack: Path, name: str) -> Iterator[tuple[str, bytes]]:
+    """A file of each archive and that of the folder `data`, by year."""
+    for path in sorted(pack.glob("data/years/*.zip")):
+        with zipfile.ZipFile(path) as archive:
+            yield path.stem, archive.read(f"{path.stem}/{name}")
+    yield "2027", (pack / "data" / name).read_bytes()
+
+
+def test_small_packs_have_no_archives(whole: Path) -> None:
+    assert not (whole / "data/years").exists()
+
+
+@pytest.mark.parametrize(
+    "name", ["cpi.csv", "contributions.csv", "rereferenced.csv", "aggregates.csv", "aggregate-contributions.csv"]
+)
+def test_each_row_is_in_the_file_of_its_year(pack: Path, whole: Path, name: str) -> None:
+    found = []
+    for year, data in archived(pack, name):
+        rows = rows_of(data)
+        assert {row["month"][:4] for row in rows} == {year}
+        found += rows
+    assert found == rows_of((whole / "data" / name).read_bytes())
+    assert len(found) > 30
+
+
+def test_observations_of_all_years_are_those_of_one_file(pack: Path, whole: Path) -> None:
+    names = ("FREQ", "MEASURE", "COICOP18", "TRANSFORMATION", "TIME_PERIOD", "OBS_VALUE", "OBS_STATUS", "REVISION")
+
+    def keyed(data: bytes) -> list[tuple[str, ...]]:
+        return [tuple(row[name] for name in names) for row in rows_of(data)]
+
+    found = [it for _, data in archived(pack, "cpi.sdmx.csv") for it in keyed(data)]
+    assert sorted(found) == sorted(keyed((whole / "data/cpi.sdmx.csv").read_bytes()))
+
+
+def test_an_archive_has_each_form_and_the_structure_that_it_refers_to(pack: Path) -> None:
+    with zipfile.ZipFile(pack / ARCHIVES[0]) as archive:
+        names = {name.removeprefix("2025/") for name in archive.namelist()}
+        rows = rows_of(archive.read("2025/cpi.sdmx.csv"))
+        structure = archive.read("2025/structure.sdmx.xml").decode()
+        cube = json.loads(archive.read("2025/cpi.jsonstat.json"))
+    forms = {"cpi.csv", "cpi.sdmx.csv", "cpi.sdmx.xml", "structure.sdmx.xml", "cpi.jsonstat.json", "cpi.px", "cpi.xlsx"}
+    assert names >= forms
+    version = rows[0]["STRUCTURE_ID"].partition("(")[2].rstrip(")")
+    assert f'id="DF_CPI" agencyID="NSO" version="{version}"' in structure
+    months = cube["dimension"]["month"]["category"]["index"]
+    assert (months[0], months[-1], cube["size"][2]) == ("2025-01", "2025-12", 12)
+    # telephones come in 2026
+    assert "08" not in cube["dimension"]["item"]["category"]["index"]
+
+
+def test_the_file_of_an_item_has_all_months_and_its_page_those_of_the_latest_files(pack: Path, whole: Path) -> None:
+    name = "node/01.1.1.1-01"
+    assert (pack / f"{name}.csv").read_bytes() == (whole / f"{name}.csv").read_bytes()
+    page = (pack / f"{name}.html").read_text(encoding="utf-8")
+    assert "May<" not in page.partition("<tbody>")[2] or page.count('class="month"') == 5
+    assert page.count('class="month"') == 5 and "The file of this item has all months" in page
+    # flour left after 2025: its page has the last year that it was in
+    flour = (pack / "node/01.1.1.2-01.html").read_text(encoding="utf-8")
+    assert flour.count('class="month"') == 12 and "its last figure is of December 2025" in flour
+    assert (whole / f"{name}.html").read_text(encoding="utf-8").count('class="month"') == 29
+
+
+def test_the_data_page_lists_the_archives(pack: Path, whole: Path) -> None:
+    text = (pack / "data.html").read_text(encoding="utf-8")
+    assert all(f'href="{name}"' in text for name in ARCHIVES) and "from January 2027 on" in text
+    assert "Earlier years" not in (whole / "data.html").read_text(encoding="utf-8")
+
+
+def test_as_many_years_are_in_the_files_as_they_have_room_for(
+    published: list[Published], monkeypatch: pytest.MonkeyPatch
+) -> None:
+    series = Series(published)
+    counts = {year: sum(len(series.latest[m].rows) for m in series.every if m[:4] == year) for year in ("2026", "2027")}
+    assert years.first_of(series) == "2025-01"
+    for room, first in ((sum(counts.values()), "2026-01"), (sum(counts.values()) - 1, "2027-01"), (1, "2027-01")):
+        monkeypatch.setattr(years, "MOST_ROWS", room)
+        assert years.first_of(series) == first
+    assert [years.first_of(series, many) for many in (1, 2, 3, 99)] == ["2027-01", "2026-01", "2025-01", "2025-01"]
+    assert years.earlier_years(series, "2027-01") == ["2025", "2026"]
+
+
+def test_how_many_years_is_a_number(tmp_path: Path) -> None:
+    for text in ("0", "-1", "100", "two"):
+        (tmp_path / "office.ini").write_text(f"[office]\nagency=A\narea=X\noffice=O\nyears={text}\n", encoding="utf-8")
+        with pytest.raises(BadConfig, match=f"years: {text} isn't 1 to 99"):
+            read_config(tmp_path / "office.ini")
+
+
+# ---- the next pack
+
+
+def test_the_next_packs_are_the_packs_from_nothing(published: list[Published], tmp_path: Path) -> None:
+    out, kept = tmp_path / "public", tmp_path / "kept.json"
+    tables = sorted(published)
+    last = [number for number, it in enumerate(tables, 1) if it.listed.month == "2026-12"][0]
+    other = CONFIG._replace(reference="2026")
+    old = next(it for it in tables if it.listed.month == "2025-05")
+    runs = [
+        (tables[: last - 1], CONFIG, 0),  # (up to November 2026)
+        (tables[:last], CONFIG, 1),
+        (tables[: last + 1], CONFIG, 1),  # a new year: pears are back, so 2026 is an archive now
+        (tables[: last + 2], CONFIG, 2),
+        (sorted([*tables[: last + 2], revised(old, "01.1.1.1-01")]), CONFIG, 0),  # a month of 2025 is revised
+        (sorted([*tables[: last + 3], revised(old, "01.1.1.1-01")]), CONFIG, 2),
+        (sorted([*tables, revised(old, "01.1.1.1-01")]), other, 0),  # another reference year
+        (sorted([*tables, revised(old, "01.1.1.1-01")]), other, 2),
+        (sorted([*tables, revised(old, "01.1.1.1-01")]), other._replace(office="Another name"), 0),
+        (sorted([*tables, revised(old, "01.1.1.1-01")]), CONFIG._replace(rates="published"), 0),
+        (sorted([*tables, revised(old, "01.1.1.1-01")]), CONFIG._replace(rates="published", years=2), 1),
+    ]
+    for number, (some, config, taken) in enumerate(runs):
+        if out.exists():
+            kept.write_bytes((out / "manifest.json").read_bytes())
+        earlier = {name: (out / name).stat().st_ino for name in (files_of(out) if out.exists() else ())}
+        written(some, config, out)
+        first = anew(some, config, tmp_path / f"first{number}" / "public", kept)
+        assert [*differences(out, first)] == []
+        archives = [name for name in files_of(out) if name.endswith(".zip")]
+        assert sum((out / name).stat().st_ino == earlier.get(name) for name in archives) == taken
+        tables_taken = [name for name in files_of(out / "data/tables") if f"data/tables/{name}" in earlier]
+        for name in tables_taken:
+            assert (out / "data/tables" / name).stat().st_ino == earlier[f"data/tables/{name}"]
+
+
+def test_a_whole_check_makes_the_archives_anew(published: list[Published], tmp_path: Path) -> None:
+    out = written(published, CONFIG, tmp_path / "public")
+    assert check(published, CONFIG, out, None, quiet) == []
+    damage(out / ARCHIVES[0])
+    assert check(published, CONFIG, out, None, quiet) == [f"{ARCHIVES[0]} differs"]
+
+
+def damage(path: Path) -> None:
+    """Changes a byte of a file, as a bad disk does."""
+    data = bytearray(path.read_bytes())
+    data[len(data) // 2] ^= 1
+    path.write_bytes(data)
+
+
+@pytest.mark.parametrize("name", [ARCHIVES[0], "data/years/made.json", "SHA256SUMS", "data/tables/2025-03-r1.csv"])
+def test_what_isnt_as_it_was_written_is_made_anew(published: list[Published], tmp_path: Path, name: str) -> None:
+    out = written(published, CONFIG, tmp_path / "public")
+    sums = hashlib.sha256((out / "SHA256SUMS").read_bytes()).hexdigest()
+    damage(out / name)
+    written(published, CONFIG, out)
+    assert hashlib.sha256((out / "SHA256SUMS").read_bytes()).hexdigest() == sums
+    assert check(published, CONFIG, out, None, quiet) == []
+
+
+def test_another_version_of_the_tool_takes_nothing(
+    published: list[Published], tmp_path: Path, monkeypatch: pytest.MonkeyPatch
+) -> None:
+    out = written(published, CONFIG, tmp_path / "public")
+    before = inodes(out, ARCHIVES)
+    written(published, CONFIG, out)
+    assert inodes(out, ARCHIVES) == before
+    monkeypatch.setattr(years, "tool", lambda: "another")
+    written(published, CONFIG, out)
+    assert not {*inodes(out, ARCHIVES)} & {*before}
+
+
+def test_without_links_files_are_copied(
+    published: list[Published], tmp_path: Path, monkeypatch: pytest.MonkeyPatch
+) -> None:
+    out = written(published, CONFIG, tmp_path / "public")
+    before = inodes(out, ARCHIVES)
+
+    def refused(*_: object, **__: object) -> None:
+        raise PermissionError(1, "Operation not permitted")
+
+    monkeypatch.setattr(os, "link", refused)
+    monkeypatch.setattr(years.Archives, "_write", refused)
+    written(published, CONFIG, out)
+    assert not {*inodes(out, ARCHIVES)} & {*before}
+    monkeypatch.undo()
+    assert check(published, CONFIG, out, None, quiet) == []
+
+
+RUN = """
+import pickle, sys
+from pathlib import Path
+sys.path[:0] = [{tools!r}]
+from cpi_tools.pack.config import Config
+from cpi_tools.publish import publish
+published, config, out = pickle.load(sys.stdin.buffer)
+def now(what):
+    print(what, flush=True)
+publish(published, config, out, None, now)
+"""
+
+
+@pytest.mark.parametrize("step", ["what each month", "CSV files", "JSON-stat", "pages, 1 of", "pages, 20 of", "sums"])
+def test_a_pack_stays_whole_when_the_next_one_is_killed(published: list[Published], tmp_path: Path, step: str) -> None:
+    import pickle
+
+    out = written(published[:-1], CONFIG, tmp_path / "public")
+    words = [sys.executable, "-B", "-c", RUN.format(tools=str(ROOT / "tools"))]
+    with subprocess.Popen(words, stdin=subprocess.PIPE, stdout=subprocess.PIPE) as process:
+        assert process.stdin and process.stdout
+        process.stdin.write(pickle.dumps((published, CONFIG, out)))
+        process.stdin.close()
+        next(line for line in process.stdout if line.decode().startswith(step))
+        process.send_signal(signal.SIGKILL)
+    ran = subprocess.run(["sha256sum", "--check", "--quiet", "SHA256SUMS"], cwd=out, capture_output=True, check=False)
+    assert ran.returncode == 0, ran.stdout.decode()
+    assert check(published[:-1], CONFIG, out, None, quiet) == []
+    written(published, CONFIG, out)
+    assert check(published, CONFIG, out, None, quiet) == []

@@ -1,0 +1,128 @@
+"""Where the site of a pack is: the address that an office names, the map of its pages, and what pages say of themselves
+to other programs (schema.org).
+
+Without an address all links are relative, and nothing of this is written but the links.
+"""
+
+from __future__ import annotations
+
+import json
+import re
+from collections.abc import Iterable, Sequence
+from pathlib import Path
+
+from markupsafe import Markup
+
+from .config import Config
+from .releases import Release
+from .tables import Series, iso
+
+SITEMAP = "sitemap.xml"
+LOST = "404.html"
+"""The page that a front shows if there is none at an address; no other page leads to it."""
+
+EMBEDDED = "embed/"
+"""The folder of the pages that are shown in a frame of other sites: they aren't for those who search."""
+
+SITEMAP_HEAD = '<?xml version="1.0" encoding="UTF-8"?>\n<urlset xmlns="http://www.sitemaps.org/schemas/sitemap/0.9">\n'
+
+TYPES = {
+    "csv": "text/csv",
+    "xlsx": "application/vnd.openxmlformats-officedocument.spreadsheetml.sheet",
+    "sdmx.csv": "application/vnd.sdmx.data+csv;version=2.0.0",
+    "sdmx.xml": "application/vnd.sdmx.structurespecificdata+xml;version=2.1",
+    "jsonstat.json": "application/json",
+    "px": "text/plain",
+}
+"""The media types of the data files, by the ends of their names."""
+
+
+# ---- the map of the pages (sitemaps.org)
+
+
+def write_sitemap(folder: Path, config: Config, series: Series, releases: Iterable[Release]) -> None:
+    """Writes the map of all pages of a folder, each with the moment at which it last changed: the page of a release is
+    changed by a revision only, all others by each table."""
+    changed = {it.page: max(table.moment for table in (it.table, *it.later)) for it in releases}
+    pages = sorted(it.relative_to(folder).as_posix() for it in folder.rglob("*.html"))
+    rows = (
+        f"<url><loc>{address_of(config, page)}</loc><lastmod>{iso(changed.get(page, series.moment))}</lastmod></url>\n"
+        for page in pages
+        if page != LOST and not page.startswith(EMBEDDED)
+    )
+    (folder / SITEMAP).write_text(f"{SITEMAP_HEAD}{''.join(rows)}</urlset>\n", encoding="utf-8")
+
+
+def address_of(config: Config, page: str) -> str:
+    """The one address of a page: that of the first page is the site's."""
+    return config.address + ("" if page == "index.html" else page)
+
+
+# ---- schema.org
+
+
+def type_of(name: str) -> str:
+    """The media type of a data file by its name."""
+    ends = name.split(".", 1)[1]
+    return "application/vnd.sdmx.structure+xml;version=2.1" if name.startswith("structure.") else TYPES[ends]
+
+
+def dataset(config: Config, series: Series, files: Sequence[tuple[str, int]]) -> Markup:
+    """What the page of the data says of the index: its months, its publisher, and each file with its bytes."""
+    return _script(
+        {
+            **_published_by(config),
+            "name": f"{config.title}, {config.country or config.area}",
+            "description": f"{config.title} of {config.office}: indices, changes, weights and contributions of"
+            f" {len(series.titles)} items by COICOP 2018, each month from {series.months[0]} to {series.months[-1]}.",
+            "url": f"{config.address}data.html",
+            "dateModified": iso(series.moment),
+            "temporalCoverage": f"{series.months[0]}/{series.months[-1]}",
+            "distribution": [_file(config, f"data/{name}", size) for name, size in files],
+        }
+    )
+
+
+def release_dataset(config: Config, release: Release, size: int) -> Markup:
+    """What the page of a release says of its table, which has so many bytes."""
+    table = release.table
+    return _script(
+        {
+            **_published_by(config),
+            "name": f"{config.title}, {table.month}, revision {table.revision}",
+            "description": f"{release.headline}.",
+            "url": config.address + release.page,
+            "datePublished": iso(table.moment),
+            "version": str(table.revision),
+            "temporalCoverage": table.month,
+            "isPartOf": {"@type": "Dataset", "name": config.title, "url": f"{config.address}data.html"},
+            "distribution": [_file(config, f"data/tables/{release.name}.csv", size)],
+        }
+    )
+
+
+def _published_by(config: Config) -> dict[str, object]:
+    """What both have."""
+    office = {"@type": "GovernmentOrganization", "name": config.office}
+    found: dict[str, object] = {"@context": "https://schema.org/", "@type": "Dataset", "creator": office}
+    found["isAccessibleForFree"] = True
+    found["spatialCoverage"] = config.country or config.area
+    if config.licence:
+        is_address = re.fullmatch(r"https?://\S+", config.licence)
+        found["license"] = config.licence if is_address else {"@type": "CreativeWork", "name": config.licence}
+    return found
+
+
+def _file(config: Config, path: str, size: int) -> dict[str, object]:
+    """A file that can be taken."""
+    name = path.rpartition("/")[2]
+    words = {"name": name, "encodingFormat": type_of(name) if "/tables/" not in path else TYPES["csv"]}
+    return {"@type": "DataDownload", **words, "contentUrl": config.address + path, "contentSize": f"{size} B"}
+
+
+def _script(found: dict[str, object]) -> Markup:
+    """An object as a block of data in a page: a browser runs none of it, and nothing in it ends the block."""
+    text = json.dumps(found, ensure_ascii=False, separators=(",", ":"))
+    for sign in "<>&\u2028\u2029":
+        text = text.replace(sign, f"\\u{ord(sign):04x}")
+    return Markup(f'<script type="application/ld+json">{text}</script>')

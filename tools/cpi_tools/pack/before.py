@@ -1,0 +1,75 @@
+"""The pack that is replaced, from which files are taken that would be made again byte for byte.
+
+A file is taken by a second link to it, so no byte of it is written and it needs no room; if the file system has no
+links it is copied. Nothing here, and nothing else of this tool, writes into a file that is there: a file that is made is
+a new one, so the pack before stays whole until its folder is removed.
+"""
+
+from __future__ import annotations
+
+import contextlib
+import json
+from pathlib import Path
+from typing import Any, Optional
+
+from ..whole_files import link_or_copy
+from .manifest import SUMS, sum_of
+
+
+class Before:
+    """A pack that was written before, or none. What isn't as its SHA256SUMS says isn't taken."""
+
+    def __init__(self, folder: Optional[Path] = None):
+        self._folder = folder
+        self.taken: dict[str, str] = {}
+        """The files that were taken, by their names in the pack, and their sums."""
+        self._sums = _sums_of(folder / SUMS) if folder else {}
+        self._made = self._read_made()
+
+    def is_made_of(self, year: str, sum_of_content: str) -> bool:
+        """Whether the archive of a year was made of the same."""
+        return self._made.get(year) == sum_of_content
+
+    def take(self, name: str, to: Path) -> bool:
+        """Takes a file by its name in the pack if it has the sum that it was written with; whether it did."""
+        path, wanted = self._path(name), self._sums.get(name)
+        with contextlib.suppress(OSError):
+            if path and wanted and sum_of(path) == wanted:
+                self._link(path, to, name, wanted)
+                return True
+        return False
+
+    def take_same(self, name: str, to: Path, content: bytes, sum_of_content: str) -> bool:
+        """Takes a file if it has these bytes; whether it did."""
+        path = self._path(name)
+        with contextlib.suppress(OSError):
+            if path and path.stat().st_size == len(content) and path.read_bytes() == content:
+                self._link(path, to, name, sum_of_content)
+                return True
+        return False
+
+    def _path(self, name: str) -> Optional[Path]:
+        """A file of the pack; a symbolic link is none."""
+        path = self._folder / name if self._folder else None
+        return path if path and path.is_file() and not path.is_symlink() else None
+
+    def _link(self, path: Path, to: Path, name: str, its_sum: str) -> None:
+        link_or_copy(path, to)
+        self.taken[name] = its_sum
+
+    def _read_made(self) -> dict[str, Any]:
+        """What each archive was made of; nothing if the file isn't whole."""
+        path = self._path("data/years/made.json")
+        with contextlib.suppress(OSError, ValueError):
+            if path and sum_of(path) == self._sums.get("data/years/made.json"):
+                found = json.loads(path.read_bytes())
+                return found if isinstance(found, dict) else {}
+        return {}
+
+
+def _sums_of(path: Path) -> dict[str, str]:
+    """The sums of a pack by the names of its files; none if they can't be read."""
+    with contextlib.suppress(OSError, ValueError):
+        lines = path.read_text(encoding="utf-8").splitlines()
+        return {name: its_sum for its_sum, _, name in (line.partition("  ") for line in lines)}
+    return {}

@@ -1,0 +1,124 @@
+"""The releases that are announced: the next one, those of its year, a page, and a calendar for other programs.
+
+An announced release is out once its table is, whatever a clock says. So the same tables and the same file give the same
+bytes, and a release that is late stays the next one until it is out.
+"""
+
+from __future__ import annotations
+
+from collections.abc import Iterator, Sequence
+from datetime import datetime, timezone
+from pathlib import Path
+from typing import NamedTuple
+
+from ..charts import month_name
+from .config import Config
+from .planned import Planned
+from .release_names import name_of, page_of_release
+from .releases import Release
+from .tables import Series, before
+
+ICS = "calendar.ics"
+EVENT_MONTHS = 24
+"""Of published releases `calendar.ics` has those of so many months."""
+
+LINE_BYTES = 75
+"""Bytes of a line of `calendar.ics` at most, without its end (RFC 5545, section 3.1)."""
+
+
+class Event(NamedTuple):
+    """A release of the calendar: its month and revision, its moment in seconds since 1970 UTC, and what is known of it."""
+
+    month: str
+    revision: int
+    moment: int
+    says: str = ""
+
+
+def coming(series: Series, planned: Sequence[Planned]) -> list[Planned]:
+    """The announced releases that aren't out, by their moments. One whose moment passed before a later table came out
+    isn't announced any more."""
+    there = {(table.month, table.revision) for table in series.vintages}
+    return [it for it in planned if (it.month, it.revision) not in there and it.moment > series.moment]
+
+
+class CalendarOf:
+    """What pages say of announced releases."""
+
+    def __init__(self, series: Series, config: Config):
+        self.coming = coming(series, config.planned)
+        self.clock = config.clock
+
+    def year_of(self, moment: int) -> str:
+        """The year of a moment by the office's clock."""
+        return self.clock.local(moment).split(",")[0][-4:]
+
+    @property
+    def of_year(self) -> list[Planned]:
+        """Those that come in the same year as the next one."""
+        return [it for it in self.coming if self.year_of(it.moment) == self.year_of(self.coming[0].moment)]
+
+    @property
+    def by_year(self) -> list[tuple[str, list[Planned]]]:
+        """All of them by the year in which they come."""
+        years: dict[str, list[Planned]] = {}
+        for it in self.coming:
+            years.setdefault(self.year_of(it.moment), []).append(it)
+        return [*years.items()]
+
+
+# ---- for other programs: iCalendar, RFC 5545
+
+
+def write_ics(series: Series, config: Config, releases: Sequence[Release], to: Path) -> None:
+    """Writes the releases of the last months and those to come."""
+    first = before(series.months[-1], EVENT_MONTHS - 1)
+    tables = [(it.table, it.headline) for it in releases if it.table.month >= first]
+    events = [Event(it.month, it.revision, it.moment, says) for it, says in tables]
+    events += [Event(*it) for it in coming(series, config.planned)]
+    lines = (line for it in _lines(series, config, events) for line in _folded(it))
+    to.write_bytes(b"".join(line + b"\r\n" for line in lines))
+
+
+def _lines(series: Series, config: Config, events: Sequence[Event]) -> Iterator[str]:
+    """The lines of a calendar, whole."""
+    yield from ("BEGIN:VCALENDAR", "VERSION:2.0", "PRODID:-//Sabrethog//cpi-tools publish//EN", "METHOD:PUBLISH")
+    yield f"X-WR-CALNAME:{_text(f'{config.title}, {config.office}')}"
+    for it in events:
+        revision = f", revision {it.revision}" if it.revision > 1 else ""
+        yield "BEGIN:VEVENT"
+        yield f"UID:{name_of(it.month, it.revision)}.{config.area}.{config.agency}@cpi"
+        yield f"DTSTAMP:{_stamp(series.moment)}"
+        yield f"DTSTART:{_stamp(it.moment)}"
+        yield f"SUMMARY:{_text(f'{config.title}, {month_name(it.month)}{revision}')}"
+        if it.says:
+            yield f"DESCRIPTION:{_text(f'{it.says}.')}"
+        if config.address:
+            yield f"URL:{config.address}{page_of_release(it.month, it.revision)}"
+        yield from ("TRANSP:TRANSPARENT", "END:VEVENT")
+    yield "END:VCALENDAR"
+
+
+def _stamp(moment: int) -> str:
+    """`20260128T083000Z`."""
+    return datetime.fromtimestamp(moment, timezone.utc).strftime("%Y%m%dT%H%M%SZ")
+
+
+def _text(text: str) -> str:
+    """A text as a value (section 3.3.11), without what can't be seen."""
+    plain = "".join(it if it.isprintable() else " " for it in text)
+    for sign in "\\;,":
+        plain = plain.replace(sign, f"\\{sign}")
+    return plain
+
+
+def _folded(line: str) -> Iterator[bytes]:
+    """The pieces of a line: each but the first begins with a blank, and no character is cut."""
+    piece = b""
+    for character in line:
+        more = character.encode()
+        if len(piece) + len(more) > LINE_BYTES:
+            yield piece
+            piece = b" "
+        piece += more
+    yield piece

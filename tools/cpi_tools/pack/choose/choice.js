@@ -1,0 +1,142 @@
+// The choice of a reader, and its address, such as `choose.html?items=00+01.1&show=index+year&from=2025-01`.
+// A word that is left out has its default. Nothing here needs a page, so a test runs it by itself.
+
+export const MOST_ITEMS = 20;
+
+/** The measures by their words in an address: name, unit, and the column of an item's file. */
+export const MEASURES = new Map([
+  ["index", { name: "Index", unit: "", column: "chained" }],
+  ["year", { name: "Change on the year before", unit: "Percent", column: "shown_year_change" }],
+  ["month", { name: "Change on the month before", unit: "Percent", column: "shown_month_change" }],
+  ["contribution-year", {
+    name: "Contribution to the change of all items on the year before", unit: "Percentage points",
+    column: "contribution_year",
+  }],
+  ["contribution-month", {
+    name: "Contribution to the change of all items on the month before", unit: "Percentage points",
+    column: "contribution_month",
+  }],
+  ["weight", { name: "Weight in use", unit: "Parts of the weight of all items in that month", column: "weight" }],
+]);
+
+/** What holds without a word: `from` is two years before `to`, `to` is the newest month. */
+export const DEFAULTS = Object.freeze({
+  items: ["00"], show: ["index"], from: "", to: "", hundred: "same", revision: "latest", decimals: "shown",
+});
+
+const CODE = /^(00|(0[1-9]|1[0-3])(\.\d(\.\d(\.\d(-(0[1-9]|[1-9]\d))?)?)?)?|[A-Z][A-Z0-9_]{0,29})$/;
+const MONTH = /^\d{4}-(0[1-9]|1[0-2])$/, YEAR = /^\d{4}$/;
+const MOMENT = /^\d{4}-(0[1-9]|1[0-2])-(0[1-9]|[12]\d|3[01])T([01]\d|2[0-3]):[0-5]\d:[0-5]\dZ$/;
+
+const SPAN = 24; // months before the last one that are shown if nothing else is chosen
+
+export const isMoment = (revision) => MOMENT.test(revision);
+
+export function moved(month, by) {
+  const count = Number(month.slice(0, 4)) * 12 + Number(month.slice(5)) - 1 + by;
+  return `${String(Math.floor(count / 12)).padStart(4, "0")}-${String((count % 12) + 1).padStart(2, "0")}`;
+}
+
+const NAMES = ["January", "February", "March", "April", "May", "June", "July", "August", "September", "October",
+  "November", "December"];
+
+/** `December 2025` of `2025-12`. */
+export const monthName = (month) => `${NAMES[Number(month.slice(5)) - 1]} ${month.slice(0, 4)}`;
+
+/** The months from one to another. */
+export function monthsBetween(from, to) {
+  const found = [];
+  for (let month = from; month <= to; month = moved(month, 1)) found.push(month);
+  return found;
+}
+
+/** The months that are chosen. `known` has the first and the last month that the site has. */
+export function monthsOf({ from, to }, known) {
+  const last = to || known.last, first = from || moved(last, -SPAN);
+  return monthsBetween(first < known.first ? known.first : first, last);
+}
+
+/** The years of which the site has each month. */
+export function fullYears({ first, last }) {
+  const years = new Set(monthsBetween(first, last).map((month) => month.slice(0, 4)));
+  return [...years].filter((year) => `${year}-01` >= first && `${year}-12` <= last);
+}
+
+/**
+ * Reads an address: `{ choice, faults }`. `known` is what the site has: its `first` and `last` month, and `base`, the
+ * December before the first. A word that can't be taken has its default, and a line in `faults` with the text that was
+ * read and the texts that are wanted.
+ */
+export function choiceOf(search, known) {
+  const choice = { ...DEFAULTS }, faults = [];
+  for (const [word, text] of new URLSearchParams(search)) {
+    const read = READERS[word];
+    const found = read ? read(text.trim(), known) : { fault: `it is no word of this page; ${WORDS}` };
+    if (found.fault) faults.push({ read: `${word}=${text}`, fault: found.fault });
+    if ("value" in found) choice[word] = found.value;
+  }
+  const last = choice.to || known.last;
+  if (choice.from > last) {
+    faults.push({ read: `from=${choice.from}`, fault: `it is after ${last}, the last month that is chosen` });
+    choice.from = "";
+  }
+  return { choice, faults };
+}
+
+/** A choice as an address; a default isn't written. */
+export function addressOf(choice) {
+  const words = new URLSearchParams();
+  for (const [word, value] of Object.entries(choice)) {
+    const text = [value].flat().join(" ");
+    if (text !== [DEFAULTS[word]].flat().join(" ")) words.set(word, text);
+  }
+  const found = words.toString();
+  return found ? `?${found}` : "";
+}
+
+/** The same choice for good: with its months by name, as published until now, and `period` = 100 if that is one. */
+export function fixed(choice, known, period) {
+  const months = monthsOf(choice, known);
+  const revision = choice.revision === "latest" ? known.moment : choice.revision;
+  const span = { from: months[0] ?? known.first, to: months.at(-1) ?? known.last };
+  return { ...choice, ...span, hundred: period ?? choice.hundred, revision };
+}
+
+// ---- the words of an address
+
+const WORDS = `its words are ${Object.keys(DEFAULTS).join(", ")}`;
+
+const READERS = {
+  items: (text) => {
+    const all = parts(text), bad = all.filter((code) => !CODE.test(code)), good = all.filter((code) => CODE.test(code));
+    const many = good.length > MOST_ITEMS ? `it names ${good.length} items, and the page takes ${MOST_ITEMS}` : "";
+    const odd = bad.length ? `${bad.join(", ")} is no code such as 01.1.1, and no id of a special aggregate` : "";
+    const value = good.length ? good.slice(0, MOST_ITEMS) : DEFAULTS.items;
+    return { value, fault: odd || many || (good.length ? "" : "it names no item, such as items=00+01.1") };
+  },
+  show: (text) => {
+    const all = parts(text), bad = all.filter((word) => !MEASURES.has(word));
+    const value = [...MEASURES.keys()].filter((word) => all.includes(word));
+    const wanted = `the measures are ${[...MEASURES.keys()].join(", ")}`;
+    const fault = bad.length ? `${bad.join(", ")} is no measure; ${wanted}` : value.length ? "" : wanted;
+    return { value: value.length ? value : DEFAULTS.show, fault };
+  },
+  from: (text, known) => monthOf(text, known),
+  to: (text, known) => monthOf(text, known),
+  hundred: (text, known) => {
+    const isPeriod = (MONTH.test(text) && text >= known.base && text <= known.last) || fullYears(known).includes(text);
+    if (isPeriod || text === "same" || text === "own") return { value: text };
+    const years = YEAR.test(text) ? " with twelve months" : "";
+    return { fault: `it is neither same nor own, nor a year${years} or a month from ${known.base} to ${known.last}` };
+  },
+  revision: (text) => (text === "latest" || /^[1-9]$/.test(text) || isMoment(text) ? { value: text }
+    : { fault: "it is neither latest, nor a revision from 1 to 9, nor a moment such as 2026-01-28T08:30:00Z" }),
+  decimals: (text) => (text === "shown" || text === "all" ? { value: text } : { fault: "it is neither shown nor all" }),
+};
+
+const parts = (text) => [...new Set(text.split(/[\s,]+/).filter(Boolean))];
+
+function monthOf(text, { first, last }) {
+  if (text === "" || (MONTH.test(text) && text >= first && text <= last)) return { value: text };
+  return { fault: `it is no month from ${first} to ${last}` };
+}

@@ -1,0 +1,90 @@
+"""The page for choosing items, months and measures: its script, and the files of the site that it reads.
+
+It asks for the file of each chosen item (`node/CODE.csv`), for that of its earlier revisions if it needs them
+(`node/CODE-earlier.csv`), and for the list of all items once somebody seeks one (`assets/items.json`). So a line costs
+a few kilobytes, whatever the site holds, and any server of files will do.
+"""
+
+from __future__ import annotations
+
+import json
+import re
+from collections.abc import Mapping, Sequence
+from pathlib import Path
+
+from ..others import closed
+from .config import Config
+from .figures import GIVEN_MONTH, GIVEN_YEAR, MONTH_CHANGE, YEAR_CHANGE, Known
+from .tables import Series, iso
+from .tidy import HEAD, figure_row, write_rows
+
+SOURCES = Path(__file__).resolve().parent / "choose"
+
+MODULES = ("elements", "choice", "lines", "files", "measured", "figures", "picker", "picture", "page")
+"""The modules of the page's script, each after those that it imports."""
+
+SEARCH = Path(__file__).resolve().parent / "assets" / "search.js"
+OF_ITS_PAGE = "// ---- the page of all items\n"
+"""Where the script of the page of all items ends to say what a text finds, and begins to show it."""
+
+IMPORT = re.compile(r'^import \{[^}]*\} from "\.[a-z./]+\.js";\n', re.M)
+EXPORT = re.compile(r"^export ", re.M)
+
+ITEM_HEAD = (*HEAD, "shown_month_change", "shown_year_change", "contribution_month", "contribution_year", "notes")
+"""The columns of an item's file: those of cpi.csv, the changes as the pages show them, in percent, what the item gives to
+the changes of all items, in percentage points, and the letters of its notes."""
+
+
+def script() -> str:
+    """All modules as one, so that the page costs one request for them; the first is how the site finds items."""
+    search, is_split, _ = SEARCH.read_text(encoding="utf-8").partition(OF_ITS_PAGE)
+    assert is_split
+    texts = ((SOURCES / f"{name}.js").read_text(encoding="utf-8") for name in MODULES)
+    return "\n".join([search, *(EXPORT.sub("", IMPORT.sub("", text)) for text in texts)])
+
+
+def item_rows(known: Known, notes: Mapping[str, str], code: str) -> list[Sequence[object]]:
+    """The rows of an item's file: its latest revision in each month; `notes` are its letters by month."""
+    series, ends = known.series, item_ends(known, notes, code)
+    rows = ((at, series.latest[month], series.row(month, code)) for at, month in enumerate(series.months))
+    return [(*figure_row(series, table, row), *ends[at]) for at, table, row in rows if row]
+
+
+def item_ends(known: Known, notes: Mapping[str, str], code: str) -> list[tuple[str, ...]]:
+    """The cells of ITEM_HEAD after those of HEAD, in all months."""
+    figures = (known.texts(figure, code) for figure in (MONTH_CHANGE, YEAR_CHANGE, GIVEN_MONTH, GIVEN_YEAR))
+    return [*zip(*figures, (notes.get(month, "") for month in known.series.months))]
+
+
+def write_chooser(series: Series, folder: Path) -> None:
+    """Writes what the page reads besides the items' files, into the folder of a site that has its other folders."""
+    (folder / "assets" / "choose.js").write_text(script(), encoding="utf-8")
+    items = [[code, closed(title)] for code, title in series.all_titles.items()]
+    text = json.dumps(items, ensure_ascii=False, separators=(",", ":"))
+    (folder / "assets" / "items.json").write_text(text, encoding="utf-8")
+    for code, rows in _earlier(series).items():
+        write_rows(folder / "node" / f"{code}-earlier.csv", HEAD, rows)
+
+
+def _earlier(series: Series) -> Mapping[str, list[Sequence[object]]]:
+    """By code, the rows of all tables that a further revision came after."""
+    found: dict[str, list[Sequence[object]]] = {}
+    for table in series.vintages:
+        if series.latest[table.month] is not table:
+            for code, row in table.rows.items():
+                found.setdefault(code, []).append(figure_row(series, table, row))
+    return found
+
+
+def known_to_page(series: Series, config: Config) -> dict[str, str]:
+    """What the page has to know before it reads a file, as attributes of its form: its first and its last month, the
+    December before the first, the office's reference period, the moment of the last publication, and how many revisions
+    a month has at most."""
+    return {
+        "first": series.months[0],
+        "last": series.months[-1],
+        "base": series.base,
+        "reference": config.reference,
+        "moment": iso(series.moment),
+        "revisions": str(max(table.revision for table in series.vintages)),
+    }

@@ -1,0 +1,103 @@
+"""Notes at a figure: a letter for each, and what it says. A figure is of an item in a month.
+
+- `i`, imputed: the month's table marks the item, since a price at or below it was imputed.
+- `r`, revised: the month was published again, and the item's row is another one than at first.
+- `b`, break: the level isn't linked to the earlier ones, or other elementary aggregates are in the special aggregate.
+- `p`, provisional: the month is one of the last ones, as many as the office says it may still revise.
+"""
+
+from __future__ import annotations
+
+from collections.abc import Iterable, Mapping
+from typing import Optional
+
+from ..exact import decimal
+from ..terminal import month_name
+from .shown import Shown
+from .tables import Row
+
+IMPUTED, REVISED, BREAK, PROVISIONAL = "i", "r", "b", "p"
+
+NAMES: Mapping[str, str] = {
+    IMPUTED: "imputed",
+    REVISED: "revised",
+    BREAK: "break",
+    PROVISIONAL: "provisional",
+}
+"""The letters in the order in which they are written, with their names."""
+
+SAYS: Mapping[str, str] = {
+    IMPUTED: "at least one price at or below the item was imputed",
+    REVISED: "the figure isn't the one that was published first",
+    BREAK: "the level isn't linked to the earlier ones",
+    PROVISIONAL: "the office may still revise it",
+}
+"""What a letter says of a figure, in a few words."""
+
+
+class Notes:
+    """The notes of all figures. The last `provisional` months can still be revised."""
+
+    def __init__(self, shown: Shown, provisional: int = 0):
+        self.shown, self.provisional = shown, provisional
+        series = shown.series
+        self._last = frozenset(series.months[-provisional:] if provisional else [])
+        self._first: dict[str, Mapping[str, Row]] = {}
+        for table in series.vintages:
+            if table is not series.latest[table.month]:
+                self._first.setdefault(table.month, table.rows)
+
+    @property
+    def provisional_text(self) -> str:
+        """What is said of provisional months."""
+        last = "month" if self.provisional == 1 else f"{self.provisional} months"
+        return f"Provisional: the office may still revise the last {last}."
+
+    def first(self, month: str, code: str) -> Optional[Row]:
+        """The row that was published first, if the latest one is another; a special aggregate has none."""
+        then, now = self._first.get(month, {}).get(code), self.shown.series.row(month, code)
+        return then if then and now and then.texts != now.texts else None
+
+    def by_month(self, code: str, months: Optional[Iterable[str]] = None) -> dict[str, str]:
+        """By month, the letters of an item's figures, such as `ir`; a month without a note isn't there. If no months are
+        named they are all."""
+        series, marks = self.shown.series, frozenset(self.shown.series.marks(code))
+        looked_at = ((month, series.row(month, code)) for month in (series.months if months is None else months))
+        rows = ((month, row) for month, row in looked_at if row)
+        found = ((month, self._letters(month, row, month in marks)) for month, row in rows)
+        return {month: letters for month, letters in found if letters}
+
+    def _letters(self, month: str, row: Row, is_break: bool) -> str:
+        """The letters of a row."""
+        found = IMPUTED if row.is_imputed else ""
+        if month in self._first and self.first(month, row.code):
+            found += REVISED
+        found += BREAK if is_break else ""
+        return found + PROVISIONAL if month in self._last else found
+
+    def sentences(self, month: str, code: str) -> list[tuple[str, str]]:
+        """The notes of a month's figures, each a letter and a sentence; of a break none, which has its own."""
+        said = {
+            IMPUTED: "At least one price at or below this item was imputed in that month: it moved as the others of its"
+            " elementary aggregate did.",
+            REVISED: self._revised(month, code),
+            PROVISIONAL: self.provisional_text,
+        }
+        letters = self.by_month(code, [month]).get(month, "")
+        return [(letter, said[letter]) for letter in letters if letter in said]
+
+    def _revised(self, month: str, code: str) -> str:
+        """What was published first."""
+        row = self.first(month, code)
+        if row is None:
+            return ""
+        then, now = decimal(*self.shown.of_level(row.chained, month, code), 1), self.shown.text(month, code, 1)
+        if then == now:
+            return f"Revised: what was published first of {month_name(month)} differed by less than the index shows."
+        return f"Revised: the index of {month_name(month)} was published as {then} first."
+
+
+def present(letters: dict[str, str]) -> list[tuple[str, str, str]]:
+    """The notes that some months have: letter, name and what it says."""
+    found = {letter for each in letters.values() for letter in each}
+    return [(letter, NAMES[letter], SAYS[letter]) for letter in NAMES if letter in found]

@@ -1,0 +1,83 @@
+"""The moments of the releases that an office announces, from a file like `calendar.csv`.
+
+Its columns are those of the office's calendar: `month`, `opens`, `closes` and `publishes`; only the first and the last
+are read. A moment is a civil time like `2026-01-28T09:30` of the office's clock, or in seconds since 1970 UTC, as in the
+records of the desk. The first row of a month is its first release, a further one its next revision.
+"""
+
+from __future__ import annotations
+
+import csv
+import io
+import re
+from collections import Counter
+from collections.abc import Sequence
+from pathlib import Path
+from typing import NamedTuple
+
+from ..terminal import Fault, because_of
+from .clocks import Clock
+from .public import MONTH
+
+NEEDED = ("month", "publishes")
+MOST_REVISIONS = 9
+SECONDS = re.compile(r"0|[1-9][0-9]{0,9}")
+
+
+class BadCalendar(Fault):
+    """A file of announced releases with a fault; one line."""
+
+
+class Planned(NamedTuple):
+    """A release that is announced: the month like `2026-01`, its revision, and the moment in seconds since 1970 UTC."""
+
+    month: str
+    revision: int
+    moment: int
+
+
+def read_planned(path: Path, clock: Clock) -> tuple[Planned, ...]:
+    """The releases of a file, by their moments. Raises BadCalendar."""
+    try:
+        rows = [*csv.reader(io.StringIO(path.read_text(encoding="utf-8-sig"), newline=""), strict=True)]
+    except OSError as fault:
+        raise BadCalendar(because_of(fault)) from fault
+    except (csv.Error, UnicodeDecodeError) as fault:
+        raise BadCalendar(f"{path}: {' '.join(str(fault).split())}") from fault
+    try:
+        return planned_of(rows, clock)
+    except BadCalendar as fault:
+        raise BadCalendar(f"{path}: {fault}") from None
+
+
+def planned_of(rows: Sequence[Sequence[str]], clock: Clock) -> tuple[Planned, ...]:
+    """The releases of some rows, the first of which has the names of the columns. Raises BadCalendar."""
+    head = [*rows[0]] if rows else []
+    for name in NEEDED:
+        if head.count(name) != 1:
+            raise BadCalendar(f"its first row is {','.join(head)}, and needs one column {name}")
+    revisions: Counter[str] = Counter()
+    found = []
+    for number, row in enumerate(rows[1:], 2):
+        if any(row):
+            if len(row) != len(head):
+                raise BadCalendar(f"row {number} has {len(row)} cells, and not {len(head)}")
+            month, publishes = (row[head.index(name)].strip() for name in NEEDED)
+            revisions[month] += 1
+            found.append(_planned(number, (month, revisions[month], publishes), clock))
+    return tuple(sorted(found, key=lambda it: (it.moment, it.month, it.revision)))
+
+
+def _planned(number: int, read: tuple[str, int, str], clock: Clock) -> Planned:
+    """The release of a row, by its number in the file."""
+    month, revision, publishes = read
+    if not MONTH.fullmatch(month):
+        raise BadCalendar(f"row {number}: {month or 'an empty text'} is no month like 2026-01")
+    if revision > MOST_REVISIONS:
+        raise BadCalendar(f"row {number}: {month} has more than {MOST_REVISIONS} rows")
+    try:
+        moment = int(publishes) if SECONDS.fullmatch(publishes) else clock.moment(publishes)
+    except (ValueError, OverflowError):
+        said = publishes or "an empty text"
+        raise BadCalendar(f"row {number}: {said} is no time like 2026-01-28T09:30, and no seconds") from None
+    return Planned(month, revision, moment)

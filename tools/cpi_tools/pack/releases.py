@@ -1,0 +1,225 @@
+"""The releases of an office: each table that was published, in the words and figures of its day, with a page that stays.
+
+A release is a month with its revision. Its page is made of the tables up to its moment (`as_of`), so later tables
+change nothing of it; a later revision adds a line that leads to it.
+"""
+
+from __future__ import annotations
+
+from collections.abc import Callable, Iterator, Sequence
+from pathlib import Path
+from typing import NamedTuple, Optional
+
+import jinja2
+
+from ..charts import month_name
+from ..exact import ALL_ITEMS, decimal, parent_of
+from ..pages import write_page
+from .as_of import AsOf, each_as_of, given_then
+from .bases import Base, hidden_bases, revised_bases
+from .config import Config
+from .figures import Known
+from .given import Given, lead_of, sorted_values, with_bars
+from .headline import headline
+from .measures import Contributions
+from .release_names import FOLDER, card_of, name_of, page_of_release
+from .revised import Revised, revised_of
+from .shown import EXACT, RATES_SAY, Shown, period_name
+from .tables import Row, Series, Table, before
+
+LAST_RELEASES = 5
+"""Releases that the first page names."""
+
+
+class Release(NamedTuple):
+    """A release with the tables as they were, and the revisions of its month that came later."""
+
+    as_of: AsOf
+    shown: Shown
+    later: tuple[Table, ...]
+
+    @property
+    def table(self) -> Table:
+        """Its table."""
+        return self.as_of.of
+
+    @property
+    def whole(self) -> Row:
+        """The row of all items, with the changes that are shown."""
+        found = self.shown.row(self.table.month, ALL_ITEMS)
+        assert found
+        return found
+
+    @property
+    def headline(self) -> str:
+        """Its sentence."""
+        return headline(self.table.month, self.whole)
+
+    @property
+    def index_text(self) -> str:
+        """The index of all items with one decimal."""
+        return self.shown.text(self.table.month, ALL_ITEMS, 1)
+
+    @property
+    def name(self) -> str:
+        """`2026-01-r1`."""
+        return name_of(self.table.month, self.table.revision)
+
+    @property
+    def page(self) -> str:
+        """The address of its page in the site."""
+        return page_of_release(self.table.month, self.table.revision)
+
+    @property
+    def card(self) -> str:
+        """The address of its card in the site."""
+        return card_of(self.table.month, self.table.revision)
+
+
+class Moved(NamedTuple):
+    """The nodes that came with a month or left with it: the greatest ones, with their titles then."""
+
+    came: list[tuple[str, str]]
+    left: list[tuple[str, str]]
+
+
+def releases_of(series: Series, config: Config) -> list[Release]:
+    """All releases that have rows, by month and revision."""
+    found = []
+    for as_of in each_as_of(series):
+        month = as_of.of.month
+        reference = config.reference_in(month)
+        is_covered = any(it.startswith(reference) for it in (as_of.base, *as_of.months))
+        shown = Shown(as_of, reference if is_covered else "", config.rates_in(month))
+        found.append(Release(as_of, shown, tuple(_later(series, as_of.of))))
+    return sorted(found, key=lambda it: (it.table.month, it.table.revision))
+
+
+def _later(series: Series, of: Table) -> Iterator[Table]:
+    """The revisions of a month that came later than one of its tables."""
+    return (it for it in series.vintages if it.month == of.month and it.revision > of.revision)
+
+
+def hundreds_of(releases: Sequence[Release]) -> str:
+    """In which period the index of some releases, the last one first, is 100, and from which month on if they differ:
+    `December 2024 = 100, from December 2025 on 2025 = 100`."""
+    found: dict[str, str] = {}
+    for it in reversed(releases):
+        found.setdefault(period_name(it.shown.hundred(it.table.month, ALL_ITEMS)), month_name(it.table.month))
+    first, *others = found
+    return ", ".join([f"{first} = 100", *(f"from {found[period]} on {period} = 100" for period in others)])
+
+
+# ---- what the page of a release says
+
+
+def page_words(release: Release, contributions: Contributions) -> dict[str, object]:
+    """What the template of a release's page is handed."""
+    as_of, shown, whole = release.as_of, release.shown, release.whole
+    month, is_annual = as_of.of.month, whole.year_change is not None
+    change = whole.month_change if whole.year_change is None else whole.year_change
+    given = given_then(as_of, contributions)
+    rows, zero = with_bars(shown, month, sorted_values(given.below(month, ALL_ITEMS), is_annual))
+    return {
+        "release": release,
+        "series": as_of,
+        "shown": shown,
+        "month": month,
+        "table": as_of.of,
+        "whole": whole,
+        "rates": RATES_SAY[shown.rates],
+        "level_of": lambda chained, of, code: decimal(*shown.of_level(chained, of, code), 1),
+        "is_annual": is_annual,
+        "change": change,
+        "rows": rows,
+        "zero": zero,
+        "lead": lead_of(rows, change),
+        "hidden": hidden_bases(as_of, as_of.of.rows[ALL_ITEMS], shown.rates == EXACT),
+        "bases_revised": [*_revised_bases(as_of, rows)],
+        "items": [(code, shown.row(month, code)) for code in as_of.titles],
+        "revised": revision_before(as_of),
+        "since": revised_since(as_of),
+        "before": release_before(as_of),
+        "moved": moved_in(as_of),
+    }
+
+
+def _revised_bases(as_of: AsOf, rows: list[Given]) -> Iterator[Base]:
+    """The revised months that the figures of all items are computed from, but those of which a further revision wasn't
+    published then, as the divisions show it."""
+    found = [as_of.of.rows[ALL_ITEMS], *(as_of.of.rows[it.code] for it in rows if it.row)]
+    hidden = frozenset(month for row in found for month in hidden_bases(as_of, row))
+    return revised_bases(as_of, found[0], hidden)
+
+
+def revision_before(as_of: AsOf) -> Optional[Revised]:
+    """What a release changed, if it is a further revision of its month."""
+    mine = [it for it in as_of.vintages if it.month == as_of.of.month and it.revision < as_of.of.revision]
+    return revised_of(mine[-1], as_of.of) if mine else None
+
+
+def release_before(as_of: AsOf) -> Optional[Table]:
+    """The first release of the month before, which this one is read after."""
+    earlier = (it for it in as_of.vintages if it.month == before(as_of.of.month) and it.revision == 1)
+    return next((it for it in earlier if it.rows), None)
+
+
+def revised_since(as_of: AsOf) -> list[Revised]:
+    """What was revised after the first release of the month before, up to the first release of a month."""
+    last = release_before(as_of)
+    if last is None or as_of.of.revision > 1:
+        return []
+    pairs = zip(as_of.vintages, as_of.vintages[1:])
+    found = (it for it in pairs if it[0].month == it[1].month != as_of.of.month and it[1].moment > last.moment)
+    return [revised_of(old, new) for old, new in found]
+
+
+def moved_in(as_of: AsOf) -> Moved:
+    """The nodes that came or left with the first month of a year."""
+    earlier = as_of.latest.get(before(as_of.of.month))
+    if not as_of.of.month.endswith("-01") or earlier is None or not earlier.rows:
+        return Moved([], [])
+    return Moved(*(_greatest(one, other) for one, other in ((as_of.of, earlier), (earlier, as_of.of))))
+
+
+def _greatest(one: Table, other: Table) -> list[tuple[str, str]]:
+    """The nodes of a table that another hasn't, without those below such a node."""
+    found = one.rows.keys() - other.rows.keys()
+    return [(code, one.rows[code].title) for code in sorted(found) if parent_of(code) not in found]
+
+
+# ---- writing
+
+
+class ReleasePages:
+    """All releases, whose pages it writes."""
+
+    def __init__(self, known: Known, config: Config):
+        self.contributions = known.contributions
+        self.all = releases_of(known.series, config)
+
+    @property
+    def latest(self) -> Release:
+        """The release whose figures the first page has."""
+        return self.all[-1]
+
+    @property
+    def last(self) -> list[Release]:
+        """Those that were published last, the last one first."""
+        by_moment = sorted(self.all, key=lambda it: (it.table.moment, it.table.month, it.table.revision))
+        return by_moment[: -LAST_RELEASES - 1 : -1]
+
+    def by_year(self) -> list[tuple[str, list[Release]]]:
+        """All releases by the year of their month, the last first."""
+        years: dict[str, list[Release]] = {}
+        for it in reversed(self.all):
+            years.setdefault(it.table.month[:4], []).append(it)
+        return [*years.items()]
+
+    def write(self, pages: jinja2.Environment, folder: Path, more: Callable[[Release], dict[str, object]]) -> None:
+        """Writes the page of each into the folder of a site; `more` is what its template is handed too."""
+        (folder / FOLDER).mkdir()
+        for it in self.all:
+            stands = {"root": "../", "here": f"{it.name}.html", "style_at": "../assets/style.css", "page_path": it.page}
+            words = {**page_words(it, self.contributions), **more(it)}
+            write_page(pages, "release.html", folder / it.page, **stands, **words)

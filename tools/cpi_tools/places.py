@@ -1,0 +1,144 @@
+"""The places where a second copy is kept: a folder of this machine, or one that a carrier reaches.
+
+A round at a folder writes there itself, and each file is on the disk before its note is. A round elsewhere keeps a
+mirror in a room on this machine, and a carrier takes it over.
+"""
+
+from __future__ import annotations
+
+import contextlib
+import fcntl
+import sqlite3
+from collections.abc import Iterator
+from pathlib import Path
+from typing import Any, Optional, Protocol
+
+from .carriers import Carrier, carrier_of
+from .mirrors import MirroredOffice, Taken, second_of, stamp, sync
+from .second_copies import NAMES, NOTE, OFFICE, CopyNote, State, note_of, state_of, write_note
+from .stored import unchanged_office
+from .terminal import Fault
+
+LOCK = "follow.lock"
+"""The file by which one follower at a time writes to a folder."""
+
+LAST_QUOTES = 20
+"""So many of the last quotes are in a note."""
+
+
+class Place(Protocol):
+    """A place where a second copy is kept."""
+
+    name: str
+
+    def state(self) -> State:
+        """What is there. Raises Fault if it can't be known."""
+
+    def round(self, office: Path, state: State, patience: float) -> tuple[CopyNote, Taken]:
+        """Brings the older copy up to date; its note. Raises Fault and OSError, and the newer copy is whole then."""
+
+
+class Folder:
+    """A folder of this machine, such as one on another disk."""
+
+    def __init__(self, folder: Path):
+        self.name, self._folder = str(folder), folder
+        self._mirrors = Mirrors()
+
+    def state(self) -> State:
+        """What is there."""
+        return state_of(self._folder)
+
+    def round(self, office: Path, state: State, patience: float) -> tuple[CopyNote, Taken]:
+        """The note of the older copy goes first, and the new one comes last."""
+        name, number = state.next()
+        folder = self._folder / name
+        folder.mkdir(mode=0o700, exist_ok=True)
+        (folder / NOTE).unlink(missing_ok=True)
+        mirror, taken = self._mirrors.taken(folder, office, patience)
+        note = note_of(office, number, taken, mirror, _last_quotes(folder / OFFICE))
+        for each in (mirror.file, mirror.log):
+            each.sync()
+        write_note(folder, note)
+        sync(folder)
+        return note, taken
+
+
+class Elsewhere:
+    """A place that a carrier reaches, with a room on this machine: the mirror that is carried, and what is known of the
+    place."""
+
+    def __init__(self, carrier: Carrier, room: Path):
+        self.name, self._carrier, self._room = carrier.name, carrier, room
+        self._mirrors = Mirrors()
+
+    def state(self) -> State:
+        """What is there, as it was fetched now."""
+        there = self._room / "there"
+        there.mkdir(mode=0o700, parents=True, exist_ok=True)
+        self._carrier.fetch(there)
+        return state_of(there)
+
+    def round(self, office: Path, state: State, patience: float) -> tuple[CopyNote, Taken]:
+        """The mirror needn't be on the disk: what it lacks after a crash is seen in the next round."""
+        name, number = state.next()
+        folder = self._room / "mirror"
+        folder.mkdir(mode=0o700, exist_ok=True)
+        mirror, taken = self._mirrors.taken(folder, office, patience)
+        note = note_of(office, number, taken, mirror, _last_quotes(folder / OFFICE))
+        before = second_of(folder / NOTE)
+        write_note(folder, note)
+        stamp(folder / NOTE, before)
+        self._carrier.carry(folder, name)
+        last = self._room / NAMES[0]
+        last.mkdir(mode=0o700, exist_ok=True)
+        write_note(last, note)
+        return note, taken
+
+
+class Mirrors:
+    """The mirrors of a follower, by their folders: the sums of what is there are known from round to round."""
+
+    def __init__(self) -> None:
+        self._known = dict[Path, MirroredOffice]()
+
+    def taken(self, folder: Path, office: Path, patience: float) -> tuple[MirroredOffice, Taken]:
+        """The mirror in a folder, brought to an office's file. It is read anew after a fault, which may have left a
+        block that was written in part. Raises CopyFailed and OSError."""
+        mirror = self._known.pop(folder, None) or MirroredOffice(folder, OFFICE)
+        taken = mirror.taken_and_stamped(office, patience)
+        self._known[folder] = mirror
+        return mirror, taken
+
+
+def _last_quotes(mirrored: Path) -> list[list[Any]]:
+    """Collector, slot, month and receipt of the last quotes. A file that the C library can't read has none here: whether
+    it is an office is judged by a drill."""
+    with contextlib.suppress(sqlite3.Error), unchanged_office(mirrored) as office:
+        rows = office.last_quotes(LAST_QUOTES)
+        return [[collector, slot, f"{month // 100:04}-{month % 100:02}", at] for collector, slot, month, at in rows]
+    return []
+
+
+def place_of(dest: str, room: Path, ssh: Optional[str]) -> Place:
+    """The place of a word of the command line."""
+    if carrier := carrier_of(dest, ssh):
+        return Elsewhere(carrier, room)
+    return Folder(Path(dest))
+
+
+@contextlib.contextmanager
+def kept_for_one(dest: str, room: Path) -> Iterator[None]:
+    """Meanwhile no other follower of this machine writes to a place. Raises Fault if one does, and OSError."""
+    is_elsewhere = carrier_of(dest) is not None
+    folder = room if is_elsewhere else Path(dest)
+    if is_elsewhere:
+        room.mkdir(mode=0o700, parents=True, exist_ok=True)
+    else:
+        state_of(folder)
+    with (folder / LOCK).open("a", encoding="ascii") as lock:
+        try:
+            fcntl.flock(lock, fcntl.LOCK_EX | fcntl.LOCK_NB)
+        except BlockingIOError as fault:
+            raise Fault(f"another cpi-tools follow keeps {dest}") from fault
+        yield
