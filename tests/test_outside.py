@@ -2,8 +2,9 @@
 """Tests what other programs make of what is made here, with pytest (tests/outside): they need more than tools/setup.
 
 The programs are some 600 MB of Debian's packages: caddy, chromium, libreoffice-calc-nogui, libxml2-utils, lintian,
-poppler-utils, python3-pandas, python3-zbar, r-base-core, r-cran-rsdmx, systemd-container. A test fails if one that it needs is missing, unless NAME,
-such as Rscript or pandas, leaves it out; a line then says what was left out. Further words go to pytest.
+openssh-server, poppler-utils, python3-pandas, python3-zbar, r-base-core, r-cran-rsdmx, rclone, rsync,
+systemd-container. A test fails if one that it needs is missing, unless NAME, such as Rscript or pandas, leaves it out; a
+line then says what was left out. Further words go to pytest.
 
 example: tests/test_outside.py --program out/cpi --leave-out soffice
 """

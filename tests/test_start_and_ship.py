@@ -257,9 +257,12 @@ def stand_in(it: Repository, name: str, last: str, status: int = 0) -> None:
 
 def parts_of_test() -> set[str]:
     """The scripts that ./test runs."""
-    looped = re.search(r"for name in ([\w\s\\]+); do", (TOP / "test").read_text())
+    text = (TOP / "test").read_text()
+    looped = re.search(r"for name in ([\w\s\\]+); do", text)
     assert looped
-    return {f"test_{name}.py" for name in ["start_and_ship", *looped[1].replace("\\", "").split()]}
+    # (those that need no program are named one by one)
+    alone = re.findall(r"^part .* tests/(test_\w+\.py)$", text, re.MULTILINE)
+    return {*alone, *(f"test_{name}.py" for name in looped[1].replace("\\", "").split())}
 
 
 def begin_test(it: Repository) -> int:
