@@ -1,10 +1,11 @@
-"""The collectors' page on a slow phone: 400 rows at a sixth of the processor's speed.
+"""The collectors' page on a slow phone: 400 rows.
 
-The machine may be at other work, so of each step the best of three series counts.
+The machine may be at other work, so of each step the best of some series counts.
 """
 
 from __future__ import annotations
 
+import math
 import statistics
 from collections.abc import Iterator
 
@@ -13,9 +14,10 @@ import pytest
 from long_list import give_list
 from offices import NOBODY, NOW
 from phone import Phone
+from slowness import as_a_phone
 from stage import Stage
 
-ROWS, TIMES, SERIES, SAVES = 400, 6, 3, 20
+ROWS, SERIES, SAVES = 400, 6, 20
 
 SAVE, MOST = 150, 300
 """Milliseconds from Save to the next form, in the middle and at most."""
@@ -75,7 +77,8 @@ def slow(phone: Phone, stage: Stage) -> Iterator[Phone]:
     """The page with its list, on a slow phone."""
     give_list(stage, ROWS)
     phone.sign_in(NOBODY)
-    with phone.browser.slowed(TIMES):
+    with as_a_phone(phone.browser) as times:
+        print(f"slowed {times} times")
         yield phone
 
 
@@ -85,21 +88,25 @@ def test_the_next_form_comes_at_once(slow: Phone, stage: Stage) -> None:
     for _ in range(SERIES):
         times = slow.browser.run_until(SAVED, SAVES)
         found.append((max(times), statistics.median(times)))
-        if max(times) < SAVE:
-            break  # (the machine was at rest)
-    print(
-        f"from Save to the next form: {[tuple(round(it) for it in each) for each in found]} ms at most and in the middle"
-    )
-    assert min(middle for _, middle in found) < SAVE and min(most for most, _ in found) < MOST
+        if max(times) < MOST and statistics.median(times) < SAVE:
+            break
+    told = [tuple(round(it) for it in each) for each in found]
+    print(f"from Save to the next form: {told} ms at most and in the middle")
+    most, middle = found[-1]
+    assert most < MOST and middle < SAVE, told
     slow.browser.wait_text("#line", "All sent")
     assert len(stage.quotes(NOBODY, NOW)) == SAVES * len(found)
 
 
 def test_no_other_step_keeps_a_collector_waiting(slow: Phone) -> None:
     steps = ", ".join(f"() => {step}" for step in STEPS.values())
-    series = [slow.browser.run_until(TIMED % f"[{steps}]") for _ in range(SERIES)]
-    best = {name: round(min(times)) for name, times in zip(STEPS, zip(*series))}
-    print(f"at a sixth of the speed, in ms: {best}")
+    best = dict.fromkeys(STEPS, math.inf)
+    for _ in range(SERIES):
+        times = slow.browser.run_until(TIMED % f"[{steps}]")
+        best = {name: min(best[name], time) for name, time in zip(STEPS, times)}
+        if max(best.values()) < STEP:
+            break
+    print("in ms:", {name: round(time) for name, time in best.items()})
     assert {name: time for name, time in best.items() if time >= STEP} == {}
 
 
@@ -110,5 +117,7 @@ def test_the_list_is_there_soon_after_the_page_is_opened(slow: Phone) -> None:
     for _ in range(SERIES):
         slow.open()
         found.append(slow.browser.wait(lambda: slow.browser.run(shown, ROWS), "the list"))
+        if found[-1] < START:
+            break
     print(f"from the address to the list: {[round(it) for it in found]} ms")
-    assert min(found) < START
+    assert found[-1] < START
