@@ -2,7 +2,7 @@
 // by that. Moments are in seconds since 1970 UTC, as in the file; the page shows them by the phone's clock.
 import { find } from "../shared/dom.js";
 import { inWords, timeOf, thisMonth } from "../shared/months.js";
-import { locale, t, tn } from "../shared/texts.js";
+import { form, t, tn } from "../shared/texts.js";
 import { state } from "./state.js";
 
 const MINUTE = 60, HOUR = 3600, DAY = 86_400;
@@ -56,7 +56,7 @@ function warning(count) {
 
 /** `in 2 days`: never more than is left. */
 function within(left) {
-  const relative = new Intl.RelativeTimeFormat(locale());
+  const relative = form(Intl.RelativeTimeFormat);
   if (left >= 2 * DAY) return relative.format(Math.floor(left / DAY), "day");
   if (left >= 2 * HOUR) return relative.format(Math.floor(left / HOUR), "hour");
   return relative.format(Math.floor(left / MINUTE), "minute");

@@ -1,6 +1,6 @@
 // The head of the page: who is signed in, the connection to the office, and how much isn't stored. It is seen always.
 import { find, make } from "../shared/dom.js";
-import { locale, t, tn } from "../shared/texts.js";
+import { form, t, tn } from "../shared/texts.js";
 import { countOf, state } from "./state.js";
 
 /** Shows all of it. "All sent" appears only when nothing is left on the phone. */
@@ -21,7 +21,7 @@ export function showHead() {
 
 /** The red button: how many entries need the collector, a text of each kind. */
 function showAlarm(told) {
-  const list = new Intl.ListFormat(locale(), { type: "unit", style: "short" }).formatToParts(told);
+  const list = form(Intl.ListFormat, { type: "unit", style: "short" }).formatToParts(told);
   find("alarm").hidden = told.length === 0;
   find("alarm").replaceChildren(make("span", {},
     ...list.map(({ type, value }) => (type === "element" ? make("span", {}, value) : value))));

@@ -10,7 +10,7 @@ const CONTEXT_ENDS = "\u0004";
 let catalogue = SOURCE; // { code, dir, plural, texts }: by name a text, or its plural forms
 let tag = document.documentElement.lang; // of the language, and of the digits (BCP 47, Unicode Technical Standard 35)
 let digits = null; // the ten of the office, or null for 0 to 9
-let rules = null; // Intl.PluralRules, made when it is needed
+let made = new Map(); // forms of Intl, by their kinds and options
 
 /** Speaks by a catalogue from now on, null being the source; `locale` is its tag with a region, `digits` a system. */
 export function take(taken, locale, system = "latn") {
@@ -18,11 +18,15 @@ export function take(taken, locale, system = "latn") {
   tag = `${locale}-u-ca-gregory-nu-${system}`;
   const ten = Array.from("0123456789", (digit) => new Intl.NumberFormat(`en-u-nu-${system}`).format(Number(digit)));
   digits = ten[0] === "0" ? null : ten;
-  rules = null;
+  made = new Map();
 }
 
-/** The tag by which Intl writes dates and names of months. */
-export const locale = () => tag;
+/** A form of Intl in the language, such as Intl.ListFormat: made once, as a slow phone needs some milliseconds for it. */
+export function form(Kind, options = {}) {
+  const name = `${Kind.name} ${JSON.stringify(options)}`;
+  if (!made.has(name)) made.set(name, new Kind(tag, options));
+  return made.get(name);
+}
 
 /** The code of the language, such as "fr". */
 export const spoken = () => catalogue.code;
@@ -36,9 +40,8 @@ export const tc = (context, text, values) =>
 
 /** A text in the form that its language has for a count, which is `{count}`. */
 export function tn(one, many, count, values) {
-  rules ??= new Intl.PluralRules(catalogue.code);
-  const { plural, texts } = catalogue, form = plural[rules.select(count)] ?? plural.other;
-  return filled((texts[one] ?? [one, many])[form], { count: whole(count), ...values });
+  const { plural, texts } = catalogue, which = plural[form(Intl.PluralRules).select(count)] ?? plural.other;
+  return filled((texts[one] ?? [one, many])[which], { count: whole(count), ...values });
 }
 
 const PLACE = /\{([a-z_]+)\}/g;
