@@ -8,6 +8,7 @@
 `index_faults`   each decision stands once, and in the index at its section.
 `running_faults` RUNNING tells what the shipped program needs, and what to do at each line of a fault.
 `example_faults` the example of FORMATS is the case of tests/cases that it names.
+`english_faults` few sentences have a form that an editor of plain English changes (plain_english.py).
 
 Each answers lines, none where nothing is wrong.
 """
@@ -20,6 +21,8 @@ from collections.abc import Iterator
 from dataclasses import dataclass, field
 from functools import lru_cache
 from pathlib import Path
+
+from .plain_english import english_faults
 
 ROOT = Path(__file__).resolve().parents[2]
 FENCED = re.compile(r"^```.*?^```$", re.S | re.M)
@@ -319,6 +322,7 @@ ALONE = {
 def document_faults(name: str, text: str) -> Iterator[str]:
     """What is wrong with a document, by its name from the top of the repository."""
     yield from layout_faults(name, text)
+    yield from english_faults(name, text)
     yield from path_faults(text)
     if name in NAMED:
         yield from name_faults(text, the_code())

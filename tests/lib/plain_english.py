@@ -1,0 +1,85 @@
+#!/usr/bin/python3
+"""Forms of sentences that an editor of plain English changes first, and how many a document may have.
+
+`english_faults`  no more sentences of a document have such a form than its bound allows.
+
+A form is a hint: "where" of a place and "beside" of a chart are right. So the bound is a share, and not none. The forms
+of a document are listed by `tests/lib/plain_english.py FILE..`.
+"""
+
+from __future__ import annotations
+
+import re
+import sys
+from collections.abc import Iterator
+
+NOUNS = "it|there|a|an|the|one|no|nothing|each|every|that|this|they|two|nobody|what|who|its|all|these|both|not|only"
+VERBS = "runs|reads|changes|decides|has|wants|trusts|needs|sends|opens|looks|installs|knows|comes|asks|is"
+
+FORMS = {
+    "where of a condition: write if or when": rf"(?<!\bknows )(?<!\bfrom )\b[Ww]here (?:{NOUNS})\b",
+    "stands: write is, contains, remains": r"\bst(?:and|ands|ood)\b(?! (?:up|for|out|on|by|still|in for))",
+    "is told, tells that: write says, shows": r"\b(?:is|are|was|were) told\b|\btells? (?!the |them|you|me|us )",
+    "who without a noun: name the person": rf"(?:\b[Ff]or|\bto|\bof|^|\. )\s?[Ww]ho (?:{VERBS})\b",
+    "hangs on: write depends on": r"\bhangs? on\b",
+    "behind, beside: write after, next to, besides": r"\b(?:behind|beside)\b",
+    "what is: write a noun": r"\b[Ww]hat (?:is|was|are|were|stands|stood|comes|came|becomes|became)\b",
+    "look at, look for: write check, read, search": r"\blook(?:s|ed)? (?:for|at|up)\b",
+    "want of: write lack of": r"\bwant of\b",
+    "so is it: say it anew": r"; so (?:does|is|are|it)\b",
+    "alone: write only": r"\balone\b",
+}
+
+LEAST_WORDS = 5
+"""A shorter sentence is a heading or a label."""
+
+MOST, MOST_FOR_READERS = 8, 5
+"""Percent of the sentences of a document, and of those that people read who are no programmers."""
+
+FOR_READERS = {"README.md", *(f"docs/{it}.md" for it in ("PROMISE", "CHOOSING", "DESK", "COLLECTING", "PHONE"))}
+
+STILL = {"docs/DECISIONS.md": 37}
+"""Documents above their bound, with their percent: it may only shrink."""
+
+CODE = re.compile(r"^```(?s:.*?)^```$|(?<=\n\n)(?: {4}.*\n)+", re.M)
+LINK = re.compile(r"\]\([^)]*\)")
+ITEM = re.compile(r"\n\s*\n|\n(?=\s*(?:[-*]|\d+\.)\s)|^\|.*$|^#.*$", re.M)
+LABEL = re.compile(r"(?:[-*] )?\[[^]]*\][,.]?")
+"""A line of a list of contents: its text is that of a heading."""
+
+END = re.compile(r"(?<=[.!?])\s+(?=[A-Z`*\[])")
+
+
+def sentences(text: str) -> Iterator[str]:
+    """The sentences of a document in Markdown, without its commands, tables, headings and the addresses of its links."""
+    for part in ITEM.split(CODE.sub("", text)):
+        for sentence in END.split(LINK.sub("]", " ".join((part or "").split()))):
+            if len(sentence.split()) >= LEAST_WORDS and not LABEL.fullmatch(sentence):
+                yield sentence
+
+
+def forms_of(sentence: str) -> list[str]:
+    return [name for name, form in FORMS.items() if re.search(form, sentence)]
+
+
+def english_faults(name: str, text: str) -> Iterator[str]:
+    every = list(sentences(text))
+    found = [it for it in every if forms_of(it)]
+    bound = STILL.get(name, MOST_FOR_READERS if name in FOR_READERS else MOST)
+    if 100 * len(found) > bound * len(every):
+        yield f"{len(found)} of {len(every)} sentences have a form to change (tests/lib/plain_english.py), over {bound} percent"
+
+
+def main() -> None:
+    """Prints each sentence of some files that has a form, and the share."""
+    for path in sys.argv[1:]:
+        with open(path, encoding="utf-8") as file:
+            every = list(sentences(file.read()))
+        told = [(it, forms) for it in every if (forms := forms_of(it))]
+        for sentence, forms in told:
+            print(f"{path}: {sentence} [{'; '.join(forms)}]")
+        print(f"{path}: {len(told)} of {len(every)}, {-(-100 * len(told) // max(1, len(every)))} percent")
+
+
+if __name__ == "__main__":
+    main()
