@@ -72,6 +72,9 @@ def layout_faults(name: str, text: str) -> Iterator[str]:
 
 def readme_faults(text: str) -> Iterator[str]:
     lines = text.splitlines()
+    latest = re.search(r"^## (?:Unreleased \()?(\d+\.\d+)", (ROOT / "CHANGELOG.md").read_text(encoding="utf-8"), re.M)
+    if latest and f"\nVersion {latest[1]} " not in text:
+        yield f"it isn't of version {latest[1]}, the first one in CHANGELOG"
     if len(lines) > 110:
         yield f"{len(lines)} lines, where 110 are two screens"
     yield from (f"a line of {len(it)} characters: {it[:60]}.." for it in lines if len(it) > 300)
