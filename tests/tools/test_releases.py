@@ -8,9 +8,11 @@ from pathlib import Path
 
 import pytest
 
+from cpi_tools.pack.aggregated import series_of
 from cpi_tools.pack.config import Config
 from cpi_tools.pack.dated import Dated, dated_of, value_in
 from cpi_tools.pack.public import Listed, Published
+from cpi_tools.pack.releases import releases_of
 from cpi_tools.publish import publish
 from published import REVISED
 from test_measures import tea_again, two_years
@@ -108,6 +110,41 @@ def test_a_revision_says_what_it_changed(published: list[Published], tmp_path: P
     after = words_of(site / "release/2026-04-r1.html")
     assert "After the release of March 2026 and up to this one the office revised: March 2026, revision 2" in after
     assert "Nothing was revised after the release of April 2026" in words_of(site / "release/2026-05-r1.html")
+
+
+# ---- provisional months
+
+
+def test_a_release_says_whether_its_month_was_provisional_on_its_day(
+    published: list[Published], tmp_path: Path
+) -> None:
+    """Two months are provisional, and three from April 2026 on; the earlier releases keep what they said. The revision
+    of a month came out before the next one did, so its month was the last one."""
+    config = CONFIG._replace(provisional=3, all_provisional=(Dated("0"), Dated("2", REVISED), Dated("3", "2026-04")))
+    site = made(published, tmp_path / "public", config)
+    then = "Provisional: on that day the office could still revise the last"
+    pages = {it.name: it.read_text(encoding="utf-8") for it in (site / "release").glob("*.html")}
+    for name, page in pages.items():
+        months = 0 if name < REVISED else 2 if name.startswith(REVISED) else 3
+        assert (
+            (f"{then} {months} months." in page) == (page.count('aria-label="Notes: provisional"') >= 2) == (months > 0)
+        )
+    entries = (site / "feed.xml").read_text(encoding="utf-8")
+    assert entries.count(f"{then} 3 months.") + entries.count(f"{then} 2 months.") == sum(it >= REVISED for it in pages)
+    # (the list says what may change now: the last three months)
+    listed = words_of(site / "releases.html")
+    assert re.findall(r"(\w+ \d+) \(provisional\)", listed) == ["May 2027", "April 2027", "March 2027"]
+
+
+def test_a_late_revision_is_of_a_month_that_is_final() -> None:
+    """February 2026 is revised after April is out: of two provisional months it is none."""
+    tables = [it for it in two_years() if it.listed.month <= "2026-04"]
+    february = next(it for it in tables if it.listed.month == "2026-02")
+    late = february._replace(listed=Listed("2026-02", 2, tables[-1].listed.moment + 1))
+    for months, wanted in ((2, 0), (3, 3)):
+        found = releases_of(series_of([*tables, late], ()), CONFIG._replace(reference="", provisional=months))
+        assert {it.name: it.provisional for it in found}["2026-02-r2"] == wanted
+        assert {it.provisional for it in found if it.table.revision == 1} == {months}
 
 
 # ---- that it stays

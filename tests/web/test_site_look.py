@@ -18,6 +18,7 @@ from browser import Browser
 from cpi_tools.front import system_program
 from cpi_tools.pack.config import Config
 from cpi_tools.pack.public import Listed, Published
+from cpi_tools.pack.reasons import Reason
 from cpi_tools.pack.specials import Special
 from cpi_tools.publish import publish
 from other_site import other_site
@@ -30,9 +31,14 @@ DIVISIONS = [f"{number:02}" for number in range(1, 14)]
 CONFIG = Config(
     "NSO", "XX", "Office of prices and other things", country="Exampleland", currency="crowns", provisional=2,
     specials=(Special("CORE", "All items without food, energy and administered prices", ("00",), ("01",)),),
+    reasons=(
+        Reason("2025-06", 2, "A price of bread in the capital had been entered in the wrong unit."),
+        Reason("2025-06", 2, "Two more outlets had the same error; their prices were right in this revision.", 80_000),
+    ),
 )  # fmt: skip
 PAGES = ("index.html", "nodes.html", "node/00.html", "node/01.1.1.1-01.html", "node/CORE.html", "contract.html",
-         "data.html", "revisions.html", "method.html", "how-to-read.html", "embed/00.html")  # fmt: skip
+         "data.html", "revisions.html", "method.html", "how-to-read.html", "releases.html", "release/2021-01-r1.html",
+         "release/2025-06-r2.html", "release/2026-01-r1.html", "embed/2026-01-r1.html", "embed/00.html")  # fmt: skip
 
 
 def codes_of(division: str) -> list[str]:

@@ -35,6 +35,8 @@ from .pack.manifest import (
 from .pack.measures import Contributions
 from .pack.part import Now, known_of, write_part
 from .pack.public import Published
+from .pack.reason_files import refuse_changed_reasons, write_reasons
+from .pack.reasons import given_reasons
 from .pack.sdmx import KNOWN_IDS
 from .pack.signature import Sign, Signature, signature_in, unsigned
 from .pack.specials import Membership
@@ -84,6 +86,7 @@ def write_pack(pack: Pack, folder: Path, now: Now, before: Before) -> None:
     if years:
         Archives(series, contributions.unexplained, shown, config).write(years, data, before, now)
     write_whole(series, shown, data)
+    write_reasons(given_reasons(config.reasons, series, config.planned), data)
     recent = known_of(series.part(first, series.every[-1]), contributions.unexplained, shown)
     write_part(recent, config, data, now)
     site = Site(Known(series, contributions, shown), config, folder, signature, pack.cards, recent)
@@ -127,8 +130,8 @@ def publish(
 
     A draft is readable for its owner alone, and takes the place of no pack that others can read. `before` is the
     manifest before, else that of `out` where a pack stands there. `key` signs the manifest. Raises Fault, and leaves
-    `out` as it is, where a table that was published is another one now, or is there no more, and where a pack that is
-    signed would be replaced by one that isn't.
+    `out` as it is, if a table or a reason of a revision that was published is another one now or isn't there any more,
+    or if a pack that is signed would be replaced by one that isn't.
     """
     series = series_of(published, config.specials)
     if is_draft:
@@ -139,6 +142,8 @@ def publish(
         for manifest in (standing, last):
             if manifest is not None:
                 _refuse_changes(manifest, series)
+        if standing is not None:
+            refuse_changed_reasons(out, standing.tables, given_reasons(config.reasons, series, config.planned))
         if key is None and signature_in(out):
             raise CannotPublish(f"{out} is signed, and the new pack wouldn't be: --sign names the key")
         cards = cards_after(out) if config.address else NO_CARDS

@@ -42,8 +42,8 @@ TYPES = {
 
 def write_sitemap(folder: Path, config: Config, series: Series, releases: Iterable[Release]) -> None:
     """Writes the map of all pages of a folder, each with the moment at which it last changed: the page of a release is
-    changed by a revision only, all others by each table."""
-    changed = {it.page: max(table.moment for table in (it.table, *it.later)) for it in releases}
+    changed by a revision, or by a reason that the office gives later, and all others by each table."""
+    changed = {it.page: max(it.last_said, *(table.moment for table in it.later), 0) for it in releases}
     pages = sorted(it.relative_to(folder).as_posix() for it in folder.rglob("*.html"))
     rows = (
         f"<url><loc>{address_of(config, page)}</loc><lastmod>{iso(changed.get(page, series.moment))}</lastmod></url>\n"

@@ -64,6 +64,10 @@ class AsOf(Series):
         """The first month of each of a node's runs up to the release: a month has the same nodes in each revision."""
         return [month for month in self.whole.starts(code) if month <= self.of.month]
 
+    def marks(self, code: str) -> Sequence[str]:
+        """The months with which a node was back."""
+        return self.starts(code)[1:]
+
     def runs(self, code: str) -> list[list[str]]:
         """The months of a node's runs up to the release."""
         found = (run[: bisect.bisect_right(run, self.of.month)] for run in self._runs(code))

@@ -12,6 +12,7 @@ from ..terminal import Fault, because_of
 from .clocks import UTC, Clock, NoZone, clock_of
 from .dated import Dated, dated_of, value_in
 from .planned import Planned, read_planned
+from .reasons import Reason, read_reasons
 from .shown import EXACT, RATES
 from .specials import Special, read_specials
 
@@ -27,7 +28,7 @@ ADDRESS = re.compile(r"https?://[A-Za-z0-9.-]+(:[0-9]{1,5})?(/[A-Za-z0-9._~-]+)*
 
 NAMES = ("agency", "area", "office", "title", "country", "contact", "licence", "reference", "currency", "minor_digits",
          "without", "aggregates", "rates", "language", "provisional", "address", "zone",
-         "calendar", "years")  # fmt: skip
+         "calendar", "years", "revisions")  # fmt: skip
 NEEDED = ("agency", "area", "office")
 
 
@@ -95,6 +96,8 @@ class Config(NamedTuple):
     references: tuple[Dated, ...] = ()
     all_rates: tuple[Dated, ...] = ()
     years: Optional[int] = None
+    all_provisional: tuple[Dated, ...] = ()
+    reasons: tuple[Reason, ...] = ()
 
     def reference_in(self, month: str) -> str:
         """The reference period of the release of a month."""
@@ -103,6 +106,10 @@ class Config(NamedTuple):
     def rates_in(self, month: str) -> str:
         """What changes of the release of a month are computed from."""
         return value_in(self.all_rates, month) if self.all_rates else self.rates
+
+    def provisional_in(self, month: str) -> int:
+        """How many of the last months could still be revised at the release of a month."""
+        return int(value_in(self.all_provisional, month)) if self.all_provisional else self.provisional
 
     def has(self, form: str) -> bool:
         """Whether the observations are written in a form."""
@@ -114,10 +121,10 @@ class Config(NamedTuple):
 
 
 def read_config(path: Path, known: KnownIds = KnownIds()) -> Config:
-    """The sections `[office]` and `[sdmx]` of a file; `known` are the ids that the latter may name. The file of special
-    aggregates, if there is one, is named from the folder of this file.
+    """The sections `[office]` and `[sdmx]` of a file; `known` are the ids that the latter may name. The files of special
+    aggregates, of announced releases and of reasons, if there are any, are named from the folder of this file.
 
-    Raises BadConfig or BadSpecials.
+    Raises BadConfig, BadSpecials, BadCalendar or BadReasons.
     """
     parser = configparser.ConfigParser(interpolation=None)
     parser.optionxform = str  # type: ignore[assignment]
@@ -135,24 +142,28 @@ def read_config(path: Path, known: KnownIds = KnownIds()) -> Config:
     # (a word without a value is as one that isn't there; a value of several lines is one)
     found = {name: " ".join(value.split()) for name, value in parser["office"].items() if value.strip()}
     ids = dict(parser["sdmx"]) if "sdmx" in parser else {}
-    specials, calendar = found.pop("aggregates", ""), found.pop("calendar", "")
+    specials, calendar, reasons = (found.pop(name, "") for name in ("aggregates", "calendar", "revisions"))
     try:
         config = _config(found, ids, known, read_specials(path.parent / specials) if specials else ())
     except BadConfig as fault:
         raise BadConfig(f"{path}: {fault}") from None
-    return config._replace(planned=read_planned(path.parent / calendar, config.clock)) if calendar else config
+    return config._replace(
+        planned=read_planned(path.parent / calendar, config.clock) if calendar else (),
+        reasons=read_reasons(path.parent / reasons, config.clock) if reasons else (),
+    )
 
 
 def _config(found: dict[str, str], ids: dict[str, str], known: KnownIds, specials: tuple[Special, ...]) -> Config:
     """The values of both sections, tested."""
     _test_words(found)
-    references, all_rates = _dated(found, "reference"), _dated(found, "rates")
-    _test_dated(references, all_rates)
+    references, all_rates, provisional = (_dated(found, name) for name in ("reference", "rates", "provisional"))
+    _test_dated(references, all_rates, provisional)
     numbers, without = _numbers(found), _without(found)
     _test_ids(ids, known)
     found["address"] = _address(found)
-    named = {"ids": ids, "specials": specials, "clock": _clock(found), "references": references, "all_rates": all_rates}
-    return Config(**found, without=without, **numbers, **named)  # type: ignore[arg-type]
+    named = {"ids": ids, "specials": specials, "clock": _clock(found)}
+    dated = {"references": references, "all_rates": all_rates, "all_provisional": provisional}
+    return Config(**found, without=without, **numbers, **named, **dated)  # type: ignore[arg-type]
 
 
 def _test_words(found: dict[str, str]) -> None:
@@ -171,14 +182,17 @@ def _test_words(found: dict[str, str]) -> None:
         raise BadConfig(f"language: {found['language']} is no language such as en or pt-BR")
 
 
-def _test_dated(references: tuple[Dated, ...], all_rates: tuple[Dated, ...]) -> None:
-    """Raises BadConfig if a reference period or a rule for changes isn't one."""
+def _test_dated(references: tuple[Dated, ...], all_rates: tuple[Dated, ...], provisional: tuple[Dated, ...]) -> None:
+    """Raises BadConfig if a reference period, a rule for changes or a number of provisional months isn't one."""
     for it in references:
         if not REFERENCE.fullmatch(it.value):
             raise BadConfig(f"reference: {it.value} is neither a year like 2025 nor a month like 2025-12")
     for it in all_rates:
         if it.value not in RATES:
             raise BadConfig(f"rates: {it.value} is neither {' nor '.join(RATES)}")
+    for it in provisional:
+        if it.value not in map(str, range(MOST_PROVISIONAL + 1)):
+            raise BadConfig(f"provisional: {it.value} isn't a number of months from 0 to {MOST_PROVISIONAL}")
 
 
 def _numbers(found: dict[str, str]) -> dict[str, Optional[int]]:
@@ -187,8 +201,6 @@ def _numbers(found: dict[str, str]) -> dict[str, Optional[int]]:
     if digits not in ("0", "1", "2", "3", "4"):
         raise BadConfig(f"minor_digits: {digits} isn't 0 to 4")
     provisional = found.pop("provisional", "0")
-    if provisional not in map(str, range(MOST_PROVISIONAL + 1)):
-        raise BadConfig(f"provisional: {provisional} isn't a number of months from 0 to {MOST_PROVISIONAL}")
     years = found.pop("years", "")
     if years and not re.fullmatch("[1-9][0-9]?", years):
         raise BadConfig(f"years: {years} isn't 1 to 99")

@@ -1,6 +1,7 @@
 """The feed of releases (Atom, RFC 4287): who reads it learns of each release, and of revisions.
 
-An entry is a release with its moment. Later tables change nothing of it, so a reader never shows it as new again.
+An entry is a release with its moment. Later tables change nothing of it, so a reader never shows it as new again; if the
+office says later why it revised a month, the entry has the moment of that.
 """
 
 from __future__ import annotations
@@ -11,6 +12,7 @@ from xml.sax.saxutils import escape, quoteattr
 
 from ..charts import month_name
 from .config import Config
+from .notes import provisional_then
 from .releases import Release
 from .tables import Series, iso
 
@@ -46,9 +48,18 @@ def _entry(config: Config, release: Release) -> Iterator[str]:
     revision = f", revision {table.revision}" if table.revision > 1 else ""
     yield f"<entry><id>{address}</id>"
     yield f"<title>{_text(f'{month_name(table.month)}{revision}: {release.headline}')}</title>"
-    yield f"<published>{iso(table.moment)}</published><updated>{iso(table.moment)}</updated>"
+    yield f"<published>{iso(table.moment)}</published><updated>{iso(release.last_said)}</updated>"
     yield f'<link rel="alternate" type="text/html" href={quoteattr(address)}/>'
-    yield f"<summary>{_text(f'{release.headline}.')}</summary></entry>"
+    yield f"<summary>{_text(' '.join(_says(release)))}</summary></entry>"
+
+
+def _says(release: Release) -> Iterator[str]:
+    """The sentences of an entry."""
+    yield f"{release.headline}."
+    if release.provisional:
+        yield provisional_then(release.provisional)
+    for it in release.reasons:
+        yield f"Why the office revised this month: {it.text}"
 
 
 def _text(text: str) -> str:

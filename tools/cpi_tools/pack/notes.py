@@ -41,7 +41,8 @@ class Notes:
     def __init__(self, shown: Shown, provisional: int = 0):
         self.shown, self.provisional = shown, provisional
         series = shown.series
-        self._last = frozenset(series.months[-provisional:] if provisional else [])
+        self.last = frozenset(series.months[-provisional:] if provisional else [])
+        """The provisional months."""
         self._first: dict[str, Mapping[str, Row]] = {}
         for table in series.vintages:
             if table is not series.latest[table.month]:
@@ -50,8 +51,9 @@ class Notes:
     @property
     def provisional_text(self) -> str:
         """What is said of provisional months."""
-        last = "month" if self.provisional == 1 else f"{self.provisional} months"
-        return f"Provisional: the office may still revise the last {last}."
+        if self.provisional == 1:
+            return "Provisional: the office may still revise the last month."
+        return f"Provisional: the office may still revise the last {self.provisional} months."
 
     def first(self, month: str, code: str) -> Optional[Row]:
         """The row that was published first, if the latest one is another; a special aggregate has none."""
@@ -73,7 +75,7 @@ class Notes:
         if month in self._first and self.first(month, row.code):
             found += REVISED
         found += BREAK if is_break else ""
-        return found + PROVISIONAL if month in self._last else found
+        return found + PROVISIONAL if month in self.last else found
 
     def sentences(self, month: str, code: str) -> list[tuple[str, str]]:
         """The notes of a month's figures, each a letter and a sentence; of a break none, which has its own."""
@@ -95,6 +97,13 @@ class Notes:
         if then == now:
             return f"Revised: what was published first of {month_name(month)} differed by less than the index shows."
         return f"Revised: the index of {month_name(month)} was published as {then} first."
+
+
+def provisional_then(months: int) -> str:
+    """What a release says that stays, if its month was among so many last ones that could be revised on its day."""
+    if months == 1:
+        return "Provisional: on that day the office could still revise the last month."
+    return f"Provisional: on that day the office could still revise the last {months} months."
 
 
 def present(letters: dict[str, str]) -> list[tuple[str, str, str]]:

@@ -7,16 +7,16 @@ records of the desk. The first row of a month is its first release, a further on
 
 from __future__ import annotations
 
-import csv
-import io
+import contextlib
 import re
 from collections import Counter
 from collections.abc import Sequence
 from pathlib import Path
 from typing import NamedTuple
 
-from ..terminal import Fault, because_of
+from ..terminal import Fault
 from .clocks import Clock
+from .office_rows import read_rows
 from .public import MONTH
 
 NEEDED = ("month", "publishes")
@@ -38,16 +38,7 @@ class Planned(NamedTuple):
 
 def read_planned(path: Path, clock: Clock) -> tuple[Planned, ...]:
     """The releases of a file, by their moments. Raises BadCalendar."""
-    try:
-        rows = [*csv.reader(io.StringIO(path.read_text(encoding="utf-8-sig"), newline=""), strict=True)]
-    except OSError as fault:
-        raise BadCalendar(because_of(fault)) from fault
-    except (csv.Error, UnicodeDecodeError) as fault:
-        raise BadCalendar(f"{path}: {' '.join(str(fault).split())}") from fault
-    try:
-        return planned_of(rows, clock)
-    except BadCalendar as fault:
-        raise BadCalendar(f"{path}: {fault}") from None
+    return read_rows(path, lambda rows: planned_of(rows, clock), BadCalendar)
 
 
 def planned_of(rows: Sequence[Sequence[str]], clock: Clock) -> tuple[Planned, ...]:
@@ -76,8 +67,13 @@ def _planned(number: int, read: tuple[str, int, str], clock: Clock) -> Planned:
     if revision > MOST_REVISIONS:
         raise BadCalendar(f"row {number}: {month} has more than {MOST_REVISIONS} rows")
     try:
-        moment = int(publishes) if SECONDS.fullmatch(publishes) else clock.moment(publishes)
-    except (ValueError, OverflowError):
-        said = publishes or "an empty text"
-        raise BadCalendar(f"row {number}: {said} is no time like 2026-01-28T09:30, and no seconds") from None
-    return Planned(month, revision, moment)
+        return Planned(month, revision, moment_of(publishes, clock))
+    except ValueError as fault:
+        raise BadCalendar(f"row {number}: {fault}") from None
+
+
+def moment_of(text: str, clock: Clock) -> int:
+    """The moment of a civil time of a clock, or of seconds since 1970. Raises ValueError, which says what is wrong."""
+    with contextlib.suppress(ValueError, OverflowError):
+        return int(text) if SECONDS.fullmatch(text) else clock.moment(text)
+    raise ValueError(f"{text or 'an empty text'} is no time like 2026-01-28T09:30, and no seconds")

@@ -17,6 +17,8 @@ from .cards import NO_CARDS, Cards
 from .config import Config
 from .feed import write_feed
 from .figures import Known
+from .notes import provisional_then
+from .release_pictures import ReleasePictures
 from .releases import Release, ReleasePages, hundreds_of
 from .tables import iso
 
@@ -39,6 +41,7 @@ class ReleaseSite:
             calendar=self.calendar,
             release_pages=self.releases,
             hundreds_of=hundreds_of,
+            provisional_then=provisional_then,
             address_of=partial(address_of, self.config),
             card=latest.card if self.cards.are_written else "",
             card_says=latest.headline,
@@ -54,7 +57,8 @@ class ReleaseSite:
         for name in ("releases.html", "calendar.html"):
             stands = {"root": "", "here": name, "style_at": "assets/style.css", "page_path": name}
             write_page(pages, name, folder / name, **stands)
-        self.releases.write(pages, folder, partial(self._of_release, folder))
+        pictures = ReleasePictures(pages, self.config, folder)
+        self.releases.write(pages, folder, partial(self._of_release, folder, pictures))
         write_page(pages, LOST, folder / LOST)
         write_ics(self.series, self.config, self.releases.all, folder / ICS)
         if self.config.address:
@@ -62,12 +66,13 @@ class ReleaseSite:
             write_feed(folder, self.config, self.series, self.releases.all)
             write_sitemap(folder, self.config, self.series, self.releases.all)
 
-    def _of_release(self, folder: Path, release: Release) -> dict[str, object]:
-        """What the page of a release says to other programs."""
+    def _of_release(self, folder: Path, pictures: ReleasePictures, release: Release) -> dict[str, object]:
+        """The pictures of a release, and what its page says to other programs."""
+        found: dict[str, object] = {"charts": pictures.write(release)}
         if not self.config.address:
-            return {}
+            return found
         size = (folder / "data" / "tables" / f"{release.name}.csv").stat().st_size
-        found: dict[str, object] = {"dataset": release_dataset(self.config, release, size)}
+        found["dataset"] = release_dataset(self.config, release, size)
         if self.cards.are_written:
             found.update(card=release.card, card_says=release.headline)
         return found

@@ -22,6 +22,7 @@ from .figures import Known
 from .given import Given, lead_of, sorted_values, with_bars
 from .headline import headline
 from .measures import Contributions
+from .reasons import GivenReason, given_reasons
 from .release_names import FOLDER, card_of, name_of, page_of_release
 from .revised import Revised, revised_of
 from .shown import EXACT, RATES_SAY, Shown, period_name
@@ -32,11 +33,15 @@ LAST_RELEASES = 5
 
 
 class Release(NamedTuple):
-    """A release with the tables as they were, and the revisions of its month that came later."""
+    """A release with the tables as they were, and the revisions of its month that came later. If its month was among the
+    last ones that could still be revised, `provisional` is how many these are, and else 0. `reasons` are those of a
+    further revision."""
 
     as_of: AsOf
     shown: Shown
     later: tuple[Table, ...]
+    provisional: int = 0
+    reasons: tuple[GivenReason, ...] = ()
 
     @property
     def table(self) -> Table:
@@ -59,6 +64,11 @@ class Release(NamedTuple):
     def index_text(self) -> str:
         """The index of all items with one decimal."""
         return self.shown.text(self.table.month, ALL_ITEMS, 1)
+
+    @property
+    def last_said(self) -> int:
+        """When the office last said something of it: at its publication, or when it gave a reason later."""
+        return max(self.table.moment, *(it.moment for it in self.reasons), 0)
 
     @property
     def name(self) -> str:
@@ -84,20 +94,29 @@ class Moved(NamedTuple):
 
 
 def releases_of(series: Series, config: Config) -> list[Release]:
-    """All releases that have rows, by month and revision."""
-    found = []
+    """All releases that have rows, by month and revision. Raises BadReasons."""
+    found, reasons = [], given_reasons(config.reasons, series, config.planned)
     for as_of in each_as_of(series):
         month = as_of.of.month
         reference = config.reference_in(month)
         is_covered = any(it.startswith(reference) for it in (as_of.base, *as_of.months))
         shown = Shown(as_of, reference if is_covered else "", config.rates_in(month))
-        found.append(Release(as_of, shown, tuple(_later(series, as_of.of))))
+        provisional = _provisional(as_of, config.provisional_in(month))
+        own = tuple(reasons.get((month, as_of.of.revision), ()))
+        found.append(Release(as_of, shown, tuple(_later(series, as_of.of)), provisional, own))
     return sorted(found, key=lambda it: (it.table.month, it.table.revision))
 
 
 def _later(series: Series, of: Table) -> Iterator[Table]:
     """The revisions of a month that came later than one of its tables."""
     return (it for it in series.vintages if it.month == of.month and it.revision > of.revision)
+
+
+def _provisional(as_of: AsOf, months: int) -> int:
+    """So many months, if that of the release was among the last ones of its day; else 0."""
+    of = as_of.of
+    after = {it.month for it in as_of.whole.vintages if it.month > of.month and it.moment <= of.moment and it.rows}
+    return months if len(after) < months else 0
 
 
 def hundreds_of(releases: Sequence[Release]) -> str:

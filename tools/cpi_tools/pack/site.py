@@ -32,6 +32,8 @@ from .month_rows import MonthRows
 from .notes import NAMES, SAYS, Notes, present
 from .pictures import Chart, base_text, of_imputed, of_node
 from .public import Source
+from .reason_files import REASONS
+from .reasons import given_reasons
 from .release_site import ReleaseSite
 from .revised import all_revised
 from .shown import EXACT, RATES_SAY, period_name
@@ -48,7 +50,7 @@ CLAUSE_DEPTH = 2
 
 FILES = ("cpi.xlsx", "printed.csv", "cpi.csv", "vintages.csv", "contributions.csv", "aggregates.csv",
          "aggregate-contributions.csv", "aggregate-members.csv", "averages.csv", "twelve-month-rates.csv",
-         "rereferenced.csv", "releases.csv", "cpi.sdmx.csv", "cpi.sdmx.xml", "structure.sdmx.xml", "cpi.jsonstat.json",
+         "rereferenced.csv", "releases.csv", REASONS, "cpi.sdmx.csv", "cpi.sdmx.xml", "structure.sdmx.xml", "cpi.jsonstat.json",
          "cpi.px")  # fmt: skip
 """The files of the folder `data`, as they are offered."""
 
@@ -118,6 +120,7 @@ class Site:
             depth_of=depth_of,
             note_names=NAMES,
             provisional_text=self.notes.provisional_text,
+            provisional_months=self.notes.last,
             headline_of=headline,
         )
 
@@ -148,6 +151,7 @@ class Site:
             revised=all_revised(self.series.vintages),
             sources=self._sources(),
             unexplained=self._unexplained(),
+            reasons=given_reasons(self.config.reasons, self.series, self.config.planned),
         )
         files = self._files()
         first_year, years = self.recent.series.months[0][:4], self._years()

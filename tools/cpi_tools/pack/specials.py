@@ -7,15 +7,14 @@ another set for all that are in that one. What is in both lists isn't in the set
 
 from __future__ import annotations
 
-import csv
-import io
 import re
 from collections.abc import Iterable, Iterator, Mapping, Sequence
 from pathlib import Path
 from typing import NamedTuple
 
 from ..exact import at_and_above
-from ..terminal import Fault, because_of
+from ..terminal import Fault
+from .office_rows import read_rows
 from .rows import CODE
 
 HEAD = ["id", "title", "in", "out"]
@@ -43,17 +42,7 @@ class Special(NamedTuple):
 
 def read_specials(path: Path) -> tuple[Special, ...]:
     """The sets of a file, in its order. Raises BadSpecials."""
-    try:
-        text = path.read_text(encoding="utf-8-sig")
-        rows = [*csv.reader(io.StringIO(text, newline=""), strict=True)]
-    except OSError as fault:
-        raise BadSpecials(because_of(fault)) from fault
-    except (csv.Error, UnicodeDecodeError) as fault:
-        raise BadSpecials(f"{path}: {' '.join(str(fault).split())}") from fault
-    try:
-        return specials_of(rows)
-    except BadSpecials as fault:
-        raise BadSpecials(f"{path}: {fault}") from None
+    return read_rows(path, specials_of, BadSpecials)
 
 
 def specials_of(rows: Sequence[Sequence[str]]) -> tuple[Special, ...]:

@@ -81,10 +81,11 @@ class Archives:
         tables = [(it.month, it.revision, it.moment, it.sha256) for it in part.vintages]
         hidden = sorted(it for it in self._unexplained if it[0] <= part.every[-1])
         own = self._config
-        # (which has no part in an archive: the site's address and clock, releases to come, and earlier reference periods)
+        # (which has no part in an archive: what only pages say, releases to come, and what earlier releases had)
         config = own._replace(
-            without=frozenset(), years=None, address="", clock=UTC, planned=(), references=(), all_rates=()
-        )
+            without=frozenset(), years=None, address="", clock=UTC, planned=(), reasons=(), references=(), all_rates=(),
+            all_provisional=(),
+        )  # fmt: skip
         content = (
             tool(),
             tuple(it for it in config if it is not UTC),

@@ -1,0 +1,128 @@
+"""Why the office revised a month, in its own words: from a file like `revisions.csv`.
+
+Its columns are `month`, `revision` and `reason`, and `added` if it likes. A reason without a time in `added` is given
+with the revision; one that is given later has its time there. What was published stays: a further row adds to it.
+"""
+
+from __future__ import annotations
+
+from collections.abc import Iterable, Iterator, Sequence
+from pathlib import Path
+from typing import NamedTuple, Optional
+
+from ..terminal import Fault
+from .clocks import Clock
+from .office_rows import read_rows
+from .planned import MOST_REVISIONS, Planned, moment_of
+from .public import MONTH
+from .tables import Series, Table
+
+NEEDED, ADDED = ("month", "revision", "reason"), "added"
+
+MOST_LETTERS = 1000
+"""Of a reason."""
+
+
+class BadReasons(Fault):
+    """A file of reasons with a fault, or one that takes back what was published; one line."""
+
+
+class Reason(NamedTuple):
+    """Why a month like `2026-01` got a further revision. `added` is when that was said, in seconds since 1970 UTC; None
+    if it was said with the revision."""
+
+    month: str
+    revision: int
+    text: str
+    added: Optional[int] = None
+
+
+class GivenReason(NamedTuple):
+    """A reason of a published revision, and when it was given, in seconds since 1970 UTC."""
+
+    table: Table
+    text: str
+    moment: int
+
+    @property
+    def is_later(self) -> bool:
+        """Whether it was given later than the revision."""
+        return self.moment > self.table.moment
+
+
+Reasons = dict[tuple[str, int], list[GivenReason]]
+"""By month and revision, in the order in which they were given."""
+
+
+def read_reasons(path: Path, clock: Clock) -> tuple[Reason, ...]:
+    """The reasons of a file, in its order. Raises BadReasons."""
+    return read_rows(path, lambda rows: reasons_of(rows, clock), BadReasons)
+
+
+def reasons_of(rows: Sequence[Sequence[str]], clock: Clock) -> tuple[Reason, ...]:
+    """The reasons of some rows, the first of which has the names of the columns. Raises BadReasons."""
+    head = [*rows[0]] if rows else []
+    if sorted(head) not in (sorted(NEEDED), sorted((*NEEDED, ADDED))):
+        raise BadReasons(f"its first row is {','.join(head)}, and not {','.join(NEEDED)}, with or without {ADDED}")
+    found: list[Reason] = []
+    for number, row in enumerate(rows[1:], 2):
+        if any(row):
+            if len(row) != len(head):
+                raise BadReasons(f"row {number} has {len(row)} cells, and not {len(head)}")
+            found.append(_reason(number, {name: " ".join(cell.split()) for name, cell in zip(head, row)}, clock))
+            _test_order(number, found)
+    return tuple(found)
+
+
+def _reason(number: int, row: dict[str, str], clock: Clock) -> Reason:
+    """The reason of a row, by its number in the file."""
+    month, revision, text = (row[name] for name in NEEDED)
+    if not MONTH.fullmatch(month):
+        raise BadReasons(f"row {number}: {month or 'an empty text'} is no month like 2026-01")
+    if revision not in map(str, range(2, MOST_REVISIONS + 1)):
+        raise BadReasons(f"row {number}: revision {revision or 'without a number'} isn't 2 to {MOST_REVISIONS}")
+    if not 0 < len(text) <= MOST_LETTERS:
+        raise BadReasons(f"row {number}: its reason has {len(text)} letters, and not 1 to {MOST_LETTERS}")
+    try:
+        return Reason(month, int(revision), text, moment_of(row[ADDED], clock) if row.get(ADDED) else None)
+    except ValueError as fault:
+        raise BadReasons(f"row {number}: {fault}") from None
+
+
+def _test_order(number: int, found: Sequence[Reason]) -> None:
+    """Raises BadReasons if the last reason isn't after those of the same revision."""
+    last, mine = found[-1], [it for it in found[:-1] if it[:2] == found[-1][:2]]
+    if mine and (last.added is None or last.added <= (mine[-1].added or 0)):
+        raise BadReasons(
+            f"row {number}: {last.month}, revision {last.revision}, has a reason already: a further one needs in the"
+            f" column {ADDED} when it was given, which is later"
+        )
+
+
+# ---- beside the tables
+
+
+def given_reasons(reasons: Iterable[Reason], series: Series, planned: Iterable[Planned]) -> Reasons:
+    """The reasons of published revisions. One of a revision that is announced isn't told before that is out. Raises
+    BadReasons if there is no such revision, or a reason was given before it."""
+    tables = {(it.month, it.revision): it for it in series.vintages}
+    announced = {(it.month, it.revision) for it in planned}
+    found: Reasons = {}
+    for it in reasons:
+        table = tables.get(it[:2])
+        if table is not None:
+            moment = table.moment if it.added is None else it.added
+            if moment < table.moment:
+                raise BadReasons(
+                    f"a reason of {it.month}, revision {it.revision}, was added before the revision was out"
+                )
+            found.setdefault(it[:2], []).append(GivenReason(table, it.text, moment))
+        elif it[:2] not in announced:
+            raise BadReasons(f"a reason names {it.month}, revision {it.revision}, which is neither out nor announced")
+    return found
+
+
+def in_order(reasons: Reasons) -> Iterator[GivenReason]:
+    """All of them, by month and revision."""
+    for _, found in sorted(reasons.items()):
+        yield from found

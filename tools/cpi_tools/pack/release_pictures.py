@@ -1,0 +1,56 @@
+"""The pictures of a release: the change that its headline has, and the index, up to its month and by the tables of its day.
+They are on its page, as files, and in a page for frames of other sites; later tables change nothing of them."""
+
+from __future__ import annotations
+
+from collections.abc import Sequence
+from pathlib import Path
+
+import jinja2
+
+from ..charts import month_name
+from ..exact import ALL_ITEMS
+from ..others import isolated
+from ..pages import write_page
+from .config import PICTURES, Config
+from .drawings import drawing
+from .notes import provisional_then
+from .pictures import LEVEL, MONTH, YEAR, Chart, of_node
+from .releases import Release
+
+
+def charts_then(release: Release) -> list[Chart]:
+    """The pictures of a release, that of its headline first."""
+    kinds = (LEVEL, YEAR if release.whole.year_change is not None else MONTH)
+    return [it for it in of_node(release.shown, ALL_ITEMS) if it.kind in kinds][::-1]
+
+
+class ReleasePictures:
+    """Writes them into the folder of a site, whose folders of pictures are there."""
+
+    def __init__(self, pages: jinja2.Environment, config: Config, folder: Path):
+        self._pages, self._config, self._folder = pages, config, folder
+
+    def write(self, release: Release) -> list[Chart]:
+        """The pictures of a release; the files are written if the office has any."""
+        charts = charts_then(release)
+        if self._config.has(PICTURES):
+            self._write_files(release, charts)
+            self._write_page(release, charts)
+        return charts
+
+    def _write_files(self, release: Release, charts: Sequence[Chart]) -> None:
+        config, table = self._config, release.table
+        revision = f", revision {table.revision}" if table.revision > 1 else ""
+        source = f"Source: {isolated(config.office)}, {isolated(config.title)}, {month_name(table.month)}{revision},"
+        source += f" published {config.clock.day(table.moment)}."
+        source += f" {provisional_then(release.provisional)}" if release.provisional else ""
+        for it in charts:
+            text = drawing(it, release.shown.series.title(ALL_ITEMS), source)
+            (self._folder / "picture" / f"{release.name}-{it.kind}.svg").write_bytes(text.encode())
+
+    def _write_page(self, release: Release, charts: Sequence[Chart]) -> None:
+        to = self._folder / "embed" / f"{release.name}.html"
+        # (a frame whose address names no picture shows the last one of the page, that of the headline)
+        words = {"release": release, "title": release.shown.series.title(ALL_ITEMS), "charts": charts[::-1]}
+        write_page(self._pages, "release-embed.html", to, **words)
