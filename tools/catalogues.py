@@ -12,7 +12,7 @@ import html
 import io
 import json
 import re
-from collections.abc import Iterable, Iterator, Mapping, Sequence
+from collections.abc import Collection, Iterable, Iterator, Mapping, Sequence
 from pathlib import Path
 from typing import Any, NamedTuple, Optional
 
@@ -24,7 +24,7 @@ from babel.messages.plurals import PLURALS
 from babel.messages.pofile import read_po, write_po
 from babel.plural import to_gettext
 
-from extractors import COMMENT, refused
+from extractors import COMMENT, refused, to_desk
 
 SOURCE = "en"
 WIDTH = 120
@@ -67,13 +67,22 @@ HEAD = """\
 
 
 class Page(NamedTuple):
-    """A page with catalogues: its folder, and where its texts are."""
+    """A page with catalogues: its folder, where its texts are, and those that it has of refusals."""
 
     folder: str
     sources: Sequence[str]
+    refusals: Collection[str]
+
+    def has(self, message: Message) -> bool:
+        """Whether a text is the page's."""
+        places = (place for place, _ in message.locations)
+        return message.id in self.refusals or any(place.startswith(tuple(self.sources)) for place in places)
 
 
-PAGES = (Page("web/collect", ("web/collect/", "web/shared/", "tools/cpi_tools/words.py")),)
+PAGES = (
+    Page("web/collect", ("web/collect/", "web/shared/"), {*refused().values()}),
+    Page("web/desk", ("web/desk/", "web/shared/"), {*to_desk()}),
+)
 
 
 class Bad(Exception):
@@ -264,7 +273,7 @@ def of_page(catalog: Catalog, page: Page) -> str:
     """The catalogue of a page, as JSON: the code, the plural forms by CLDR's categories, and the texts by their names."""
     texts: dict[str, Any] = {}
     for message in catalog:
-        if message.id and any(place.startswith(tuple(page.sources)) for place, _ in message.locations):
+        if message.id and page.has(message):
             name = forms_of_source(message)[0]
             forms = forms_of(message)
             texts[f"{message.context}{CONTEXT_ENDS}{name}" if message.context else name] = (

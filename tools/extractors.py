@@ -12,7 +12,7 @@ from collections.abc import Iterator, Mapping
 from html.parser import HTMLParser
 from typing import IO, Any, Optional, Union
 
-from cpi_tools.words import COLLECTOR, REFUSALS, Refusal
+from cpi_tools.words import COLLECTOR, PLAN_FAULTS, REFUSALS, Refusal
 
 Found = tuple[int, Optional[str], Union[str, tuple[str, str]], list[str]]
 """Line, function or none, text or context and text, and comments."""
@@ -107,7 +107,25 @@ def refused() -> Mapping[int, str]:
     return {number: told(row) for row in REFUSALS if row.to == COLLECTOR for number in row.numbers}
 
 
+def sentence(words: str) -> str:
+    """A cell of a row as the desk's page says it."""
+    return f"{words[0].upper()}{words[1:]}".replace("'", "\u2019").removesuffix(".") + "."
+
+
+def to_desk() -> Mapping[str, str]:
+    """What the desk's page says of refusals, each sentence with what it is of. Of a number that only the guide of
+    collectors has, the words are those of the collectors."""
+    found: dict[str, str] = {}
+    rows = [(f"refusal {', '.join(map(str, row.numbers))}", row.words) for row in REFUSALS]
+    for told_of, words in [*rows, *((f"fault {fault} of a plan", words) for fault, words in PLAN_FAULTS.items())]:
+        found.setdefault(sentence(words.because), f"{told_of} on the desk's page: why")
+        found.setdefault(sentence(words.do), f"{told_of} on the desk's page: what to do")
+    return found
+
+
 def of_refusals(*_: object, options: object) -> Iterator[Found]:
-    """The words of the refusals to collectors; the file is `cpi_tools/words.py`, which has them."""
+    """The words of the refusals to collectors and to the desk; the file is `cpi_tools/words.py`, which has them."""
     for number, text in refused().items():
         yield 1, None, text, [f"refusal {number} to a collector: why, and what to do"]
+    for text, comment in to_desk().items():
+        yield 1, None, text, [comment]

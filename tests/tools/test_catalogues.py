@@ -36,6 +36,13 @@ def kept_scripts() -> list[Path]:
     return [ROOT / "web/collect" / name for name in names if name not in made]
 
 
+def scripts_of_desk() -> list[Path]:
+    """The scripts of the desk's page, without the words of refusals, which `tools/pages` makes."""
+    found = [path for path in sorted((ROOT / "web/desk").glob("*.js")) if path.name != "words.js"]
+    assert len(found) > 5
+    return found
+
+
 TEXT = re.compile(r"[A-Za-z\u2019]{2,} [A-Za-z{]|^[A-Z][a-z]")
 """A string that looks like a text: two words, or one with a capital letter."""
 
@@ -71,7 +78,9 @@ def outside(script: str) -> list[str]:
     return found
 
 
-@pytest.mark.parametrize("path", kept_scripts(), ids=lambda path: str(path.name))
+@pytest.mark.parametrize(
+    "path", [*kept_scripts(), *scripts_of_desk()], ids=lambda path: f"{path.parent.name}/{path.name}"
+)
 def test_each_text_of_a_script_is_in_the_catalogues(path: Path) -> None:
     assert outside(path.read_text(encoding="utf-8")) == []
 
@@ -94,7 +103,10 @@ class Unmarked(HTMLParser):
         has = dict(attrs)
         names = (has.get("data-t") or "text").split() if "data-t" in has else []
         for name in has:
-            if name in ("aria-label", "placeholder", "title", "alt") and name not in names:
+            is_read = name in ("aria-label", "placeholder", "title", "alt") and re.search(
+                "[A-Za-z]{2}", has[name] or ""
+            )
+            if is_read and name not in names:
                 self.found.append(f"{tag} {name}: {has[name]}")
         if tag not in ("meta", "link", "input"):
             self._open.append(
@@ -116,9 +128,13 @@ def unmarked(page: str) -> list[str]:
     return parser.found
 
 
-def test_each_text_of_the_page_is_marked() -> None:
+@pytest.mark.parametrize("folder", [page.folder for page in catalogues.PAGES])
+def test_each_text_of_a_page_is_marked(folder: str) -> None:
+    assert unmarked((ROOT / folder / "index.html").read_text(encoding="utf-8")) == []
+
+
+def test_a_text_that_is_not_marked_is_found() -> None:
     page = (ROOT / "web/collect/index.html").read_text(encoding="utf-8")
-    assert unmarked(page) == []
     assert unmarked(page.replace('<h2 id="month">', '<h2 id="month">Some month')) == ["Some month"]
     assert unmarked(page.replace(' data-t="placeholder aria-label"', "")) == [
         "input placeholder: Item or shop", "input aria-label: Find an item, a unit or a shop"
@@ -218,7 +234,8 @@ def test_a_new_language_is_one_file_that_somebody_translates(copied: Path) -> No
     after = content(copied)
     others = {"web/shared/languages.js", "web/collect/sw.js"}  # (the list of languages, and the version of the files)
     assert {name for name in after if after[name] != before.get(name)} == {
-        "po/pt.po", "web/collect/languages/pt.json", "web/collect/manifest.pt.webmanifest", *others
+        "po/pt.po", "web/collect/languages/pt.json", "web/collect/manifest.pt.webmanifest",
+        "web/desk/languages/pt.json", *others
     }  # fmt: skip
     checked = pages(copied, "--check")
     assert checked.returncode == 1

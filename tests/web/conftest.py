@@ -20,6 +20,7 @@ from cpi_tools.program import Cpi  # noqa: E402
 from lib.fixtures import cpi, pytest_addoption  # noqa: E402, F401
 from offices import lived  # noqa: E402
 from phone import Phone  # noqa: E402
+from pseudo import pages_with  # noqa: E402
 from stage import Stage  # noqa: E402
 from websites import published  # noqa: E402
 
@@ -84,3 +85,11 @@ def speech(request: pytest.FixtureRequest, stage: Stage) -> Iterator[Speech]:
 def phone(browser: Browser) -> Phone:
     """The page of a collector, at 360 pixels."""
     return Phone(browser)
+
+
+@pytest.fixture(params=["el", "he"], ids=["longer", "longer-from-the-right"])
+def pseudo(request: pytest.FixtureRequest, stage: Stage, tmp_path: Path) -> Iterator[str]:
+    """A language that nobody speaks, which the office's pages speak meanwhile."""
+    web = pages_with(request.param, tmp_path)
+    with spoken(stage, Speech(request.param), web):
+        yield request.param

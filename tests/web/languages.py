@@ -43,14 +43,14 @@ SPANISH = Speech("es", "latn", ",")
 
 
 class Words:
-    """The texts of the page in the language of an office."""
+    """The texts of a page in the language of an office."""
 
-    def __init__(self, speech: Speech = ENGLISH):
+    def __init__(self, speech: Speech = ENGLISH, page: str = "collect"):
         self.speech = speech
         self._texts: dict[str, Union[str, list[str]]] = {}
         self._forms = {"one": 0, "other": 1}
         if not speech.language.startswith("en"):
-            read = json.loads((ROOT / f"web/collect/languages/{speech.language}.json").read_text(encoding="utf-8"))
+            read = json.loads((ROOT / f"web/{page}/languages/{speech.language}.json").read_text(encoding="utf-8"))
             self._texts, self._forms = read["texts"], read["plural"]
 
     def said(self, text: str, **values: str) -> str:

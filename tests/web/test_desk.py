@@ -179,9 +179,9 @@ def test_a_line_end_within_a_text_is_no_end_of_a_row(desk: Browser) -> None:
 def test_a_plan(desk: Browser) -> None:
     desk.type("#plan-year", "2012")
     desk.type("#plan-text", PLAN.format(weight=999_000))
-    sent(desk, "plan", "Refused by 44. The weights don’t add up to 1,000,000. Fault 4: they add up to 999000.")
+    sent(desk, "plan", "Refused by 44. The weights don’t add up to 1,000,000. Fault 4: they add up to 999,000.")
     desk.type("#plan-text", PLAN.format(weight=1_000_000).replace("T,01.1.1.1,Rice\n", ""))
-    sent(desk, "plan", "A node has no title. Fault 5: it is 01.1.1.1. Give it a title.")
+    sent(desk, "plan", "A node has no title. Fault 5: it is \u206801.1.1.1\u2069. Give it a title.")
     desk.type("#plan-text", PLAN.format(weight=1_000_000))
     sent(desk, "plan", "The plan stands.")
 
@@ -193,9 +193,9 @@ def test_a_window_and_a_freeze_with_its_carry_list(desk: Browser, stage: Stage) 
     for name, value in (("opens", "03-01T06:00"), ("closes", "03-24T18:00"), ("publishes", "03-28T09:30")):
         desk.choose(f"calendar-{name}", f"2011-{value}")
     sent(desk, "calendar", "The window stands.")
-    sent(desk, "freeze", "An aggregate has nothing to compare. Fault 2: it is 01.1.1.1-01.")
+    sent(desk, "freeze", "An aggregate has nothing to compare. Fault 2: it is \u206801.1.1.1-01\u2069.")
     desk.click("#freeze-told button")
-    desk.wait_text("#freeze-told", "it is 01.1.1.2-01")
+    desk.wait_text("#freeze-told", "it is \u206801.1.1.2-01\u2069")
     desk.click("#freeze-told button")
     desk.wait_text("#freeze-told", "The month is frozen.")
     assert desk.find("#freeze-carry").get_attribute("value") == "01.1.1.1-01 01.1.1.2-01"

@@ -3,109 +3,17 @@
 from __future__ import annotations
 
 import gettext
-import os
-from collections.abc import Iterator
 from pathlib import Path
 
 import pytest
 from babel.messages.pofile import read_po
 
-from browser import Browser
 from languages import ARABIC, FRENCH, Speech, spoken
 from offices import ANNA, BEFORE, NOW
 from phone import Phone
-from pseudo import pages_with
-from readable import CUT, SEEN, faults_enlarged, faults_for_keys, faults_of_page
 from stage import ROOT, Stage
 from unsent import CLOSED, act, desk
-
-PICTURES = os.environ.get("CPI_PICTURES")
-"""A folder for pictures of each step, if somebody wants to look."""
-
-LEFT = (
-    SEEN
-    + """
-const found = [], isEnglish = (text) => /[A-Za-z]{2,}/.test(text);
-const walker = document.createTreeWalker(document, NodeFilter.SHOW_TEXT);
-for (let node = walker.nextNode(); node; node = walker.nextNode()) {
-  const holder = node.parentElement;
-  if (holder.closest("bdi, script, style, noscript, [data-language], #language")) continue;
-  if (isEnglish(node.data)) found.push(`left: ${node.data}`);
-}
-for (const element of document.querySelectorAll("[aria-label], [placeholder], [title], [alt]")) {
-  for (const name of ["aria-label", "placeholder", "title", "alt"]) {
-    if (isEnglish(element.getAttribute(name) ?? "")) found.push(`left in ${name}: ${element.getAttribute(name)}`);
-  }
-}
-return found;
-"""
-)
-"""Texts in Latin letters, seen or not; those of the office are in elements of their own."""
-
-COVERED = (
-    SEEN
-    + """
-const found = [], range = document.createRange(), texts = [];
-const walker = document.createTreeWalker(open ?? document.body, NodeFilter.SHOW_TEXT);
-for (let node = walker.nextNode(); node; node = walker.nextNode()) {
-  const holder = node.parentElement;
-  if (!node.data.trim() || !isSeen(holder) || holder.closest("#notice, #head, .price-row, noscript, .before")) continue;
-  range.selectNodeContents(node);
-  const shown = holder.closest(".saved, #entry-outlet, #entry-item")?.getBoundingClientRect();
-  for (const box of range.getClientRects()) {
-    if (!box.width || (shown && box.bottom > shown.bottom + 1)) continue;
-    texts.push({ node, box });
-    const frame = holder.closest("button, .chip, label, .notice, .card, summary, dialog")?.getBoundingClientRect();
-    if (box.left < -1 || box.right > innerWidth + 1) found.push(`outside: ${node.data}`);
-    if (frame && (box.left < frame.left - 1 || box.right > frame.right + 1 || box.bottom > frame.bottom + 4)) {
-      found.push(`over its edge: ${node.data}`);
-    }
-  }
-}
-for (const [n, one] of texts.entries()) {
-  for (const other of texts.slice(n + 1)) {
-    if (one.node === other.node) continue;
-    const wide = Math.min(one.box.right, other.box.right) - Math.max(one.box.left, other.box.left);
-    const high = Math.min(one.box.bottom, other.box.bottom) - Math.max(one.box.top, other.box.top);
-    if (wide > 1 && high > 5) found.push(`covered: ${one.node.data} / ${other.node.data}`);
-  }
-}
-return found;
-"""
-)
-"""Texts outside the window or their frame, and those that lie over each other by more than the air between lines."""
-
-
-@pytest.fixture(params=["el", "he"], ids=["longer", "longer-from-the-right"])
-def pseudo(request: pytest.FixtureRequest, stage: Stage, tmp_path: Path) -> Iterator[str]:
-    """A language that nobody speaks, which the office's pages speak meanwhile."""
-    web = pages_with(request.param, tmp_path)
-    with spoken(stage, Speech(request.param), web):
-        yield request.param
-
-
-class Walk:
-    """What is looked at on the way."""
-
-    def __init__(self, browser: Browser, language: str):
-        self.browser, self.language, self.count = browser, language, 0
-
-    def look(self, name: str) -> None:
-        """Nothing is wrong with what is seen now."""
-        self.count += 1
-        browser = self.browser
-        browser.run("if (!document.querySelector('dialog[open]')) scrollTo(0, 0)")
-        if PICTURES:
-            browser.picture(Path(PICTURES) / f"{self.language}-{self.count:02}-{name}.png", is_whole=False)
-        found = [*faults_of_page(browser), *browser.run(CUT), *browser.run(LEFT), *browser.run(COVERED)]
-        found += browser.run(HIDDEN)
-        assert found == [], name
-        assert browser.run("return document.documentElement.lang") == self.language
-
-    def look_at_form(self, name: str) -> None:
-        """The same, with the focus of each part, and twice the size."""
-        self.look(name)
-        assert [*faults_for_keys(self.browser), *faults_enlarged(self.browser)] == [], name
+from walks import Walk
 
 
 def save(phone: Phone, price: str) -> None:
@@ -187,20 +95,6 @@ def not_stored(phone: Phone, stage: Stage, walk: Walk) -> None:
     browser.wait(lambda: phone.month() == BEFORE, "the month before")
     walk.look("a month that isn't on the phone")
     browser.click("#month-after")
-
-
-HIDDEN = (
-    SEEN
-    + """
-const pen = document.createElement("canvas").getContext("2d");
-return all("[placeholder]").filter((field) => {
-  const { font, paddingInlineStart, paddingInlineEnd } = getComputedStyle(field);
-  pen.font = font;
-  return pen.measureText(field.placeholder).width > field.clientWidth - parseFloat(paddingInlineStart) - parseFloat(paddingInlineEnd);
-}).map((field) => `cut: ${field.placeholder}`);
-"""
-)
-"""Placeholders that are longer than their field."""
 
 
 EXPORTED = """

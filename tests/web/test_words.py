@@ -24,15 +24,23 @@ def test_each_refusal_has_the_words_that_the_tools_have(browser: Browser) -> Non
         for word in (None, "quote", "plan", "freeze", "calendar", "handover", "assign")
     ]
     browser.open("/collect/")
-    told = browser.run_until(
-        "const { wordsOf } = await import('/shared/refusals.js');"
-        " const told = (words) => { const { because, do: what } = wordsOf(...words); return [because, what]; };"
+    rows = browser.run_until(
+        "const { rowOf } = await import('/desk/refusals.js');"
+        " const told = (words) => { const { because, do: what } = rowOf(...words) ?? {}; return [because, what]; };"
         " return arguments[0].map(told);",
         asked,
     )
-    assert len(told) == len(asked) > 1000
-    for words, found in zip(asked, told):
-        assert tuple(found) == refusal_words(*words), words
+    assert len(rows) == len(asked) > 1000
+    for words, found in zip(asked, rows):
+        told = refusal_words(*words)
+        is_known = told.because != f"refusal {words[0]['refused']}"
+        assert found == [as_sentence(cell) if is_known else None for cell in told], words
+
+
+def as_sentence(cell: str) -> str:
+    """A cell of a guide as a sentence of a page."""
+    text = cell[0].upper() + cell[1:].replace("'", "\u2019")
+    return text if text.endswith(".") else f"{text}."
 
 
 def test_what_is_made_of_other_files_is_theirs() -> None:

@@ -2,7 +2,7 @@
 // VERSION is the hash of FILES and of the catalogues of all languages: tools/pages writes it. What an office sets itself
 // (SET) is kept too, and read anew behind each start, so that the next one has it; and so are the catalogues of languages
 // that this phone has spoken, which the page names.
-const VERSION = "f65891c80f284c1f";
+const VERSION = "e58fcccf33558069";
 const FILES = [
   "./", "app.js", "collect.css", "deadline.js", "drafts.js", "entry.js", "export.js", "form.js", "head.js",
   "icon.svg", "key.js", "languages.js", "line.js", "list.js", "lists.js", "look.js", "manifest.webmanifest", "quotes.js",

@@ -2,6 +2,7 @@
 // has set since this page was loaded, in the form in which cpi-tools calendar writes it. RUNNING says where it belongs.
 import { find, make } from "../shared/dom.js";
 import { inWords } from "../shared/months.js";
+import { form, t } from "../shared/texts.js";
 import { readWindows } from "../shared/windows.js";
 
 const windows = new Map(); // month: { month, opens, closes } in seconds since 1970 UTC, or null if a time is civil
@@ -29,12 +30,23 @@ export async function offer(place) {
   find(place).append(...(civil.length ? [byClock(civil)] : served === null ? [unread()] : fileOf(served)));
 }
 
-const BY_TOOL = "Write calendar.json for the phones with cpi-tools calendar (see RUNNING).";
+const FILE = "calendar.json";
 
-const byClock = (months) => make("p", {}, `The times of ${months.map(inWords).join(" and ")} are by the office’s `
-  + `clock, which this page doesn’t know. ${BY_TOOL}`);
+/** A sentence with the name of the file in its places. */
+function ofFile(sentence) {
+  const filled = sentence.split("{file}").flatMap((part, n) => (n ? [make("bdi", {}, FILE), part] : [part]));
+  return make("p", {}, ...filled);
+}
 
-const unread = () => make("p", {}, `The calendar.json that is served now can’t be read. ${BY_TOOL}`);
+function byClock(months) {
+  const list = form(Intl.ListFormat, { type: "conjunction" }).format(months.map(inWords));
+  return ofFile(t("The times of {months} are by the office’s clock, which this page doesn’t know. Write {file} for "
+    + "the phones with cpi-tools calendar (see RUNNING).", { months: list }));
+}
+
+const unread = () =>
+  ofFile(t("The {file} that is served now can’t be read. Write {file} for the phones with cpi-tools calendar (see "
+    + "RUNNING)."));
 
 const line = ({ month, opens, closes }) => `\n{"month": "${month}", "opens": ${opens}, "closes": ${closes}}`;
 
@@ -44,9 +56,9 @@ function fileOf(served) {
   if (link) URL.revokeObjectURL(link);
   const text = `{"months": [${months.map(line).join(",")}\n]}\n`;
   link = URL.createObjectURL(new Blob([text], { type: "application/json" }));
-  const words = { class: "button", href: link, download: "calendar.json" };
+  const words = { class: "button", href: link, download: FILE };
   return [
-    make("p", {}, "Phones show the new window once the front serves this calendar.json (see RUNNING)."),
-    make("p", { class: "actions" }, make("a", words, "Save the file")),
+    ofFile(t("Phones show the new window once the front serves this {file} (see RUNNING).")),
+    make("p", { class: "actions" }, make("a", words, t("Save the file"))),
   ];
 }

@@ -5,10 +5,10 @@
 import { ask, NoAnswer } from "../shared/api.js";
 import { find, make } from "../shared/dom.js";
 import { inWords, moved } from "../shared/months.js";
+import { t } from "../shared/texts.js";
 
-const LINK = "to a millionth or two: 100 times the row’s chained level, divided by its index within the year";
-const MONTH = "to about 0.05 percent: the row’s chained level, divided by 1 plus its monthly change";
-const YEAR = "to about 0.05 percent: the row’s chained level, divided by 1 plus its annual change";
+// How the levels of a month that isn't published yet follow from a table that is.
+const LINK = "link", MONTH = "month", YEAR = "year";
 
 const moments = new Map(); // month: when its table is published, as it was sent: in seconds, or by the office's clock
 const frozen = new Set(); // months that were frozen from here
@@ -48,7 +48,7 @@ export async function warn(place) {
 }
 
 /** A warning as an element. */
-export const notice = (line) => make("p", { class: "notice" }, make("strong", {}, "Warning. "), line);
+export const notice = (line) => make("p", { class: "notice" }, make("strong", {}, t("Warning.")), " ", line);
 
 /** By the earlier months that a month is computed from, how their levels are computed from its table. */
 const waysOf = (month) => new Map([
@@ -63,24 +63,38 @@ function isLater(one, other) {
 }
 
 function inLine([later, earlier, way]) {
-  const [table, base] = [later, earlier].map(inWords);
-  return `The table of ${table} comes out before that of ${base}, which it is computed from. In between everybody can `
-    + `compute from it each level of ${base}, ${way}. ${remedy([later, earlier])}`;
+  const named = { table: inWords(later), base: inWords(earlier) };
+  return `${early(way, named)} ${remedy([later, earlier], named)}`;
 }
 
-function remedy(months) {
-  const [table, base] = months.map(inWords);
+function early(way, named) {
+  if (way === LINK) {
+    return t("The table of {table} comes out before that of {base}, which it is computed from. In between everybody "
+      + "can compute from it each level of {base}, to a millionth or two: 100 times the row’s chained level, divided "
+      + "by its index within the year.", named);
+  }
+  if (way === MONTH) {
+    return t("The table of {table} comes out before that of {base}, which it is computed from. In between everybody "
+      + "can compute from it each level of {base}, to about 0.05 percent: the row’s chained level, divided by 1 plus "
+      + "its monthly change.", named);
+  }
+  return t("The table of {table} comes out before that of {base}, which it is computed from. In between everybody "
+    + "can compute from it each level of {base}, to about 0.05 percent: the row’s chained level, divided by 1 plus "
+    + "its annual change.", named);
+}
+
+function remedy(months, named) {
   const [isTableFrozen, isBaseFrozen] = months.map((month) => frozen.has(month));
-  if (isTableFrozen) return "That can’t be changed any more.";
-  const own = isBaseFrozen ? "" : `, or an earlier one for ${base}`;
-  return `Before ${table} is frozen, set a later publishing moment for it${own}.`;
+  if (isTableFrozen) return t("That can’t be changed any more.");
+  if (isBaseFrozen) return t("Before {table} is frozen, set a later publishing moment for it.", named);
+  return t("Before {table} is frozen, set a later publishing moment for it, or an earlier one for {base}.", named);
 }
 
 function ofRevision(month) {
-  const [base, table] = [month, moved(month, 1)].map(inWords);
-  return `A table of ${base} is published already, so this moment is that of a further revision. If the table of `
-    + `${table} comes out before it, everybody can compute the revision’s levels from that table. `
-    + `This page doesn’t know the moment of ${table}.`;
+  const named = { base: inWords(month), table: inWords(moved(month, 1)) };
+  return t("A table of {base} is published already, so this moment is that of a further revision. If the table of "
+    + "{table} comes out before it, everybody can compute the revision’s levels from that table. This page doesn’t "
+    + "know the moment of {table}.", named);
 }
 
 /** The months of which a table is published; none if no answer comes. */

@@ -2,9 +2,10 @@
 import { ask, MOST_BYTES, NoAnswer } from "../shared/api.js";
 import { bodiesOf, fieldsOf, linesOf, rowsOf } from "../shared/csv.js";
 import { find, make } from "../shared/dom.js";
-import { toDesk } from "../shared/refusals.js";
+import { grouped, t, tc, tn, whole } from "../shared/texts.js";
 import * as calendar from "./calendar.js";
 import * as embargo from "./embargo.js";
+import { toDesk } from "./refusals.js";
 import { bearer, busy, bytesOf, hasKey, noAnswer, tell } from "./told.js";
 
 const ROWS = 200; // rows of one import: collectors are served between two
@@ -24,10 +25,12 @@ async function sent() {
   const data = await bytesOf("records");
   if (!data) return;
   const rows = rowsOf(data);
-  if (rows.length === 0) return tell(PLACE, "bad", "There are no rows.");
+  if (rows.length === 0) return tell(PLACE, "bad", t("There are no rows."));
   const bodies = bodiesOf(rows, MOST_BYTES, ROWS);
   if (!bodies) {
-    return tell(PLACE, "bad", "A row is longer than 65,536 bytes. Send it with cpi replay; a plan may go below.");
+    const longest = { count: grouped(MOST_BYTES) };
+    const words = t("A row is longer than {count} bytes. Send it with cpi replay; a plan may go below.", longest);
+    return tell(PLACE, "bad", words);
   }
   find("records-stop").hidden = false;
   await sendBodies(bodies, linesOf(data, rows));
@@ -45,7 +48,7 @@ async function sendBodies(bodies, lines) {
   isStopped = false;
   for (const { rows, bytes } of bodies) {
     show(told, "");
-    const ended = isStopped ? "Stopped." : await sendBody(rows, bytes, told);
+    const ended = isStopped ? t("Stopped.") : await sendBody(rows, bytes, told);
     if (ended) return show(told, ended);
   }
   return show(told, "");
@@ -56,7 +59,7 @@ async function sendBody(rows, body, told) {
   try {
     const reply = await answered(body);
     if (!Array.isArray(reply.rows)) return toDesk(reply);
-    if (reply.rows.length !== rows.length) return "The office counts other rows than this page. Look at the file.";
+    if (reply.rows.length !== rows.length) return t("The office counts other rows than this page. Look at the file.");
     for (const [n, answer] of reply.rows.entries()) {
       if (answer.refused) told.refused.push({ line: told.lines[told.answered + n], row: rows[n], answer });
       else {
@@ -85,21 +88,31 @@ async function answered(body) {
 }
 
 function show({ done, refused, answered, lines: { length: count } }, ended) {
-  const left = answered < count ? `; ${count - answered} not answered yet` : "";
-  tell(PLACE, ended || refused.length ? "" : "good", make("strong", {}, `${done} accepted, ${refused.length} refused`),
-    ` of ${count}${left}. ${ended}`);
+  const counts = { done: whole(done), refused: whole(refused.length), count: whole(count) };
+  const told = make("strong", {}, t("{done} accepted, {refused} refused of {count}.", counts)), left = count - answered;
+  // t: of rows of a file that is being sent
+  const unanswered = left ? tn("{count} isn’t answered yet.", "{count} aren’t answered yet.", left) : "";
+  const rest = [unanswered, ended].filter(Boolean).map((sentence) => ` ${sentence}`);
+  tell(PLACE, ended || refused.length ? "" : "good", told, ...rest);
   if (refused.length === 0) return;
-  const room = { class: "wide", tabindex: 0, role: "region", "aria-label": "Refused rows" };
+  const room = { class: "wide", tabindex: 0, role: "region", "aria-label": t("Refused rows") };
   find(PLACE).append(make("div", room, table(refused)));
-  if (refused.length > SHOWN) find(PLACE).append(make("p", { class: "muted" }, `The first ${SHOWN} are shown.`));
+  if (refused.length <= SHOWN) return;
+  find(PLACE).append(make("p", { class: "muted" }, t("The first {count} are shown.", { count: whole(SHOWN) })));
 }
 
 function table(refused) {
-  const heads = ["Line", "Sent", "No", "Because, and what to do"].map((text) => make("th", { scope: "col" }, text));
+  const names = [
+    // t: the line in a file; head of a column, before its number too
+    t("Line"), tc("head of a column: the row that was sent", "Sent"),
+    tc("head of a column: the number of a refusal", "No"), t("Because, and what to do"),
+  ];
+  const heads = names.map((text) => make("th", { scope: "col" }, text));
   const decoder = new TextDecoder();
-  const rows = refused.slice(0, SHOWN).map(({ line, row, answer }) => make("tr", {}, make("td", {}, line),
+  const rows = refused.slice(0, SHOWN).map(({ line, row, answer }) => make("tr", {},
+    make("td", { "data-head": names[0] }, whole(line)),
     make("td", { class: "row" }, make("bdi", {}, decoder.decode(row.subarray(0, SHOWN_BYTES)))),
-    make("td", {}, answer.refused),
+    make("td", {}, whole(answer.refused)),
     make("td", { class: "because" }, toDesk(answer, fieldsOf(decoder.decode(row))[0]))));
   return make("table", {}, make("thead", {}, make("tr", {}, ...heads)), make("tbody", {}, ...rows));
 }
