@@ -38,7 +38,7 @@ MOST, MOST_FOR_READERS = 8, 5
 
 FOR_READERS = {"README.md", *(f"docs/{it}.md" for it in ("PROMISE", "CHOOSING", "DESK", "COLLECTING", "PHONE"))}
 
-STILL = {"docs/DECISIONS.md": 37}
+STILL = {"docs/DECISIONS.md": 15}
 """Documents above their bound, with their percent: it may only shrink."""
 
 CODE = re.compile(r"^```(?s:.*?)^```$|(?<=\n\n)(?: {4}.*\n)+", re.M)
