@@ -38,9 +38,6 @@ MOST, MOST_FOR_READERS = 8, 5
 
 FOR_READERS = {"README.md", *(f"docs/{it}.md" for it in ("PROMISE", "CHOOSING", "DESK", "COLLECTING", "PHONE"))}
 
-STILL = {"docs/DECISIONS.md": 15}
-"""Documents above their bound, with their percent: it may only shrink."""
-
 CODE = re.compile(r"^```(?s:.*?)^```$|(?<=\n\n)(?: {4}.*\n)+", re.M)
 LINK = re.compile(r"\]\([^)]*\)")
 ITEM = re.compile(r"\n\s*\n|\n(?=\s*(?:[-*]|\d+\.)\s)|^\|.*$|^#.*$", re.M)
@@ -65,7 +62,7 @@ def forms_of(sentence: str) -> list[str]:
 def english_faults(name: str, text: str) -> Iterator[str]:
     every = list(sentences(text))
     found = [it for it in every if forms_of(it)]
-    bound = STILL.get(name, MOST_FOR_READERS if name in FOR_READERS else MOST)
+    bound = MOST_FOR_READERS if name in FOR_READERS else MOST
     if 100 * len(found) > bound * len(every):
         yield f"{len(found)} of {len(every)} sentences have a form to change (tests/lib/plain_english.py), over {bound} percent"
 
