@@ -22,6 +22,7 @@ from dataclasses import dataclass, field
 from functools import lru_cache
 from pathlib import Path
 
+from .crate_readmes import all_numbers, crate_readme_faults
 from .plain_english import english_faults
 
 ROOT = Path(__file__).resolve().parents[2]
@@ -307,9 +308,9 @@ def index_faults(text: str) -> Iterator[str]:
         if numbers != sections.pop(section, None):
             yield f"the index has other numbers of {section} than the section"
     yield from (f"the index has no {section}" for section in sections)
-    every = sorted(map(int, DECISION.findall(text)))
+    every = sorted([*map(int, DECISION.findall(text)), *all_numbers()])
     if every != [*range(1, 1 + len(every))]:
-        yield "a number is missing, or stands twice"
+        yield "a number is missing, or is there twice, here or in the README of a crate"
 
 
 NAMED = {"README.md", *(f"docs/{it}.md" for it in ("PROOF", "AUDIT", "ARCHITECTURE", "CHANGING"))}
@@ -326,6 +327,7 @@ def document_faults(name: str, text: str) -> Iterator[str]:
     """What is wrong with a document, by its name from the top of the repository."""
     yield from layout_faults(name, text)
     yield from english_faults(name, text)
+    yield from crate_readme_faults(name, text)
     yield from path_faults(text)
     if name in NAMED:
         yield from name_faults(text, the_code())

@@ -40,6 +40,7 @@ FOR_READERS = {"README.md", *(f"docs/{it}.md" for it in ("PROMISE", "CHOOSING", 
 
 CODE = re.compile(r"^```(?s:.*?)^```$|(?<=\n\n)(?: {4}.*\n)+", re.M)
 LINK = re.compile(r"\]\([^)]*\)")
+NAME = re.compile(r"`[^`]*`")
 ITEM = re.compile(r"\n\s*\n|\n(?=\s*(?:[-*]|\d+\.)\s)|^\|.*$|^#.*$", re.M)
 LABEL = re.compile(r"(?:[-*] )?\[[^]]*\][,.]?")
 """A line of a list of contents: its text is that of a heading."""
@@ -48,9 +49,9 @@ END = re.compile(r"(?<=[.!?])\s+(?=[A-Z`*\[])")
 
 
 def sentences(text: str) -> Iterator[str]:
-    """The sentences of a document in Markdown, without its commands, tables, headings and the addresses of its links."""
+    """The sentences of a document in Markdown, without commands, tables, headings, the addresses of links, and names in backquotes."""
     for part in ITEM.split(CODE.sub("", text)):
-        for sentence in END.split(LINK.sub("]", " ".join((part or "").split()))):
+        for sentence in END.split(NAME.sub("`name`", LINK.sub("]", " ".join((part or "").split())))):
             if len(sentence.split()) >= LEAST_WORDS and not LABEL.fullmatch(sentence):
                 yield sentence
 

@@ -1,0 +1,52 @@
+"""What the README of a crate owes: it is short, its example is code that is built, and it names each wrong program.
+
+`crate_readme_faults`  at most 60 lines; each example is in the file that the line before it names; each edit of must-fail.
+`all_numbers`          the numbers of the decisions in them.
+"""
+
+from __future__ import annotations
+
+import re
+from collections.abc import Iterator
+from pathlib import Path
+
+ROOT = Path(__file__).resolve().parents[2]
+
+MOST_LINES = 60
+
+DECISION = re.compile(r"^(?:- )?\*\*(\d+)\. ", re.M)
+EXAMPLE = re.compile(r"\(`(?P<file>[^`]+\.rt)`\):\n\n```rust\n(?P<code>.*?)```", re.S)
+CRATE = re.compile(r"crates/(\w+)/README\.md")
+
+
+def numbers_in(text: str) -> list[int]:
+    return [int(it) for it in DECISION.findall(text)]
+
+
+def unindented(text: str) -> str:
+    return "\n".join(it.strip() for it in text.splitlines())
+
+
+def crate_readme_faults(name: str, text: str) -> Iterator[str]:
+    """What is wrong with a README by its name from the top of the repository; nothing if it is no crate's."""
+    crate = CRATE.fullmatch(name)
+    if not crate:
+        return
+    lines = text.count("\n")
+    if lines > MOST_LINES:
+        yield f"{lines} lines, over {MOST_LINES}"
+    examples = list(EXAMPLE.finditer(text))
+    if len(examples) != text.count("```rust"):
+        yield "an example without its file"
+    for it in examples:
+        source = ROOT / "crates" / it["file"]
+        if not source.is_file() or unindented(it["code"]) not in unindented(source.read_text(encoding="utf-8")):
+            yield f"its example isn't in {it['file']}"
+    edits = (ROOT / "crates" / crate[1] / "must-fail").glob("*.edit")
+    yield from (f"no word of the wrong program {it.stem}" for it in sorted(edits) if f"`{it.stem}`" not in text)
+
+
+def all_numbers() -> list[int]:
+    """The numbers of the decisions in the READMEs of all crates."""
+    files = sorted((ROOT / "crates").glob("*/README.md"))
+    return [number for file in files for number in numbers_in(file.read_text(encoding="utf-8"))]
