@@ -18,7 +18,9 @@ these:
 - the pack of the tables has each figure, in each of its forms (lib/pack_figures.py, lib/pack_faults.py): items and special
   aggregates, contributions, annual averages, rates over twelve months, levels with 2025 = 100, breaks; and once more
   with `rates = published`, the changes between printed indices;
-- its pages have them too, contributions add up, pictures have titles, and pages lead to what is there (lib/site.py).
+- its pages have them too, contributions add up, pictures have titles, and pages lead to what is there (lib/site.py);
+- the first page, the page of each release by the tables of its day, the list of releases, the feed and the calendar
+  have the right headlines and figures (lib/pack_releases.py), and pictures and cards show them (lib/pack_drawn.py).
 
 The pack is made by `examples/national/report`; what reads and computes here shares no code with it.
 """
@@ -42,9 +44,12 @@ from lib.by_the_manual import Month, coming_and_going, moving, printed, tables
 from lib.cases import content
 from lib.harness import Check, Checks, Fault, program_of, words_of
 from lib.nation import EXAMPLE, ZONE, Survey
+from lib.pack_drawn import drawn_faults, keeping
 from lib.pack_faults import CHANGES, csv_faults, cube_faults, differing, printed_rows, sdmx_faults, workbook_faults
 from lib.pack_figures import Figures, sets_of_the_nation
 from lib.pack_forms import rows_of_csv
+from lib.pack_releases import first_page_faults, release_faults
+from lib.pack_then import releases
 from lib.program import Program
 from lib.records import rows_of
 from lib.site import site_faults
@@ -164,9 +169,12 @@ class Ran:
         return None if frozen == wanted.carry else f"the desk carried {frozen}, wanted {wanted.carry}"
 
     def reported(self, out: str, *words: str) -> Fault:
-        """The pack of the tables, made by the example's report."""
-        command = [os.path.join(EXAMPLE, "report"), "--out", out, *words]
-        made = subprocess.run(command, stdout=subprocess.PIPE, stderr=subprocess.PIPE, text=True, check=False)
+        """The pack of the tables, made by the example's report, with its cards kept as they are handed to be drawn."""
+        command, kept = [os.path.join(EXAMPLE, "report"), "--out", out, *words], Path(out, "kept")
+        kept.mkdir()
+        made = subprocess.run(
+            command, stdout=subprocess.PIPE, stderr=subprocess.PIPE, text=True, check=False, env=keeping(kept)
+        )
         wanted = 0, f"{os.path.join(out, 'site')}/index.html\n"
         return None if (made.returncode, made.stdout) == wanted else f"report: {made.returncode}, {made.stderr[-300:]}"
 
@@ -188,6 +196,10 @@ class Ran:
         known = Figures(self.found, sets_of_the_nation(), YEAR, is_from_printed=True)
         yield from differing("printed.csv", rows_of_csv(out / "site/data/printed.csv"), printed_rows(known))
         yield from workbook_faults(out / "site", known, CHANGES)
+        then = [*releases(self.found, YEAR, is_from_printed=True)]
+        yield from release_faults(out / "site", out / "tables", then)
+        yield from first_page_faults(out / "site", known)
+        yield from drawn_faults(out / "site", known, then, out / "kept")
         if not any(known.changes("00", month)[0] != known.lines["00"][month].monthly for month in known.months):
             yield "no change is another one by the printed index"
 
@@ -201,6 +213,10 @@ class Ran:
         yield Check("its JSON-stat and PX", lambda: first_of(cube_faults(site, known)))
         yield Check("its workbook", lambda: first_of(workbook_faults(site, known)))
         yield Check("its pages", lambda: first_of(site_faults(self.folder, known, self.found, first)))
+        then = [*releases(self.found, YEAR)]
+        yield Check("its first page", lambda: first_of(first_page_faults(site, known)))
+        yield Check("its releases", lambda: first_of(release_faults(site, tables, then)))
+        yield Check("its pictures and cards", lambda: first_of(drawn_faults(site, known, then, site.parent / "kept")))
         yield Check("changes between printed indices", lambda: first_of(self.as_printed()))
 
     def checks(self) -> Iterator[Check]:

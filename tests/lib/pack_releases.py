@@ -1,0 +1,185 @@
+"""What the pages of releases, the first page, the list of releases, the feed and the calendar say, beside the figures that
+were computed here."""
+
+from __future__ import annotations
+
+import hashlib
+import re
+from collections.abc import Iterator
+from fractions import Fraction
+from pathlib import Path
+from xml.etree import ElementTree
+
+from .nation import previous
+from .pack_faults import moment, text
+from .pack_figures import ALL, Figures, above, december_before, depth
+from .pack_then import Then, lead, named
+from .page_texts import Rows, Texts
+from .site import percent, signed
+
+ADDRESS, NAME = "https://prices.example/", "Consumer price index"
+ATOM = "{http://www.w3.org/2005/Atom}"
+LAST = 24
+"""Releases of the feed and of the calendar."""
+
+Wanted = Iterator[tuple[str, object, object]]
+"""What is looked at, what the page says, and what is wanted."""
+
+# ---- what both the first page and a release say
+
+
+def headline_faults(then: Then, page: Texts) -> Wanted:
+    """Headline, lead and figures."""
+    yield "h1", page.of("h1"), [then.headline]
+    yield "description", page.said("description"), [f"{then.headline}."]
+    yield "og:image:alt", page.said("og:image:alt"), [f"{then.headline}."]
+    yield "og:image", page.said("og:image"), [f"{ADDRESS}release/{then.month}-r1.png"]
+    yield "lead", page.of('p class="lead"'), [lead(then)]
+    monthly, annual = then.known.changes(ALL, then.month)
+    index, hundred = then.indexed(ALL)
+    cards = {"Against the year before": percent(annual)} if then.is_annual else {}
+    cards |= {"Against the month before": percent(monthly), f"Index, {hundred}\u00a0=\u00a0100": index}
+    figures = re.sub(r"<sup.*?</sup>", "", page.markup, flags=re.S)
+    found = Texts("".join(re.findall('<dl class="cards">(.*?)</dl>', figures, flags=re.S)))
+    yield "figures", dict(zip(found.of("dt"), found.of("dd"))), cards
+
+
+def contribution_table(then: Then, part: Texts, codes: list[str], has_total: bool) -> Wanted:
+    """What some items give to the change of all items, and the bars of the rows."""
+    values = [(value, code) for code in codes if (value := then.given(code)) is not None]
+    if has_total:
+        values.sort(key=lambda it: (-it[0], it[1]))
+    total = sum((value for value, _ in values), Fraction())
+    rows = [then.row_of(code, value) for value, code in values]
+    if has_total:
+        rows.append([then.known.titles[ALL], "100.00 %", percent(then.change), signed(total, 2), ""])
+    yield "contributions", part.rows, rows
+    low, high = min([Fraction(0), *(it for it, _ in values)]), max([Fraction(0), *(it for it, _ in values)])
+    span = high - low or Fraction(1)
+    bars = [(100 * (min(it, Fraction(0)) - low) / span, 100 * abs(it) / span) for it, _ in values]
+    apart = [one for one, other in zip(part.bars, bars) if any(abs(a - b) > 0.0051 for a, b in zip(one, other))]
+    yield "bars", (len(part.bars), apart), (len(bars), [])
+
+
+# ---- the page of a release
+
+
+def page_of(site: Path, tables: Path, then: Then) -> Wanted:
+    """All figures of the page of a release."""
+    page = Texts.of_page(site / f"release/{then.month}-r1.html")
+    yield from headline_faults(then, page)
+    yield from contribution_table(then, page.part("What contributed"), then.known.below(ALL), True)
+    yield "divisions and groups", page.part("Divisions and groups").rows, divisions(then)
+    yield "why", page.part("Why figures differ from those of the month before").of("li"), [*why(then)]
+    before = previous(then.month)
+    is_first = len(then.known.months) == 1
+    yield "revisions", page.part("Revisions").of("p"), [
+        "This is the first release." if is_first else
+        f"Nothing was revised after the release of {named(before)} and up to this one."
+    ]  # fmt: skip
+    table = (tables / f"{then.month}.csv").read_bytes()
+    yield "sum", page.of('span class="hash"'), [hashlib.sha256(table).hexdigest()]
+    yield "table", f"the whole table of this release, {len(then.items)} items," in page.part("Files").of("li")[0], True
+    yield "moment", re.findall('<time datetime="([^"]*)">', page.markup)[0], moment(then.month)
+
+
+def divisions(then: Then) -> Rows:
+    """The table of all items, divisions and groups."""
+    rows, whole = [], then.hundred(ALL)
+    for code in then.known.nodes:
+        line = then.known.line(code, then.month)
+        if line:
+            index, hundred = then.indexed(code)
+            note = f" ({hundred} = 100)" if hundred != whole else ""
+            changes = map(percent, then.known.changes(code, then.month))
+            head = f"{code} {then.known.titles[code]}{note}"
+            rows.append([head, then.share(code), index, *changes, "i" if line.is_imputed else ""])
+    return rows
+
+
+def why(then: Then) -> Iterator[str]:
+    """Why figures differ from those of the month before."""
+    yield "Prices moved: the contributions above say which."
+    if then.month.endswith("-01"):
+        year, link = then.month[:4], named(december_before(then.month))
+        yield (
+            f"From this month on the weights of {year} count. The index is linked in {link}, so other weights by"
+            " themselves don’t move it."
+        )
+        for begin, items, others in (("Came", then.items, then.before), ("Left", then.before, then.items)):
+            apart = items.keys() - others.keys() if then.before else set[str]()
+            found = [f"{items[it]} {it}" for it in sorted(apart) if above(it) not in apart]
+            if found:
+                yield f"{begin} with this month: {', '.join(found)}."
+    if then.known.lines[ALL][then.month].is_imputed:
+        yield (
+            "Some prices were missing or couldn’t be compared, and were imputed (i): each was moved as the other prices"
+            " of its aggregate moved."
+        )
+
+
+# ---- all of them
+
+
+def release_faults(site: Path, tables: Path, all_of_them: list[Then]) -> Iterator[str]:
+    """The pages of all releases, the list of them, the feed and the calendar."""
+    names = {f"{it.month}-r1.html" for it in all_of_them}
+    if {it.name for it in (site / "release").glob("*.html")} != names:
+        yield "site: the folder of releases has other pages"
+    for then in all_of_them:
+        for what, says, wanted in page_of(site, tables, then):
+            if says != wanted:
+                yield f"release {then.month}: {what}: says {says}, wanted {wanted}"
+    for what, says, wanted in [*lists(site, all_of_them)]:
+        if says != wanted:
+            yield f"{what}: says {says}, wanted {wanted}"
+
+
+def lists(site: Path, all_of_them: list[Then]) -> Wanted:
+    """The list of releases, the feed and the calendar."""
+    last = all_of_them[:-LAST - 1:-1]  # fmt: skip
+    rows = Texts.of_page(site / "releases.html").rows
+    wanted = []
+    for then in reversed(all_of_them):
+        wanted.append([named(then.month), then.indexed(ALL)[0], *map(percent, then.known.changes(ALL, then.month))])
+    yield "releases.html", [row[:4] for row in rows], wanted
+    feed = ElementTree.parse(site / "feed.xml").getroot()
+    told = [[entry.findtext(f"{ATOM}{name}") for name in ("id", "title", "summary", "published", "updated")]
+            for entry in feed.findall(f"{ATOM}entry")]  # fmt: skip
+    yield "feed.xml", told, [
+        [f"{ADDRESS}release/{it.month}-r1.html", f"{named(it.month)}: {it.headline}", f"{it.headline}.",
+         moment(it.month), moment(it.month)]
+        for it in last
+    ]  # fmt: skip
+    lines = (site / "calendar.ics").read_bytes().replace(b"\r\n ", b"").decode().split("\r\n")
+    says = [line.removeprefix("DESCRIPTION:") for line in lines if line.startswith("DESCRIPTION:")]
+    yield "calendar.ics", says, [f"{it.headline}." for it in reversed(last)]
+
+
+def imputed(known: Figures, month: str) -> list[tuple[str, Fraction]]:
+    """The weight of aggregates in which a price was imputed, in whole percent of all weight, up to a month."""
+    found = []
+    for it in (it for it in known.months if it <= month):
+        lines = [known.line(code, it) for code in known.nodes if depth(code) == 5]
+        weight = sum(line.weight for line in lines if line and line.is_imputed)
+        found.append((it, Fraction(text(Fraction(100 * weight, known.lines[ALL][it].weight), 0))))
+    return found
+
+
+def first_page_faults(site: Path, known: Figures) -> Iterator[str]:
+    """The first page: what the last release says, and what special aggregates give."""
+    month = known.months[-1]
+    then, page = Then(month, known), Texts.of_page(site / "index.html")
+    looked_at = [
+        *headline_faults(then, page),
+        *contribution_table(then, page.part("What contributed"), known.below(ALL), True),
+        *contribution_table(then, page.part("Special aggregates"), [*known.sets], False),
+    ]
+    shares = [[named(it), text(value, 0)] for it, value in imputed(known, month)][::-1]
+    says = page.part("How much was imputed").of("p")[0]
+    wanted = f"elementary aggregates that have {shares[0][1]} percent of all weight."
+    looked_at.append(("imputed", says.endswith(wanted), True))
+    looked_at.append(("figures of the picture", page.part("How much was imputed").rows, shares))
+    for what, found, right in looked_at:
+        if found != right:
+            yield f"index.html: {what}: says {found}, wanted {right}"

@@ -1,0 +1,65 @@
+"""The texts of a page of a pack, as its reader sees them, and the lengths of its bars."""
+
+from __future__ import annotations
+
+import html
+import re
+from pathlib import Path
+
+HIDDEN = {ord(it): None for it in "\u2068\u2069\u00ad"}
+"""Isolates, and marks of possible hyphens."""
+
+Rows = list[list[str]]
+
+
+def plain(markup: str) -> str:
+    """The text of some markup, with one blank where it has any, but for narrow ones that belong to a figure."""
+    text = html.unescape(re.sub("<[^>]*>", "", re.sub('<span class="narrow">.*?</span>', "", markup)))
+    return " ".join(re.split("[ \n\t]+", text.translate(HIDDEN))).strip()
+
+
+class Texts:
+    """A page, or a part of one."""
+
+    def __init__(self, markup: str) -> None:
+        self.markup = markup
+
+    @classmethod
+    def of_page(cls, path: Path) -> Texts:
+        return cls(path.read_text(encoding="utf-8"))
+
+    def of(self, element: str) -> list[str]:
+        """The texts of all elements like `h1` or `p class="lead"`."""
+        name = element.split(" ")[0]
+        form = f"<{element}>" if " " in element else rf"<{name}\b[^>]*>"
+        return [plain(it) for it in re.findall(rf"{form}(.*?)</{name}>", self.markup, flags=re.S)]
+
+    def said(self, name: str) -> list[str]:
+        """What its elements `meta` say under a name."""
+        found = re.findall(rf'<meta (?:name|property)="{name}" content="([^"]*)">', self.markup)
+        return [html.unescape(it) for it in found]
+
+    def part(self, heading: str) -> Texts:
+        """What is between a heading and the next one."""
+        for it in re.split(r"<h2\b[^>]*>", self.markup)[1:]:
+            head, _, rest = it.partition("</h2>")
+            if plain(head) == heading:
+                return Texts(rest)
+        return Texts("")
+
+    @property
+    def rows(self) -> Rows:
+        """The cells of its tables, row by row, without those of heads."""
+        found = re.findall(r"<tr\b[^>]*>(.*?)</tr>", self.markup, flags=re.S)
+        cells = [
+            re.findall(r"<t[hd]\b[^>]*>(.*?)</t[hd]>", row, flags=re.S) for row in found if 'scope="col"' not in row
+        ]
+        return [[plain(cell) for cell in row] for row in cells]
+
+    @property
+    def bars(self) -> list[tuple[float, float]]:
+        """Where the bars of its tables begin and how long they are, in percent of their track; none if those for narrow
+        screens are others."""
+        form = r'<span class="track (?:narrow)?" aria-hidden="true"><i[^>]* style="left:([0-9.]+)%;width:([0-9.]+)%">'
+        found = [(float(left), float(width)) for left, width in re.findall(form, self.markup)]
+        return found[::2] if found[::2] == found[1::2] else []
