@@ -2,8 +2,10 @@
 
 from __future__ import annotations
 
+import csv
 import re
 from collections.abc import Iterable
+from decimal import ROUND_HALF_UP, Decimal
 from pathlib import Path
 
 import pytest
@@ -14,7 +16,7 @@ from cpi_tools.pack.dated import Dated, dated_of, value_in
 from cpi_tools.pack.public import Listed, Published
 from cpi_tools.pack.releases import releases_of
 from cpi_tools.publish import publish
-from published import REVISED
+from published import REVISED, TITLES
 from test_measures import tea_again, two_years
 from test_site import words_of
 
@@ -99,16 +101,37 @@ def reference(month: str) -> Config:
     return CONFIG._replace(reference="2025" if month >= "2025-12" else "")
 
 
+def levels_in(published: list[Published], month: str, revision: int) -> dict[str, Decimal]:
+    """The chained levels of a table as they are printed, by code."""
+    (table,) = (it.table for it in published if it.listed[:2] == (month, revision))
+    return {row[0]: Decimal(row[3]) for row in csv.reader(table.decode().splitlines())}
+
+
+def rounded(number: Decimal, unit: str) -> str:
+    return str(number.quantize(Decimal(unit), ROUND_HALF_UP))
+
+
+def thousandths(number: Decimal) -> str:
+    return rounded(number, "0.001")
+
+
 def test_a_revision_says_what_it_changed(published: list[Published], tmp_path: Path) -> None:
     site = made(published, tmp_path / "public")
     told = words_of(site / f"release/{REVISED}-r2.html")
     assert "March 2026, revision 2, published" in told and "This is a further revision of March 2026." in told
-    tables = {it.listed.revision: it.table for it in published if it.listed.month == REVISED}
-    old, new = ({row.split(b",")[0]: row.split(b",")[3] for row in tables[it].splitlines()} for it in (1, 2))
-    differing = sum(old[code] != level for code, level in new.items())
-    assert f"{differing} of {len(new)} levels differ." in told and 0 < differing < len(new)
+    old, new = (levels_in(published, REVISED, it) for it in (1, 2))
+    apart = sorted((it for it in new if old[it] != new[it]), key=lambda it: (-abs(new[it] - old[it]), it))
+    assert f"{len(apart)} of {len(new)} levels differ." in told and 0 < len(apart) < len(new)
+    rows = " ".join(f"{TITLES[it]} {it} {thousandths(old[it])} {thousandths(new[it])}" for it in apart[:10])
+    assert f"Item Revision 1 Revision 2 {rows}" in told
+    listed = words_of(site / "revisions.html")
+    assert f"{len(apart)} of {len(new)} levels differ." in listed and f"Item Before Now {rows}" in listed
     after = words_of(site / "release/2026-04-r1.html")
     assert "After the release of March 2026 and up to this one the office revised: March 2026, revision 2" in after
+    year = (levels_in(published, f"2025-{number:02}", 1)["00"] for number in range(1, 13))
+    mean = sum(year, Decimal()) / 12
+    index, before = (rounded(100 * it["00"] / mean, "0.1") for it in (new, old))
+    assert f"The index of all items is {index}, and was {before} before." in after and index != before
     assert "Nothing was revised after the release of April 2026" in words_of(site / "release/2026-05-r1.html")
 
 
@@ -148,35 +171,6 @@ def test_a_late_revision_is_of_a_month_that_is_final() -> None:
 
 
 # ---- that it stays
-
-
-def runs(published: list[Published]) -> list[list[Published]]:
-    """What is published on the days of three monthly releases; the third one is after a revision."""
-    moments = [it.listed.moment for it in published if it.listed[:2] in {("2026-02", 1), (REVISED, 1), ("2026-04", 1)}]
-    return [[it for it in published if it.listed.moment <= moment] for moment in sorted(moments)]
-
-
-def test_addresses_and_pages_stay_over_three_monthly_runs(published: list[Published], tmp_path: Path) -> None:
-    """Each run takes the place of the one before. No address is lost, and of the pages of releases only that of the
-    month that was revised changes: by the line that leads to the revision."""
-    before: dict[str, bytes] = {}
-    for number, tables in enumerate(runs(published)):
-        site = made(tables, tmp_path / "public")
-        now = {it.relative_to(site).as_posix(): it.read_bytes() for it in site.rglob("*") if it.is_file()}
-        assert before.keys() <= now.keys()
-        stay = {name for name in before if name.startswith(("release/", "data/tables/"))}
-        changed = {name for name in stay if before[name] != now[name]}
-        assert changed == ({f"release/{REVISED}-r1.html"} if number == 2 else set())
-        assert len(stay) >= 2 * len([it for it in (runs(published)[number - 1] if number else []) if it.table])
-        before, earlier = now, before
-    old, new = (it[f"release/{REVISED}-r1.html"].decode().splitlines() for it in (earlier, before))
-    added = [line for line in new if line not in old]
-    assert len(new) == len(old) + 1 and [line for line in new if line not in added] == old
-    assert f'<a href="{REVISED}-r2.html">Revision 2 of March 2026</a>' in added[0]
-    # (what was written month by month is what is written at once)
-    at_once = made(runs(published)[-1], tmp_path / "at-once")
-    whole = {it.relative_to(at_once).as_posix(): it.read_bytes() for it in at_once.rglob("*") if it.is_file()}
-    assert {name for name in before if before[name] != whole.get(name)} <= {"manifest.json", "SHA256SUMS"}
 
 
 def test_another_reference_period_leaves_earlier_releases_as_they_are(tmp_path: Path) -> None:

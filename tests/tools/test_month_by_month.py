@@ -1,0 +1,213 @@
+"""The site of an office written month by month over two years: nothing that was published disappears or changes without
+a word, addresses stay, and all of it is valid at each run."""
+
+from __future__ import annotations
+
+import hashlib
+import json
+import re
+from collections.abc import Iterator
+from pathlib import Path
+from typing import NamedTuple
+from xml.etree import ElementTree
+
+import feedparser  # type: ignore[import]
+import html5lib
+import icalendar  # type: ignore[import]
+import pytest
+import rdflib
+
+from cpi_tools.pack.clocks import clock_of
+from cpi_tools.pack.config import Config
+from cpi_tools.pack.dated import Dated
+from cpi_tools.pack.planned import Planned
+from cpi_tools.pack.public import Published
+from cpi_tools.pack.reasons import Reason
+from cpi_tools.pack.specials import Special
+from cpi_tools.publish import publish
+from published import HIDDEN_REVISION, LAST, REVISED
+
+ADDRESS = "https://prices.example/index/"
+FIRST, SECOND_YEAR = "2025-05", "2026-01"
+REVISION = f"release/{REVISED}-r2.html"
+ADDED = 86_400
+"""When the office gives its second reason, long after the first one."""
+
+CONFIG = Config(
+    "NSO", "XX", 'Office of <prices> & "rates"', address=ADDRESS, clock=clock_of("Europe/Prague"), years=1, provisional=2,
+    reference="2025", references=(Dated("2024-12"), Dated("2025", SECOND_YEAR)),
+    specials=(Special("FOODS", "Foods", ("01",)),), reasons=(Reason(REVISED, 2, "A slip in rice."),),
+)  # fmt: skip
+
+Files = dict[str, bytes]
+"""By their names in the site."""
+
+
+class Run(NamedTuple):
+    """What the site has after a run, and the releases that came with it: `2026-03-r2`."""
+
+    files: Files
+    new: list[str]
+
+    def of(self, *folders: str) -> Files:
+        """The files of some folders that belong to releases."""
+        form = re.compile(rf"({'|'.join(folders)})/[0-9]{{4}}-[0-9]{{2}}-r[0-9]")
+        return {name: data for name, data in self.files.items() if form.match(name)}
+
+
+def planned(published: list[Published]) -> tuple[Planned, ...]:
+    """All releases are announced from the first day on, also two that never come."""
+    listed = [it.listed for it in published if it.table]
+    never = [(HIDDEN_REVISION, 2, 9_000_000_001), (LAST, 1, 9_000_000_000)]
+    return tuple(Planned(*it) for it in [*listed, *never])
+
+
+@pytest.fixture(scope="module")
+def runs(published: list[Published], tmp_path_factory: pytest.TempPathFactory) -> list[Run]:
+    """One after the other in the same folder, as on the days of the releases."""
+    out, config = tmp_path_factory.mktemp("months") / "public", CONFIG._replace(planned=planned(published))
+    found, before = list[Run](), set[str]()
+    for moment in sorted({it.listed.moment for it in published if it.table and it.listed.month >= FIRST}):
+        tables = [it for it in published if it.listed.moment <= moment]
+        publish(tables, config, out, None, lambda _: None)
+        now = {it.name[:-4] for it in tables if it.table}
+        files = {it.relative_to(out).as_posix(): it.read_bytes() for it in out.rglob("*") if it.is_file()}
+        found.append(Run(files, sorted(now - before)))
+        before = now
+    return found
+
+
+def pairs(runs: list[Run]) -> Iterator[tuple[Run, Run]]:
+    """Each run with the one before."""
+    return zip(runs, runs[1:])
+
+
+def test_it_is_two_years_with_a_revision(runs: list[Run]) -> None:
+    assert len(runs) == 26 and sum(f"{REVISED}-r2" in it.new for it in runs) == 1
+    assert all(len(it.new) == 1 for it in runs[1:])
+
+
+# ---- that it stays
+
+
+def test_no_address_is_lost(runs: list[Run]) -> None:
+    for before, now in pairs(runs):
+        assert before.files.keys() <= now.files.keys()
+        assert mapped(before) <= mapped(now)
+
+
+def mapped(run: Run) -> set[str]:
+    """The addresses of the map of all pages."""
+    return set(re.findall("<loc>(.*?)</loc>", run.files["sitemap.xml"].decode()))
+
+
+def test_a_release_stays_as_it_is(runs: list[Run]) -> None:
+    """Pages, cards, pictures, pages to embed and tables of all releases; only the page of a month that is revised gets a
+    line, which leads to the revision."""
+    folders = "release", "picture", "embed", "data/tables"
+    for before, now in pairs(runs):
+        kept = before.of(*folders)
+        changed = {name for name, data in kept.items() if now.files[name] != data}
+        assert changed == ({f"release/{REVISED}-r1.html"} if f"{REVISED}-r2" in now.new else set())
+        for name in changed:
+            old, new = (it.files[name].decode().splitlines() for it in (before, now))
+            (line,) = (it for it in new if it not in old)
+            assert [it for it in new if it != line] == old and f'<a href="{REVISED}-r2.html">Revision 2 of' in line
+    each = {name: len([it for it in runs[-1].of(name) if "-r1" in it]) for name in folders}
+    # (the first December has a table, and no page)
+    assert each == {"release": 58, "picture": 58, "embed": 29, "data/tables": 30}
+
+
+def test_an_archive_stays_but_for_a_revision(runs: list[Run]) -> None:
+    """The first year's, once there is one; no later table changes it, since its own year isn't revised."""
+    for before, now in pairs(runs):
+        for name, data in before.files.items():
+            if name.startswith("data/years/2025"):
+                assert now.files[name] == data
+    assert "data/years/2025.zip" in runs[-1].files and "data/years/2026.zip" in runs[-1].files
+
+
+def test_entries_and_events_stay(runs: list[Run]) -> None:
+    """A reader of the feed, or of the calendar, isn't told of anything again."""
+    for before, now in pairs(runs):
+        old, new = entries(before), entries(now)
+        assert all(new[it] == old[it] for it in old.keys() & new.keys())
+        assert {f"{ADDRESS}release/{it}.html" for it in now.new} == new.keys() - old.keys()
+        out = [f"{it}.XX.NSO@cpi" for it in now.new]
+        then, events = (events_of(it) for it in (before, now))
+        assert then.keys() - events.keys() <= {min(then)}
+        assert all(events[it] == then[it] for it in then.keys() & events.keys() if it not in out)
+        assert all(events[it][:2] == then[it][:2] and events[it][2] for it in out)
+
+
+def entries(run: Run) -> dict[str, str]:
+    """The entries of the feed by their ids."""
+    found = re.findall(r"<entry><id>(.*?)</id>.*?</entry>", run.files["feed.xml"].decode(), flags=re.S)
+    return dict(zip(found, re.findall(r"<entry>.*?</entry>", run.files["feed.xml"].decode(), flags=re.S)))
+
+
+def events_of(run: Run) -> dict[str, tuple[object, str, str]]:
+    """The events of the calendar by their ids: when, what, and what is said of them once they are over."""
+    found = icalendar.Calendar.from_ical(run.files["calendar.ics"]).walk("VEVENT")
+    return {str(it["UID"]): (it["DTSTART"].dt, str(it["SUMMARY"]), str(it.get("DESCRIPTION", ""))) for it in found}
+
+
+def test_each_manifest_follows_the_one_before(runs: list[Run]) -> None:
+    for before, now in pairs(runs):
+        previous = json.loads(now.files["manifest.json"])["previous"]
+        assert previous == hashlib.sha256(before.files["manifest.json"]).hexdigest()
+
+
+def test_what_is_written_month_by_month_is_what_is_written_at_once(
+    runs: list[Run], published: list[Published], tmp_path: Path
+) -> None:
+    tables = [it for it in published if it.name[:-4] in {name for run in runs for name in run.new} or not it.table]
+    publish(tables, CONFIG._replace(planned=planned(published)), tmp_path / "public", None, lambda _: None)
+    site, last = tmp_path / "public", runs[-1].files
+    at_once = {it.relative_to(site).as_posix(): it.read_bytes() for it in site.rglob("*") if it.is_file()}
+    assert {it for it in last if last[it] != at_once.get(it)} == {"manifest.json", "SHA256SUMS"}
+
+
+def test_a_reason_that_is_added_changes_one_page(runs: list[Run], published: list[Published], tmp_path: Path) -> None:
+    """The page of the revision, by a paragraph, and its entry in the feed."""
+    site, last = tmp_path / "public", runs[-1].files
+    tables = [it for it in published if it.name[:-4] in {name for run in runs for name in run.new} or not it.table]
+    reasons = (*CONFIG.reasons, Reason(REVISED, 2, "Wheat too.", ADDED))
+    publish(tables, CONFIG._replace(planned=planned(published), reasons=reasons), site, None, lambda _: None)
+    now = Run({it.relative_to(site).as_posix(): it.read_bytes() for it in site.rglob("*") if it.is_file()}, [])
+    assert {it for it, data in now.of("release", "picture", "embed").items() if last[it] != data} == {REVISION}
+    old, new = entries(runs[-1]), entries(now)
+    assert {it for it in old if old[it] != new[it]} == {f"{ADDRESS}{REVISION}"}
+
+
+# ---- that it is valid
+
+
+def test_new_pages_and_files_are_valid_at_each_run(runs: list[Run]) -> None:
+    """Feed, calendar, the map, the first page and the pages of new releases, each by the reader of its format."""
+    for run in runs:
+        feed = feedparser.parse(run.files["feed.xml"])
+        assert not feed.bozo and feed.version == "atom10"
+        assert icalendar.Calendar.from_ical(run.files["calendar.ics"]).errors == []
+        ElementTree.fromstring(run.files["sitemap.xml"])
+        for name in ("index.html", "releases.html", "data.html", *(f"release/{it}.html" for it in run.new[-1:])):
+            read_html(run.files[name], name)
+
+
+def read_html(page: bytes, name: str) -> None:
+    """By the parser of the standard, which raises at the first fault; and what the page says as JSON-LD."""
+    tree = html5lib.HTMLParser(strict=True, namespaceHTMLElements=False).parse(page)
+    assert tree.find(".//h1") is not None, name
+    for block in tree.iterfind('.//script[@type="application/ld+json"]'):
+        found = {**json.loads(str(block.text)), "@context": {"@vocab": "https://schema.org/"}}
+        assert len(rdflib.Graph().parse(data=json.dumps(found), format="json-ld")) > 10, name
+
+
+def test_all_is_valid_at_the_end(runs: list[Run]) -> None:
+    files = runs[-1].files
+    for name, data in files.items():
+        if name.endswith(".html"):
+            read_html(data, name)
+        elif name.endswith(".svg"):
+            ElementTree.fromstring(data)
+    assert sum(it.endswith(".svg") for it in files) > 100
