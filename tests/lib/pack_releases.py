@@ -141,7 +141,11 @@ def lists(site: Path, all_of_them: list[Then]) -> Wanted:
     rows = Texts.of_page(site / "releases.html").rows
     wanted = []
     for then in reversed(all_of_them):
-        wanted.append([named(then.month), then.indexed(ALL)[0], *map(percent, then.known.changes(ALL, then.month))])
+        earlier = next((it for it in all_of_them if it.month == previous(then.month)), then)
+        is_other = then.hundred(ALL) != earlier.hundred(ALL)
+        note = f" (from this month on {then.hundred(ALL)} = 100)" if is_other else ""
+        changes = map(percent, then.known.changes(ALL, then.month))
+        wanted.append([f"{named(then.month)}{note}", then.indexed(ALL)[0], *changes])
     yield "releases.html", [row[:4] for row in rows], wanted
     feed = ElementTree.parse(site / "feed.xml").getroot()
     told = [[entry.findtext(f"{ATOM}{name}") for name in ("id", "title", "summary", "published", "updated")]

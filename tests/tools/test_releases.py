@@ -185,7 +185,10 @@ def test_another_reference_period_leaves_earlier_releases_as_they_are(tmp_path: 
     told = words_of(new / "release/2027-01-r1.html")
     assert "Index, 2026 = 100 106.3" in told
     listed = words_of(new / "releases.html")
-    assert "January 2027 106.3 +4.0 % +9.5 %" in listed and "December 2026 105.0 +2.2 % +5.0 %" in listed
+    assert (
+        "January 2027 (from this month on 2026 = 100) 106.3 +4.0 % +9.5 %" in listed
+        and "December 2026 105.0 +2.2 % +5.0 %" in listed
+    )
 
 
 def test_values_that_change_with_a_release_are_read(tmp_path: Path) -> None:

@@ -280,6 +280,14 @@ def test_the_address_for_good_shows_the_same(shown: Browser) -> None:
     assert shown.run(CELLS) == before and shown.text("#cite") == address
 
 
+def test_the_address_for_good_is_that_of_the_site(shown: Browser) -> None:
+    """If the site says where it is, whoever opens a copy of it cites the office's own page."""
+    name = "const link = document.createElement('link'); link.rel = 'canonical'; link.href = 'https://prices.example/choose.html';"
+    with shown.on_each_page(f"addEventListener('DOMContentLoaded', () => {{ {name} document.head.append(link); }})"):
+        opened(shown, "?items=01.1.1.1-01")
+    assert shown.text("#cite").startswith("https://prices.example/choose.html?items=01.1.1.1-01&")
+
+
 COST = """return [performance.getEntriesByType("navigation"), performance.getEntriesByType("resource")].flat()
   .map(({ name, transferSize }) => [name.replace(/^.*\\//, ""), transferSize]);"""
 

@@ -8,6 +8,7 @@ from pathlib import Path
 import pytest
 
 from browser import Browser
+from cpi_tools.pack.clocks import clock_of
 from cpi_tools.pack.config import Config
 from cpi_tools.pack.public import Listed, Published
 from cpi_tools.publish import publish
@@ -66,6 +67,18 @@ def test_the_address_of_a_result_gives_it_after_a_revision(browser: Browser, out
     assert shown(browser, "#value") == "1 036.53 crowns" and shown(browser, "#notices") == ""
     assert "now-revision=2" in browser.driver.current_url and not browser.find("#latest").is_displayed()
     assert browser.faults() == []
+
+
+def test_the_address_of_a_result_is_that_of_the_site(browser: Browser, out: Path) -> None:
+    """Whoever opens a copy, such as a folder, cites the page of the office; moments are those of its clock."""
+    config = CONFIG._replace(address="https://prices.example/", clock=clock_of("Europe/Prague"))
+    publish([BEFORE, JANUARY, FEBRUARY], config, out, None, lambda _: None)
+    open_page(browser, out)
+    address = browser.find("#address").get_attribute("href")
+    assert address.startswith("https://prices.example/contract.html#amount=") and address in shown(
+        browser, "#result-text"
+    )
+    assert "published 1 January 1970, 01:00 CET (00:00 UTC)" in shown(browser, "#now-source")
 
 
 def test_an_address_is_read_or_said_to_be_wrong(browser: Browser, out: Path) -> None:

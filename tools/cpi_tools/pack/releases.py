@@ -66,6 +66,11 @@ class Release(NamedTuple):
         return self.shown.text(self.table.month, ALL_ITEMS, 1)
 
     @property
+    def hundred(self) -> str:
+        """The period in which the index of all items is 100."""
+        return self.shown.hundred(self.table.month, ALL_ITEMS)
+
+    @property
     def last_said(self) -> int:
         """When the office last said something of it: at its publication, or when it gave a reason later."""
         return max(self.table.moment, *(it.moment for it in self.reasons), 0)
@@ -124,7 +129,7 @@ def hundreds_of(releases: Sequence[Release]) -> str:
     `December 2024 = 100, from December 2025 on 2025 = 100`."""
     found: dict[str, str] = {}
     for it in reversed(releases):
-        found.setdefault(period_name(it.shown.hundred(it.table.month, ALL_ITEMS)), month_name(it.table.month))
+        found.setdefault(period_name(it.hundred), month_name(it.table.month))
     first, *others = found
     return ", ".join([f"{first} = 100", *(f"from {found[period]} on {period} = 100" for period in others)])
 
@@ -227,6 +232,11 @@ class ReleasePages:
         """Those that were published last, the last one first."""
         by_moment = sorted(self.all, key=lambda it: (it.table.moment, it.table.month, it.table.revision))
         return by_moment[: -LAST_RELEASES - 1 : -1]
+
+    @property
+    def other_hundreds(self) -> frozenset[str]:
+        """The names of those whose index is 100 in another period than that of the release before."""
+        return frozenset(now.name for before, now in zip(self.all, self.all[1:]) if now.hundred != before.hundred)
 
     def by_year(self) -> list[tuple[str, list[Release]]]:
         """All releases by the year of their month, the last first."""

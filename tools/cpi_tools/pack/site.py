@@ -41,7 +41,7 @@ from .signature import Signature
 from .specials import Special
 from .tables import Row, Table, before, link_of
 from .tidy import Lines, write_lines, write_rows
-from .wording import FILTERS, day, page_of, share
+from .wording import FILTERS, page_of, share
 
 HERE = Path(__file__).resolve().parent
 
@@ -357,7 +357,7 @@ class Site:
                 exact = {code: self.shown.of_level(it, table.month, code) for code, it in levels.items()}
                 items = {code: [rounded(it.over * by, it.under) for by in (10**6, 10)] for code, it in exact.items()}
                 named = {"month": self.clause_months.index(table.month), "revision": table.revision}
-                found.append({**named, "published": day(table.moment), "sum": table.sha256, "items": items})
+                found.append({**named, "published": self.config.clock.day(table.moment), "sum": table.sha256, "items": items})
         return found
 
     def _levels(self) -> str:
@@ -370,7 +370,7 @@ class Site:
             "months": months,
             "names": [month_name(month) for month in months],
             "revisions": [table.revision for table in tables],
-            "published": [day(table.moment) for table in tables],
+            "published": [*map(self.config.clock.day, (table.moment for table in tables))],
             "sums": [table.sha256 for table in tables],
             "office": isolated(self.config.office),
             "title": isolated(self.config.title),

@@ -199,6 +199,12 @@ function writeLines(id, lines) {
   place.replaceChildren(...lines.map((line) => Object.assign(document.createElement("p"), { textContent: line })));
 }
 
+/** The address of this page that stays: the one that the site names, or else the one at which it was opened. */
+function ownAddress() {
+  const named = document.querySelector("link[rel=canonical]")?.getAttribute("href");
+  return named ?? location.href.split("#")[0];
+}
+
 function show(form, state, data) {
   const values = Object.fromEntries(["amount", "code", "then", "now", "decimals"].map((name) => [name, form.elements[name].value]));
   const chosen = computed(values, state.revisions, data);
@@ -208,7 +214,7 @@ function show(form, state, data) {
   document.getElementById("latest").hidden = chosen.fault !== "" || (chosen.then.isLatest && chosen.now.isLatest && [null, chosen.hundred].includes(state.hundred));
   if (chosen.fault) return null;
   const { then, now, decimals, minor, item, result } = chosen;
-  const address = location.href.split("#")[0] + addressOf(chosen);
+  const address = ownAddress() + addressOf(chosen);
   write("value", money(result, data));
   write("words", `${item.title}: ${levelText(then.level, decimals)} in ${then.says}, ${levelText(now.level, decimals)} in ${now.says}.`);
   write("formula", `${moneyText(minor, data.digits)} \u00d7 ${levelText(now.level, decimals)} / ${levelText(then.level, decimals)} = ${moneyText(result, data.digits)}`);

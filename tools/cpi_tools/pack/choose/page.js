@@ -161,7 +161,9 @@ function offer() {
   byId("take").hidden = !items.length;
   const periods = new Set(measures.flatMap(({ lines }) => lines.flatMap((line) => line.periods.filter(Boolean))));
   const period = periods.size === 1 ? [...periods][0] : null;
-  const address = new URL(addressOf(fixed(choice, known, period)), location.href).href;
+  // (the address of this page that stays: the one that the site names, or else the one at which it was opened)
+  const own = document.querySelector("link[rel=canonical]")?.getAttribute("href") ?? location.href;
+  const address = new URL(addressOf(fixed(choice, known, period)), own).href;
   byId("cite").href = address;
   byId("cite").textContent = address;
 }
