@@ -14,6 +14,7 @@ from cpi_tools.pack.aggregated import series_of
 from cpi_tools.pack.config import Config
 from cpi_tools.pack.dated import Dated, dated_of, value_in
 from cpi_tools.pack.public import Listed, Published
+from cpi_tools.pack.reasons import Reason
 from cpi_tools.pack.releases import releases_of
 from cpi_tools.publish import publish
 from published import REVISED, TITLES
@@ -171,6 +172,34 @@ def test_a_late_revision_is_of_a_month_that_is_final() -> None:
 
 
 # ---- that it stays
+
+
+def told_by(published: Iterable[Published], out: Path, config: Config) -> list[str]:
+    """The lines that a pack gives rise to that takes the place of another."""
+    told: list[str] = []
+    publish([*published], config, out, None, lambda _: None, tell=told.append)
+    return told
+
+
+def test_a_page_that_changes_is_told(published: list[Published], tmp_path: Path) -> None:
+    """A month more, a revision and its reason are no change; another name of the office, and a rule without the month
+    from which on it holds, change the pages of all releases, and that is told."""
+    config = CONFIG._replace(address="")
+    before = [it for it in published if it.listed[:2] < (REVISED, 2)]
+    assert told_by(before, tmp_path / "public", config) == []
+    now = [it for it in published if it.listed.month <= "2026-04"]
+    config = config._replace(reasons=(Reason(REVISED, 2, "A slip."),))
+    assert told_by(now, tmp_path / "public", config) == []
+    config = config._replace(reasons=(*config.reasons, Reason(REVISED, 2, "Another one.", 80_000)))
+    assert told_by(now, tmp_path / "public", config) == []
+    (line,) = told_by(now, tmp_path / "public", config._replace(provisional=3))
+    assert line == (
+        "17 pages of earlier releases, such as release/2025-01-r1.html, no longer say the same:"
+        " the configuration or the tool is another one"
+    )
+    dated = config._replace(provisional=3, all_provisional=(Dated("3"), Dated("2", "2026-04")))
+    (line,) = told_by(now, tmp_path / "public", dated._replace(provisional=2))
+    assert line.startswith("1 page of earlier releases, such as release/2026-04-r1.html, no longer says the same")
 
 
 def test_another_reference_period_leaves_earlier_releases_as_they_are(tmp_path: Path) -> None:

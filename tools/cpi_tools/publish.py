@@ -10,7 +10,7 @@ import argparse
 import sys
 import tempfile
 import time
-from collections.abc import Iterable
+from collections.abc import Callable, Iterable
 from pathlib import Path
 from typing import NamedTuple, Optional
 
@@ -35,12 +35,13 @@ from .pack.manifest import (
 from .pack.measures import Contributions
 from .pack.part import Now, known_of, write_part
 from .pack.public import Published
-from .pack.reason_files import refuse_changed_reasons, write_reasons
+from .pack.reason_files import added_reasons, write_reasons
 from .pack.reasons import given_reasons
 from .pack.sdmx import KNOWN_IDS
 from .pack.signature import Sign, Signature, signature_in, unsigned
 from .pack.specials import Membership
 from .pack.shown import Shown
+from .pack.stays import Earlier, changed_pages
 from .pack.tables import Series
 from .pack.tidy import write_whole
 from .pack.years import Archives, earlier_years, first_of
@@ -125,11 +126,13 @@ def publish(
     now: Now,
     is_draft: bool = False,
     key: Optional[Path] = None,
+    tell: Callable[[str], None] = lambda _: None,
 ) -> Series:
     """Writes a pack beside the folder `out` and puts it in its place; its tables.
 
     A draft is readable for its owner alone, and takes the place of no pack that others can read. `before` is the
-    manifest before, else that of `out` where a pack stands there. `key` signs the manifest. Raises Fault, and leaves
+    manifest before, else that of `out` where a pack stands there. `key` signs the manifest. `tell` is handed a line if
+    pages of earlier releases don't say what they said. Raises Fault, and leaves
     `out` as it is, if a table or a reason of a revision that was published is another one now or isn't there any more,
     or if a pack that is signed would be replaced by one that isn't.
     """
@@ -142,13 +145,20 @@ def publish(
         for manifest in (standing, last):
             if manifest is not None:
                 _refuse_changes(manifest, series)
+        reasons, earlier = given_reasons(config.reasons, series, config.planned), None
         if standing is not None:
-            refuse_changed_reasons(out, standing.tables, given_reasons(config.reasons, series, config.planned))
+            earlier = Earlier(out, standing.tables, added_reasons(out, standing.tables, reasons))
         if key is None and signature_in(out):
             raise CannotPublish(f"{out} is signed, and the new pack wouldn't be: --sign names the key")
         cards = cards_after(out) if config.address else NO_CARDS
         pack = Pack(series, config, previous_of(last, series), signed_by(key, config.agency), cards)
         write_pack(pack, new, now, Before(behind_link(out) if standing else None))
+        changed = changed_pages(earlier, new, series) if earlier else []
+        if changed:
+            tell(
+                f"{counted(len(changed), 'page')} of earlier releases, such as {changed[0]}, no longer"
+                f" {'says' if len(changed) == 1 else 'say'} the same: the configuration or the tool is another one"
+            )
     return series
 
 
@@ -232,17 +242,20 @@ def run(chosen: argparse.Namespace) -> int:
         _refuse_what_is_to_come(chosen)
     needs("jinja2", "python3-jinja2")
     config = read_config(chosen.config, KNOWN_IDS)
+    told: list[str] = []
     with Progress("cpi-tools publish") as progress:
         published = read_source(chosen, progress)
         if chosen.check:
             found = check(published, config, chosen.check, chosen.previous, progress.now)
         else:
             words = chosen.out, chosen.previous, progress.now, chosen.draft, chosen.sign
-            series = publish(published, config, *words)
+            series = publish(published, config, *words, told.append)
     if chosen.check:
         return _told(chosen.check, found)
     of = f"{counted(len(series.vintages), 'table')} up to {series.months[-1]}, {counted(len(series.titles), 'item')}"
     print(f"{chosen.out}: {of}")
+    for line in told:
+        print(f"cpi-tools publish: {line}", file=sys.stderr)
     _tell_unknown(config, series)
     if config.address and not has_cards(chosen.out):
         print(f"cpi-tools publish: releases have no cards: {NOT_DRAWN}", file=sys.stderr)

@@ -50,10 +50,10 @@ def read_told(pack: Path) -> Told:
     return found
 
 
-def refuse_changed_reasons(pack: Path, tables: Mapping[TableId, object], reasons: Reasons) -> None:
-    """Raises BadReasons if a reason that a pack has, whose tables are named, is another one now or isn't there, or if a
-    further reason of one of its tables doesn't say when it was added."""
-    told = read_told(pack)
+def added_reasons(pack: Path, tables: Mapping[TableId, object], reasons: Reasons) -> set[TableId]:
+    """The releases that have a reason more than in a pack, whose tables are named. Raises BadReasons if a reason that it
+    has is another one now or isn't there, or if a further one of its tables doesn't say when it was added."""
+    told, added = read_told(pack), set[TableId]()
     for of in tables:
         then, given = told.get(of, []), reasons.get(of, [])
         now = [(iso(it.moment), _plain(it.text)) for it in given]
@@ -69,3 +69,6 @@ def refuse_changed_reasons(pack: Path, tables: Mapping[TableId, object], reasons
                 f"{month}, revision {revision}, was published without its reason: the row needs in the column {ADDED}"
                 " when it was given"
             )
+        if len(given) > len(then):
+            added.add(of)
+    return added

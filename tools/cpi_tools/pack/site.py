@@ -357,7 +357,9 @@ class Site:
                 exact = {code: self.shown.of_level(it, table.month, code) for code, it in levels.items()}
                 items = {code: [rounded(it.over * by, it.under) for by in (10**6, 10)] for code, it in exact.items()}
                 named = {"month": self.clause_months.index(table.month), "revision": table.revision}
-                found.append({**named, "published": self.config.clock.day(table.moment), "sum": table.sha256, "items": items})
+                found.append(
+                    {**named, "published": self.config.clock.day(table.moment), "sum": table.sha256, "items": items}
+                )
         return found
 
     def _levels(self) -> str:
