@@ -16,6 +16,7 @@ from selenium import webdriver
 from selenium.common.exceptions import (
     ElementClickInterceptedException,
     InvalidSessionIdException,
+    StaleElementReferenceException,
     WebDriverException,
 )
 from selenium.webdriver.chrome.options import Options
@@ -176,15 +177,17 @@ class Browser:
 
     def click(self, selector: str) -> None:
         """A click, with what is clicked in the middle of the window, where what sticks to its edges doesn't hide it. If
-        the page was still scrolling, it is tried once more."""
+        the page was still scrolling, or draws it anew, it is tried once more."""
+        try:
+            self._click(selector)
+        except (ElementClickInterceptedException, StaleElementReferenceException):
+            self.middle(selector)
+            self._click(selector)
+
+    def _click(self, selector: str) -> None:
         found = self.find(selector)
         self.run("arguments[0].scrollIntoView({ block: 'center' })", found)
-        try:
-            found.click()
-        except ElementClickInterceptedException:
-            self.middle(selector)
-            self.run("arguments[0].scrollIntoView({ block: 'center' })", found)
-            found.click()
+        found.click()
 
     def type(self, selector: str, text: str) -> None:
         """Puts a text in the place of what stands in a field."""

@@ -106,6 +106,20 @@ class Stage:
                 self.office.kill()
             self.office = None
 
+    def copied(self) -> dict[Path, bytes]:
+        """A copy of the office's file and log, while nobody sends anything."""
+        files = (self.db, self.db.with_name("office.db-wal"))
+        return {file: file.read_bytes() for file in files if file.exists()}
+
+    def restore(self, copy: dict[Path, bytes]) -> None:
+        """The office is killed, and another one goes on with a copy of file and log."""
+        self.stop_office()
+        for name in ("office.db-wal", "office.db-shm"):
+            (self.folder / name).unlink(missing_ok=True)
+        for file, content in copy.items():
+            file.write_bytes(content)
+        self.start_office()
+
     @contextlib.contextmanager
     def standing_still(self) -> Iterator[None]:
         """The office does nothing meanwhile."""

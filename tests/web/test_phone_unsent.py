@@ -150,7 +150,7 @@ def test_what_waits_without_a_row_in_the_list_is_listed(phone: Phone, stage: Sta
 
 
 LIST_COMES = """
-const { keepList } = await import("/collect/store.js"), { state } = await import("/collect/state.js");
+const { keepList } = await import("/collect/kept-lists.js"), { state } = await import("/collect/state.js");
 await keepList(state, state.month, { work: JSON.parse(arguments[0]).work, quotes: [], at: Date.now() });
 """
 """As another tab keeps a list that has come."""

@@ -1,7 +1,7 @@
 // When the window of a month opens and closes, as the desk has published it in calendar.json, and which month is open
 // by that. Moments are in seconds since 1970 UTC, as in the file; the page shows them by the phone's clock.
 import { find } from "../shared/dom.js";
-import { inWords, timeOf, thisMonth } from "../shared/months.js";
+import { inWords, moved, timeOf, thisMonth } from "../shared/months.js";
 import { form, t, tn } from "../shared/texts.js";
 import { state } from "./state.js";
 
@@ -21,6 +21,16 @@ export function currentMonth() {
   const open = state.windows.filter(({ opens, closes }) => opens <= now && now < closes).sort(first("closes"));
   const coming = state.windows.filter(({ opens }) => opens > now).sort(first("opens"));
   return (open[0] ?? coming[0])?.month ?? thisMonth();
+}
+
+/**
+ * Whether a month is over for good: its window isn't open, and that of a later month has closed, or it lies three months
+ * or more before this one.
+ */
+export function isPast(month) {
+  const now = seconds(), isOpen = state.windows.some((window) => window.month === month && now < window.closes);
+  const isLastClosed = !state.windows.some((window) => window.month > month && window.closes <= now);
+  return !isOpen && (!isLastClosed || month < moved(thisMonth(), -2));
 }
 
 /**

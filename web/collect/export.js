@@ -9,14 +9,15 @@ import { whyNotStored } from "./wording.js";
 const COLUMNS = ["month", "slot", "outlet", "item", "unit", "mark", "value", "confirmed", "written", "state"];
 
 /**
- * All entries that aren't stored, as CSV (RFC 4180): prices in minor units, the moment of writing in UTC. The desk reads
- * it, so its columns and marks have the names of records in every language; the state is for people.
+ * All entries that aren't stored, as CSV (RFC 4180): prices in minor units, the moment of writing in UTC, or none if the
+ * office had stored the entry before it was restored from a copy. The desk reads it, so its columns and marks have the
+ * names of records in every language; the state is for people.
  */
 function asCsv() {
   const rows = state.entries.map((entry) => {
     const [, , outlet = "", , text = "", unit = ""] = entry.row ?? [];
     return [entry.month, entry.slot, outlet, text, unit, entry.mark, entry.value, entry.confirm ? "yes" : "",
-      new Date(entry.at).toISOString(), stateOf(entry)];
+      entry.had ? "" : new Date(entry.at).toISOString(), stateOf(entry)];
   });
   return [COLUMNS, ...rows].map((row) => `${row.map((value) => written(String(value))).join(",")}\r\n`).join("");
 }

@@ -1,5 +1,5 @@
 // The head of the page: who is signed in, the connection to the office, and how much isn't stored. It is seen always.
-import { find, make } from "../shared/dom.js";
+import { becomes, find, make } from "../shared/dom.js";
 import { form, t, tn } from "../shared/texts.js";
 import { countOf, state } from "./state.js";
 
@@ -57,18 +57,26 @@ function whenOdd(waiting) {
 }
 
 let lasting = () => ""; // gives a text that stays until the collector has read it, or none
+let onRead = () => {}; // is called then
 
 /** A text about all of the page, until it is over; or none. */
 export function notice(text) {
   const kept = lasting(), told = text || kept, isLasting = Boolean(told) && told === kept;
   // t: a button under a notice, which goes away then
-  const read = isLasting && make("button", { type: "button", onclick: () => noticeUntilRead(() => "") }, t("I know"));
-  find("notice").replaceChildren(...[told, isLasting && " ", read].filter(Boolean));
-  find("notice").hidden = !told;
+  const read = isLasting && make("button", { type: "button", onclick: wasRead }, t("I know"));
+  // (a button that is there stays, so that a finger that is on it isn't lost)
+  becomes(find("notice"), make("p", { id: "notice", class: "notice", role: "alert", hidden: !told },
+    ...[told, isLasting && " ", read].filter(Boolean)));
 }
 
-/** A text about all of the page that stays until the collector has read it, as a function gives it; or none. */
-export function noticeUntilRead(text) {
+/** A text about all of the page, as a function gives it, that stays until the collector has read it (`read`); or none. */
+export function noticeUntilRead(text, read = () => {}) {
   lasting = text;
+  onRead = read;
   notice("");
+}
+
+function wasRead() {
+  onRead();
+  noticeUntilRead(() => "");
 }

@@ -3,6 +3,7 @@ import { NoAnswer } from "../shared/api.js";
 import { notice, showHead } from "./head.js";
 import { render, show, showCounts, touch } from "./list.js";
 import { fetchLists, isOld } from "./lists.js";
+import { showSentAgain } from "./restored.js";
 import { dueIn, made, sendAll } from "./send.js";
 import { state, storedOf, takeEntries, takeKept } from "./state.js";
 import * as store from "./store.js";
@@ -117,7 +118,8 @@ async function exchanged() {
     return null;
   }
   const collector = { key, who, signal: giving.signal };
-  const refusal = await sendAll(collector, isWhole, (answered) => settled(collector, answered)).catch((fault) => {
+  const events = { settled: (answered) => settled(collector, answered), back: () => restored(collector) };
+  const refusal = await sendAll(collector, isWhole, events).catch((fault) => {
     isAll ||= isWhole && state.who === who;
     throw fault;
   });
@@ -136,28 +138,41 @@ function waitAfter({ who }, refusal) {
 }
 
 /** Takes what was answered, and shows it in its place. */
-async function settled({ who }, answered) {
+async function settled(collector, answered) {
+  const { who } = collector;
   if (state.who !== who) return;
   Object.assign(state, { line: "up", refusal: null });
   notice("");
   const [list, entries] = await Promise.all([store.listOf(who, state.month), store.entries(who)]);
   if (state.who !== who) return;
   takeKept(list ?? null, entries);
+  if (list?.isDoubted && !wanted) wanted = "lists";
   on.settled(answered);
   touch(answered.filter(([{ month }]) => month === state.month).map(([{ slot }]) => slot));
+  if (answered.some(([{ had }, { receipt }]) => had && receipt)) await showSentAgain(collector);
   tabs.tell("answered");
+}
+
+/** The office was restored from a copy: shows what it lacks, which is sent again, and asks for the lists that it has. */
+async function restored({ who }) {
+  if (state.who !== who) return;
+  if (!wanted) wanted = "lists";
+  await show();
 }
 
 /** Asks for the lists; seconds to wait if they are refused, else null. */
 async function listed(collector) {
   const { month } = state, asked = wanted;
-  const refusal = await fetchLists(collector, asked === "whole");
+  let isBack = false;
+  const refusal = await fetchLists(collector, asked === "whole", () => { isBack = true; });
   if (state.who !== collector.who) return null;
   state.line = "up";
   if (state.month !== month) return null; // (that month's list is wanted still)
   if (wanted === asked && ![11, 90].includes(refusal?.refused)) wanted = "";
   if (!refusal) state.refusal = null;
-  await show();
+  isAsked ||= isBack; // (what it lacks waits now)
+  if (isBack) await restored(collector);
+  else await show();
   notice(refusal ? toCollector(refusal) : "");
   return { 11: LONGEST_WAIT, 90: 0 }[refusal?.refused] ?? null;
 }

@@ -1,5 +1,6 @@
 // Sends the entries of the phone. One tab at a time does (line.js), so that a later mark is never overtaken.
 import { ask, NoAnswer } from "../shared/api.js";
+import { keepList, keepMoved, settle } from "./kept-lists.js";
 import { areRows, hasMovedOn } from "./quotes.js";
 import * as store from "./store.js";
 
@@ -9,10 +10,11 @@ const ROWS = 50; // rows of one import: the office serves one after another, so 
 const FIRST_WAIT = 60, LONGEST_WAIT = 900;
 
 /**
- * Refusals that may be over later: the month has no window yet (21), the slot is another collector's (22), the window
- * isn't open (23), it has closed (24).
+ * Refusals that may be over later: the slot isn't there (20), since an office that was restored from a copy lacks what the
+ * desk has sent, the month has no window yet (21), the slot is another collector's (22), the window isn't open (23), it
+ * has closed (24).
  */
-const FOR_A_WHILE = new Set([21, 22, 23, 24]);
+const FOR_A_WHILE = new Set([20, 21, 22, 23, 24]);
 
 /** Versions of entries that were made while the office answered; nothing is looked up for so many milliseconds. */
 const fresh = new Set(), FRESH = 60_000;
@@ -37,14 +39,14 @@ export function dueIn({ state, reply, tried, times = 0 }, now = Date.now()) {
 }
 
 /**
- * Sends what is due, and hands on the entries that were answered, [entry, reply] each; the reply is empty if the page
- * asks the collector instead. With `isAll` what was refused for a while is due. Null once all of it was answered; a
- * refusal of all if the office took no more, and the rest waits; or throws NoAnswer. An entry that the office stored
- * before gets its receipt again.
+ * Sends what is due, and hands on the entries that were answered, [entry, reply] each (`on.settled`); the reply is empty
+ * if the page asks the collector instead. With `isAll` what was refused for a while is due. Null once all of it was
+ * answered; a refusal of all if the office took no more, and the rest waits; or throws NoAnswer. An entry that the office
+ * stored before gets its receipt again. `on.back` is called if the office was restored from a copy.
  */
-export async function sendAll(collector, isAll, onSettled) {
+export async function sendAll(collector, isAll, on) {
   const isDue = (entry) => dueIn(entry, isAll ? Infinity : undefined) === 0;
-  const refusal = await lookUp(collector, isDue, onSettled);
+  const refusal = await lookUp(collector, isDue, on);
   if (refusal) return refusal;
   const done = new Set(); // versions
   for (;;) {
@@ -56,8 +58,8 @@ export async function sendAll(collector, isAll, onSettled) {
     if (!Array.isArray(rows)) return rows;
     const end = rows.findIndex((row) => !isOwn(row));
     const answered = sent.map((entry, n) => [entry, rows[n]]).slice(0, end < 0 ? ROWS : end);
-    if (!(await store.settle(collector, answered))) return null; // (signed out meanwhile)
-    await onSettled(answered);
+    if (!(await settle(collector, answered))) return null; // (signed out meanwhile)
+    await on.settled(answered);
     if (end >= 0) return rows[end];
   }
 }
@@ -95,18 +97,20 @@ const isOwn = ({ refused }) => refused !== 11 && refused !== 90;
  * Looks up what the office has of the months of entries that weren't sent at once. Of those that another device has
  * overtaken meanwhile the collector is asked. A refusal of all, or null; throws NoAnswer.
  */
-async function lookUp(collector, isDue, onSettled) {
-  const late = (await store.entries(collector.who)).filter((entry) => isDue(entry) && !isFresh(entry));
-  for (const month of new Set(late.map((entry) => entry.month))) {
+async function lookUp(collector, isDue, on) {
+  const isLate = (entry) => isDue(entry) && !isFresh(entry);
+  const months = new Set((await store.entries(collector.who)).filter(isLate).map(({ month }) => month));
+  for (const month of months) {
     const reply = await ask("GET", `/quotes/${month}/${month}`, collector);
     if (isOfAll(reply)) return reply;
     if (!areRows(reply.quotes)) throw new NoAnswer("odd");
+    if (await keepList(collector, month, { quotes: reply.quotes })) await on.back();
     const quotes = new Map(reply.quotes.map((row) => [row[0], row]));
-    const moved = late.filter((entry) => entry.month === month)
-      .map((entry) => [entry, quotes.get(entry.slot)]).filter(([entry, quote]) => hasMovedOn(entry, quote));
+    const late = (await store.entries(collector.who)).filter((entry) => entry.month === month && isLate(entry));
+    const moved = late.map((entry) => [entry, quotes.get(entry.slot)]).filter(([entry, quote]) => hasMovedOn(entry, quote));
     if (moved.length === 0) continue;
-    await store.keepMoved(collector, month, moved);
-    await onSettled(moved.map(([entry]) => [entry, {}]));
+    await keepMoved(collector, month, moved);
+    await on.settled(moved.map(([entry]) => [entry, {}]));
   }
   return null;
 }

@@ -9,6 +9,7 @@ import { nameIn, readKey, takeLink } from "./key.js";
 import * as line from "./line.js";
 import { choose, render, show } from "./list.js";
 import { takeShared } from "./lists.js";
+import { showSentAgain } from "./restored.js";
 import * as search from "./search.js";
 import * as shownMonth from "./shown-month.js";
 import { signedOut, state, takeKept } from "./state.js";
@@ -97,6 +98,7 @@ async function enter(key, name) {
   find("work").hidden = find("leave").hidden = false;
   await show();
   choose();
+  await showSentAgain(state);
 }
 
 /** Asks for the lists; the month may be another one by them. */

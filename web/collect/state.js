@@ -30,9 +30,10 @@ export function takeKept(list, entries) {
   takeEntries(entries);
 }
 
-/** Takes all entries, in the place of those before. */
+/** Takes all entries, in the place of those before. What the office lacks counts if its slot has no entry else. */
 export function takeEntries(entries) {
-  state.entries = entries;
+  const own = new Set(entries.filter(({ had }) => !had).map(keyOfEntry));
+  state.entries = entries.filter((entry) => !entry.had || !own.has(keyOfEntry(entry)));
   bySlot.entries = new Map(entries.filter(({ month }) => month === state.month).map((entry) => [entry.slot, entry]));
 }
 

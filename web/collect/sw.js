@@ -2,11 +2,12 @@
 // VERSION is the hash of FILES and of the catalogues of all languages: tools/pages writes it. What an office sets itself
 // (SET) is kept too, and read anew behind each start, so that the next one has it; and so are the catalogues of languages
 // that this phone has spoken, which the page names.
-const VERSION = "e58fcccf33558069";
+const VERSION = "1017576f5f8e09fc";
 const FILES = [
   "./", "app.js", "collect.css", "deadline.js", "drafts.js", "entry.js", "export.js", "form.js", "head.js",
-  "icon.svg", "key.js", "languages.js", "line.js", "list.js", "lists.js", "look.js", "manifest.webmanifest", "quotes.js",
-  "refused.js", "search.js", "send.js", "session.js", "shown-month.js", "state.js", "store.js", "tabs.js", "unsent.js", "wording.js",
+  "icon.svg", "kept-lists.js", "key.js", "languages.js", "line.js", "list.js", "lists.js", "look.js", "manifest.webmanifest",
+  "quotes.js", "refused.js", "restored.js", "search.js", "send.js", "session.js", "shown-month.js", "state.js", "store.js",
+  "tabs.js", "unsent.js", "wording.js",
   "../shared/api.js", "../shared/base.css", "../shared/csv.js", "../shared/dom.js", "../shared/money.js",
   "../shared/language.js", "../shared/languages.js", "../shared/months.js", "../shared/texts.js", "../shared/windows.js",
 ];

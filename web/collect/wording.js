@@ -67,11 +67,25 @@ export function stillStored(slot) {
 /** Why an entry isn't stored, and what to do, in a sentence or two. */
 export function whyNotStored(entry) {
   if (entry.state === "waiting") return state.refusal ? toCollector(state.refusal) : t("It waits to be sent.");
+  if (entry.had) return whyLacked(entry);
   if (entry.state !== "moved") return toCollector(entry.reply);
   const { mark, value, receipt } = entry.reply;
   const values = { entered: inMarks(mark, value), receipt: whole(receipt) };
   // t: {entered} is such as 3.21, or Sold out
   return t("The office has {entered} (receipt {receipt}), stored since this was written. Which one is right?", values);
+}
+
+/** The same of an entry that the office had stored, before it was restored from a copy. */
+function whyLacked({ state: become, reply, had }) {
+  if (become !== "moved") {
+    const told = { receipt: whole(had), why: toCollector(reply) };
+    // t: {receipt} is the number of a receipt; {why} is a sentence or two, such as: The window has closed. Tell the desk.
+    return t("The office had stored this, with receipt {receipt}, and was restored from a copy that lacks it. {why}", told);
+  }
+  const values = { entered: inMarks(reply.mark, reply.value), receipt: whole(reply.receipt), had: whole(had) };
+  // t: {entered} is such as 3.21, or Sold out; {receipt} and {had} are numbers of receipts
+  return t("The office was restored from a copy. It has {entered} now (receipt {receipt}); it had this one (receipt {had}). "
+    + "Which one is right?", values);
 }
 
 const isFull = ({ name }) => name === "QuotaExceededError";
