@@ -18,6 +18,9 @@ from .harness import TOP
 WORDS = "tests/linters/words.txt"
 """Words that codespell would change, and that are right."""
 
+IN_ANOTHER_LANGUAGE = re.compile(r"docs/(?!man/)[a-z]{2,3}/")
+"""Guides that are translated."""
+
 WORKER = "web/collect/sw.js"
 """The one script that runs in no page."""
 
@@ -96,6 +99,11 @@ def by_black(files: Sequence[str]) -> Found:
     return {it: ["black -l 120 lays it out otherwise"] for it in named}
 
 
+def by_codespell(files: Sequence[str]) -> Found:
+    """It knows English words only, so it reads no guide in another language."""
+    return ran([it for it in files if not IN_ANOTHER_LANGUAGE.match(it)], "codespell", "-I", WORDS)
+
+
 def by_tsc(files: Sequence[str]) -> Found:
     """Scripts of pages with what pages have, and the service worker with what it has."""
     pages, worker = [it for it in files if it != WORKER], [it for it in files if it == WORKER]
@@ -125,7 +133,7 @@ LINTERS = [
     Linter("tsc", ("javascript",), by_tsc),
     Linter("pyflakes", ("python",), lambda files: ran(files, "pyflakes3")),
     Linter("shellcheck", ("shell",), lambda files: ran(files, "shellcheck", "-f", "gcc")),
-    Linter("codespell", TEXTS, lambda files: ran(files, "codespell", "-I", WORDS)),
+    Linter("codespell", TEXTS, by_codespell),
     Linter("merges", TEXTS, by_merges),
 ]
 """The slow ones first."""
