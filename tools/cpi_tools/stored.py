@@ -6,9 +6,10 @@ A file is read by Python's sqlite3, so by the C library, and is never one that `
 from __future__ import annotations
 
 import contextlib
+import hashlib
 import sqlite3
 from collections import defaultdict
-from collections.abc import Iterator
+from collections.abc import Iterable, Iterator
 from pathlib import Path
 from typing import Any, NamedTuple, Optional
 
@@ -283,6 +284,29 @@ class StoredOffice:
         text = "SELECT collector, slot, receipt FROM quote_2 WHERE month = ?"
         return {(collector, slot): receipt for collector, slot, receipt in self.ask(text, month)}
 
+    def response(self, month: int) -> list[tuple[int, int, str, str, int]]:
+        """How many slots of a month there are by collector, outlet, item and mark, which is empty if nothing was sent."""
+        rows = self.ask(
+            "SELECT a.collector, a.outlet, a.item, coalesce(q.mark, ''), count(*) FROM assignment_2 AS a"
+            " LEFT JOIN quote_2 AS q ON q.collector = a.collector AND q.slot = a.slot AND q.month = ?"
+            " WHERE ? BETWEEN a.first_month AND a.last_month GROUP BY 1, 2, 3, 4",
+            *(month, month),
+        )
+        return [(collector, outlet, item, mark, count) for collector, outlet, item, mark, count in rows]
+
+    def last_sent(self) -> dict[int, tuple[int, int]]:
+        """By collector the latest month of which there is a quote, and the greatest receipt."""
+        rows = self.ask("SELECT collector, max(month), max(receipt) FROM quote_2 GROUP BY collector")
+        return {collector: (month, receipt) for collector, month, receipt in rows}
+
+    def fingerprint(self, tables: Iterable[str]) -> str:
+        """What stands in some tables, as a sum in hexadecimal."""
+        found = hashlib.sha256()
+        for table in tables:
+            for row in self._link.execute(f"SELECT * FROM {table} ORDER BY 1, 2"):
+                found.update(repr(row).encode())
+        return found.hexdigest()
+
     def copied_prices(self) -> dict[Slot, int]:
         """The price that each slot was handed over with, where there was one, in minor units."""
         text = "SELECT collector, slot, copied FROM assignment_2 WHERE copied IS NOT NULL"
@@ -334,6 +358,15 @@ class StoredOffice:
         """Mark, price and receipt of each quote of a slot, by month."""
         text = "SELECT month, mark, value, receipt FROM quote_2 WHERE collector = ? AND slot = ?"
         return {month: (mark, value, receipt) for month, mark, value, receipt in self.ask(text, *slot)}
+
+    def quotes_of_series(self, series: Series) -> dict[int, tuple[str, int]]:
+        """Mark and price of each quote of a series, whoever had it, by month."""
+        text = (
+            "SELECT q.month, q.mark, q.value FROM quote_2 AS q JOIN assignment_2 AS a"
+            " ON a.collector = q.collector AND a.slot = q.slot"
+            " WHERE a.series_collector = ? AND a.series_slot = ? ORDER BY q.month"
+        )
+        return {month: (mark, value) for month, mark, value in self.ask(text, *series)}
 
     def last_quotes(self, most: int) -> list[tuple[int, int, int, int]]:
         """Collector, slot, month and receipt of the quotes that came new last, the latest first. (A quote that was put

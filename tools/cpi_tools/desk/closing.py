@@ -14,6 +14,7 @@ from ..program import Cpi, record
 from ..sections import Section
 from ..stored import read_copy
 from ..terminal import Fault, counted, month_text, time_text
+from ..trial import Frozen as FrozenMonth
 from ..trial import freeze_on_copy, state_of
 from . import aggregates, response
 from .early import Early, early_tables
@@ -34,7 +35,7 @@ class Named(NamedTuple):
 
 class Closed(NamedTuple):
     """A month as it was frozen on a copy: what the refusals named, the rows of its table, how many slots are priced,
-    and the tables that come out too early."""
+    the tables that come out too early, and the bytes of its own."""
 
     month: int
     closes: int
@@ -44,6 +45,7 @@ class Closed(NamedTuple):
     priced: int
     slots: int
     early: list[Early]
+    table: bytes
 
 
 class Decision(NamedTuple):
@@ -72,9 +74,14 @@ def close(cpi: Cpi, office_copy: Path, month: int, at: int) -> Closed:
     with private_copy(office_copy) as copy:
         frozen = freeze_on_copy(cpi, copy, state, max(at, closes))
         with read_copy(copy) as office:
-            facts = Facts(office, month, frozen)
-            named, count = [named_of(facts, code) for code in frozen.carry], response.in_all(facts)
-            return Closed(month, closes, frozen.revision, named, len(facts.rows), count.priced, count.slots, early)
+            return closed_of(Facts(office, month, frozen), closes, frozen, early)
+
+
+def closed_of(facts: Facts, closes: int, frozen: FrozenMonth, early: list[Early]) -> Closed:
+    """A month that was frozen on a copy, whose facts these are."""
+    named, count = [named_of(facts, code) for code in frozen.carry], response.in_all(facts)
+    counts = (len(facts.rows), count.priced, count.slots)
+    return Closed(facts.month, closes, frozen.revision, named, *counts, early, frozen.table)
 
 
 def named_of(facts: Facts, code: str) -> Named:

@@ -15,7 +15,7 @@ from ..stored import read_copy
 from ..terminal import month_text, time_text
 from ..trial import Frozen, Refused, State, as_frozen, freeze_on_copy, state_of
 from . import aggregates, influence, provisional, response, sparse, unusual
-from .early import early_tables
+from .early import Early, early_tables
 from .facts import Facts
 
 PERCENT = "\u202f%"
@@ -72,35 +72,62 @@ class Report(NamedTuple):
 # ---- the month on a copy
 
 
+class OnCopy(NamedTuple):
+    """A month that was tried on a copy: where it stands, the tables that come out too early, the freeze, and why there is
+    none, if there is none."""
+
+    state: State
+    early: list[Early]
+    frozen: Optional[Frozen]
+    fault: str
+
+
 def report_of(cpi: Cpi, office_copy: Path, asked: Asked, now: Now) -> Report:
     """Freezes the month on a further copy where it can be frozen, and says all there is to say of it.
 
     It is frozen when its window closes, or at the asked moment where that is later. Raises Refused where the calendar
     has no row of the month.
     """
+    with private_copy(office_copy) as copy:
+        tried = tried_on(cpi, office_copy, copy, asked, now)
+        with read_copy(copy) as office:
+            return report_with(cpi, office_copy, tried, Facts(office, asked.month, tried.frozen), asked, now)
+
+
+def tried_on(cpi: Cpi, office_copy: Path, copy: Path, asked: Asked, now: Now) -> OnCopy:
+    """Freezes the month on `copy`, a further copy of `office_copy`. Raises Refused as `report_of` does."""
     with read_copy(office_copy) as office:
         state = state_of(office, asked.month)
         carry = next((each.carry for each in reversed(office.releases()) if each.month == asked.month), ())
-        warnings = [str(it) for it in early_tables(office, state, asked.at)]
-    at = max(asked.at, state.window.closes)
-    with private_copy(office_copy) as copy:
-        frozen: Optional[Frozen] = None
-        fault = ""
-        now(f"freezing {month_text(asked.month)} on a copy")
-        try:
-            frozen = as_frozen(cpi, copy, state, carry) if state.is_frozen else freeze_on_copy(cpi, copy, state, at)
-        except Refused as refused:
-            fault = str(refused)
-        with read_copy(copy) as office:
-            facts, left = Facts(office, asked.month, frozen), list[influence.Left]()
-            if frozen and facts.rows and asked.left_out and not state.is_frozen:
-                now("leaving quotes out in turn")
-                trial = influence.Trial(cpi, office_copy, state, at, frozen.carry)
-                left = influence.left_out(facts, trial, asked.left_out)
-            now("counting")
-            sections = sections_of(facts, asked, frozen, left)
-            report = gathered(facts, asked, state, sections, fault, frozen.table if frozen else b"")
-            return report._replace(warnings=warnings)
+        early = early_tables(office, state, asked.at)
+    now(f"freezing {month_text(asked.month)} on a copy")
+    try:
+        frozen = (
+            as_frozen(cpi, copy, state, carry)
+            if state.is_frozen
+            else freeze_on_copy(cpi, copy, state, frozen_at(state, asked))
+        )
+    except Refused as refused:
+        return OnCopy(state, early, None, str(refused))
+    return OnCopy(state, early, frozen, "")
+
+
+def frozen_at(state: State, asked: Asked) -> int:
+    """When the month is frozen on a copy."""
+    return max(asked.at, state.window.closes)
+
+
+def report_with(cpi: Cpi, office_copy: Path, tried: OnCopy, facts: Facts, asked: Asked, now: Now) -> Report:
+    """All there is to say of a month that was tried on a copy, whose facts these are."""
+    state, frozen, left = tried.state, tried.frozen, list[influence.Left]()
+    if frozen and facts.rows and asked.left_out and not state.is_frozen:
+        now("leaving quotes out in turn")
+        trial = influence.Trial(cpi, office_copy, state, frozen_at(state, asked), frozen.carry)
+        left = influence.left_out(facts, trial, asked.left_out)
+    now("counting")
+    sections = sections_of(facts, asked, frozen, left)
+    report = gathered(facts, asked, state, sections, tried.fault, frozen.table if frozen else b"")
+    return report._replace(warnings=[str(it) for it in tried.early])
 
 
 def sections_of(facts: Facts, asked: Asked, frozen: Optional[Frozen], left: Sequence[influence.Left]) -> list[Section]:

@@ -6,7 +6,7 @@ Nothing here depends on a freeze.
 from __future__ import annotations
 
 from collections import Counter, defaultdict
-from collections.abc import Callable, Iterable, Iterator
+from collections.abc import Callable, Iterable, Iterator, Mapping
 from typing import Optional, TypeVar
 
 from ..exact import decimal
@@ -35,8 +35,12 @@ class Count:
 
     def add(self, quote: Optional[Quote]) -> None:
         """Counts a slot."""
-        self.slots += 1
-        self.marks[quote.mark if quote else SILENT] += 1
+        self.add_many(quote.mark if quote else SILENT, 1)
+
+    def add_many(self, mark: str, count: int) -> None:
+        """Counts some slots with one mark."""
+        self.slots += count
+        self.marks[mark] += count
 
     @property
     def priced(self) -> int:
@@ -73,7 +77,11 @@ def in_all(facts: Facts) -> Count:
 def weighted(facts: Facts, codes: Iterable[str]) -> tuple[int, int]:
     """Parts of the plan's weight that are priced, in millionths, and the weight in all: each aggregate by the share of
     its slots that have a price."""
-    by_code, weights = counts(facts, lambda it: facts.code(it.item)), facts.plan.weights if facts.plan else {}
+    return weighted_by(counts(facts, lambda it: facts.code(it.item)), facts.plan.weights if facts.plan else {}, codes)
+
+
+def weighted_by(by_code: Mapping[str, Count], weights: Mapping[str, int], codes: Iterable[str]) -> tuple[int, int]:
+    """The same of counts by aggregate and the weights of a plan."""
     known = [(weights[code], by_code[code]) for code in codes if code in by_code and code in weights]
     parts = sum(weight * count.priced * 10**6 // count.slots for weight, count in known)
     return parts, sum(weight for weight, _ in known)

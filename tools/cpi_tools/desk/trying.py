@@ -75,18 +75,26 @@ def quotes_of(office: StoredOffice, window: Window, tried: Tried) -> Iterator[Re
 # ---- the nodes that differ
 
 
+HEADS = columns(
+    *("=code", "#index", "#month %", "#year %", "#what if: index", "#what if: month %", "#what if: year %", "title")
+)
+
+
 def differences(beside: Beside) -> Section:
     """The rows of the two tables that differ, side by side."""
-    one, other = rows_of(beside.as_is.table), rows_of(beside.tried.table)
+    rows = differing(beside.as_is.table, beside.tried.table)
+    return Section("what-if", "Nodes that differ", "", HEADS, rows, "None: the tables are the same.")
+
+
+def differing(one: bytes, other: bytes) -> list[list[Cell]]:
+    """The rows of two tables that differ: the code, the figures of each, and the title."""
+    before, after = rows_of(one), rows_of(other)
     rows: list[list[Cell]] = []
-    for code in sorted(one.keys() | other.keys()):
-        if one.get(code) != other.get(code):
-            title = (other.get(code) or one[code])[-1]
-            rows.append([code, *figures(one.get(code)), *figures(other.get(code)), title])
-    heads = columns(
-        *("=code", "#index", "#month %", "#year %", "#what if: index", "#what if: month %", "#what if: year %", "title")
-    )
-    return Section("what-if", "Nodes that differ", "", heads, rows, "None: the tables are the same.")
+    for code in sorted(before.keys() | after.keys()):
+        if before.get(code) != after.get(code):
+            title = (after.get(code) or before[code])[-1]
+            rows.append([code, *figures(before.get(code)), *figures(after.get(code)), title])
+    return rows
 
 
 def rows_of(table: bytes) -> dict[str, list[str]]:
