@@ -7,11 +7,12 @@ there() {
   for program in mypy black pyflakes3 shellcheck codespell tsc; do
     command -v "$program" > /dev/null || return
   done
-  /usr/bin/python3 -c 'import jinja2, openpyxl, pytest, segno, selenium; import importlib.util as it
+  /usr/bin/python3 -c 'import flask, jinja2, openpyxl, pytest, segno, selenium, waitress; import importlib.util as it
 if not it.find_spec("babel-stubs"): raise ImportError' 2> /dev/null
 }
 packages=(mypy python3-typeshed black pyflakes3 shellcheck codespell node-typescript)
-packages+=(python3-jinja2 python3-openpyxl python3-pytest python3-segno python3-selenium)
+packages+=(python3-jinja2 python3-openpyxl python3-pytest python3-segno python3-selenium python3-flask)
+packages+=(python3-waitress)
 install() { DEBIAN_FRONTEND=noninteractive apt-get install -y -q --no-install-recommends "${packages[@]}"; }
 there && exit
 told=$({ install || { apt-get update -q && install; }; } 2>&1)

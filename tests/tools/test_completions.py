@@ -121,7 +121,7 @@ COMPLETED = [
     ("cpi table --month ", []),
     ("cpi replay --db replay --z", ["--zone"]),
     ("cpi-tools ta", ["take-in", "take-out"]),
-    ("cpi-tools desk ", ["month", "close", "what-if"]),
+    ("cpi-tools desk ", ["month", "close", "what-if", "serve"]),
     ("cpi-tools desk what-if --reason ", ["stock", "closed", "gone", "refused"]),
     ("cpi-tools desk close office.db 2026-01 --carry a", ["ask", "all"]),
     ("cpi-tools backup --rep", ["--replace"]),

@@ -26,6 +26,7 @@ from conftest import ROOT
 OPS = ROOT / "ops"
 KEY = "0123456789abcdef0123456789abcdef"
 UNITS = ["cpi.service", "cpi-backup.service", "cpi-backup.timer", "cpi-follow.service", "cpi-promoted.service"]
+UNITS += ["cpi-desk.service"]
 
 
 def needed(program: str) -> str:
@@ -59,16 +60,16 @@ def test_what_the_units_start_is_there_and_named_in_the_guide() -> None:
     assert [path.name for path in sorted(OPS.iterdir()) if f"{path.name}" not in guide] == []
 
 
-ADDED = {"CPI_COPY", "CPI_COPY_EVERY"}
-"""What an office with a second machine adds to its office.conf. (If the package's own file changed, an upgrade of an
-office that has set something in it would ask which file to take.)"""
+ADDED = {"CPI_COPY", "CPI_COPY_EVERY", "CPI_DESK_FRONT", "CPI_DESK_LISTEN"}
+"""What an office with a second machine, or with the pages of the desk, adds to its office.conf. (If the package's own
+file changed, an upgrade of an office that has set something in it would ask which file to take.)"""
 
 
 def test_each_variable_of_the_scripts_is_in_the_configuration() -> None:
     told = set(re.findall(r"^(CPI_\w+)=", (OPS / "office.conf").read_text(), re.M))
     guide = (ROOT / "docs/RUNNING.md").read_text(encoding="utf-8")
     assert [name for name in sorted(ADDED) if f"a line `{name}=" not in guide] == []
-    scripts = ("cpi-serve", "cpi-stopped", "cpi-backup", "cpi-follow")
+    scripts = ("cpi-serve", "cpi-stopped", "cpi-backup", "cpi-follow", "cpi-desk")
     used = {name for path in scripts for name in re.findall(r"CPI_\w+", (OPS / path).read_text())}
     assert told == used - ADDED
 

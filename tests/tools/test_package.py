@@ -150,6 +150,7 @@ def test_each_file_of_ops_has_its_place(members: dict[str, tarfile.TarInfo]) -> 
     assert places == {
         "cpi.service": units, "cpi-backup.service": units, "cpi-backup.timer": units, "cpi-serve": programs,
         "cpi-follow.service": units, "cpi-promoted.service": units, "cpi-follow": programs,
+        "cpi-desk.service": units, "cpi-desk": programs,
         "cpi-backup": programs, "cpi-stopped": programs, "nginx.conf": others, "Caddyfile": others, "logrotate-cpi": others,
         "try": others, "try.py": others, "office.conf": {"etc/cpi"},
     }  # fmt: skip
@@ -179,12 +180,12 @@ def test_nothing_is_started_by_it(package: Path, members: dict[str, tarfile.TarI
         f"systemd-tmpfiles {root} --create cpi.conf || true",
         "systemctl --system daemon-reload",
         "systemctl --quiet is-active cpi.service; then",
-        "deb-systemd-invoke stop cpi-backup.timer cpi-follow.service cpi.service",
+        "deb-systemd-invoke stop cpi-backup.timer cpi-follow.service cpi-desk.service cpi.service",
     }
     needs = re.findall(r"^(?:Depends|Recommends|Suggests): (.*)$", (tmp_path / "told/control").read_text(), re.M)
     assert needs == [
         "libc6 (>= 2.34), python3 (>= 3.9)",
-        "python3-jinja2, python3-segno, python3-babel",
+        "python3-jinja2, python3-segno, python3-babel, python3-flask, python3-waitress",
         "python3-openpyxl, libreoffice-calc-nogui, openssh-client, rsync, rclone, librsvg2-bin, fonts-dejavu-core",
     ]
 

@@ -1,4 +1,4 @@
-"""The words of `cpi-tools desk` and its three jobs, and how they are run."""
+"""The words of `cpi-tools desk` and its jobs, and how those at the terminal are run."""
 
 from __future__ import annotations
 
@@ -13,6 +13,7 @@ from typing import NamedTuple, Optional, Union
 
 from ..copying import private_copy
 from ..csv_files import add_safe_csv
+from ..desk_app.words import add_serve
 from ..folders import written_folder
 from ..program import Cpi, add_program
 from ..sections import text_of, write_csv
@@ -146,9 +147,10 @@ def a_price(text: str) -> tuple[tuple[int, int], int]:
 # ---- words
 
 DESCRIPTION = """\
-The month before it is frozen: a report on it, its freeze, and what would change it. Each job works
-on a copy of the office's file with its log, so cpi may run meanwhile, and the file is never
-written. What would happen is told by cpi itself, which freezes the month on the copy.
+The month before it is frozen: a report on it, its freeze, and what would change it; and the same in
+a browser. Each job works on a copy of the office's file with its log, so cpi may run meanwhile, and
+the file is never written. What would happen is told by cpi itself, which freezes the month on the
+copy.
 """
 
 EPILOG = """\
@@ -211,6 +213,7 @@ def add_words(tools: argparse._SubParsersAction[ToolWords]) -> None:
     _add_month(jobs)
     _add_close(jobs)
     _add_what_if(jobs)
+    add_serve(jobs)
 
 
 def _job(jobs: argparse._SubParsersAction[ToolWords], name: str, says: str, text: str, epilog: str) -> ToolWords:

@@ -1,0 +1,100 @@
+"""The application of the desk over an office that is served, as a browser asks it."""
+
+from __future__ import annotations
+
+import contextlib
+import html
+import re
+import time
+from collections.abc import Iterator
+from pathlib import Path
+from typing import Any, Optional
+
+from cpi_tools.desk_app.app import Reached, make_app
+from cpi_tools.desk_app.desk import Desk, Given
+from cpi_tools.pack.clocks import clock_of
+from cpi_tools.program import Cpi
+from lib.served import free_port
+from loads import DESK_KEY, served
+
+LISTEN = "127.0.0.1:8090"
+CLOCK = clock_of("Europe/Prague")
+ADA, BEN = "Ada", "Ben"
+
+PATIENCE = 120
+"""Seconds after which a trial is taken for hanging."""
+
+
+class Person:
+    """A person with a browser of their own."""
+
+    def __init__(self, client: Any, name: str = "", key: str = DESK_KEY):
+        self.client = client
+        self.token = ""
+        if name:
+            assert self.signed_in(name, key).status_code == 303
+            self.token = re.findall('name="token" value="([^"]+)"', self.get("/log").text)[0]
+
+    def signed_in(self, name: str, key: str = DESK_KEY, to: str = "/") -> Any:
+        return self.client.post("/sign-in", data={"name": name, "key": key, "to": to}, base_url=f"http://{LISTEN}")
+
+    def get(self, path: str, **more: Any) -> Any:
+        return self.client.get(path, base_url=f"http://{LISTEN}", **more)
+
+    def post(self, path: str, token: Optional[str] = None, headers: Any = None, **form: str) -> Any:
+        data = {"token": self.token if token is None else token, **form}
+        return self.client.post(path, data=data, base_url=f"http://{LISTEN}", headers=headers)
+
+    def words(self, path: str) -> str:
+        """What a page says."""
+        return words_of(self.get(path).text)
+
+
+def words_of(page: str) -> str:
+    """The text of a page from its main part on, without markup."""
+    return " ".join(html.unescape(re.sub("<[^>]*>", " ", page.partition("<main")[2])).split())
+
+
+class Application:
+    """An application over an office's file, which is served meanwhile or not."""
+
+    def __init__(self, cpi: Cpi, file: Path, room: Path, port: int):
+        self.cpi, self.file, self.room, self.port = cpi, file, room, port
+        self.desk = self._begun()
+
+    def _begun(self) -> Desk:
+        self.room.mkdir(mode=0o700, exist_ok=True)
+        copies = self.room.parent / "copies"
+        copies.mkdir(mode=0o700, exist_ok=True)
+        url = f"http://127.0.0.1:{self.port}"
+        desk = Desk(Given(url, self.file, self.room, str(self.cpi.path), 1800, CLOCK, copies, 8))
+        self.app = make_app(desk, Reached(LISTEN, None))
+        return desk
+
+    def again(self) -> None:
+        """Another application takes the place of this one, as after a crash: nothing of it is left but its folder."""
+        self.desk.close()
+        self.desk = self._begun()
+
+    def person(self, name: str = "") -> Person:
+        return Person(self.app.test_client(), name)
+
+    def tried(self, person: Person, month: str) -> None:
+        """Tries a month on a copy, and waits for it."""
+        assert person.post(f"/month/{month}/try").status_code == 303
+        begun = time.monotonic()
+        while self.desk.trials.running:
+            assert time.monotonic() - begun < PATIENCE
+            time.sleep(0.01)
+
+
+@contextlib.contextmanager
+def applied(cpi: Cpi, file: Path, room: Path) -> Iterator[Application]:
+    """An application over an office that is served."""
+    port = free_port()
+    with served(cpi, file, port, 100_000):
+        application = Application(cpi, file, room, port)
+        try:
+            yield application
+        finally:
+            application.desk.close()

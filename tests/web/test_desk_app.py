@@ -1,0 +1,186 @@
+"""The desk in a browser: a month from its window to its table, by the keyboard, and pages that can be read."""
+
+from __future__ import annotations
+
+import contextlib
+import http.client
+import threading
+from collections.abc import Iterator
+from pathlib import Path
+
+import pytest
+
+from cpi_tools.desk_app.desk_log import DeskLog
+
+from browser import Browser
+from desk_pages import PREFIX, DeskPages, Person, desk_pages
+from offices import ANNA, ARABIC, BENO, DESK, IMAGE, LEAVING, OVERRIDE, SCRIPT
+from readable import faults_for_keys, faults_of_page, faults_of_texts
+from stage import ROOT, Stage
+
+MONTH = "2011-03"
+FAR = 9_999_999_000
+
+
+@pytest.fixture
+def pages(stage: Stage, tmp_path: Path) -> Iterator[DeskPages]:
+    with desk_pages(stage, tmp_path) as it:
+        yield it
+
+
+@pytest.fixture
+def ada(browser: Browser, pages: DeskPages) -> Person:
+    person = Person(browser, pages)
+    person.sign_in("Ada")
+    return person
+
+
+def priced(stage: Stage, *rows: tuple[str, int, int]) -> None:
+    """Two collectors send prices from their phones: key, slot, price."""
+    for key, slot, price in rows:
+        assert "receipt" in stage.ask("PUT", f"/api/quote/{slot}/{MONTH}", key, f"price,{price},confirm").reply
+
+
+def opened(ada: Person, stage: Stage) -> None:
+    """A window that is open, prices from two phones, and a window that has closed."""
+    ada.send(f"calendar,{MONTH},4000,{FAR},{FAR}")
+    priced(stage, (ANNA, 1, 216), (ANNA, 2, 730), (BENO, 1, 272))
+    ada.open(f"/month/{MONTH}/")
+    ada.browser.wait_text("main", "The window closes")
+    ada.send(f"calendar,{MONTH},4000,5000,6000")
+
+
+def test_a_month_is_closed_by_two_people_with_a_keyboard(stage: Stage, ada: Person, browser: Browser) -> None:
+    """Rice is at 100 * (216 + 272) / 440 = 110.909091. Flour went from 480 to 730, and the missing price of 500 moves
+    with it to 760.4167: 100 * 1490.4167 / 1010 = 147.566010. All items are 0.6 of the one and 0.4 of the other:
+    66.5454546 + 59.0264040 = 125.571859."""
+    opened(ada, stage)
+    ada.open(f"/month/{MONTH}/looks")
+    ada.tried(MONTH)
+    browser.wait_text("main", "Confirmed; the only price that is compared in its aggregate")
+    ada.reach("input[name=text]")
+    ada.type("Anna looked again: it is right")
+    ada.press("input[name=text]")
+    browser.wait_text(".desk-note", "Anna looked again: it is right")
+    ada.press(".look form button")
+    browser.wait_text("main", "Nothing is left to look at.")
+    ada.open(f"/month/{MONTH}/freeze")
+    ada.press("form[action$='/prepare'] button")
+    browser.wait_text("#prepared", f"freeze,{MONTH}")
+    assert not browser.all("form[action$='/confirm']")
+    ada.pages.kill()
+    ada.pages.start()
+    ada.sign_in("Ben")
+    ada.open(f"/month/{MONTH}/freeze")
+    ada.tried(MONTH)
+    ada.press("form[action$='/confirm'] button")
+    browser.wait_text(".told.good", f"{MONTH} is frozen, revision 1.")
+    table = stage.ask("GET", f"/api/table/{MONTH}/csv").body.decode().splitlines()
+    assert table[0].startswith("00,1000000,125.571859,")
+    ada.open("/log")
+    browser.wait_text("main", f"freeze,{MONTH}")
+    assert browser.faults() == []
+
+
+def test_a_reply_that_is_lost_is_looked_up(stage: Stage, ada: Person, browser: Browser, tmp_path: Path) -> None:
+    """The office is killed before it answers, and so is the application; the record is in the log, and was never
+    done."""
+    ada.open("/records")
+    browser.type("#text", "outlet,77,Lost and found")
+    ada.press("form[action$='/records/judge'] button")
+    log = tmp_path / "room/desk.log"
+    with stage.standing_still():
+        sent = threading.Thread(target=posted, args=(browser, ada.pages.port, "form[action$='/records/send']"))
+        sent.start()
+        browser.wait(lambda: log.exists() and b"Lost and found" in log.read_bytes())
+        stage.stop_office()
+        ada.pages.kill()
+        sent.join()
+    stage.start_office()
+    ada.pages.start()
+    ada.sign_in("Ben")
+    ada.open("/log")
+    if browser.all("#waiting"):
+        ada.press("#waiting button")
+    browser.wait_text("main", "not carried out")
+    ada.send("outlet,77,Lost and found")
+    ada.pages.kill()
+    kept = DeskLog(log)
+    assert not kept.open_entries() and len([it for it in kept.entries if it.what == "sent"]) == 2
+    kept.close()
+
+
+def posted(browser: Browser, port: int, selector: str) -> None:
+    """Sends a form of the page as the browser would, and waits for an answer or the end. (A browser that is driven says
+    nothing until the page after it is there.)"""
+    script = "return new URLSearchParams(new FormData(document.querySelector(arguments[0]))).toString()"
+    body, cookie = browser.run(script, selector), browser.driver.get_cookie("cpi_desk")
+    fields = {"Cookie": f"cpi_desk={cookie['value']}", "Content-Type": "application/x-www-form-urlencoded"}
+    line = http.client.HTTPConnection("127.0.0.1", port)
+    with contextlib.closing(line), contextlib.suppress(OSError, http.client.HTTPException):
+        line.request("POST", "/records/send", body, fields)
+        line.getresponse().read()
+
+
+def every_page(stage: Stage, ada: Person) -> Iterator[str]:
+    """Each kind of page, with texts of others on it."""
+    opened(ada, stage)
+    ada.send(f'outlet,70,"{IMAGE.replace(chr(34), chr(34) * 2)}"', f"outlet,71,{OVERRIDE}")
+    ada.open(f"/month/{MONTH}/table")
+    ada.tried(MONTH)
+    for path in ("", "table", "looks", "freeze", "what-if", "explain/01.1.1.2-01", "explain/01"):
+        ada.open(f"/month/{MONTH}/{path}")
+        yield path
+    for path in ("/calendar", "/records", "/log", "/nowhere"):
+        ada.open(path)
+        yield path
+
+
+def test_pages_can_be_read_on_a_desk_and_on_a_phone(stage: Stage, ada: Person, browser: Browser) -> None:
+    found, others = list[str](), (SCRIPT, IMAGE, ARABIC, OVERRIDE, LEAVING)
+    for path in every_page(stage, ada):
+        for width in (360, 1280):
+            browser.size(width, 900)
+            for scheme in ("light", "dark"):
+                browser.shown_as(scheme)
+                found += [f"{path} at {width}, {scheme}: {fault}" for fault in faults_of_page(browser)]
+        browser.shown_as("light")
+        found += [f"{path}: {fault}" for fault in faults_for_keys(browser)]
+        found += [f"{path}: {fault}" for fault in faults_of_texts(browser, others)]
+        assert browser.driver.title != "owned"
+    assert found == []
+
+
+def test_behind_the_front_it_is_off_and_can_be_turned_on(stage: Stage, browser: Browser, tmp_path: Path) -> None:
+    assert stage.ask("GET", f"{PREFIX}/sign-in").status == 404
+    with desk_pages(stage, tmp_path, f"{stage.url}{PREFIX}/") as pages:
+        stage.front.stop()
+        stage.front.start(lambda text: turned_on(text).replace("127.0.0.1:8090", f"127.0.0.1:{pages.port}"))
+        try:
+            person = Person(browser, pages)
+            person.sign_in("Ada")
+            cookie = browser.driver.get_cookie("cpi_desk")
+            assert (cookie["secure"], cookie["httpOnly"], cookie["sameSite"]) == (True, True, "Strict")
+            assert cookie["path"] == PREFIX
+            person.send("outlet,72,Behind the front")
+            answer = stage.ask("GET", f"{PREFIX}/sign-in")
+            assert answer.fields["Content-Security-Policy"].startswith("default-src 'none'; style-src 'self';")
+            assert answer.fields["Referrer-Policy"] == "same-origin" and answer.fields["Cache-Control"] == "no-store"
+            assert "max-age" in answer.fields["Strict-Transport-Security"] and browser.faults() == []
+            assert DESK not in stage.logs()
+        finally:
+            stage.front.stop()
+            stage.front.start()
+
+
+def turned_on(text: str) -> str:
+    """The front with the location of the application, whose lines begin with `    #| `."""
+    assert text.count("#| ") > 5
+    return text.replace("    #| ", "    ").replace(
+        "deny all; # (the office's network", "# deny all; # (the office's network"
+    )
+
+
+def test_the_front_and_the_unit_name_one_port() -> None:
+    assert "127.0.0.1:8090" in (ROOT / "ops/nginx.conf").read_text(encoding="utf-8")
+    assert "127.0.0.1:8090" in (ROOT / "ops/cpi-desk").read_text(encoding="utf-8")

@@ -1,0 +1,173 @@
+"""The application: its requests are let in, answered by the views, and sent out with the fields that keep a page safe.
+
+No page has a script, and the policy lets none run: what a person or a collector wrote is text, whatever it looks like.
+"""
+
+from __future__ import annotations
+
+import urllib.parse
+from pathlib import Path
+from typing import NamedTuple, Optional
+
+import flask
+from werkzeug.exceptions import HTTPException
+from werkzeug.wrappers import Response
+
+from .. import pages
+from ..terminal import Fault, time_text
+from . import (
+    calendar_views,
+    freeze_views,
+    log_views,
+    looks_views,
+    month_views,
+    records_views,
+    sign_in_views,
+    table_views,
+)
+from .desk import Desk
+from .sessions import Session
+from .sign_in_views import COOKIE
+
+TEMPLATES = Path(__file__).resolve().parent / "templates"
+
+
+FREE = ("sign_in.show", "sign_in.enter", "style")
+"""What is answered without a session, by the names of the views."""
+
+MOST_BYTES = 4_000_000
+"""Bytes of a form at most."""
+
+POLICY = (
+    "default-src 'none'; style-src 'self'; img-src data:; form-action 'self'; base-uri 'none'; frame-ancestors 'none'"
+)
+FIELDS = {
+    "Content-Security-Policy": POLICY,
+    "Cache-Control": "no-store",
+    "X-Content-Type-Options": "nosniff",
+    "Cross-Origin-Resource-Policy": "same-origin",
+    "Cross-Origin-Opener-Policy": "same-origin",
+    # (with `no-referrer` a browser would send no origin with a form)
+    "Referrer-Policy": "same-origin",
+}
+
+
+class Reached(NamedTuple):
+    """How the application is reached: host and port where it listens, and its address behind a front, if there is
+    one."""
+
+    listen: str
+    front: Optional[str]
+
+    @property
+    def hosts(self) -> set[str]:
+        """The values of the field Host that are taken: those of other names could be a page of elsewhere."""
+        port = self.listen.rpartition(":")[2]
+        front = {urllib.parse.urlsplit(self.front).netloc} if self.front else set[str]()
+        return {self.listen, f"localhost:{port}", *front}
+
+    @property
+    def origins(self) -> set[str]:
+        """The origins whose forms are taken."""
+        own = {f"http://{host}" for host in Reached(self.listen, None).hosts}
+        at = urllib.parse.urlsplit(self.front or "")
+        return {*own, f"{at.scheme}://{at.netloc}"} if self.front else own
+
+    @property
+    def is_secure(self) -> bool:
+        """Whether browsers reach it by TLS."""
+        return bool(self.front and self.front.startswith("https:"))
+
+
+def make_app(desk: Desk, reached: Reached) -> flask.Flask:
+    """The application over a desk."""
+    app = flask.Flask(__name__, static_folder=None, template_folder=None)
+    app.config.update(MAX_CONTENT_LENGTH=MOST_BYTES)
+    templates = pages.environment(TEMPLATES)
+    templates.globals.update(url_for=flask.url_for, time_text=time_text)
+
+    def page(template: str, status: int = 200, /, **named: object) -> Response:
+        found: Optional[Session] = flask.g.get("session")
+        given = {
+            "here": "",
+            "session": found,
+            "style_at": flask.url_for("style"),
+            "desk": desk,
+            "waiting": desk.log.open_entries(),
+        }
+        return flask.Response(templates.get_template(template).render({**given, **named}), status)
+
+    app.extensions["desk"], app.extensions["page"], app.extensions["reached"] = desk, page, reached
+    app.before_request(_let_in)
+    app.after_request(_with_fields)
+    app.register_error_handler(Fault, _fault)
+    app.register_error_handler(HTTPException, _http_fault)
+    app.add_url_rule("/style.css", "style", _style)
+    for views in (
+        sign_in_views,
+        month_views,
+        looks_views,
+        table_views,
+        freeze_views,
+        calendar_views,
+        records_views,
+        log_views,
+    ):
+        app.register_blueprint(views.views)
+    return app
+
+
+def _let_in() -> Optional[Response]:
+    """Lets a request in: from a known address, with a session, and with that session's token if it changes
+    something."""
+    desk: Desk = flask.current_app.extensions["desk"]
+    reached: Reached = flask.current_app.extensions["reached"]
+    request = flask.request
+    if request.host not in reached.hosts:
+        return _refused(400, f"This application isn't {request.host!r}: it is reached as {sorted(reached.hosts)[0]}.")
+    origin = request.headers.get("Origin")
+    if request.method == "POST" and origin and origin not in reached.origins:
+        return _refused(403, "The form came from another site, so nothing was done.")
+    flask.g.session = desk.sessions.of(request.cookies.get(COOKIE))
+    if request.endpoint in FREE:
+        return None
+    if flask.g.session is None:
+        if request.method == "POST":
+            told = (
+                "Your session has ended, so nothing was done. Sign in in another tab, go back here, and send it again."
+            )
+            return _refused(403, told)
+        return flask.redirect(flask.url_for("sign_in.show", to=request.full_path.rstrip("?")))
+    if request.method == "POST" and not flask.g.session.has_token(request.form.get("token", "")):
+        return _refused(403, "The form is of another session, so nothing was done. Load the page anew.")
+    return None
+
+
+def _refused(status: int, told: str) -> Response:
+    found: Response = flask.current_app.extensions["page"]("refused.html", status, told=told)
+    return found
+
+
+def _fault(fault: Fault) -> Response:
+    return _refused(503, str(fault))
+
+
+def _http_fault(fault: HTTPException) -> Response:
+    if fault.code is None or fault.code < 400:
+        return fault.get_response()  # type: ignore[return-value]
+    told = {404: "There is no such page.", 405: "There is no such page.", 413: "The form is longer than is taken."}
+    return _refused(fault.code, told.get(fault.code, f"{fault.code} {fault.name}"))
+
+
+def _with_fields(answer: Response) -> Response:
+    for name, value in FIELDS.items():
+        answer.headers.setdefault(name, value)
+    return answer
+
+
+def _style() -> Response:
+    texts = [(pages.TEMPLATES / name).read_text(encoding="utf-8") for name in ("style.css", "sections.css")]
+    texts.append((TEMPLATES / "desk.css").read_text(encoding="utf-8"))
+    answer = flask.Response("".join(texts), mimetype="text/css")
+    answer.headers["Cache-Control"] = "private, max-age=600"
+    return answer

@@ -1,0 +1,85 @@
+"""The desk: all that its pages work with."""
+
+from __future__ import annotations
+
+import contextlib
+from collections.abc import Iterator, Sequence
+from pathlib import Path
+from typing import NamedTuple, Optional
+
+from ..pack.clocks import Clock
+from ..program import Cpi, Reply
+from .copies import Copies, Copy
+from .desk_log import DeskLog
+from .freezes import PreparedFreeze
+from .marks import Marks
+from .observed import Observed
+from .office import Office
+from .sending import Sender
+from .sessions import Session, Sessions
+from .standing import looked_up
+from .tables_kept import TablesKept
+from .trials import Trials
+from .watching import Watch
+
+LOG = "desk.log"
+
+
+class Given(NamedTuple):
+    """What the words of the command line say: the office's URL and file, the application's folder, the program, after
+    how many idle seconds a session ends, the office's clock, where copies lie, and how many quotes a trial leaves out
+    in turn.
+    """
+
+    url: str
+    file: Path
+    room: Path
+    program: Optional[str]
+    idle: int
+    clock: Clock
+    copies: Path
+    left_out: int
+
+
+class Desk:
+    """An application at work."""
+
+    def __init__(self, given: Given):
+        """Raises Fault if the log or a file of the folder can't be taken."""
+        self.given, self.cpi = given, Cpi(given.program)
+        self.office = Office(given.url)
+        self.log = DeskLog(given.room / LOG)
+        self.copies = Copies(given.file, given.copies)
+        self.watch = Watch(self.copies, Observed(given.room))
+        self.sessions = Sessions(self.office.is_desk, given.idle)
+        self.sender = Sender(self.office, self.log, self._look_up)
+        self.tables = TablesKept(given.room / "tables")
+        self.trials = Trials(self.cpi, self.copies, self.tables, given.copies, given.left_out)
+        self.marks = Marks(given.room / "looks.jsonl")
+        self.prepared = PreparedFreeze(given.room / "prepared-freeze.json")
+
+    def send(self, by: Session, records: Sequence[Sequence[str]]) -> list[Optional[Reply]]:
+        """Sends records of a person, as `Sender.send` does. Raises Fault if nothing was sent."""
+        try:
+            return self.sender.send(by.person, by.key, records)
+        finally:
+            self.watch.changed()
+
+    def _look_up(self, records: Sequence[Sequence[str]], since: int) -> list[Reply]:
+        """What the office's file has of records, by a copy that is taken now."""
+        with self.copies_now() as copy:
+            return looked_up(self.cpi, copy.path, records, since)
+
+    @contextlib.contextmanager
+    def copies_now(self) -> Iterator[Copy]:
+        """A copy that is taken now, if the office's file changed since the latest one. Raises Fault."""
+        self.copies.renew()
+        with self.copies.latest() as copy:
+            yield copy
+
+    def close(self) -> None:
+        """Ends it; the copies go."""
+        self.watch.stop()
+        self.trials.close()
+        self.copies.close()
+        self.log.close()

@@ -1,0 +1,80 @@
+"""The freeze by two people: one prepares the record, another one confirms it, and then it is sent.
+
+The program has one key for the desk and no roles, so this is a rule of the application. What was prepared is a file, so
+that it outlives the application.
+"""
+
+from __future__ import annotations
+
+import hashlib
+import json
+import time
+from collections.abc import Sequence
+from pathlib import Path
+from typing import NamedTuple, Optional
+
+from ..desk.closing import Closed
+from ..terminal import Fault, because_of, month_text
+from ..whole_files import write_whole
+
+
+class Prepared(NamedTuple):
+    """A freeze that waits for a second person: who prepared it and when, its month and revision, the carry list, why
+    each of its aggregates is carried, and the SHA-256 of the table that it would make."""
+
+    by: str
+    at: int
+    month: int
+    revision: int
+    carry: list[str]
+    why: list[str]
+    table: str
+
+    @property
+    def record(self) -> list[str]:
+        """The record that is sent."""
+        return ["freeze", month_text(self.month), *self.carry]
+
+
+def table_sum(table: bytes) -> str:
+    """What a prepared freeze has of a table."""
+    return hashlib.sha256(table).hexdigest()
+
+
+def prepared_of(by: str, closed: Closed, table: bytes, why: Sequence[str]) -> Prepared:
+    """What one person prepares of a month that was frozen on a copy; `why` is of each aggregate on the carry list."""
+    carry = [it.code for it in closed.named]
+    if lacks := [code for code, each in zip(carry, why) if not each.strip()]:
+        raise Fault(f"say why {', '.join(lacks)} is carried: that is the desk's decision, and the log keeps it")
+    return Prepared(
+        by, int(time.time()), closed.month, closed.revision, carry, [it.strip() for it in why], table_sum(table)
+    )
+
+
+class PreparedFreeze:
+    """The file with the prepared freeze, or without one."""
+
+    def __init__(self, path: Path):
+        self._path = path
+
+    def read(self) -> Optional[Prepared]:
+        """What is prepared. Raises Fault if the file can't be read."""
+        try:
+            return Prepared(**json.loads(self._path.read_text(encoding="utf-8")))
+        except FileNotFoundError:
+            return None
+        except OSError as fault:
+            raise Fault(because_of(fault)) from fault
+        except (ValueError, TypeError) as fault:
+            raise Fault(f"{self._path} isn't as it was written: put it aside, and prepare the freeze again") from fault
+
+    def keep(self, it: Prepared) -> None:
+        """Keeps it in place of one that is there. Raises Fault."""
+        try:
+            write_whole(self._path, json.dumps(it._asdict()).encode(), 0o600)
+        except OSError as fault:
+            raise Fault(because_of(fault)) from fault
+
+    def drop(self) -> None:
+        """Forgets it."""
+        self._path.unlink(missing_ok=True)

@@ -1,0 +1,75 @@
+"""Records of the desk that a person typed or pasted: read, and judged by `cpi` on a copy of the office's file, row by
+row, before they are sent."""
+
+from __future__ import annotations
+
+import csv
+import time
+from collections.abc import Sequence
+from pathlib import Path
+
+from ..copying import private_copy
+from ..pack.clocks import Clock
+from ..program import Cpi, Reply, record
+from ..terminal import Fault
+from .standing import TABLES
+
+FREEZE = "freeze"
+
+WORDS = tuple(word for word in TABLES if word != FREEZE)
+"""The words that are taken here: a freeze has a page of its own, on which two people confirm it."""
+
+MOST_RECORDS = 20_000
+
+
+class NotRead(Fault):
+    """A text that isn't records of the desk; one line."""
+
+
+def records_of(text: str, clock: Clock) -> list[list[str]]:
+    """The records of a text, without moment and caller, one a line; empty lines aside. A civil time of the calendar is
+    the moment at which the office's clock shows it. Raises NotRead."""
+    found = list[list[str]]()
+    rows = csv.reader(text.splitlines(keepends=True), strict=True)
+    try:
+        for fields in rows:
+            if fields:
+                found.append(_by_clock(_looked_at(fields, rows.line_num), clock))
+    except csv.Error as fault:
+        raise NotRead(f"line {rows.line_num}: {fault}: wanted are fields with commas between them") from fault
+    if len(found) > MOST_RECORDS:
+        raise NotRead(f"there are {len(found):,} records: {MOST_RECORDS:,} are sent at once at most")
+    if not found:
+        raise NotRead("there are no records: write one a line, such as outlet,10,Corner shop")
+    return found
+
+
+def _looked_at(fields: list[str], line: int) -> list[str]:
+    if fields[0] == FREEZE:
+        raise NotRead(f"line {line}: a month is frozen on its own page, where one person prepares and another confirms")
+    if fields[0] not in WORDS:
+        raise NotRead(
+            f"line {line}: {fields[0][:20]!r} is no word of a record here: wanted is one of {', '.join(WORDS)}"
+        )
+    return fields
+
+
+def _by_clock(fields: list[str], clock: Clock) -> list[str]:
+    """A record whose civil times are moments; what is none stays, and `cpi` refuses it."""
+    if fields[0] != "calendar":
+        return fields
+    return [*fields[:2], *(_moment(text, clock) for text in fields[2:])]
+
+
+def _moment(text: str, clock: Clock) -> str:
+    try:
+        return text if text.isdecimal() else str(clock.moment(text))
+    except ValueError:
+        return text
+
+
+def judged(cpi: Cpi, office_copy: Path, records: Sequence[Sequence[str]]) -> list[Reply]:
+    """What `cpi` answers to records now, on a further copy. Raises Fault."""
+    now = int(time.time())
+    with private_copy(office_copy) as copy:
+        return cpi.replay([record(now, "desk", *fields) for fields in records], db=copy)

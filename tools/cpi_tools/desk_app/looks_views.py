@@ -1,0 +1,103 @@
+"""The prices to look at, worst first: seen by a person, noted by the desk, and as a list for a collector."""
+
+from __future__ import annotations
+
+from typing import Any, NamedTuple
+
+import flask
+from markupsafe import Markup
+from werkzeug.wrappers import Response
+
+from ..others import isolated
+from ..stored import read_copy
+from ..terminal import Fault, counted
+from .asked import desk, month_of, page, session
+from .lines import line_of
+from .looks import Look
+from .marks import NOTE, SEEN, UNSEEN, Mark, Price
+from .trials import Tried
+
+views = flask.Blueprint("looks", __name__)
+
+SHOWN = 50
+"""Prices of a page."""
+
+
+class Row(NamedTuple):
+    """A price to look at as a page shows it: with its history as a picture, and the desk's notes."""
+
+    look: Look
+    picture: Markup
+    notes: list[Mark]
+    is_seen: bool
+
+
+def price_of(month: int, it: Look) -> Price:
+    """What marks are of."""
+    return Price(month, *it.slot, it.price)
+
+
+@views.get("/month/<month>/looks")
+def show(month: str) -> Response:
+    """The prices that this person hasn't seen, or all of them."""
+    number, found = month_of(month), desk().trials.latest(month_of(month))
+    named = {"month": month, "found": found, "running": desk().trials.running, "fault": desk().trials.fault(number)}
+    if found is None:
+        return page("looks.html", rows=[], is_all=False, count=0, seen=0, first=0, step=SHOWN, collectors=[], **named)
+    seen, is_all = desk().marks.seen_by(session().person, number), "all" in flask.request.args
+    chosen = [it for it in found.looks if is_all or price_of(number, it) not in seen]
+    start = flask.request.args.get("from", "0")
+    first = int(start) if start.isdecimal() and len(start) < 9 else 0
+    rows = rows_of(number, found, chosen[first : first + SHOWN])
+    collectors = sorted({it.slot[0] for it in found.looks})
+    counts = {"count": len(chosen), "seen": len(found.looks) - len(chosen), "first": first, "step": SHOWN}
+    return page("looks.html", rows=rows, is_all=is_all, collectors=collectors, **counts, **named)
+
+
+def rows_of(month: int, found: Tried, looks: list[Look]) -> list[Row]:
+    """Some prices with their histories."""
+    seen, notes = desk().marks.seen_by(session().person, month), desk().marks.notes_of(month)
+    rows = list[Row]()
+    with read_copy(found.copy) as office:
+        for it in looks:
+            price = price_of(month, it)
+            picture = line_of(office.quotes_of_series(it.series), month)
+            rows.append(Row(it, picture, notes.get(price, []), price in seen))
+    return rows
+
+
+@views.post("/month/<month>/looks")
+def mark(month: str) -> Response:
+    """Notes that a person has seen a price, or hasn't, or what the desk notes of it."""
+    form = flask.request.form
+    try:
+        price = Price(month_of(month), *(int(form.get(name, "")) for name in ("collector", "slot", "price")))
+    except ValueError:
+        flask.abort(400)
+    text = " ".join(form.get("text", "").split())
+    what = form.get("what", SEEN)
+    if what not in (SEEN, UNSEEN, NOTE) or (what == NOTE and not text):
+        raise Fault("the note is empty, so nothing was noted: go back, and write what is known of the price")
+    desk().marks.add(session().person, price, what, text if what == NOTE else "")
+    query: dict[str, Any] = {name: form[name] for name in ("from", "all") if form.get(name)}
+    return flask.redirect(flask.url_for("looks.show", month=month, **query), 303)
+
+
+@views.get("/month/<month>/looks/<int:collector>.txt")
+def to_send(month: str, collector: int) -> Response:
+    """What to ask a collector, as a text to send. Prices are that collector's own."""
+    found = desk().trials.latest(month_of(month))
+    looks = [it for it in (found.looks if found else []) if it.slot[0] == collector]
+    if not looks:
+        flask.abort(404)
+    notes = desk().marks.notes_of(month_of(month))
+    text = [f"{month}, collector {collector}: {counted(len(looks), 'price')} to look at again\n"]
+    for it in looks:
+        last = "no last price" if it.last is None else f"last price {it.last}"
+        text.append(f"\nSlot {it.slot[1]}: {isolated(it.item)}; {isolated(it.outlet)}\n")
+        text.append(f"  {last}, now {it.price}{f', {it.percent} percent' if it.percent else ''}\n")
+        text += [f"  {each}\n" for each in it.ask]
+        text += [f"  {isolated(each.text)}\n" for each in notes.get(price_of(month_of(month), it), [])]
+    answer = flask.Response("".join(text), mimetype="text/plain; charset=utf-8")
+    answer.headers["Content-Disposition"] = f'attachment; filename="{month}-collector-{collector}.txt"'
+    return answer

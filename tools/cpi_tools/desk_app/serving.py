@@ -1,0 +1,61 @@
+"""The application on a port of this machine, by waitress: requests come in, several at a time, until a signal ends
+it."""
+
+from __future__ import annotations
+
+import os
+import sys
+import tempfile
+import urllib.parse
+from pathlib import Path
+
+import waitress
+
+from ..terminal import Fault, because_of
+from .app import Reached, make_app
+from .desk import Desk, Given
+
+THREADS = 8
+
+
+def serve(given: Given, listen: str, front: str) -> None:
+    """Serves until the process is asked to end. `listen` is an address with its port, `front` the application's address
+    behind a front or nothing. Raises Fault."""
+    room(given.room)
+    reached = Reached(listen, front or None)
+    with tempfile.TemporaryDirectory(prefix="cpi-desk-copies-", dir=given.copies) as folder:
+        desk = Desk(given._replace(copies=Path(folder)))
+        try:
+            listening(desk, reached)
+        finally:
+            desk.close()
+
+
+def room(folder: Path) -> None:
+    """The folder of the application, which nobody else can read. Raises Fault."""
+    try:
+        folder.mkdir(mode=0o700, exist_ok=True)
+        if folder.stat().st_mode & 0o077:
+            raise Fault(f"{folder} can be read by others: the log and notes on prices are in it (chmod 700)")
+    except OSError as fault:
+        raise Fault(because_of(fault)) from fault
+
+
+def listening(desk: Desk, reached: Reached) -> None:
+    """Listens, says so, and answers."""
+    prefix = urllib.parse.urlsplit(reached.front or "").path.rstrip("/")
+    try:
+        server = waitress.create_server(
+            make_app(desk, reached), listen=reached.listen, threads=THREADS, url_prefix=prefix, ident=""
+        )
+    except (OSError, ValueError) as fault:
+        raise Fault(f"{reached.listen} can't be listened at: {fault}") from fault
+    desk.watch.start()
+    print(f"cpi-tools desk serve: {reached.front or f'http://{reached.listen}/'}", flush=True)
+    if reached.front:
+        print(f"cpi-tools desk serve: listening on {reached.listen}, behind that front", flush=True)
+    print(f"cpi-tools desk serve: process {os.getpid()}; its log is {desk.log.path}", file=sys.stderr, flush=True)
+    try:
+        server.run()
+    finally:
+        server.close()

@@ -1,0 +1,125 @@
+"""Who is at the desk: sessions in memory, each with the name of a person and the desk's key, which is written nowhere.
+
+The key is the office's, so each one is checked by asking the office. After some wrong keys nobody is let in for a
+while, longer with each further one.
+"""
+
+from __future__ import annotations
+
+import hmac
+import re
+import secrets
+import threading
+import time
+import unicodedata
+from collections.abc import Callable
+from typing import Optional
+
+from ..terminal import Fault
+
+KEY = re.compile("[0-9a-f]{32}")
+
+MOST_LETTERS = 60
+"""Letters of a name."""
+
+FREE_TRIES = 5
+"""Wrong keys before the first lock."""
+
+FIRST_LOCK, LONGEST_LOCK = 60, 1_800
+"""Seconds."""
+
+LONGEST_SESSION = 12 * 3_600
+"""Seconds after which a person signs in again, however busy."""
+
+
+class NotSignedIn(Fault):
+    """A name or a key that isn't taken; one line."""
+
+
+class Session:
+    """A person at the desk."""
+
+    def __init__(self, person: str, key: str, now: float):
+        self.person, self.key = person, key
+        self.token = secrets.token_urlsafe(24)
+        self.begun = self.used = now
+        self.judged: dict[str, list[list[str]]] = {}
+        """Records that were judged on a copy and not sent, by the name of their form."""
+
+    def has_token(self, given: str) -> bool:
+        """Whether a form is this session's own."""
+        return hmac.compare_digest(self.token.encode(), given.encode())
+
+    def offer(self, records: list[list[str]]) -> str:
+        """Keeps records for one form; its name."""
+        name = secrets.token_urlsafe(12)
+        self.judged[name] = records
+        while len(self.judged) > 20:
+            del self.judged[next(iter(self.judged))]
+        return name
+
+
+def name_of(text: str) -> str:
+    """A person's name as it is kept. Raises NotSignedIn."""
+    name = " ".join(unicodedata.normalize("NFC", text).split())
+    if not name:
+        raise NotSignedIn("Give your name: the desk's log has it next to what you do.")
+    if len(name) > MOST_LETTERS or any(unicodedata.category(it)[0] == "C" for it in name):
+        raise NotSignedIn(f"A name has {MOST_LETTERS} letters at most, and no invisible ones.")
+    return name
+
+
+def is_same(one: str, other: str) -> bool:
+    """Whether two names are of one person, however they are written."""
+    return unicodedata.normalize("NFKC", one).casefold() == unicodedata.normalize("NFKC", other).casefold()
+
+
+class Sessions:
+    """All of them. `is_desk` asks the office whether a key is the desk's; `idle` is in seconds."""
+
+    def __init__(self, is_desk: Callable[[str], bool], idle: int, clock: Callable[[], float] = time.monotonic):
+        self._is_desk, self._idle, self._clock = is_desk, idle, clock
+        # (one person signs in at a time; while the office is asked, others go on)
+        self._door, self._lock = threading.Lock(), threading.Lock()
+        self._by_name: dict[str, Session] = {}
+        self._wrong, self._locked_until = 0, 0.0
+
+    def sign_in(self, name: str, key: str) -> str:
+        """Begins a session; its name, which is a secret. Raises NotSignedIn, or what the office can't be asked for."""
+        person = name_of(name)
+        with self._door:
+            wait = self._locked_until - self._clock()
+            if wait > 0:
+                raise NotSignedIn(f"Too many wrong keys. Wait {int(wait) + 1} seconds, then try again.")
+            if not KEY.fullmatch(key) or not self._is_desk(key):
+                raise self._wrong_key()
+            self._wrong = 0
+        secret = secrets.token_urlsafe(32)
+        with self._lock:
+            self._by_name[secret] = Session(person, key, self._clock())
+        return secret
+
+    def _wrong_key(self) -> NotSignedIn:
+        """Counts a wrong key, and locks the door after some."""
+        self._wrong += 1
+        over = self._wrong - FREE_TRIES
+        if over >= 0:
+            self._locked_until = self._clock() + min(LONGEST_LOCK, FIRST_LOCK * 2 ** min(over, 10))
+        return NotSignedIn("This isn't the desk's key: 32 characters 0-9 and a-f, as in the office's desk-key file.")
+
+    def of(self, secret: Optional[str]) -> Optional[Session]:
+        """The session of a secret, if it hasn't ended."""
+        with self._lock:
+            now = self._clock()
+            for name, it in [*self._by_name.items()]:
+                if now - it.used > self._idle or now - it.begun > LONGEST_SESSION:
+                    del self._by_name[name]
+            found = self._by_name.get(secret or "")
+            if found:
+                found.used = now
+            return found
+
+    def end(self, secret: Optional[str]) -> None:
+        """Ends a session."""
+        with self._lock:
+            self._by_name.pop(secret or "", None)

@@ -1,0 +1,52 @@
+"""The page on which a person signs in, and the end of a session."""
+
+from __future__ import annotations
+
+import flask
+from werkzeug.wrappers import Response
+
+from .asked import desk, page
+from .office import NoReply, NotSent
+from .sessions import NotSignedIn
+
+views = flask.Blueprint("sign_in", __name__)
+
+COOKIE = "cpi_desk"
+
+
+def place_after(to: str) -> str:
+    """Where a person goes on after signing in: a page of this application, else its first one."""
+    is_own = to.startswith("/") and not to.startswith("//") and "\\" not in to and to.isprintable()
+    return flask.request.script_root + (to if is_own else "/")
+
+
+@views.get("/sign-in")
+def show() -> Response:
+    """The form."""
+    return page("sign-in.html", to=flask.request.args.get("to", "/"), name="", told="")
+
+
+@views.post("/sign-in")
+def enter() -> Response:
+    """Signs a person in."""
+    form = flask.request.form
+    name, to = form.get("name", ""), form.get("to", "/")
+    try:
+        secret = desk().sessions.sign_in(name, form.get("key", "").strip())
+    except (NotSignedIn, NotSent, NoReply) as fault:
+        status = 403 if isinstance(fault, NotSignedIn) else 503
+        return page("sign-in.html", status, to=to, name=name, told=str(fault))
+    answer = flask.redirect(place_after(to), 303)
+    is_secure = flask.current_app.extensions["reached"].is_secure
+    path = flask.request.script_root or "/"
+    answer.set_cookie(COOKIE, secret, httponly=True, samesite="Strict", secure=is_secure, path=path)
+    return answer
+
+
+@views.post("/sign-out")
+def leave() -> Response:
+    """Ends the session."""
+    desk().sessions.end(flask.request.cookies.get(COOKIE))
+    answer = flask.redirect(flask.url_for("sign_in.show"), 303)
+    answer.delete_cookie(COOKIE, path=flask.request.script_root or "/")
+    return answer

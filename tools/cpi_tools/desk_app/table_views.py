@@ -1,0 +1,124 @@
+"""The provisional table of a month, what each figure comes from, what changed since yesterday, and what a handful of
+prices would change."""
+
+from __future__ import annotations
+
+import re
+import time
+from typing import Optional
+
+import flask
+from werkzeug.wrappers import Response
+
+from .. import charts
+from ..desk.trying import HEADS, Tried as Asked, differences, differing, what_if
+from ..desk.words import a_code, a_price
+from ..explain.lines import Explanation
+from ..explain.money import Money
+from ..explain.sources import Sources
+from ..explain.whole import explained
+from ..sections import Section, columns
+from ..stored import REASONS, read_copy
+from ..terminal import Fault, a_slot
+from .asked import csv_file, desk, month_of, page, section_file
+from .trials import Tried
+
+views = flask.Blueprint("table", __name__)
+
+LINES_SHOWN = 12
+"""A part of an explanation with more lines is folded."""
+
+
+@views.post("/month/<month>/try")
+def begin(month: str) -> Response:
+    """Freezes the month on a copy that is taken now, in the background."""
+    desk().trials.begin(month_of(month))
+    to = flask.request.form.get("to", "")
+    view = to if to in ("looks.show", "freeze.show") else "table.show"
+    return flask.redirect(flask.url_for(view, month=month), 303)
+
+
+@views.get("/month/<month>/table")
+def show(month: str) -> Response:
+    """The report on a month, with its provisional table."""
+    number = month_of(month)
+    found = desk().trials.latest(number)
+    named = {"month": month, "running": desk().trials.running, "fault": desk().trials.fault(number)}
+    if found is None:
+        return page("table.html", found=None, since=None, track=None, codes=[], **named)
+    track = charts.track([it.points for it in found.report.divisions])
+    codes = {str(row[0]) for it in found.report.sections if it.key == "table" for row in it.rows}
+    links = {code: flask.url_for("table.explain", month=month, code=code) for code in codes}
+    return page("table.html", found=found, since=since_before(number, found), track=track, links=links, **named)
+
+
+def since_before(month: int, found: Tried) -> Optional[Section]:
+    """The nodes that differ from the table of an earlier day; None if none was kept."""
+    earlier = desk().tables.before(month, found.at)
+    if earlier is None or not found.report.table:
+        return None
+    names = ["=code", *(f"#{day}: {what}" for day in (earlier.day, "now") for what in ("index", "month %", "year %"))]
+    rows = differing(earlier.table, found.report.table)
+    title = f"What changed since {earlier.day}"
+    return Section("since", title, "", columns(*names, "title"), rows, "Nothing: the tables are the same.")
+
+
+@views.get("/month/<month>/table/<key>.csv")
+def file(month: str, key: str) -> Response:
+    """A section of the report, or the bytes that will be published if no quote changes."""
+    found = desk().trials.latest(month_of(month))
+    if found is None:
+        flask.abort(404)
+    if key == "provisional" and found.report.table:
+        return csv_file(f"{month}-provisional.csv", found.report.table.decode())
+    for section in found.report.sections:
+        if section.key == key:
+            return section_file(month, section)
+    flask.abort(404)
+
+
+@views.get("/month/<month>/explain/<code>")
+def explain(month: str, code: str) -> Response:
+    """A figure of the table down to its receipts."""
+    found = desk().trials.latest(month_of(month))
+    if found is None or not found.report.table:
+        return flask.redirect(flask.url_for("table.show", month=month))
+    with read_copy(found.copy) as office:
+        it: Explanation = explained(Sources(office, month_of(month), None, Money(100, "")), code)
+    return page("explained.html", month=month, it=it, found=found, shown=LINES_SHOWN)
+
+
+@views.route("/month/<month>/what-if", methods=["GET", "POST"])
+def try_prices(month: str) -> Response:
+    """What a handful of prices would change."""
+    number, text, fault = month_of(month), flask.request.form.get("text", ""), ""
+    result: Optional[Section] = None
+    if flask.request.method == "POST":
+        try:
+            tried = tried_of(text)
+            with desk().copies_now() as copy:
+                result = differences(what_if(desk().cpi, copy.path, number, int(time.time()), tried))
+        except Fault as told:
+            fault = str(told)
+    return page("what-if.html", 400 if fault else 200, month=month, text=text, fault=fault, result=result, heads=HEADS)
+
+
+def tried_of(text: str) -> Asked:
+    """What a text asks to try: `7/2=210`, `7/2=missing`, a reason for which it is missing, or a code to carry, one a
+    line. Raises Fault."""
+    missing, prices, carry = list[tuple[int, int]](), list[tuple[tuple[int, int], int]](), list[str]()
+    for place, line in enumerate(text.split("\n"), 1):
+        word = re.sub(r"\s", "", line)
+        slot, _, value = word.partition("=")
+        try:
+            if value in ("missing", *REASONS):
+                missing.append(a_slot(slot))
+            elif value:
+                prices.append(a_price(word))
+            elif word:
+                carry.append(a_code(word))
+        except Exception as fault:
+            raise Fault(f"line {place}: {fault}; or 7/2=missing") from fault
+    if not (missing or prices or carry):
+        raise Fault("write what to try, one a line: a price like 7/2=210, or 7/2=missing")
+    return Asked(missing, REASONS[0], prices, carry)

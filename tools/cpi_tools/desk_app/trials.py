@@ -1,0 +1,138 @@
+"""Months that `cpi` freezes on a copy for the pages, in a thread of its own, one after the other: the provisional
+table, the prices to look at, what a freeze would be. The copy with the freeze stays, so that its figures can be
+explained."""
+
+from __future__ import annotations
+
+import tempfile
+import threading
+import time
+from pathlib import Path
+from typing import NamedTuple, Optional
+
+from ..copying import right_copy
+from ..desk.closing import Closed, closed_of
+from ..desk.facts import Facts
+from ..desk.report import Asked, Report, report_with, tried_on
+from ..desk.unusual import PERCENT_OF_WIDTH
+from ..program import Cpi
+from ..stored import read_copy
+from ..terminal import Fault
+from ..trial import State
+from .copies import Copies
+from .looks import Look, looks_of
+from .tables_kept import TablesKept
+
+SMALL = 3
+"""Fewer series or outlets are few."""
+
+KEPT = 2
+"""So many months stay at hand."""
+
+
+class Tried(NamedTuple):
+    """A month that was tried on a copy of the moment `at`: where the copy with the freeze lies, where the month stands,
+    the report, the prices to look at, and what a freeze would be (None if it is frozen, or can't be)."""
+
+    at: int
+    copy: Path
+    state: State
+    report: Report
+    looks: list[Look]
+    closed: Optional[Closed]
+
+
+class Running(NamedTuple):
+    """A trial that runs: its month, since when, and what is being done."""
+
+    month: int
+    begun: int
+    what: str
+
+
+class Trials:
+    """The trials of an application; their copies lie in folders of `room`, and each leaves so many quotes out in
+    turn."""
+
+    def __init__(self, cpi: Cpi, copies: Copies, tables: TablesKept, room: Path, left_out: int):
+        self._cpi, self._copies, self._tables, self._room = cpi, copies, tables, room
+        self._left_out = left_out
+        self._lock = threading.Lock()
+        self._found: dict[int, tuple[Tried, tempfile.TemporaryDirectory[str]]] = {}
+        self._faults: dict[int, str] = {}
+        self.running: Optional[Running] = None
+
+    def latest(self, month: int) -> Optional[Tried]:
+        """The last trial of a month, if there is one."""
+        found = self._found.get(month)
+        return found[0] if found else None
+
+    def fault(self, month: int) -> str:
+        """Why the last trial of a month came to nothing, or nothing."""
+        return self._faults.get(month, "")
+
+    def begin(self, month: int) -> bool:
+        """Begins a trial of a month; whether it did: one at a time runs."""
+        with self._lock:
+            if self.running:
+                return False
+            self.running = Running(month, int(time.time()), "copying the office")
+        threading.Thread(target=self._run, args=(month,), daemon=True, name="trial").start()
+        return True
+
+    def _now(self, what: str) -> None:
+        if self.running:
+            self.running = self.running._replace(what=what)
+
+    def _run(self, month: int) -> None:
+        try:
+            self.run(month)
+        except Fault as fault:
+            self._faults[month] = str(fault)
+        except Exception as fault:
+            # (a fault of ours: it is on the page too, and the journal has all of it)
+            self._faults[month] = f"the application met an error: {type(fault).__name__}: {fault}"
+            raise
+        finally:
+            self.running = None
+
+    def run(self, month: int) -> Tried:
+        """Tries a month on a copy that is taken now. Raises Fault."""
+        self._copies.renew()
+        folder = tempfile.TemporaryDirectory(prefix="cpi-desk-trial-", dir=self._room)
+        try:
+            with self._copies.latest() as it:
+                found = self._tried(it.path, it.at, right_copy(it.path, Path(folder.name)), month)
+        except BaseException:
+            folder.cleanup()
+            raise
+        if found.report.table and not found.state.is_frozen:
+            self._tables.keep(month, found.at, found.report.table)
+        with self._lock:
+            self._faults.pop(month, None)
+            old = [self._found.pop(month)] if month in self._found else []
+            self._found[month] = (found, folder)
+            while len(self._found) > KEPT:
+                old.append(self._found.pop(next(iter(self._found))))
+        for _, each in old:
+            each.cleanup()
+        return found
+
+    def _tried(self, office_copy: Path, at: int, copy: Path, month: int) -> Tried:
+        asked = Asked(month, at, self._left_out, PERCENT_OF_WIDTH, SMALL)
+        tried = tried_on(self._cpi, office_copy, copy, asked, self._now)
+        with read_copy(copy) as office:
+            facts = Facts(office, month, tried.frozen)
+            report = report_with(self._cpi, office_copy, tried, facts, asked, self._now)
+            self._now("looking at prices")
+            looks = looks_of(facts, PERCENT_OF_WIDTH)
+            is_to_freeze = tried.frozen is not None and not tried.state.is_frozen
+            closes = tried.state.window.closes
+            closed = closed_of(facts, closes, tried.frozen, tried.early) if is_to_freeze and tried.frozen else None
+        return Tried(at, copy, tried.state, report, looks, closed)
+
+    def close(self) -> None:
+        """Removes what is at hand."""
+        for _, folder in self._found.values():
+            folder.cleanup()
+        self._found.clear()

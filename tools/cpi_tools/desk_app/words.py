@@ -1,0 +1,122 @@
+"""The words of `cpi-tools desk serve`, and how it is run."""
+
+from __future__ import annotations
+
+import argparse
+import ipaddress
+import tempfile
+import urllib.parse
+from pathlib import Path
+
+from ..pack.clocks import clock_of
+from ..program import add_program
+from ..terminal import Fault, ToolWords, at_least, needs
+
+LISTEN, URL = "127.0.0.1:8090", "http://127.0.0.1:8080"
+
+IDLE_MINUTES = 30
+
+
+def run(chosen: argparse.Namespace) -> int:
+    """Serves until a signal ends it."""
+    for module in ("flask", "waitress", "jinja2"):
+        needs(module, f"python3-{module}")
+    from .desk import Given  # (its packages are this job's alone)
+    from .serving import serve
+
+    host = chosen.listen.rpartition(":")[0].strip("[]")
+    if not ipaddress.ip_address(host).is_loopback and not chosen.other_machines:
+        raise Fault(
+            f"{chosen.listen} can be reached from other machines, without TLS: --other-machines says that it may be"
+        )
+    if not chosen.file.is_file():
+        raise Fault(f"{chosen.file} is no file: name the office's, which cpi serve has open")
+    copies = chosen.copies or Path(tempfile.gettempdir())
+    given = Given(
+        chosen.office,
+        chosen.file,
+        chosen.room,
+        chosen.program,
+        chosen.minutes * 60,
+        clock_of(chosen.zone),
+        copies,
+        chosen.left_out,
+    )
+    serve(given, chosen.listen, chosen.front or "")
+    return 0
+
+
+# ---- values
+
+
+def a_listener(text: str) -> str:
+    """A type of argparse: an address with a port, like 127.0.0.1:8090 or [::1]:8090."""
+    host, _, port = text.rpartition(":")
+    try:
+        ipaddress.ip_address(host.strip("[]"))
+        if not 0 < int(port) < 65536:
+            raise ValueError
+    except ValueError as fault:
+        raise argparse.ArgumentTypeError(f"{text} isn't an address with a port, like {LISTEN}") from fault
+    return text
+
+
+def a_url(text: str) -> str:
+    """A type of argparse: an address like http://127.0.0.1:8080, without a query."""
+    at = urllib.parse.urlsplit(text)
+    try:
+        is_one = at.scheme in ("http", "https") and bool(at.hostname) and at.port != 0 and not at.query
+    except ValueError:
+        is_one = False
+    if not is_one:
+        raise argparse.ArgumentTypeError(f"{text} is no address like {URL}")
+    return text
+
+
+# ---- words
+
+SERVE = """\
+Serves the desk's pages to browsers of this machine: the month at a glance, prices to look at, the
+provisional table and what each figure comes from, the freeze as a checklist for two people,
+records that cpi judges on a copy before they are sent, and the desk's log. Figures are read from
+copies of the office's file, so the office isn't held up. What changes the office is sent to it
+over its interface, with the desk's key, which a person gives when signing in and which is written
+nowhere. ROOM has the log, notes on prices, and what was prepared; only its owner can read it.
+"""
+
+SERVE_EPILOG = """\
+example: cpi-tools desk serve --office http://127.0.0.1:8080 --file office.db --room desk
+
+exit status: 0 at its end by a signal; 1 with one line why it can't serve; 2 where the words are
+refused
+"""
+
+
+def add_serve(jobs: argparse._SubParsersAction[ToolWords]) -> None:
+    """The job `serve` of the tool `desk`."""
+    words = jobs.add_parser("serve", help="the desk's pages in a browser", description=SERVE, epilog=SERVE_EPILOG)
+    add = words.add_argument
+    add("--office", type=a_url, default=URL, metavar="URL", help="the office's address (%(default)s)")
+    add("--file", type=Path, required=True, metavar="FILE", help="the office's file, which is only read")
+    add("--room", type=Path, required=True, metavar="FOLDER", help="where the application keeps its log and notes")
+    add("--listen", type=a_listener, default=LISTEN, metavar="ADDRESS", help="where it listens (%(default)s)")
+    add("--other-machines", action="store_true", help="it may listen at an address that other machines reach")
+    add("--front", type=a_url, metavar="URL", help="its address behind a front that speaks TLS")
+    add(
+        "--minutes",
+        type=at_least(1),
+        default=IDLE_MINUTES,
+        metavar="N",
+        help="a session ends after so many (%(default)s)",
+    )
+    add("--zone", default="", metavar="ZONE", help="the office's clock: a place, or a rule as POSIX has it (else UTC)")
+    add(
+        "--left-out",
+        type=at_least(0),
+        default=8,
+        metavar="N",
+        help="quotes that a trial leaves out in turn (%(default)s)",
+    )
+    add("--copies", type=Path, metavar="FOLDER", help="where copies of the office's file lie (else where TMPDIR says)")
+    add_program(words)
+    words.set_defaults(run=run, tool="desk serve", words=words)
