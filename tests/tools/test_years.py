@@ -21,7 +21,8 @@ from cpi_tools.pack.config import BadConfig, Config, read_config
 from cpi_tools.pack.manifest import differences, files_of
 from cpi_tools.pack.public import Listed, Published
 from cpi_tools.pack.specials import Special
-from cpi_tools.pack.tables import Series
+from cpi_tools.pack.tables import Series, Table
+from cpi_tools.pack.tidy import Lines
 from cpi_tools.publish import check, publish
 from conftest import ROOT
 
@@ -203,6 +204,62 @@ def test_the_next_packs_are_the_packs_from_nothing(published: list[Published], t
             assert (out / "data/tables" / name).stat().st_ino == earlier[f"data/tables/{name}"]
 
 
+def lines_written(monkeypatch: pytest.MonkeyPatch) -> dict[str, set[str]]:
+    """By code, the months whose lines in the files of items are made from now on."""
+    made = dict[str, set[str]]()
+    of_node = Lines.of_node
+
+    def kept(self: Lines, tables: list[Table], code: str, ends: list[tuple[str, ...]]) -> str:
+        made.setdefault(code, set()).update(table.month for table in tables)
+        return of_node(self, tables, code, ends)
+
+    monkeypatch.setattr(Lines, "of_node", kept)
+    return made
+
+
+def test_the_lines_of_earlier_years_are_those_of_the_pack_before(
+    published: list[Published], tmp_path: Path, monkeypatch: pytest.MonkeyPatch
+) -> None:
+    tables = sorted(published)
+    out, kept = written(tables[:-1], CONFIG, tmp_path / "public"), tmp_path / "kept.json"
+    kept.write_bytes((out / "manifest.json").read_bytes())
+    damage(out / "node/07.2.2.1-01.csv")
+    made = lines_written(monkeypatch)
+    written(tables, CONFIG, out)
+    # flour left after 2025
+    assert {month[:4] for month in made["01.1.1.1-01"] | made["01.1.1.2-01"]} == {"2027"}
+    assert {month[:4] for month in made["07.2.2.1-01"]} == {"2025", "2026", "2027"}
+    assert [*differences(out, anew(tables, CONFIG, tmp_path / "first" / "public", kept))] == []
+
+
+def test_lines_of_months_that_were_provisional_are_written_anew(
+    published: list[Published], tmp_path: Path, monkeypatch: pytest.MonkeyPatch
+) -> None:
+    config, tables = CONFIG._replace(provisional=3), sorted(published)
+    first = [number for number, it in enumerate(tables, 1) if it.listed.month == "2027-01"][-1]
+    out, kept = written(tables[:first], config, tmp_path / "public"), tmp_path / "kept.json"
+    made = lines_written(monkeypatch)
+    years_made = []
+    for number in range(first + 1, len(tables) + 1):
+        kept.write_bytes((out / "manifest.json").read_bytes())
+        made.clear()
+        written(tables[:number], config, out)
+        years_made.append({month[:4] for month in made["01.1.1.1-01"]})
+        assert [*differences(out, anew(tables[:number], config, tmp_path / f"first{number}" / "public", kept))] == []
+    # February's provisional months begin in December, and December was one in February still
+    assert years_made[0] == {"2025", "2026", "2027"} and years_made[-1] == {"2027"}
+
+
+def test_a_title_with_an_end_of_line_hides_no_line(published: list[Published], tmp_path: Path) -> None:
+    title = b'"Rice\n2027-01,1,x"'
+    tables = sorted(Published(it.listed, it.table.replace(b'"Rice, packed"', title)) for it in published)
+    assert title in tables[-1].table
+    out, kept = written(tables[:-1], CONFIG, tmp_path / "public"), tmp_path / "kept.json"
+    kept.write_bytes((out / "manifest.json").read_bytes())
+    written(tables, CONFIG, out)
+    assert [*differences(out, anew(tables, CONFIG, tmp_path / "first" / "public", kept))] == []
+
+
 def test_a_whole_check_makes_the_archives_anew(published: list[Published], tmp_path: Path) -> None:
     out = written(published, CONFIG, tmp_path / "public")
     assert check(published, CONFIG, out, None, quiet) == []
@@ -217,7 +274,10 @@ def damage(path: Path) -> None:
     path.write_bytes(data)
 
 
-@pytest.mark.parametrize("name", [ARCHIVES[0], "data/years/made.json", "SHA256SUMS", "data/tables/2025-03-r1.csv"])
+@pytest.mark.parametrize(
+    "name",
+    [ARCHIVES[0], "data/years/made.json", "SHA256SUMS", "data/tables/2025-03-r1.csv", "node/01.1.1.1-01.csv"],
+)
 def test_what_isnt_as_it_was_written_is_made_anew(published: list[Published], tmp_path: Path, name: str) -> None:
     out = written(published, CONFIG, tmp_path / "public")
     sums = hashlib.sha256((out / "SHA256SUMS").read_bytes()).hexdigest()

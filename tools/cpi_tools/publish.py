@@ -22,6 +22,7 @@ from .pack.before import Before
 from .pack.cards import NO_CARDS, Cards, has_cards
 from .pack.config import Config, read_config
 from .pack.figures import Known
+from .pack.item_files import ItemFiles
 from .pack.manifest import (
     MANIFEST,
     Manifest,
@@ -84,14 +85,17 @@ def write_pack(pack: Pack, folder: Path, now: Now, before: Before) -> None:
     sums = _write_tables(series, data / "tables", before)
     first = first_of(series, config.years)
     years = earlier_years(series, first)
+    archives = Archives(series, contributions.unexplained, shown, config)
     if years:
-        Archives(series, contributions.unexplained, shown, config).write(years, data, before, now)
+        archives.write(years, data, before, now)
     write_whole(series, shown, data)
     write_reasons(given_reasons(config.reasons, series, config.planned), data)
     recent = known_of(series.part(first, series.every[-1]), contributions.unexplained, shown)
     write_part(recent, config, data, now)
-    site = Site(Known(series, contributions, shown), config, folder, signature, pack.cards, recent)
-    site.write(lambda done, of: now(f"pages, {done} of {of}"))
+    known = Known(series, contributions, shown, recent)
+    site = Site(known, config, folder, signature, pack.cards, recent)
+    items = ItemFiles(known, site.notes, before, archives.same_to)
+    site.write(items, lambda done, of: now(f"pages, {done} of {of}"))
     now("sums")
     write_sums(folder, {**sums, **before.taken})
 

@@ -8,6 +8,7 @@ a new one, so the pack before stays whole until its folder is removed.
 from __future__ import annotations
 
 import contextlib
+import hashlib
 import json
 from pathlib import Path
 from typing import Any, Optional
@@ -38,6 +39,15 @@ class Before:
                 self._link(path, to, name, wanted)
                 return True
         return False
+
+    def read(self, name: str) -> Optional[bytes]:
+        """The bytes of a file by its name in the pack if it has the sum that it was written with, else None."""
+        path, wanted = self._path(name), self._sums.get(name)
+        with contextlib.suppress(OSError):
+            data = path.read_bytes() if path and wanted else None
+            if data is not None and hashlib.sha256(data).hexdigest() == wanted:
+                return data
+        return None
 
     def take_same(self, name: str, to: Path, content: bytes, sum_of_content: str) -> bool:
         """Takes a file if it has these bytes; whether it did."""

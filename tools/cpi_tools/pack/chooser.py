@@ -50,10 +50,10 @@ def item_rows(known: Known, notes: Mapping[str, str], code: str) -> list[Sequenc
     return [(*figure_row(series, table, row), *ends[at]) for at, table, row in rows if row]
 
 
-def item_ends(known: Known, notes: Mapping[str, str], code: str) -> list[tuple[str, ...]]:
-    """The cells of ITEM_HEAD after those of HEAD, in all months."""
-    figures = (known.texts(figure, code) for figure in (MONTH_CHANGE, YEAR_CHANGE, GIVEN_MONTH, GIVEN_YEAR))
-    return [*zip(*figures, (notes.get(month, "") for month in known.series.months))]
+def item_ends(known: Known, notes: Mapping[str, str], code: str, first: int = 0) -> list[tuple[str, ...]]:
+    """The cells of ITEM_HEAD after those of HEAD, in all months, or from one on that is counted from 0."""
+    figures = (known.texts(figure, code, first) for figure in (MONTH_CHANGE, YEAR_CHANGE, GIVEN_MONTH, GIVEN_YEAR))
+    return [*zip(*figures, (notes.get(month, "") for month in known.series.months[first:]))]
 
 
 def write_chooser(series: Series, folder: Path) -> None:

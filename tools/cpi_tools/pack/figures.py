@@ -51,12 +51,23 @@ def _six_decimals(units: int) -> str:
 class Known:
     """What figures are taken from: the tables, what nodes give, and what readers are shown."""
 
-    def __init__(self, series: Series, contributions: Contributions, shown: Shown):
+    def __init__(
+        self,
+        series: Series,
+        contributions: Contributions,
+        shown: Shown,
+        recent: Optional[Known] = None,
+        nodes: bool = True,
+    ):
+        """`recent` are the figures of the last months, from which those are taken; without `nodes` only special
+        aggregates have figures."""
         self.series, self.contributions, self.shown = series, contributions, shown
-        self.titles = series.all_titles
+        self._nodes = tuple(series.titles) if nodes else ()
+        self.titles = {code: series.title(code) for code in (*self._nodes, *series.specials)}
         self.codes = tuple(self.titles)
         self._at = {code: at for at, code in enumerate(self.codes)}
-        self._columns: dict[str, list[array[int]]] = {}
+        self._recent = recent
+        self._columns: dict[tuple[str, int], list[array[int]]] = {}
         self._places: tuple[Optional[Named], list[Optional[int]]] = None, []
         self._texts: dict[int, Callable[[int], str]] = {
             0: _Texts(0).__getitem__,
@@ -64,20 +75,29 @@ class Known:
             6: _six_decimals,
         }
 
-    def columns(self, figure: Figure) -> list[array[int]]:
-        """A kind of figure by month and then by code: made once, NONE if there is none."""
-        found = self._columns.get(figure.name)
+    def columns(self, figure: Figure, first: int = 0) -> list[array[int]]:
+        """A kind of figure by month, from one on that is counted from 0, and then by code: made once, NONE if there is
+        none."""
+        found = self._columns.get((figure.name, first))
         if found is None:
-            found = self._columns[figure.name] = [
-                array("q", (NONE if it is None else it for it in figure.of_month(self, month)))
-                for month in self.series.months
-            ]
+            found = [self._column(figure, month) for month in self.series.months[first:]]
+            self._columns[figure.name, first] = found
         return found
 
-    def texts(self, figure: Figure, code: str) -> list[str]:
-        """A kind of figure of a node in all months, as texts."""
+    def _column(self, figure: Figure, month: str) -> array[int]:
+        recent = self._recent
+        if recent is None or month < recent.series.months[0]:
+            return array("q", (NONE if it is None else it for it in figure.of_month(self, month)))
+        column = recent.columns(figure)[recent.series.months.index(month)]
+        if recent.codes == self.codes:
+            return column
+        places = (recent._at.get(code) for code in self.codes)
+        return array("q", (NONE if place is None else column[place] for place in places))
+
+    def texts(self, figure: Figure, code: str, first: int = 0) -> list[str]:
+        """A kind of figure of a node in all months, or from one on that is counted from 0, as texts."""
         at, text = self._at[code], self._texts[figure.digits]
-        return [text(column[at]) for column in self.columns(figure)]
+        return [text(column[at]) for column in self.columns(figure, first)]
 
     def texts_of_month(self, figure: Figure, month: int) -> list[str]:
         """A kind of figure of all nodes in a month, which is counted from 0, as texts."""
@@ -88,7 +108,7 @@ class Known:
         series = self.series
         rows = series.latest[month].rows if month in series.latest else NO_ROWS
         if self._places[0] is not rows.named:
-            self._places = rows.named, [rows.place(code) for code in series.titles]
+            self._places = rows.named, [rows.place(code) for code in self._nodes]
         column = getattr(rows, name)
         found = [None if place is None else column[place] for place in self._places[1]]
         of_sets = (it.rows.get(month) for it in series.specials.values())

@@ -20,13 +20,14 @@ from ..others import isolated
 from ..pages import TEMPLATES, environment, write_new, write_page
 from .bases import hidden_bases, hidden_months, revised_bases
 from .cards import NO_CARDS, Cards
-from .chooser import ITEM_HEAD, item_ends, item_rows, known_to_page, write_chooser
+from .chooser import known_to_page, write_chooser
 from .config import PICTURES, Config
 from .drawings import drawing
 from .example import change, given
 from .figures import Known
 from .given import Given, lead_of, sorted_values, values_of, with_bars
 from .headline import headline
+from .item_files import ItemFiles
 from .measures import reference_level
 from .month_rows import MonthRows
 from .notes import NAMES, SAYS, Notes, present
@@ -40,7 +41,6 @@ from .shown import EXACT, RATES_SAY, period_name
 from .signature import Signature
 from .specials import Special
 from .tables import Row, Table, before, link_of
-from .tidy import Lines, write_lines, write_rows
 from .wording import FILTERS, page_of, share
 
 HERE = Path(__file__).resolve().parent
@@ -90,7 +90,6 @@ class Site:
         series, self.config, self.folder = known.series, config, folder
         self.recent = recent or known
         self.month_rows = MonthRows(self.shown)
-        self.lines, self.tables = Lines(series), [series.latest[month] for month in series.months]
         self.month = series.months[-1]
         # (in the month before all others each item that begins there has 100, which a contract can count from)
         self.clause_months = [*([series.base] if series.base in series.latest else []), *series.months]
@@ -124,8 +123,8 @@ class Site:
             headline_of=headline,
         )
 
-    def write(self, told: Told) -> None:
-        """All pages; tells how many of how many nodes have theirs."""
+    def write(self, items: ItemFiles, told: Told) -> None:
+        """All pages, and the file beside that of each item; tells how many of how many nodes have theirs."""
         self._write_own()
         (self.folder / "node").mkdir()
         if self.config.has(PICTURES):
@@ -135,6 +134,7 @@ class Site:
         codes = [*self.series.all_titles]
         for done, code in enumerate(codes, 1):
             self._node_page(code)
+            items.write(code, self.folder / "node")
             told(done, len(codes))
         self.releases.write(self.pages, self.folder)
 
@@ -170,17 +170,10 @@ class Site:
         write_page(self.pages, template, self.folder / template, **_standing("", template, template), **named)
 
     def _node_page(self, code: str) -> None:
-        """Writes the page of a node and the file beside it."""
+        """Writes the page of a node and its pictures."""
         to = self.folder / "node" / page_of(code)
         charts, stands = of_node(self.shown, code), _standing("../", page_of(code), f"node/{page_of(code)}")
         write_new(self.pages, "node.html", to, **stands, **self._node(code), charts=charts)
-        notes = self.notes.by_month(code)
-        if code in self.series.specials:
-            write_rows(self.folder / "node" / f"{code}.csv", ITEM_HEAD, item_rows(self.known, notes, code))
-        else:
-            more = item_ends(self.known, notes, code)
-            lines = [self.lines.of_node(self.tables, code, more)]
-            write_lines(self.folder / "node" / f"{code}.csv", ITEM_HEAD, lines)
         if self.config.has(PICTURES):
             self._pictures(code, [*charts, *([of_imputed(self.series).chart] if code == ALL_ITEMS else [])])
 

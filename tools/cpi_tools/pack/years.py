@@ -62,6 +62,8 @@ class Archives:
     def __init__(self, series: Series, unexplained: Iterable[tuple[str, bool]], shown: Shown, config: Config):
         self._series, self._shown, self._config = series, shown, config
         self._unexplained = frozenset(unexplained)
+        self.same_to = ""
+        """The last month of the years whose archive in the pack before was made of the same; empty if there is none."""
 
     def write(self, years: Iterable[str], folder: Path, before: Before, now: Now) -> None:
         """Writes them into the folder `data`."""
@@ -71,7 +73,9 @@ class Archives:
             part = self._series.part(f"{year}-01", f"{year}-12")
             made[year] = self.made_of(part)
             name = f"data/{YEARS}/{year}.zip"
-            if not before.is_made_of(year, made[year]) or not before.take(name, folder / YEARS / f"{year}.zip"):
+            is_same = before.is_made_of(year, made[year])
+            self.same_to = part.every[-1] if is_same else self.same_to
+            if not is_same or not before.take(name, folder / YEARS / f"{year}.zip"):
                 self._write(part, folder / YEARS / f"{year}.zip", lambda what: now(f"{year}: {what}"))
         (folder / YEARS / MADE).write_text(json.dumps(made, indent=1) + "\n", encoding="utf-8")
 

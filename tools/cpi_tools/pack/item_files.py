@@ -1,0 +1,65 @@
+"""The file of each item, `node/CODE.csv`: the latest revision of each of its months, with what pages show of it.
+
+Such a file has all months, and a new month adds one line to it. So the lines of earlier years are those of the pack
+before as long as the archives of these years are made of the same (`years`), since whatever a line is made of is in the
+sum of its year's archive. All other lines are written anew: those of the years in the files of `data`, and those that
+say that a month is provisional.
+"""
+
+from __future__ import annotations
+
+from itertools import groupby
+from pathlib import Path
+from typing import Optional
+
+from .. import csv_files
+from .before import Before
+from .chooser import ITEM_HEAD, item_ends, item_rows
+from .figures import Known
+from .notes import PROVISIONAL, Notes
+from .tidy import Lines, write_rows
+
+HEAD_LINE = f"{csv_files.line_of(ITEM_HEAD)}\n".encode()
+
+
+class ItemFiles:
+    """Writes the file of each item and of each special aggregate."""
+
+    def __init__(self, known: Known, notes: Notes, before: Before, same_to: str):
+        """`same_to` is the last month up to which the pack before was made of the same tables in the same way."""
+        self._known, self._notes, self._before = known, notes, before
+        series = known.series
+        self._specials = Known(series, known.contributions, known.shown, nodes=False)
+        self._lines, self._tables = Lines(series), [series.latest[month] for month in series.months]
+        is_final = same_to not in notes.last
+        self._same = sum(month <= same_to for month in series.months) if is_final else 0
+        found = groupby(table.rows.named for table in self._tables[: self._same])
+        self._named = [(named, len([*months])) for named, months in found]
+        self._broken = {
+            code for named, _ in self._named for code, title in zip(named.codes, named.titles) if "\n" in title
+        }
+
+    def write(self, code: str, folder: Path) -> None:
+        """Writes the file of an item into the folder `node`."""
+        to, series = folder / f"{code}.csv", self._known.series
+        if code in series.specials:
+            write_rows(to, ITEM_HEAD, item_rows(self._specials, self._notes.by_month(code), code))
+            return
+        earlier = self._earlier(code) if self._same else None
+        first = self._same if earlier else 0
+        notes = self._notes.by_month(code, series.months[first:])
+        lines = self._lines.of_node(self._tables[first:], code, item_ends(self._known, notes, code, first))
+        to.write_bytes((earlier or HEAD_LINE) + lines.encode())
+
+    def _earlier(self, code: str) -> Optional[bytes]:
+        """The head and the lines of the months that are the same; None if the pack before hasn't got them so."""
+        rows = sum(months for named, months in self._named if code in named.places)
+        if not rows:
+            return HEAD_LINE
+        data = None if code in self._broken else self._before.read(f"node/{code}.csv")
+        if data is None:
+            return None
+        # (the months that can still be revised are the last ones: if there is one here, then the last one is)
+        parts = data.split(b"\n", rows + 1)
+        found = data[: len(data) - len(parts[-1])]
+        return None if len(parts) < rows + 2 or found.endswith(f"{PROVISIONAL}\n".encode()) else found
