@@ -651,9 +651,11 @@ return await new Promise((end) => {
 WHOLE = "return document.documentElement.outerHTML + [...document.querySelectorAll('input')].map((it) => it.value)"
 
 WHEN_LEFT = (
-    "new MutationObserver(() => { window.left ??= Date.now(); })"
+    "new MutationObserver(() => new BroadcastChannel('left').postMessage('left'))"
     ".observe(document.getElementById('sign-in'), { attributes: true });"
 )
+HEARS_OF_IT = "new BroadcastChannel('left').onmessage = () => { window.heard = true; };"
+"""A tab tells others when it has left the collector, and another one hears of it."""
 
 FORGOTTEN = """
 return await new Promise((end) => {
@@ -717,16 +719,15 @@ def test_a_tab_beside_one_that_signs_out_goes_with_it(phone: Phone) -> None:
     browser.driver.switch_to.new_window("tab")
     phone.open()
     browser.wait_text("#list", "Corner shop")
+    browser.run(HEARS_OF_IT)
     browser.click("#leave")
     browser.click("#leaving-go")
     browser.wait_shown("#sign-in")
-    time.sleep(0.5)
-    looked = browser.run("return Date.now()")
+    browser.wait(lambda: browser.run("return window.heard"), "the first tab has left, and nobody looks at it")
     for tab in (browser.driver.current_window_handle, first):
         browser.driver.switch_to.window(tab)
         browser.wait(lambda: browser.find("#sign-in").is_displayed())
         assert [text for text in ("Corner", "Rice", ANNA) if text in browser.run(WHOLE)] == []
-    assert browser.run("return window.left") < looked  # (not because somebody looks at it)
     assert browser.run_until(LEFT) == NOTHING_LEFT
     phone.give_key(BENO)
     for tab in reversed(browser.driver.window_handles):
