@@ -1,0 +1,61 @@
+"""The clock of the simulated office: its programs read the time from a file, by Debian's faketime.
+
+The time stands still until the simulation sets it, so each message is carried out at a second that the judge knows.
+"""
+
+from __future__ import annotations
+
+import contextlib
+import glob
+import os
+import time
+
+LIBRARY = "/usr/lib/{}-linux-gnu/faketime/libfaketime.so.1"
+
+
+class Clock:
+    """The time of the country, and by how many seconds the clock of the office differs from it."""
+
+    def __init__(self, room: str, now: int) -> None:
+        self.path = os.path.join(room, "clock")
+        self.now, self.ahead = now, 0
+        self.shown = -1
+        self.set(now)
+
+    @property
+    def office(self) -> int:
+        """What the clock of the office shows."""
+        return self.now + self.ahead
+
+    def set(self, now: int) -> None:
+        """It is this moment now."""
+        self.now = now
+        if self.office == self.shown:
+            return
+        self.shown = self.office
+        with open(self.path + ".new", "w", encoding="ascii") as out:
+            out.write(time.strftime("%Y-%m-%d %H:%M:%S\n", time.gmtime(self.office)))
+        os.replace(self.path + ".new", self.path)
+
+    def jump(self, ahead: int) -> None:
+        """The clock of the office differs by so many seconds from now on."""
+        self.ahead = ahead
+        self.set(self.now)
+
+    def environment(self) -> dict[str, str]:
+        """What a program is started with, so that it reads this clock."""
+        faking = {"FAKETIME_TIMESTAMP_FILE": self.path, "FAKETIME_NO_CACHE": "1", "NO_FAKE_STAT": "1"}
+        library = LIBRARY.format(os.uname().machine)
+        return {**os.environ, **faking, "LD_PRELOAD": library, "FAKETIME_DONT_FAKE_MONOTONIC": "1", "TZ": "UTC"}
+
+
+def forget(process: int) -> None:
+    """Removes what faketime has left in /dev/shm of a process that was killed."""
+    for path in glob.glob(f"/dev/shm/*faketime_s*_{process}"):
+        with contextlib.suppress(OSError):
+            os.remove(path)
+
+
+def is_there() -> bool:
+    """Whether Debian's faketime is installed."""
+    return os.path.exists(LIBRARY.format(os.uname().machine))

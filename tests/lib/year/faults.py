@@ -1,0 +1,85 @@
+"""The faults of a country, drawn by its seed: each by itself, so that any of them can be left out."""
+
+from __future__ import annotations
+
+from typing import NamedTuple
+
+from .moments import DAY, HOUR, Month
+from .world import World
+
+EACH_MONTH = {
+    "killed": 4,
+    "lost": 3,
+    "cut": 2,
+    "garbled": 1,
+    "slow": 2,
+    "refusing": 1,
+    "full": 1,
+    "clock": 1,
+    "burst": 1,
+}
+"""So many of each kind are drawn for a month; `offline` is one for each collector."""
+
+OF_A_MACHINE = {"burned": 1, "promoted": 2}
+"""In which month of three the machine is lost, and which way goes on: from a backup, or on a second machine."""
+
+KINDS = [*EACH_MONTH, "offline", *OF_A_MACHINE]
+KILLS = ["killed before", "killed within", "killed meanwhile", "killed after"]
+CERTAIN = {"killed": ["killed before", "killed within", "killed after"], "full": ["refusing"]}
+"""The ways of a kind whose effect hangs on nothing that others have sent."""
+
+
+class Fault(NamedTuple):
+    """A fault: its number, its kind, how it goes, its moment, and whose next exchange or day it falls on."""
+
+    number: int
+    kind: str
+    how: str
+    moment: int
+    whom: str
+
+    def __str__(self) -> str:
+        return f"{self.number} {self.how} at {self.moment} for {self.whom}"
+
+
+def drawn_faults(world: World, kinds: list[str], is_certain: bool = False) -> list[Fault]:
+    """All faults of these kinds, with numbers that are the same whichever kinds are chosen."""
+    found: list[Fault] = []
+    for month in world.months:
+        drawn = world.drawn("faults", month.name)
+        for kind in KINDS:
+            for whom in falls_on(kind, world, month):
+                moment = drawn.randrange(month.opens, month.publishes + DAY)
+                if kind in OF_A_MACHINE:
+                    moment = month.opens + drawn.choice([8, 13]) * DAY - drawn.randrange(2 * HOUR)
+                elif kind == "offline":
+                    moment = drawn.randrange(month.opens, month.closes - 3 * DAY)
+                elif kind == "burst":
+                    moment = drawn.randrange(month.opens + DAY, month.closes - DAY)
+                ways = KILLS if kind == "killed" else [kind]
+                how = drawn.choice(ways)
+                if is_certain and kind in CERTAIN and how not in CERTAIN[kind]:
+                    how = CERTAIN[kind][0]
+                chosen = drawn.choice(people(world))
+                chosen = f"collector {world.seen}" if is_certain else chosen
+                found.append(Fault(len(found), kind, how, moment, whom or chosen))
+    return [fault for fault in found if fault.kind in kinds]
+
+
+def people(world: World) -> list[str]:
+    """Who asks the office."""
+    named = [f"{'sender' if it in world.senders else 'collector'} {it}" for it in world.collectors]
+    return [*named, "desk", "desk", "public"]
+
+
+def falls_on(kind: str, world: World, month: Month) -> list[str]:
+    """Whom the faults of a kind fall on in a month, one for each; empty where that is drawn."""
+    if kind == "offline":
+        return [f"collector {it}" for it in world.collectors if it not in world.senders]
+    if kind in OF_A_MACHINE:
+        return ["all"] if month.at % 3 == OF_A_MACHINE[kind] else []
+    return [""] * EACH_MONTH[kind]
+
+
+LASTING = {"refusing": 30 * HOUR, "full": 30 * HOUR, "clock": 3 * HOUR, "offline": DAY}
+"""How long a fault lasts, if it doesn't end by itself."""

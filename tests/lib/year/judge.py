@@ -1,0 +1,159 @@
+"""The judge: what the office has promised, and what has become of it.
+
+It hears of each exchange, and compares the replies with the second office. Beside that it keeps what people have
+written down and the receipts that they were given, and looks itself at what is stored, published and copied.
+"""
+
+from __future__ import annotations
+
+import hashlib
+import json
+import os
+from collections.abc import Callable, Iterator
+from typing import Any, Optional
+
+from lib.offices import key_of
+from second_office.office import Office, month_text
+
+from .asked import Asked
+from .possible import Possible
+from .world import Quote
+
+
+class Broken(Exception):
+    """A promise that was broken."""
+
+
+class Snapshot:
+    """The offices of which a copy can be one: those from when it was begun until it was there."""
+
+    def __init__(self, moment: int, offices: list[Office]) -> None:
+        self.moment, self.offices = moment, offices
+        self.is_open = True
+
+
+class Judge:
+    """Judges an office. `clock` is what its clock shows, `may_refuse` whether its disk can refuse now."""
+
+    def __init__(self, clock: Callable[[], int], may_refuse: Callable[[], bool]) -> None:
+        self.clock, self.may_refuse = clock, may_refuse
+        self.possible = Possible([Office()])
+        self.open: list[Snapshot] = []
+        self.written: dict[tuple[int, str, int], Quote] = {}
+        self.held: dict[tuple[str, str, int], tuple[int, str, str]] = {}
+        """By key, month and slot the receipt that somebody was given last, and for what."""
+        self.manifest: Optional[bytes] = None
+        self.refused = 0
+
+    # ---- exchanges
+
+    def answered(self, asked: Asked, reply: Any) -> None:
+        """The office has answered."""
+        told = reply.get("rows", [reply]) if isinstance(reply, dict) else []
+        self.refused += any(row.get("refused") == 90 for row in told)
+        fault = self.possible.answered(asked, self.clock(), reply, self.may_refuse())
+        self._keep()
+        if fault:
+            raise Broken(fault)
+
+    def unanswered(self, asked: Asked) -> None:
+        """The office may have carried something out."""
+        self.possible.unanswered(asked, self.clock())
+        self._keep()
+
+    def given(self, asked: Asked, reply: Any) -> None:
+        """Somebody was given a reply, with receipts perhaps."""
+        if asked.words[0] == "import" and asked.key:
+            for row, told in zip(asked.words[1].splitlines(), reply.get("rows", [])):
+                if "receipt" in told:
+                    _, slot, month, mark, value, *_ = row.split(",")
+                    self.held[asked.key, month, int(slot)] = told["receipt"], mark, value
+
+    # ---- copies
+
+    def begin_copy(self, moment: int) -> Snapshot:
+        """A copy of the office is begun."""
+        snapshot = Snapshot(moment, self.possible.kept())
+        self.open.append(snapshot)
+        return snapshot
+
+    def end_copy(self, snapshot: Snapshot) -> None:
+        """The copy is there."""
+        self.open.remove(snapshot)
+
+    def _keep(self) -> None:
+        for snapshot in self.open:
+            snapshot.offices += self.possible.kept()
+
+    def restored(self, snapshot: Snapshot) -> None:
+        """The office is the one of a copy: what was answered later may be gone, and its receipts with it."""
+        self.possible = Possible(Possible(snapshot.offices).kept())
+        self.possible.settle()
+        self.held.clear()
+
+    # ---- what stands
+
+    def stands(self, collector: int, quotes: list[list[Any]]) -> None:
+        """Each receipt that somebody holds stands with its price, and none is given twice."""
+        key = key_of(collector)
+        receipts = [row[4] for row in quotes]
+        if len(set(receipts)) < len(receipts):
+            raise Broken(f"collector {collector} has a receipt twice: {quotes}")
+        listed = {(row[1], row[0]): (row[4], row[2], str(row[3])) for row in quotes}
+        for (of, month, slot), held in self.held.items():
+            found = listed.get((month, slot))
+            if of == key and (found is None or found[0] < held[0] or found[0] == held[0] and found != held):
+                raise Broken(f"collector {collector}, slot {slot}, {month}: {held} was answered, and {found} stands")
+
+    def is_stored(self, collector: int, sheet: dict[tuple[str, int], Quote]) -> None:
+        """What a collector has written, and the phone doesn't hold any more, may be stored."""
+        for (month, slot), quote in sheet.items():
+            place = collector, slot, (int(month[:4]), int(month[5:]))
+            stored = [office.quotes.get(place) for office in self.possible.offices]
+            if not any(it and (it[0][0], str(it[0][1])) == quote for it in stored):
+                what = f"collector {collector}, slot {slot}, {month}: {quote} was written"
+                raise Broken(f"{what}, {stored} is stored, and the phone holds nothing")
+
+    def is_complete(self, month: str, listed: dict[int, list[list[Any]]], holds: Callable[[int, int], bool]) -> None:
+        """What people have written for a month is stored, or they still hold it."""
+        for (collector, of, slot), quote in self.written.items():
+            stored = {(row[2], str(row[3])) for row in listed[collector] if (row[1], row[0]) == (month, slot)}
+            if of == month and quote not in stored and not holds(collector, slot):
+                what = f"collector {collector}, slot {slot}, {month}: {quote} was written"
+                raise Broken(f"{what}, {stored or 'nothing'} is stored, and nobody holds it")
+
+    def revisions(self, frozen: dict[str, int]) -> None:
+        """A month has as many revisions as the desk meant to freeze."""
+        for office in self.possible.offices:
+            for month, of in office.tables.items():
+                if len(of) > frozen.get(month_text(month), 0):
+                    raise Broken(
+                        f"{month_text(month)} has {len(of)} revisions, and {frozen.get(month_text(month))} meant"
+                    )
+
+    # ---- what is published
+
+    def site(self, folder: str) -> None:
+        """A pack has the tables that are out, each as the second office has it, and follows the manifest before."""
+        with open(os.path.join(folder, "manifest.json"), "rb") as found:
+            text = found.read()
+        manifest = json.loads(text)
+        listed = {(it["month"], it["revision"]): it["sha256"] for it in manifest["tables"]}
+        if listed != self._published():
+            apart = sorted(set(listed.items()) ^ set(self._published().items()))
+            raise Broken(f"the site has other tables than are out: {apart[:4]}")
+        before = hashlib.sha256(self.manifest).hexdigest() if self.manifest else None
+        if text != self.manifest and manifest["previous"] != before:
+            raise Broken(f"the manifest follows {manifest['previous']}, and not {before}")
+        self.manifest = text
+
+    def _published(self) -> dict[tuple[str, int], str]:
+        now, office = self.clock(), self.possible.offices[0]
+        return {(month, revision): digest for month, revision, digest in digests(office, now)}
+
+
+def digests(office: Office, now: int) -> Iterator[tuple[str, int, str]]:
+    """Month, revision and SHA-256 of each table as CSV that is out."""
+    for month, revision in office.published(now):
+        table = office.printed_table(now, month, "csv", revision)["table"]
+        yield month_text(month), revision, hashlib.sha256(table.encode()).hexdigest()

@@ -1,0 +1,116 @@
+"""Copies of the office, and its way back: backups, their drills, a restore, and a second machine."""
+
+from __future__ import annotations
+
+import contextlib
+import glob
+import os
+import shutil
+import subprocess
+import time
+from collections.abc import Callable
+from typing import NamedTuple, Optional
+
+from .judge import Broken, Judge, Snapshot
+from .machine import PATIENCE, Machine
+
+
+class Copy(NamedTuple):
+    """A copy, and the offices of which it can be one."""
+
+    path: str
+    snapshot: Snapshot
+
+
+class Keeping:
+    """Who copies the office, and brings it back."""
+
+    def __init__(self, machine: Machine, judge: Judge) -> None:
+        self.machine, self.judge = machine, judge
+        self.copies: list[Copy] = []
+        self.is_plain = False  # a wrong backup: the file without its log
+        self.has_two = False  # the first machine serves again, though the second one was promoted
+        self.drills = 0
+
+    @property
+    def last(self) -> Copy:
+        return self.copies[-1]
+
+    def backup(self, meanwhile: Optional[Callable[[], None]] = None) -> None:
+        """Makes a backup, while something else goes on, and drills it."""
+        path = os.path.join(self.machine.room, f"backup-{len(self.copies)}.db")
+        snapshot = self.judge.begin_copy(self.machine.clock.now)
+        if self.is_plain:
+            shutil.copy(self.machine.file, path)
+        else:
+            going = self.machine.begin_tool("backup", self.machine.file, path)
+            if meanwhile:
+                wait_for_reading(going, self.machine.file)
+                meanwhile()
+            told = going.communicate(timeout=PATIENCE)[0]
+            if going.returncode:
+                raise Broken(f"a backup failed: {told}")
+        self.judge.end_copy(snapshot)
+        self.copies.append(Copy(path, snapshot))
+        self.drill(path)
+
+    def drill(self, path: str) -> None:
+        """A copy passes its drill."""
+        status, told = self.machine.tool("drill", path)
+        self.drills += 1
+        if status not in ((0, 3) if self.is_plain else (0,)):
+            raise Broken(f"a drill ends with {status}: {told}")
+
+    def restore(self) -> Snapshot:
+        """Puts the last backup in the place of the office, and starts it."""
+        shutil.copy(self.last.path, self.machine.file)
+        self.judge.restored(self.last.snapshot)
+        self.machine.start()
+        return self.last.snapshot
+
+    def follow(self, at: str) -> Copy:
+        """One round of the follower to another machine."""
+        folder = os.path.join(self.machine.room, f"second-{at}")
+        os.makedirs(folder, mode=0o700, exist_ok=True)
+        snapshot = self.judge.begin_copy(self.machine.clock.now)
+        status, told = self.machine.tool("follow", self.machine.file, folder, "--once")
+        self.judge.end_copy(snapshot)
+        if status:
+            raise Broken(f"a round of the follower ends with {status}: {told}")
+        return Copy(folder, snapshot)
+
+    def promote(self, copy: Copy) -> Snapshot:
+        """The second machine takes the place of the first, which is lost."""
+        status, told = self.machine.tool("promote", copy.path, "--office", self.machine.file)
+        if status:
+            raise Broken(f"a promotion ends with {status}: {told}")
+        if self.has_two:
+            self._take_the_first_again()
+        self.judge.restored(copy.snapshot)
+        self.machine.start()
+        return copy.snapshot
+
+    def _take_the_first_again(self) -> None:
+        """The file of the machine that was taken for lost is the office again, as only a wrong system lets it be."""
+        for path in glob.glob(self.machine.file + "*"):
+            os.remove(path)
+        for path in glob.glob(os.path.join(self.machine.room, f"burned-{self.machine.burned}", "*")):
+            shutil.copy(path, self.machine.room)
+
+
+def wait_for_reading(going: "subprocess.Popen[str]", path: str) -> None:
+    """Waits until a program has a file open, or has ended."""
+    until = time.monotonic() + PATIENCE
+    while going.poll() is None and not has_open(going.pid, path) and time.monotonic() < until:
+        time.sleep(0.001)
+
+
+def has_open(process: int, path: str) -> bool:
+    """Whether a process has a file open."""
+    folder = f"/proc/{process}/fd"
+    with contextlib.suppress(OSError):
+        for name in os.listdir(folder):
+            with contextlib.suppress(OSError):
+                if os.readlink(os.path.join(folder, name)) == path:
+                    return True
+    return False

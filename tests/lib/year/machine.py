@@ -1,0 +1,151 @@
+"""The machine of the office: `cpi serve` over a file, and what can happen to it."""
+
+from __future__ import annotations
+
+import contextlib
+import glob
+import os
+import resource
+import signal
+import subprocess
+import threading
+from typing import Optional
+
+from lib.harness import TOP
+from lib.program import Program
+from lib.served import free_port, heard_until_reset, peer_of, words_of
+
+from . import clock as clocks
+
+TOOLS = os.path.join(TOP, "cpi-tools")
+PATIENCE = 300
+"""Seconds of the real clock after which something is taken for hanging."""
+
+FREE = resource.RLIM_INFINITY
+
+
+def takes_no_signal() -> None:
+    """In the process of the office: a write past the limit fails, and kills nobody."""
+    signal.signal(signal.SIGXFSZ, signal.SIG_IGN)
+
+
+class Machine:
+    """An office that is served, and started again once it has ended."""
+
+    def __init__(self, program: Program, room: str, clock: clocks.Clock) -> None:
+        self.program, self.room, self.clock = program, room, clock
+        self.port = free_port()
+        self.file = os.path.join(room, "office.db")
+        self.log = os.path.join(room, "serve.log")
+        self.process: Optional[subprocess.Popen[bytes]] = None
+        self.most = FREE
+        self.has_memory_log = False
+        self.burned = 0
+        self.is_lost = False
+
+    @property
+    def url(self) -> str:
+        return f"http://127.0.0.1:{self.port}"
+
+    @property
+    def is_up(self) -> bool:
+        """Whether it is served."""
+        return self.process is not None and self.process.poll() is None
+
+    @property
+    def has_disk(self) -> bool:
+        """Whether the disk takes all writes."""
+        return self.most == FREE
+
+    def start(self) -> bool:
+        """Starts the office, unless it runs; whether it runs now."""
+        if self.is_up:
+            return True
+        words = [self.program.path, *words_of(self.file, self.port, 1_000_000)]
+        process = subprocess.Popen(
+            words,
+            stdout=subprocess.PIPE,
+            stderr=subprocess.PIPE,
+            env=self.clock.environment(),
+            preexec_fn=takes_no_signal,
+        )
+        self.process = process
+        assert process.stdout and process.stderr
+        os.set_blocking(process.stderr.fileno(), False)
+        if not process.stdout.readline().startswith(b"cpi: listening"):
+            self.kill()
+            return False
+        self.limit(self.most)
+        return True
+
+    def kill(self) -> None:
+        """Ends the process by the signal that nobody can hold up."""
+        if self.process:
+            self.process.kill()
+            self.process.wait()
+            self.write_log()
+            for pipe in (self.process.stdout, self.process.stderr):
+                if pipe:
+                    pipe.close()
+            clocks.forget(self.process.pid)
+            self.process = None
+        if self.has_memory_log:
+            for path in glob.glob(self.file + "-*"):
+                os.remove(path)
+
+    def limit(self, most: int) -> None:
+        """The disk takes files of so many bytes only."""
+        self.most = most
+        if self.process and self.is_up:
+            resource.prlimit(self.process.pid, resource.RLIMIT_FSIZE, (most, FREE))
+
+    def write_log(self) -> None:
+        """Appends what the office has said meanwhile to its log, which lies on another disk, as a journal does."""
+        if self.process and self.process.stderr:
+            told = self.process.stderr.read()
+            with open(self.log, "ab") as out:
+                out.write(told or b"")
+
+    def log_size(self) -> int:
+        """How long the log of the office's file is."""
+        path = self.file + "-wal"
+        return os.path.getsize(path) if os.path.exists(path) else 0
+
+    def tell(self, text: bytes) -> None:
+        """Sends a message of which nobody else knows."""
+        with contextlib.suppress(OSError), peer_of(self.port) as one:
+            one.sendall(text)
+            heard_until_reset(one)
+
+    def pause(self, seconds: float) -> None:
+        """Lets the process stand still so long, as before a slow disk."""
+        process = self.process
+        if process:
+            process.send_signal(signal.SIGSTOP)
+            timer = threading.Timer(seconds, process.send_signal, [signal.SIGCONT])
+            timer.daemon = True
+            timer.start()
+
+    def burn(self) -> None:
+        """The machine is lost with its disk; what lay there is kept for who brings it back by mistake."""
+        self.kill()
+        self.burned += 1
+        self.is_lost = True
+        aside = os.path.join(self.room, f"burned-{self.burned}")
+        os.mkdir(aside)
+        for path in glob.glob(self.file + "*"):
+            os.rename(path, os.path.join(aside, os.path.basename(path)))
+
+    def begin_tool(self, *words: str, clock: bool = False) -> "subprocess.Popen[str]":
+        """Starts one of cpi-tools, by the office's clock if that is asked for."""
+        environment = self.clock.environment() if clock else dict(os.environ)
+        environment = {**environment, "CPI": self.program.path, "CPI_PYTHON": "/usr/bin/python3"}
+        return subprocess.Popen(
+            [TOOLS, *words], stdout=subprocess.PIPE, stderr=subprocess.STDOUT, text=True, env=environment
+        )
+
+    def tool(self, *words: str, clock: bool = False) -> tuple[int, str]:
+        """Status and output of one of cpi-tools."""
+        with self.begin_tool(*words, clock=clock) as going:
+            told = going.communicate(timeout=PATIENCE)[0]
+        return going.returncode, told

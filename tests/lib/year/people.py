@@ -1,0 +1,200 @@
+"""Who sends prices: collectors with phones, who go by the page's list, and offices that send files."""
+
+from __future__ import annotations
+
+from typing import Any, Protocol
+
+from lib.offices import key_of
+
+from .asked import Asked
+from .moments import DAY, HOUR, MINUTE, Month
+from .phone import NoAnswer, Phone
+from .world import Quote, World
+
+LONGEST = 15 * MINUTE
+FAR, NO_PRICE = 26, 25
+
+
+class Around(Protocol):
+    """What people have round them."""
+
+    world: World
+
+    @property
+    def now(self) -> int:
+        """The moment."""
+
+    def at(self, moment: int, work: Any, *of: Any) -> None:
+        """Does work at a later moment."""
+
+    def ask(self, who: str, asked: Asked) -> Any:
+        """The reply of the office, or None."""
+
+    def wrote(self, collector: int, month: str, slot: int, quote: Quote) -> None:
+        """Somebody has written down what is found in a slot."""
+
+    def watch(self, collector: int, sheet: "dict[tuple[str, int], Quote]", held: Any) -> None:
+        """What a collector has written is on the phone, or stored."""
+
+
+class Collector:
+    """A collector with a phone."""
+
+    def __init__(self, number: int, around: Around) -> None:
+        self.number, self.around = number, around
+        self.name = f"collector {number}"
+        self.phone = Phone(key_of(number), self._send)
+        self.offline_until = self.tries = self.timer = 0
+        self.drawn = around.world.drawn("person", number)
+        self.sheet: dict[tuple[str, int], Quote] = {}
+        """What was written last, by month and slot."""
+        self.is_moved = False
+        """Whether the office has moved since this collector compared list and sheet."""
+
+    def _send(self, asked: Asked) -> Any:
+        return None if self.around.now < self.offline_until else self.around.ask(self.name, asked)
+
+    def goes_offline(self, until: int) -> None:
+        """There is no line until then; the phone tries once it is back."""
+        self.offline_until = until
+        self.around.at(until, self.sync)
+
+    def visit(self, month: Month, share: float) -> None:
+        """Looks at the list of the month, and writes down a share of what is to do."""
+        if not self.is_moved:
+            self.around.watch(self.number, self.sheet, self.phone.queue)
+        self._refresh(month)
+        slots = self.phone.to_do(month.name)
+        for at, slot in enumerate(slots[: round(len(slots) * share + 0.5)]):
+            self.around.at(self.around.now + (at + 1) * MINUTE, self.enter, month, slot)
+
+    def enter(self, month: Month, slot: int) -> None:
+        """Writes down what is found in a slot: now and then a slip, which is put right later."""
+        quote = self.around.world.quote(self.number, slot, month)
+        if quote.mark == "price" and self.drawn.random() < 0.12:
+            self.around.at(self.around.now + 5 * HOUR, self.write, month, slot, quote)
+            quote = quote._replace(value=str(int(quote.value) + 1))
+        self.write(month, slot, quote)
+
+    def write(self, month: Month, slot: int, quote: Quote, is_confirmed: bool = False) -> None:
+        """Saves an entry. If the page is in touch, it is sent without a look at what stands."""
+        self.sheet[month.name, slot] = quote
+        self.around.wrote(self.number, month.name, slot, quote)
+        has_line = self.around.now >= self.offline_until and not self.tries
+        entry = self.phone.save(month.name, slot, *quote, now=self.around.now, is_confirmed=is_confirmed)
+        if has_line and not entry.mine:
+            self.phone.fresh.add(entry.version)
+        self.sync()
+
+    def sync(self, is_all: bool = False) -> None:
+        """The page sends what is due, and tries again later if it isn't answered."""
+        try:
+            is_done = self.phone.sync(self.around.now, is_all)
+        except NoAnswer:
+            is_done = False
+        if not is_done:
+            self.tries += 1
+            self.timer += 1
+            wait = min(LONGEST, MINUTE * 2 ** min(self.tries, 5))
+            self.around.at(self.around.now + wait, self._later, self.timer)
+            return
+        self.tries = 0
+        self._look()
+
+    def _later(self, timer: int) -> None:
+        """The page has one timer: a later try takes the place of this one."""
+        if timer == self.timer and self.tries:
+            self.sync()
+
+    def _look(self) -> None:
+        """Decides about what the office refused, or what another device has overtaken."""
+        for (name, slot), entry in list(self.phone.queue.items()):
+            month = next(month for month in self.around.world.months if month.name == name)
+            quote = Quote(entry.mark, entry.value)
+            refusal = entry.reply["refused"] if entry.state == "refused" else 0
+            if refusal == FAR:
+                self.write(month, slot, quote, is_confirmed=True)
+            elif refusal == NO_PRICE:
+                self.write(month, slot, quote._replace(mark="price"))
+            elif entry.state == "moved":
+                self.write(month, slot, quote)
+
+    def look_again(self, month: Month) -> None:
+        """After the office has moved to another machine: compares the list of the page with the own sheet, and writes
+        once more what isn't there."""
+        if not self._refresh(month):
+            self.around.at(self.around.now + LONGEST, self.look_again, month)
+            return
+        self.is_moved = False
+        for row in self.phone.work[month.name]:
+            quote, stored = self.sheet.get((month.name, row[0])), self.phone.quotes[month.name].get(row[0])
+            is_there = stored and quote and (stored[2], str(stored[3])) == quote
+            if quote and not is_there and (month.name, row[0]) not in self.phone.queue:
+                self.write(month, row[0], quote, is_confirmed=True)
+
+    def _refresh(self, month: Month) -> bool:
+        """Sends what waits, and asks for the lists; whether they came."""
+        self.sync(is_all=True)
+        try:
+            return self.phone.refresh(month.name)
+        except NoAnswer:
+            return False
+
+    def holds(self, month: str, slot: int) -> bool:
+        """Whether the phone still holds an entry, and says why it isn't stored."""
+        return (month, slot) in self.phone.queue
+
+
+class Sender:
+    """An office that sends a file of prices each month, and keeps it for two days after a backup."""
+
+    def __init__(self, number: int, around: Around) -> None:
+        self.number, self.around = number, around
+        self.name, self.key = f"sender {number}", key_of(number)
+        self.files: list[tuple[int, Month, str]] = []
+        self.waiting: list[str] = []
+        self.refused: set[str] = set()
+        self.keeps = True
+
+    def send_month(self, month: Month) -> None:
+        """Makes the file of a month and sends it."""
+        reply = self.around.ask(self.name, Asked(self.key, ("work", month.name)))
+        if not reply or "work" not in reply:
+            self.around.at(self.around.now + LONGEST, self.send_month, month)
+            return
+        rows = []
+        for slot, *_, last, _, receipt in reply["work"]:
+            quote = self.around.world.quote(self.number, slot, month)
+            quote = quote if last or quote.mark == "missing" else quote._replace(mark="price")
+            if receipt is None:
+                self.around.wrote(self.number, month.name, slot, quote)
+                rows.append(f"quote,{slot},{month.name},{quote.mark},{quote.value}")
+        self.put(month, "".join(row + "\n" for row in rows))
+
+    def put(self, month: Month, body: str) -> None:
+        """Sends a file until it is answered; rows whose price is far off are confirmed by a second one."""
+        reply = self.around.ask(self.name, Asked(self.key, ("import", body)))
+        told = reply.get("rows", []) if reply else []
+        if not told or any(row.get("refused") == 90 for row in told):
+            self.waiting = [body]
+            self.around.at(self.around.now + 10 * MINUTE, self.put, month, body)
+            return
+        self.waiting = []
+        if self.keeps:
+            self.files.append((self.around.now, month, body))
+        self.refused.update(row for row, it in zip(body.splitlines(), told) if it.get("refused", FAR) != FAR)
+        far = [row for row, it in zip(body.splitlines(), told) if it.get("refused") == FAR]
+        if far:
+            self.put(month, "".join(f"{row},confirm\n" for row in far))
+
+    def again(self, since: int) -> None:
+        """Sends the files once more that were answered since a moment or a day before it."""
+        files, self.files = self.files, []
+        for moment, month, body in files:
+            if moment >= since - DAY:
+                self.put(month, body)
+
+    def holds(self, month: str, slot: int) -> bool:
+        """Whether a row of a slot wasn't answered, or was refused."""
+        rows = [*self.refused, *(row for body in self.waiting for row in body.splitlines())]
+        return any(row.startswith(f"quote,{slot},{month},") for row in rows)

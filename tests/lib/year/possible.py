@@ -1,0 +1,120 @@
+"""The offices that there may be, by all that was answered: one, or several where a message had no answer.
+
+It is the second office, once for each way in which what nobody was answered can have gone. Each answer leaves only the
+offices that give it. Once there is none, the office that is judged has broken a promise.
+"""
+
+from __future__ import annotations
+
+import copy
+from collections.abc import Iterator
+from typing import Any, Optional
+
+from second_office.index import Index
+from second_office.office import Office
+from second_office.requests import Record, caller_of, request_of, rows_of
+
+from .asked import Asked
+
+NO_DISK = {"refused": 90}
+MOST = 400
+"""So many offices are told apart at most."""
+
+
+def copied(office: Office) -> Office:
+    """An office of its own with the same content."""
+    twin = copy.copy(office)
+    for name in ("items", "plans", "calendar", "outlets", "keys", "assignments", "quotes"):
+        setattr(twin, name, dict(getattr(office, name)))
+    twin.tables = {month: list(of) for month, of in office.tables.items()}
+    twin.index = Index(twin.plans, office.index.frozen, dict(office.index.known))
+    return twin
+
+
+def content(office: Office) -> tuple[Any, ...]:
+    """What tells two offices apart."""
+    lists = office.items, office.plans, office.calendar, office.outlets, office.keys, office.assignments
+    return (*lists, office.quotes, office.tables)
+
+
+def prefixes(office: Office, record: Record) -> Iterator[Office]:
+    """What may stand after a record that nobody was answered: none of it, or some first rows of an import, or all."""
+    yield office
+    if record[2] == "import":
+        now, caller = int(record[0]), caller_of(record[1])
+        for row in rows_of(record[3]):
+            office = copied(office)
+            assert caller
+            office.answer(now, caller, request_of(row[0], row[1:]))
+            yield office
+    else:
+        office = copied(office)
+        office.reply(record)
+        yield office
+
+
+def replied(office: Office, record: Record, reply: Any, may_refuse: bool) -> Optional[Any]:
+    """Carries a record out, but for what was refused by 90; the reply that was wanted, if it is another one."""
+    if may_refuse and reply == NO_DISK:
+        return None
+    given = reply.get("rows") if isinstance(reply, dict) else None
+    if not (may_refuse and record[2] == "import" and given and NO_DISK in given):
+        wanted = office.reply(record)
+        return None if wanted == reply else wanted
+    now, caller, rows = int(record[0]), caller_of(record[1]), rows_of(record[3])
+    assert caller
+    told = [
+        NO_DISK if it == NO_DISK else office.answer(now, caller, request_of(row[0], row[1:]))
+        for row, it in zip(rows, given)
+    ]
+    return None if told == given else {"rows": told}
+
+
+class Possible:
+    """The offices that there may be."""
+
+    def __init__(self, offices: list[Office]) -> None:
+        self.offices = offices
+
+    def answered(self, asked: Asked, now: int, reply: Any, may_refuse: bool) -> str | None:
+        """What is wrong with an answer, if no office can have given it; each other office is left out."""
+        record, left, wanted = asked.record(now), list[Office](), list[Any]()
+        for office in self.offices:
+            twin = copied(office) if len(self.offices) > 1 and asked.is_command else office
+            other = replied(twin, record, reply, may_refuse)
+            if other is None:
+                left.append(twin)
+            else:
+                wanted.append(other)
+        if not left:
+            return (
+                f"{record[1][:7]} {' '.join(record[2:])[:200]!r} is answered {reply!r:.300}, and not {wanted[0]!r:.300}"
+            )
+        self.offices = distinct(left)
+        return None
+
+    def unanswered(self, asked: Asked, now: int) -> None:
+        """Nobody knows what became of a message."""
+        record = asked.record(now)
+        if asked.is_command:
+            self.offices = distinct([each for office in self.offices for each in prefixes(office, record)])
+
+    def settle(self) -> None:
+        """Leaves one of each that are alike."""
+        self.offices = distinct(self.offices)
+
+    def kept(self) -> list[Office]:
+        """Copies, as they stand now."""
+        return [copied(office) for office in self.offices]
+
+
+def distinct(offices: list[Office]) -> list[Office]:
+    """Those that differ, the first of each."""
+    if len(offices) == 1:
+        return offices
+    found: list[Office] = []
+    for office in offices:
+        if not any(content(office) == content(other) for other in found):
+            found.append(office)
+    assert len(found) <= MOST, f"{len(found)} offices are possible"
+    return found
