@@ -1,4 +1,5 @@
-"""`cpi-tools gaps FILE --receipts LIST`: which prices somebody has a receipt for, and the office doesn't have.
+"""`cpi-tools gaps FILE --receipts LIST`: which prices somebody has a receipt for, and the office doesn't have. With
+`--records` it is the same of what the desk sent (`gaps_of_records`).
 
 After a copy was promoted, or a backup restored, the office knows less than those who sent to it. A receipt counts for
 each collector from 1, so the office gives the same numbers again: a receipt that is there may be of another price. So a
@@ -13,12 +14,14 @@ import csv
 import io
 import re
 import sys
-from collections.abc import Iterable, Iterator
+from collections.abc import Callable, Iterable, Iterator
 from pathlib import Path
-from typing import NamedTuple, Optional
+from typing import NamedTuple, Optional, TypeVar
 
 from .copying import private_copy
 from .csv_files import Writer, add_safe_csv
+from .gaps_of_records import missing_records, records_in
+from .program import Cpi, add_program
 from .stored import REASONS, read_copy
 from .terminal import Fault, Progress, ToolWords, because_of, counted, month_text
 
@@ -52,6 +55,9 @@ class Gap(NamedTuple):
     sent: Sent
     because: str
 
+
+Listed = TypeVar("Listed")
+"""A row of a list."""
 
 Stored = dict[tuple[int, int, int], tuple[str, str, int]]
 """Mark, value and receipt of each stored quote, by collector, slot and month."""
@@ -95,8 +101,8 @@ def _sent(cells: list[str], where: str) -> Sent:
     return Sent(int(collector), int(slot), int(month[:4]) * 100 + int(month[5:]), mark, value, int(receipt))
 
 
-def read_list(path: Path) -> list[Sent]:
-    """The rows of a file; `-` is standard input. Raises Fault."""
+def read_list(path: Path, read: Callable[[str, str], list[Listed]]) -> list[Listed]:
+    """The rows of a file as `read` finds them in its text; `-` is standard input. Raises Fault."""
     try:
         if str(path) == "-":
             text, name = sys.stdin.buffer.read(MOST_BYTES + 1), "standard input"
@@ -108,7 +114,7 @@ def read_list(path: Path) -> list[Sent]:
     if len(text) > MOST_BYTES:
         raise Fault(f"{name} has more than {MOST_BYTES:,} bytes: cut it in pieces")
     try:
-        return sent_in(text.decode(), name)
+        return read(text.decode(), name)
     except UnicodeDecodeError as fault:
         raise Fault(f"{name} isn't UTF-8: save it as CSV in UTF-8") from fault
     except csv.Error as fault:
@@ -170,10 +176,15 @@ Of several rows for a slot and month the one with the greatest receipt counts.
 Receipts are given again after a promotion. So a row is there if the office has the same mark and
 value for its slot and month, or a later receipt, under which the price was put right meanwhile.
 The same price sent again is safe: a stored one keeps its receipt.
+
+With --records LIST is what the desk sent: records without moment and caller, as the rows of an
+import. Those that the office doesn't have are written as they were sent, so that the desk can send
+the output. Of an item, an outlet, a key, a calendar row or a plan the last one of LIST counts.
 """
 
 EPILOG = """\
 example: cpi-tools gaps office.db --receipts sent.csv > missing.csv
+         cpi-tools gaps office.db --records calendar.csv --zone CET-1CEST,M3.5.0,M10.5.0/3
 
 exit status: 0 if nothing is missing; 1 if LIST or FILE can't be read; 2 if the words are refused;
 3 if something is missing
@@ -186,25 +197,44 @@ def add_words(tools: argparse._SubParsersAction[ToolWords]) -> None:
         "gaps", help="which prices with a receipt an office doesn't have", description=DESCRIPTION, epilog=EPILOG
     )
     words.add_argument("file", type=Path, metavar="FILE", help="the office's file, which is only read")
-    words.add_argument(
-        "--receipts", type=Path, required=True, metavar="LIST", help="what was sent; - is standard input"
-    )
+    lists = words.add_mutually_exclusive_group(required=True)
+    lists.add_argument("--receipts", type=Path, metavar="LIST", help="prices with receipts; - is standard input")
+    lists.add_argument("--records", type=Path, metavar="LIST", help="records of the desk; - is standard input")
+    words.add_argument("--zone", default="UTC0", metavar="Z", help="the clock of civil times, as cpi has it (UTC0)")
+    add_program(words)
     add_safe_csv(words)
     words.set_defaults(run=run, tool="gaps", words=words)
 
 
 def run(chosen: argparse.Namespace) -> int:
     """Runs the tool by its words; its exit status."""
-    sent = read_list(chosen.receipts)
+    wanted, rows = _compared_records(chosen) if chosen.records else _compared_prices(chosen)
+    out = Writer(sys.stdout)
+    for row in rows:
+        out.writerow(row)
+    found = len(rows) if chosen.records else max(0, len(rows) - 1)
+    told = f"{found:,} of {counted(wanted, 'row')}" if found else f"nothing of {counted(wanted, 'row')}"
+    print(f"cpi-tools gaps: {told} {'are' if found > 1 else 'is'} missing in {chosen.file}", file=sys.stderr)
+    return MISSING if found else 0
+
+
+def _compared_prices(chosen: argparse.Namespace) -> tuple[int, list[tuple[object, ...]]]:
+    """How many prices a list has, and the lines on those that are missing, with their heads. Raises Fault."""
+    sent = read_list(chosen.receipts, sent_in)
     with Progress("cpi-tools gaps") as progress:
         progress.now(f"reading {chosen.file}")
         found = gaps(sent, stored_quotes(chosen.file))
-    out = Writer(sys.stdout)
-    if found:
-        out.writerow((*HEADS, "because"))
+    rows = list[tuple[object, ...]]([(*HEADS, "because")] if found else [])
     for row, because in found:
-        cells = (row.collector, row.slot, month_text(row.month), row.mark, row.value, row.receipt)
-        out.writerow((*cells, because))
-    told = f"{len(found):,} of {counted(len(sent), 'row')}" if found else f"nothing of {counted(len(sent), 'row')}"
-    print(f"cpi-tools gaps: {told} {'are' if len(found) > 1 else 'is'} missing in {chosen.file}", file=sys.stderr)
-    return MISSING if found else 0
+        rows.append((row.collector, row.slot, month_text(row.month), row.mark, row.value, row.receipt, because))
+    return len(sent), rows
+
+
+def _compared_records(chosen: argparse.Namespace) -> tuple[int, list[tuple[object, ...]]]:
+    """How many records a list has, and those that are missing. Raises Fault."""
+    sent = read_list(chosen.records, records_in)
+    with Progress("cpi-tools gaps") as progress:
+        progress.now(f"reading {chosen.file}")
+        with private_copy(chosen.file) as copy, read_copy(copy) as office:
+            found = missing_records(Cpi(chosen.program), sent, office, chosen.zone)
+    return len(sent), [record.fields for record in found]

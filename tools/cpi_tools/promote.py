@@ -221,8 +221,8 @@ def run(chosen: argparse.Namespace) -> int:
         print(f"start it: {' '.join(START)}")
     moment = f"{second_text(found.note.copied)} ({found.note.copied})"
     print(f"what {found.note.machine} answered since {moment} may be missing:")
-    print("- the desk looks in its log, and sends again what it sent since then")
-    print("- collectors send again what has no receipt here (cpi-tools gaps)")
+    print("- the desk sends again what it sent since then (cpi-tools gaps --records)")
+    print("- collectors send again what has no receipt here (cpi-tools gaps --receipts)")
     return 0
 
 
