@@ -19,20 +19,9 @@ from cpi_tools.program import Cpi
 from cpi_tools.second_copies import NAMES, OFFICE, state_of
 from ran import run
 from second_machines import Kill, Machine, kill_and_promote, machine, surveyed
+from systems import LINKS, NETWORK_NAMES, SECOND, two_networks
 
-FIRST, SECOND, PORT = "10.77.0.1", "10.77.0.2", 2222
-
-NETWORKS = f"""
-ip netns add cpi-first
-ip netns add cpi-second
-ip link add cpi-1 netns cpi-first type veth peer name cpi-2 netns cpi-second
-ip -n cpi-first addr add {FIRST}/24 dev cpi-1
-ip -n cpi-second addr add {SECOND}/24 dev cpi-2
-for at in "cpi-first lo" "cpi-first cpi-1" "cpi-second lo" "cpi-second cpi-2"; do
-  set -- $at
-  ip -n "$1" link set "$2" up
-done
-"""
+PORT = 2222
 
 SETTINGS = f"""
 Port {PORT}
@@ -72,17 +61,15 @@ def networks(needed: Callable[[str], str], tmp_path: Path) -> Iterator[Networks]
     (tmp_path / "known").write_text(f"[{SECOND}]:{PORT} {host}")
     (tmp_path / "sshd_config").write_text(SETTINGS.format(folder=tmp_path))
     Path("/run/sshd").mkdir(mode=0o755, exist_ok=True)
-    subprocess.run(["sh", "-euc", NETWORKS], check=True)
-    enter = [("ip", "netns", "exec", f"cpi-{name}") for name in ("first", "second")]
-    sshd = subprocess.Popen([*enter[1], needed("sshd"), "-D", "-e", "-f", str(tmp_path / "sshd_config")])
+    enter = [("ip", "netns", "exec", name) for name in NETWORK_NAMES]
     ssh = f"ssh -p {PORT} -i {tmp_path}/key -o UserKnownHostsFile={tmp_path}/known -o BatchMode=yes -o ConnectTimeout=5"
-    try:
-        yield Networks(*enter, (f"root@{SECOND}:.", "--ssh", ssh), dest)
-    finally:
-        sshd.terminate()
-        sshd.wait()
-        for name in ("first", "second"):
-            subprocess.run(["ip", "netns", "delete", f"cpi-{name}"], check=True)
+    with two_networks():
+        sshd = subprocess.Popen([*enter[1], needed("sshd"), "-D", "-e", "-f", str(tmp_path / "sshd_config")])
+        try:
+            yield Networks(*enter, (f"root@{SECOND}:.", "--ssh", ssh), dest)
+        finally:
+            sshd.terminate()
+            sshd.wait()
 
 
 def told_of(kills: list[Kill]) -> str:
@@ -128,7 +115,7 @@ def test_a_line_that_is_down_is_one_line_and_it_goes_on_by_itself(cpi: Cpi, netw
     ]
     with subprocess.Popen([*first.enter, *words], stdout=subprocess.PIPE, stderr=subprocess.PIPE, text=True) as running:
         assert running.stdout and running.stderr and running.stdout.readline()
-        down, up = (["ip", "-n", "cpi-second", "link", "set", "cpi-2", how] for how in ("down", "up"))
+        down, up = (["ip", "-n", NETWORK_NAMES[1], "link", "set", LINKS[1], how] for how in ("down", "up"))
         subprocess.run(down, check=True)
         told = running.stderr.readline()
         assert told.startswith(f"cpi-tools follow: root@{SECOND}:.: ssh: connect to host {SECOND} port {PORT}: ")

@@ -1,0 +1,120 @@
+"""RUNNING's guide to a second machine, followed word for word between two booted systems in two networks: the commands are
+those of the document, in its order. The first machine is killed, the second one promoted, and then comes the way back."""
+
+from __future__ import annotations
+
+import re
+import subprocess
+import sys
+from collections.abc import Callable, Iterator
+from pathlib import Path
+
+import pytest
+
+import clients
+from cpi_tools.gaps import MISSING
+from conftest import ROOT
+from systems import FIRST, SECOND, System, indented, section, two_systems
+
+GUIDE = (ROOT / "docs/RUNNING.md").read_text()
+USER, KEY, ALLOWED, FOLLOW, PROBE = indented(section(GUIDE, "### To set it up"))
+(PROMOTE,) = indented(section(GUIDE, "### When the first machine is lost"))
+STOP, REPLACE, ASIDE, AGAIN = indented(section(GUIDE, "### Back again"))
+
+OFFICE, COPY = "/var/lib/cpi/office.db", "/var/lib/cpi-copy/office"
+CLIENTS = f"{sys.executable} {Path(clients.__file__)} 8080"
+PRICES = 20
+INACTIVE = 3
+"""What `systemctl is-active` ends with of a unit that isn't active."""
+
+
+@pytest.fixture
+def systems(needed: Callable[[str], str], program: Path, tmp_path: Path) -> Iterator[tuple[System, System]]:
+    """Two machines with the package installed and the desk's key, as the guide asks."""
+    for name in ("dpkg-deb", "ip", "nsenter", "rrsync", "rsync", "sshd", "systemd-nspawn", "unshare"):
+        needed(name)
+    subprocess.run([ROOT / "tools/package", "--to", tmp_path, "--program", program], capture_output=True, check=True)
+    (package,) = tmp_path.glob("*.deb")
+    with two_systems(tmp_path, package) as (first, second):
+        for each in (first, second):
+            each.boot()
+            each.run("dpkg --no-triggers -i cpi.deb > /dev/null; (umask 077; printf '%032d' 7 > /etc/cpi/desk-key)")
+            each.run(f"printf '{FIRST} first.example\\n{SECOND} second.example\\n' >> /etc/hosts")
+            each.run("rm -f /etc/ssh/ssh_host_*; ssh-keygen -A > /dev/null; systemctl restart ssh")
+        yield first, second
+
+
+def followed(serves: System, takes: System, name: str) -> None:
+    """The guide's way by which a machine gets another one that follows it, `name`."""
+    takes.run(USER)
+    public = serves.run(KEY.replace("second.example", name)).splitlines()[-1]
+    line = ALLOWED.replace("ssh-ed25519 AAAA..", public)
+    assert line != ALLOWED
+    takes.run(f"cat > /var/lib/cpi-copy/.ssh/authorized_keys << 'END'\n{line}END")
+    (setting,) = re.findall(r"add a line `(CPI_COPY=[^`]+)`", GUIDE)
+    serves.run(f"echo '{setting.replace('second.example', name)}' >> /etc/cpi/office.conf")
+    serves.run(FOLLOW)
+
+
+def sent(on: System, price: int) -> str:
+    """A list of the receipts that an office gave for a price of each of the first slots of a collector."""
+    rows = "".join(f"1,{slot},{price}\n" for slot in range(1, PRICES + 1))
+    told = on.run(f"{CLIENTS} again << 'END'\n{rows}END").splitlines()
+    assert len(told) == PRICES
+    cells = [row.split(",") for row in told]
+    rows = "".join(f"{who},{slot},{clients.MONTH},price,{value},{receipt}\n" for who, slot, value, receipt, _ in cells)
+    return f"collector,slot,month,mark,value,receipt\n{rows}"
+
+
+def missing(on: System, receipts: str, status: int) -> int:
+    """How many prices of a list of receipts an office doesn't have, as the guide's tool says."""
+    told = on.run(f"cpi-tools gaps {OFFICE} --receipts - << 'END'\n{receipts}END", status)
+    return max(0, len(told.splitlines()) - 1)
+
+
+def test_the_guide_is_followed_word_for_word(systems: tuple[System, System]) -> None:
+    first, second = systems
+    records = "\n".join(clients.survey())
+    first.run(f"runuser -u cpi -- cpi replay --db {OFFICE} > /dev/null << 'END'\n{records}\nEND")
+    first.run("systemctl enable --quiet --now cpi.service cpi-backup.timer")
+    before = sent(first, 210)
+    followed(first, second, "second.example")
+    first.wait_for(PROBE)
+    lost_and_promoted(first, second, before)
+    back_again(first, second)
+    # the same once more: nothing of the way back is in the way of a promotion
+    first.kill()
+    second.run(PROMOTE)
+    assert missing(second, before, 0) == 0
+
+
+def lost_and_promoted(first: System, second: System, before: str) -> None:
+    """The first machine goes while its last answers aren't carried yet, and comes back once the second one serves."""
+    first.run("systemctl stop cpi-follow")
+    after = sent(first, 333)
+    first.kill()
+    told = second.run(PROMOTE)
+    assert "what first answered since 20" in told and "CPI OK" in told, told
+    assert missing(second, before, 0) == 0
+    assert missing(second, after, MISSING) == PRICES
+    sent(second, 333)
+    assert missing(second, after, 0) == 0
+    first.boot()
+    first.wait_for(f"test -e {OFFICE}.promoted")
+    first.wait_for("systemctl is-failed cpi-promoted")
+    first.run("systemctl is-active cpi.service", INACTIVE)
+    first.run("systemctl start cpi.service", 1)
+
+
+def back_again(first: System, second: System) -> None:
+    """The first machine becomes the second one, and then the first one again: nothing is missing."""
+    followed(second, first, "first.example")
+    second.wait_for(PROBE)
+    last = sent(second, 444)
+    second.run(STOP)
+    first.run(REPLACE)
+    assert missing(first, last, 0) == 0
+    second.run("systemctl start cpi-promoted.service", 1)
+    second.run(ASIDE)
+    first.run(AGAIN)
+    first.wait_for(PROBE)
