@@ -37,6 +37,8 @@ KEYWORDS: Mapping[str, Any] = {
     "gettext": None,
     "ngettext": (1, 2),
     "_": None,
+    "told": None,
+    "told_of": (1, 2),
 }
 """What functions take texts: a text, a context and a text, or the two forms of a count."""
 

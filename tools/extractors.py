@@ -6,13 +6,16 @@ if the text has a context), the text, and the comments for translators.
 
 from __future__ import annotations
 
+import ast
 import json
 import re
 from collections.abc import Iterator, Mapping
 from html.parser import HTMLParser
 from typing import IO, Any, Optional, Union
 
-from cpi_tools.words import COLLECTOR, PLAN_FAULTS, REFUSALS, Refusal
+from babel.messages.extract import extract_python
+
+from cpi_tools.words import COLLECTOR, PLAN_FAULTS, REFUSALS, Refusal, sentence
 
 Found = tuple[int, Optional[str], Union[str, tuple[str, str]], list[str]]
 """Line, function or none, text or context and text, and comments."""
@@ -107,11 +110,6 @@ def refused() -> Mapping[int, str]:
     return {number: told(row) for row in REFUSALS if row.to == COLLECTOR for number in row.numbers}
 
 
-def sentence(words: str) -> str:
-    """A cell of a row as the desk's page says it."""
-    return f"{words[0].upper()}{words[1:]}".replace("'", "\u2019").removesuffix(".") + "."
-
-
 def to_desk() -> Mapping[str, str]:
     """What the desk's page says of refusals, each sentence with what it is of. Of a number that only the guide of
     collectors has, the words are those of the collectors."""
@@ -129,3 +127,23 @@ def of_refusals(*_: object, options: object) -> Iterator[Found]:
         yield 1, None, text, [f"refusal {number} to a collector: why, and what to do"]
     for text, comment in to_desk().items():
         yield 1, None, text, [comment]
+
+
+HEADS = ("columns", "heads")
+"""The functions whose strings are the headings of a table; `#`, of a number, and `=`, of a code, aren't of the text."""
+
+
+def of_headings(file: IO[bytes], *_: object, options: object) -> Iterator[Found]:
+    """The headings of tables in a module of Python."""
+    for node in ast.walk(ast.parse(file.read())):
+        if isinstance(node, ast.Call) and isinstance(node.func, ast.Name) and node.func.id in HEADS:
+            for each in ast.walk(node):
+                if isinstance(each, ast.Constant) and isinstance(each.value, str) and re.search("[A-Za-z]", each.value):
+                    yield each.lineno, None, each.value.lstrip("#="), ["the heading of a column"]
+
+
+def of_report(file: IO[bytes], keywords: Any, comments: Any, options: Any) -> Iterator[Found]:
+    """The texts of a module that makes a report: those of its calls, and the headings of its tables."""
+    yield from extract_python(file, keywords, comments, options)  # type: ignore[no-untyped-call]
+    file.seek(0)
+    yield from of_headings(file, options=options)

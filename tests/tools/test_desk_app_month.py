@@ -61,6 +61,22 @@ def test_the_provisional_table_is_the_one_that_is_published(cpi: Cpi, tried: App
     assert ada.get(f"/month/{MONTH}/table/imputed.csv").text.startswith("division,title,")
 
 
+def test_a_page_names_the_file_that_has_its_other_rows(
+    tried: Application, ada: Person, monkeypatch: pytest.MonkeyPatch
+) -> None:
+    """There are two collectors: of one row a page, the other one is in the file."""
+    found, glance = tried.desk.trials.latest(202602), tried.desk.watch.glance(202602)
+    assert found
+    report = found.report._replace(sections=[it._replace(shown=1) for it in found.report.sections])
+    short = glance._replace(sections=[it._replace(shown=1) for it in glance.sections])
+    monkeypatch.setattr(tried.desk.trials, "latest", lambda month: found._replace(report=report))
+    monkeypatch.setattr(tried.desk.watch, "glance", lambda month: short)
+    for page, file in (("table", "table/collectors.csv"), ("", "glance/collectors.csv")):
+        assert f"One more row is in {MONTH}-collectors.csv." in ada.words(f"/month/{MONTH}/{page}")
+        kept = ada.get(f"/month/{MONTH}/{file}").headers["Content-Disposition"]
+        assert kept == f'attachment; filename="{MONTH}-collectors.csv"'
+
+
 def test_a_figure_is_explained_down_to_its_receipts(tried: Application, ada: Person) -> None:
     page = ada.get(f"/month/{MONTH}/table").text
     assert f'href="/month/{MONTH}/explain/01.1.1.1-01"' in page

@@ -8,6 +8,8 @@ import jinja2
 from markupsafe import Markup
 
 from . import pages
+from .languages import ENGLISH, Language
+from .report_language import teller_of
 
 
 def style() -> Markup:
@@ -15,8 +17,9 @@ def style() -> Markup:
     return pages.style() + Markup((pages.TEMPLATES / "sections.css").read_text(encoding="utf-8"))
 
 
-def environment(own: Path) -> jinja2.Environment:
+def environment(own: Path, language: Language = ENGLISH) -> jinja2.Environment:
     """The templates of a tool whose pages are made of sections; its own stand in a folder."""
-    made = pages.environment(own)
+    made = pages.environment(own, language)
     made.globals["style"] = style
+    made.filters.update(teller_of(language).filters)
     return made

@@ -7,6 +7,7 @@ from pathlib import Path
 from typing import NamedTuple, Union
 
 from . import csv_files
+from .told import Told, told
 
 Cell = Union[str, int, None]
 """A text, a number, or nothing."""
@@ -24,6 +25,11 @@ class Column(NamedTuple):
     kind: str
 
 
+def heads(*names: str) -> tuple[str, ...]:
+    """Headings that several tables have, as `columns` takes them."""
+    return names
+
+
 def columns(*names: str) -> tuple[Column, ...]:
     """Columns by their headings; `#name` is a number, `=name` a code."""
     kinds = {"#": NUMBER, "=": CODE}
@@ -35,11 +41,11 @@ class Section(NamedTuple):
     where it has none, and one that isn't open is folded."""
 
     key: str
-    title: str
-    note: str
+    title: Union[Told, str]
+    note: Union[Told, str]
     columns: tuple[Column, ...]
     rows: Sequence[Row]
-    empty: str = "None."
+    empty: Union[Told, str] = told("None.")
     is_open: bool = True
     shown: int = 60
 

@@ -32,7 +32,7 @@ class Refused(Fault):
 
     def __init__(self, reply: Reply, what: str, word: Optional[str] = None, to: str = DESK):
         self.reply = reply
-        words = refusal_words(reply, to, word)
+        self.words = words = refusal_words(reply, to, word)
         at = "".join(f", {name} {reply[name]}" for name in ("fault", "code") if name in reply)
         super().__init__(f"{what}: refused by {reply['refused']}{at}: {words.because}; {words.do}")
 

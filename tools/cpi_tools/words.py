@@ -254,3 +254,8 @@ def told_fault(line: str) -> str:
     """A line of the program with what it means and what to do, such as `cpi: no port (..; ..)`."""
     words = FAULTS.get(line[5:]) if line.startswith("cpi: ") else None
     return f"{line} ({words.because}; {words.do})" if words else line
+
+
+def sentence(words: str) -> str:
+    """A cell of a row as the desk's page says it."""
+    return f"{words[0].upper()}{words[1:]}".replace("'", "\u2019").removesuffix(".") + "."

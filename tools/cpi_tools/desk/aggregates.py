@@ -6,16 +6,17 @@ same prices, which aren't published.
 
 from __future__ import annotations
 
-from collections import Counter
-from collections.abc import Iterable, Mapping, Sequence
+from collections.abc import Iterable, Sequence
 from math import prod
 from typing import Optional
 
 from ..exact import decimal
 from ..sections import Cell, Section, columns
-from ..stored import OBSERVED, Frozen, Series
+from ..stored import Series
+from ..told import told, whole
 from .facts import Facts
-from .response import PLACE, SILENT, percent
+from .marks import mark_text, marks_of
+from .response import PLACE, percent
 
 Pairs = Sequence[tuple[int, int]]
 """What each of some series counts as now, and what it counted as then, in ticks."""
@@ -33,9 +34,12 @@ def small(facts: Facts, least: int) -> Section:
         if len(priced) < least or len(outlets) < least:
             weight = facts.rows[code].weight
             rows.append([code, facts.title(code), weight, len(sample), len(priced), len(outlets)])
-    note = f"Fewer than {least} priced series or outlets: one shop can move them, and the published index tells of it."
-    heads = columns("=aggregate", "title", "#weight", "#series", "#priced", "#outlets")
-    return Section("small", "Small aggregates", note, heads, rows, is_open=False)
+    note = told(
+        "Fewer than {count} priced series or outlets: one shop can move them, and the published index tells of it.",
+        count=whole(least),
+    )
+    names = columns("=aggregate", "title", "#weight", "#series", "#priced", "#outlets")
+    return Section("small", told("Small aggregates"), note, names, rows, is_open=False)
 
 
 def imputed_parts(facts: Facts, codes: Iterable[str]) -> tuple[int, int]:
@@ -66,9 +70,9 @@ def imputed(facts: Facts) -> Section:
         counts: list[Cell] = [len(series), count, percent(count, len(series))]
         weight = facts.rows[division].weight
         rows.append([division, facts.title(division), *counts, weight, imputed_percent(facts, codes)])
-    note = "By weight: each aggregate's weight in use, by the imputed share of what its series count as."
-    heads = columns("=division", "title", "#series", "#imputed", "#percent", "#weight", "#percent by weight")
-    return Section("imputed", "Imputed prices", note, heads, rows)
+    note = told("By weight: each aggregate's weight in use, by the imputed share of what its series count as.")
+    names = columns("=division", "title", "#series", "#imputed", "#percent", "#weight", "#percent by weight")
+    return Section("imputed", told("Imputed prices"), note, names, rows)
 
 
 def carry(facts: Facts, codes: Iterable[str]) -> Section:
@@ -79,9 +83,9 @@ def carry(facts: Facts, codes: Iterable[str]) -> Section:
         then, now = (marks_of(sample, quotes) for quotes in (facts.frozen_before, facts.frozen))
         outlets = {facts.holder[it].outlet for it in sample}
         rows.append([code, facts.title(code), facts.rows[code].weight, len(sample), len(outlets), then, now])
-    note = "Nothing in them can be compared with the month before: the freeze is refused until each is listed."
-    heads = columns("=aggregate", "title", "#weight", "#series", "#outlets", "month before", "now")
-    return Section("carry", "The carry list", note, heads, rows, "Empty: the freeze needs none.")
+    note = told("Nothing in them can be compared with the month before: the freeze is refused until each is listed.")
+    names = columns("=aggregate", "title", "#weight", "#series", "#outlets", "month before", "now")
+    return Section("carry", told("The carry list"), note, names, rows, told("Empty: the freeze needs none."))
 
 
 def carry_series(facts: Facts, codes: Iterable[str]) -> Section:
@@ -92,22 +96,9 @@ def carry_series(facts: Facts, codes: Iterable[str]) -> Section:
             place = facts.place_cells(facts.holder[series])
             then, now = facts.frozen_before.get(series), facts.frozen.get(series)
             rows.append([place[0], code, *place[2:], mark_text(then), mark_text(now)])
-    note = "What was found of each. A price that is still to come for one of them can spare the entry."
-    heads = columns(*PLACE, "month before", "now")
-    return Section("carry-series", "Series of the carry list", note, heads, rows, is_open=False)
-
-
-def marks_of(sample: Iterable[Series], quotes: Mapping[Series, Frozen]) -> str:
-    """`2 price, 8 stock` of some series."""
-    found = Counter(quotes[it].mark if it in quotes else SILENT for it in sample)
-    return ", ".join(f"{count} {mark}" for mark, count in sorted(found.items(), key=lambda it: (-it[1], it[0])))
-
-
-def mark_text(quote: Optional[Frozen]) -> str:
-    """`price 210`, `stock`, or `silent`."""
-    if quote is None:
-        return SILENT
-    return f"{quote.mark} {quote.value}" if quote.mark in OBSERVED else quote.mark
+    note = told("What was found of each. A price that is still to come for one of them can spare the entry.")
+    names = columns(*PLACE, "month before", "now")
+    return Section("carry-series", told("Series of the carry list"), note, names, rows, is_open=False)
 
 
 # ---- homogeneity
@@ -124,16 +115,16 @@ def homogeneity(facts: Facts) -> Section:
         ticks = [facts.carried[it].ticks for it in sample]
         spread = decimal(max(ticks), min(ticks), 1)
         rows.append([code, facts.title(code), len(sample), len(month), spread, *means(month), *means(year)])
-    note = (
+    note = told(
         "Computed beside the index, and not published: how prices moved by the geometric mean of their ratios (Jevons),"
         " and how far the ratio of sums that counts (Dutot) lies from it. A wide spread of prices with a wide gap says"
         " that the aggregate isn't homogeneous: part it in the next plan."
     )
-    heads = columns(
+    names = columns(
         *("=aggregate", "title", "#series", "#matched", "#dearest / cheapest"),
         *("#Dutot, month", "#Jevons, month", "#gap, month", "#Dutot, year", "#Jevons, year", "#gap, year"),
     )
-    return Section("homogeneity", "Dutot beside Jevons", note, heads, rows, is_open=False, shown=25)
+    return Section("homogeneity", told("Dutot beside Jevons"), note, names, rows, is_open=False, shown=25)
 
 
 def pairs_of(facts: Facts, code: str, sample: Sequence[Series]) -> tuple[Pairs, Pairs]:

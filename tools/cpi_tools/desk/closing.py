@@ -19,6 +19,7 @@ from ..trial import freeze_on_copy, state_of
 from . import aggregates, response
 from .early import Early, early_tables
 from .facts import Facts
+from .marks import marks_of
 
 Answer = Callable[[str], str]
 """Shows a question, and gives the line that answers it."""
@@ -88,7 +89,7 @@ def named_of(facts: Facts, code: str) -> Named:
     """What is told of an aggregate that a refusal named."""
     title = facts.title(code)
     series = aggregates.carry_series(facts, [code])._replace(title=f"{code} {title}")
-    return Named(code, title, aggregates.marks_of(facts.samples[code], facts.frozen), series)
+    return Named(code, title, marks_of(facts.samples[code], facts.frozen), series)
 
 
 # ---- decisions

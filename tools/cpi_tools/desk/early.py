@@ -8,11 +8,12 @@ first month of all has no levels. Moments are seconds since 1970 UTC.
 from __future__ import annotations
 
 from collections import defaultdict
-from collections.abc import Iterator
+from collections.abc import Iterator, Mapping
 from typing import NamedTuple, Optional
 
 from ..stored import StoredOffice
 from ..terminal import link_month, month_before, month_text, time_text
+from ..told import Told, moment_of, month_of, sentences, told, whole
 from ..trial import State
 
 LINK = (
@@ -31,6 +32,26 @@ WEIGHTS = (
 )
 """What readers of a table can compute of a month that it is computed from, and how."""
 
+WAYS: Mapping[str, Told] = {
+    LINK: told(
+        "In between everybody can compute from the table each level of that revision, to a millionth or two: 100 times the"
+        " row's chained level, divided by its index within the year."
+    ),
+    MONTH: told(
+        "In between everybody can compute from the table each level of that revision, to about 0.05 percent: the row's"
+        " chained level, divided by 1 plus its monthly change."
+    ),
+    YEAR: told(
+        "In between everybody can compute from the table each level of that revision, to about 0.05 percent: the row's"
+        " chained level, divided by 1 plus its annual change."
+    ),
+    WEIGHTS: told(
+        "In between everybody can compute from the table how the prices of each aggregate moved from that revision to"
+        " December, if they know the plan: the row's weight in use, divided by its weight there."
+    ),
+}
+"""The same, as a sentence."""
+
 
 class Early(NamedTuple):
     """A table that comes out before a revision of an earlier month that it is computed from, or may be: the table's
@@ -43,14 +64,23 @@ class Early(NamedTuple):
     revision: int
     publishes: int
     way: str
-    remedy: str
+    remedy: Told
+
+    def told(self) -> Told:
+        """The warning, in whole sentences."""
+        first = told(
+            "The table of {table} comes out at {moment}, and revision {revision} of {base}, which it is computed from, at"
+            " {later}.",
+            table=month_of(self.month),
+            moment=moment_of(self.comes_out),
+            revision=whole(self.revision),
+            base=month_of(self.earlier),
+            later=moment_of(self.publishes),
+        )
+        return sentences(first, WAYS[self.way], self.remedy)
 
     def __str__(self) -> str:
-        table, revision = month_text(self.month), f"revision {self.revision} of {month_text(self.earlier)}"
-        return (
-            f"The table of {table} comes out at {time_text(self.comes_out)}, and {revision}, which it is computed from,"
-            f" at {time_text(self.publishes)}. In between everybody can compute from the table {self.way}. {self.remedy}"
-        )
+        return str(self.told())
 
 
 def ways(month: int, reference: Optional[int]) -> dict[int, str]:
@@ -79,7 +109,7 @@ class Moments:
         """The latest revision of a month and its moment; (0, 0) if it isn't frozen."""
         return max(self.released[month].items(), default=(0, 0)) if month in self.released else (0, 0)
 
-    def unpublished(self, month: int, comes_out: int, at: int, remedy: str) -> Iterator[Early]:
+    def unpublished(self, month: int, comes_out: int, at: int, remedy: Told) -> Iterator[Early]:
         """Each revision that the table of a month is computed from and that comes out after it, and after `at`."""
         for earlier, way in sorted(self.ways(month).items()):
             revision, publishes = self.latest(earlier)
@@ -98,18 +128,24 @@ def early_tables(office: StoredOffice, state: State, at: int) -> list[Early]:
     """The tables that come out too early for a month as it stands at a moment: its own before what it is computed
     from, and one that will be computed from it before its own."""
     moments, month = Moments(office), state.month
-    later_moment = f"Before {month_text(month)} is frozen, set a later publishing moment for it."
+    later_moment = told("Before {table} is frozen, set a later publishing moment for it.", table=month_of(month))
     if state.is_frozen:
         revision, publishes = moments.latest(month)
-        found = [*moments.unpublished(month, moments.released[month][1], at, "That can't be changed any more.")]
+        found = [*moments.unpublished(month, moments.released[month][1], at, told("That can't be changed any more."))]
     else:
         revision, publishes = state.revision + 1, max(state.window.publishes, at)
         found = [*moments.unpublished(month, publishes, at, later_moment)]
     following = moments.next_out(month)
     if following and following[0] < publishes and publishes > at:
         first, later, way = following
-        own = "" if state.is_frozen else f", or an earlier one for {month_text(month)}"
-        remedy = f"Before {month_text(later)} is frozen, set a later publishing moment for it{own}."
+        named = {"table": month_of(later), "base": month_of(month)}
+        remedy = (
+            told("Before {table} is frozen, set a later publishing moment for it.", table=named["table"])
+            if state.is_frozen
+            else told(
+                "Before {table} is frozen, set a later publishing moment for it, or an earlier one for {base}.", **named
+            )
+        )
         found.append(Early(later, first, month, revision, publishes, way, remedy))
     return found
 

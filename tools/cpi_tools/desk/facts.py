@@ -11,16 +11,20 @@ from functools import cached_property
 from typing import NamedTuple, Optional
 
 from ..exact import ALL_ITEMS
-from ..others import Worded
+from ..others import of_others
 from ..pack.measures import Contributions
 from ..pack.tables import NotATable, Row
 from ..pack.tables import Series as Tables
 from ..stored import COMPARABLE, OBSERVED, Assignment, Carried, Frozen, Item, Plan, Quote, Release, Series, StoredOffice
 from ..terminal import link_month, month_before, month_text, slot_text
+from ..told import told
 from ..trial import Frozen as FrozenMonth
 
 NO_PLACE = "-"
 """Stands for the code of an item that the plan doesn't place."""
+
+# t: in place of the title of a node, or of its division
+NOT_IN_PLAN, NO_PLAN = told("not in the plan"), told("no plan")
 
 TICKS = 10_000
 """Ticks of a minor unit of money."""
@@ -72,11 +76,13 @@ class Facts:
 
     def title(self, code: str) -> str:
         """The title of a node in the year's plan."""
-        return self.plan.titles.get(code, "not in the plan") if self.plan else "no plan"
+        return self.plan.titles.get(code, NOT_IN_PLAN) if self.plan else NO_PLAN
 
     def item(self, code: str) -> str:
         """An item with its unit."""
-        return Worded("{}, {}", self.items[code].text, self.items[code].unit)
+        it = self.items[code]
+        # t: an item and its unit: Rice, long grain, 1 kg
+        return told("{item}, {unit}", item=of_others(it.text), unit=of_others(it.unit))
 
     def place_cells(self, it: Assignment) -> list[str]:
         """Slot, aggregate, item and outlet."""

@@ -22,6 +22,7 @@ from ..sections import Cell, Section, columns
 from ..stored import Series, Window
 from ..terminal import Fault, month_text
 from ..trial import MOST_REVISIONS, Record, State, calendar_record, frozen_with, must, printed
+from ..told import told
 from .facts import Facts
 from .response import PLACE
 
@@ -149,22 +150,26 @@ def left_of(facts: Facts, each: Round, without: Mapping[str, Row]) -> Iterator[L
 # ---- the section
 
 
+# t: of a price that is left out: its aggregate has nothing else to compare
+CARRIED = told("carried")
+
+
 def influence(facts: Facts, left: Sequence[Left]) -> Section:
     """The quotes that were left out, and what they move."""
     rows: list[list[Cell]] = []
     for it in left:
         price = [facts.last.get(facts.holder[it.series][:2]), facts.frozen[it.series].value]
         moves = [facts.rows[ALL_ITEMS].within - it.all_items, facts.rows[it.code].within - it.aggregate]
-        told = [decimal(each, 10**6, digits) for each, digits in zip(moves, (4, 2))]
-        alone = "carried" if facts.matched(it.code) == [it.series] else ""
-        rows.append([*facts.place_cells(facts.holder[it.series]), *price, points(it.all_items), *told, alone])
-    note = (
+        moved = [decimal(each, 10**6, digits) for each, digits in zip(moves, (4, 2))]
+        alone = CARRIED if facts.matched(it.code) == [it.series] else ""
+        rows.append([*facts.place_cells(facts.holder[it.series]), *price, points(it.all_items), *moved, alone])
+    note = told(
         "Each quote left out in turn, the month frozen by the program without it: the index of all items then, and by"
         " how many points the quote moves it and its aggregate. 'carried' where nothing else of the aggregate could be"
         " compared."
     )
-    heads = columns(
+    names = columns(
         *PLACE, "#last price", "#price", "#all items without", "#moves all items", "#moves aggregate", "note"
     )
-    empty = "None was tried: the month is frozen, or nothing can be compared."
-    return Section("influence", "The quotes that move all items most", note, heads, rows, empty)
+    empty = told("None was tried: the month is frozen, or nothing can be compared.")
+    return Section("influence", told("The quotes that move all items most"), note, names, rows, empty)

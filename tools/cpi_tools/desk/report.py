@@ -2,21 +2,23 @@
 
 from __future__ import annotations
 
-from collections.abc import Callable, Sequence
+from collections.abc import Callable, Mapping, Sequence
 from pathlib import Path
 from typing import NamedTuple, Optional
 
 from ..copying import private_copy
 from ..exact import decimal, depth_of, points, tenths, with_sign
-from ..others import Worded
+from ..others import of_others
 from ..program import Cpi
 from ..sections import Section, text_of
 from ..stored import read_copy
-from ..terminal import month_text, time_text
+from ..terminal import month_text
+from ..told import Figure, Moment, Month, Told, moment_of, month_of, sentences, told, whole
 from ..trial import Frozen, Refused, State, as_frozen, freeze_on_copy, state_of
 from . import aggregates, influence, provisional, response, sparse, unusual
 from .early import Early, early_tables
 from .facts import Facts
+from .refused import refused_words
 
 PERCENT = "\u202f%"
 """Behind a figure, on the same line as it."""
@@ -40,8 +42,8 @@ class Card(NamedTuple):
     """A figure, what it is, and a word to it."""
 
     figure: str
-    name: str
-    word: str
+    name: Told
+    word: Optional[Told]
 
 
 class Division(NamedTuple):
@@ -56,13 +58,13 @@ class Division(NamedTuple):
 class Report(NamedTuple):
     """What a page and a text say of a month; `warnings` are of tables that come out too early."""
 
-    month: str
-    at: str
-    standing: str
+    month: Month
+    at: Moment
+    standing: Told
     is_frozen: bool
-    lead: str
-    warnings: list[str]
-    fault: str
+    lead: Optional[Told]
+    warnings: list[Told]
+    fault: Optional[Told]
     cards: list[Card]
     divisions: list[Division]
     sections: list[Section]
@@ -79,7 +81,7 @@ class OnCopy(NamedTuple):
     state: State
     early: list[Early]
     frozen: Optional[Frozen]
-    fault: str
+    fault: Optional[Told]
 
 
 def report_of(cpi: Cpi, office_copy: Path, asked: Asked, now: Now) -> Report:
@@ -108,8 +110,8 @@ def tried_on(cpi: Cpi, office_copy: Path, copy: Path, asked: Asked, now: Now) ->
             else freeze_on_copy(cpi, copy, state, frozen_at(state, asked))
         )
     except Refused as refused:
-        return OnCopy(state, early, None, str(refused))
-    return OnCopy(state, early, frozen, "")
+        return OnCopy(state, early, None, refused_words(refused))
+    return OnCopy(state, early, frozen, None)
 
 
 def frozen_at(state: State, asked: Asked) -> int:
@@ -127,7 +129,7 @@ def report_with(cpi: Cpi, office_copy: Path, tried: OnCopy, facts: Facts, asked:
     now("counting")
     sections = sections_of(facts, asked, frozen, left)
     report = gathered(facts, asked, state, sections, tried.fault, frozen.table if frozen else b"")
-    return report._replace(warnings=[str(it) for it in tried.early])
+    return report._replace(warnings=[it.told() for it in tried.early])
 
 
 def sections_of(facts: Facts, asked: Asked, frozen: Optional[Frozen], left: Sequence[influence.Left]) -> list[Section]:
@@ -161,11 +163,13 @@ def sections_of(facts: Facts, asked: Asked, frozen: Optional[Frozen], left: Sequ
     ]
 
 
-def gathered(facts: Facts, asked: Asked, state: State, sections: list[Section], fault: str, table: bytes) -> Report:
+def gathered(
+    facts: Facts, asked: Asked, state: State, sections: list[Section], fault: Optional[Told], table: bytes
+) -> Report:
     """The report of its parts."""
     return Report(
-        month_text(asked.month),
-        time_text(asked.at),
+        month_of(asked.month),
+        moment_of(asked.at),
         standing(state, asked.at),
         state.is_frozen,
         lead(facts, state.is_frozen),
@@ -181,32 +185,70 @@ def gathered(facts: Facts, asked: Asked, state: State, sections: list[Section], 
 # ---- in words
 
 
-def standing(state: State, at: int) -> str:
+def standing(state: State, at: int) -> Told:
     """Where the month stands at a moment."""
-    window = state.window
+    window, revision = state.window, whole(state.revision)
+    named = {"revision": revision, "moment": moment_of(window.closes)}
     if state.is_frozen:
-        return f"frozen, revision {state.revision}; published from {time_text(window.publishes)} on"
-    begun = f"reopened after revision {state.revision}; " if state.is_reopened else ""
+        moment = moment_of(window.publishes)
+        return told("frozen, revision {revision}; published from {moment} on", revision=revision, moment=moment)
     if at < window.opens:
-        return f"{begun}the window opens {time_text(window.opens)}"
+        opens = moment_of(window.opens)
+        if state.is_reopened:
+            return told(
+                "reopened after revision {revision}; the window opens {moment}", revision=revision, moment=opens
+            )
+        return told("the window opens {moment}", moment=opens)
+    if state.is_reopened:
+        if at < window.closes:
+            return told("reopened after revision {revision}; the window is open until {moment}", **named)
+        return told("reopened after revision {revision}; the window closed {moment}; not frozen yet", **named)
     if at < window.closes:
-        return f"{begun}the window is open until {time_text(window.closes)}"
-    return f"{begun}the window closed {time_text(window.closes)}; not frozen yet"
+        return told("the window is open until {moment}", moment=named["moment"])
+    return told("the window closed {moment}; not frozen yet", moment=named["moment"])
 
 
-def lead(facts: Facts, is_frozen: bool) -> str:
+def lead(facts: Facts, is_frozen: bool) -> Optional[Told]:
     """What the month says, or would say."""
     top = facts.all_items
     if top is None:
-        return ""
-    begun = "All items are at" if is_frozen else "As things stand, all items would be at"
-    month, annual = (tenths(it).replace("-", "\u2212") for it in (top.month_change, top.year_change))
-    year = f", {annual} percent on the year before" if annual else ""
-    told = f"{begun} {points(top.chained, 1)}: {month} percent on the month before{year}."
+        return None
+    month, annual = (Figure(tenths(it).replace("-", "\u2212")) for it in (top.month_change, top.year_change))
+    named = {"level": Figure(points(top.chained, 1)), "month": month}
     most = [it for it in sorted(divisions(facts), key=lambda it: -abs(it.points))[:2] if it.points]
-    by = " and ".join(f"{{}} ({it.text})" for it in most)
-    titles = [it.title for it in most]
-    return Worded(f"{told} Most percentage points of the month come from {by}.", *titles) if by else told
+    first = changes(is_frozen, {**named, "annual": annual} if annual else named)
+    return sentences(first, of_most(most)) if most else first
+
+
+def changes(is_frozen: bool, named: Mapping[str, Figure]) -> Told:
+    """The level of all items and its changes; `annual` is named if there is one."""
+    if is_frozen and "annual" in named:
+        return told(
+            "All items are at {level}: {month} percent on the month before, {annual} percent on the year before.",
+            **named,
+        )
+    if is_frozen:
+        return told("All items are at {level}: {month} percent on the month before.", **named)
+    if "annual" in named:
+        return told(
+            "As things stand, all items would be at {level}: {month} percent on the month before, {annual} percent on the"
+            " year before.",
+            **named,
+        )
+    return told("As things stand, all items would be at {level}: {month} percent on the month before.", **named)
+
+
+def of_most(most: Sequence[Division]) -> Told:
+    """The one division or the two that add most."""
+    named = {"title": of_others(most[0].title), "points": Figure(most[0].text)}
+    if len(most) == 1:
+        return told("Most percentage points of the month come from {title} ({points}).", **named)
+    second = {"other": of_others(most[1].title), "other_points": Figure(most[1].text)}
+    return told(
+        "Most percentage points of the month come from {title} ({points}) and {other} ({other_points}).",
+        **named,
+        **second,
+    )
 
 
 def divisions(facts: Facts) -> list[Division]:
@@ -227,21 +269,38 @@ def index_cards(facts: Facts) -> list[Card]:
         return []
     year = f"{with_sign(tenths(top.year_change))}{PERCENT}" if top.year_change is not None else "\u2013"
     month = f"{with_sign(tenths(top.month_change))}{PERCENT}"
-    return [Card(month, "all items on the month", f"level {points(top.chained, 2)}"), Card(year, "on the year", "")]
+    level = told("level {level}", level=Figure(points(top.chained, 2)))
+    # t: the change of all items on the month before: under a figure, short
+    on_month = told("all items on the month")
+    # t: the change of all items on the year before: under a figure, short
+    return [Card(month, on_month, level), Card(year, told("on the year"), None)]
 
 
 def survey_cards(facts: Facts, sections: Sequence[Section]) -> list[Card]:
     """Of the survey."""
     count, rows = response.in_all(facts), {it.key: len(it.rows) for it in sections}
-    by_weight = response.weighted_percent(facts, {facts.code(it.item) for it in facts.slots})
     share = f"{response.percent(count.priced, count.slots) or '0.0'}{PERCENT}"
-    weighed = f", {by_weight} % by weight" if by_weight else ""
+    # t: slots with a price; short
     return [
-        Card(share, "priced", f"{count.priced:,} of {count.slots:,} slots{weighed}"),
-        Card(f"{rows['silent']:,}", "silent", f"{count.missing:,} missing with a reason"),
-        Card(f"{rows['long-missing']:,}", "missing for long", f"{rows['gone']:,} gone without a replacement"),
-        Card(f"{rows['outliers']:,}", "to look at again", "prices confirmed, or outside the fences"),
+        Card(share, told("priced"), of_slots(facts, count)),
+        # t: slots of which nothing was sent; short
+        Card(whole(rows["silent"]), told("silent"), told("{count} missing with a reason", count=whole(count.missing))),
+        Card(
+            whole(rows["long-missing"]),
+            told("missing for long"),
+            told("{count} gone without a replacement", count=whole(rows["gone"])),
+        ),
+        Card(whole(rows["outliers"]), told("to look at again"), told("prices confirmed, or outside the fences")),
     ]
+
+
+def of_slots(facts: Facts, count: response.Count) -> Told:
+    """How many slots have a price, and their share by weight if there is one."""
+    by_weight = response.weighted_percent(facts, {facts.code(it.item) for it in facts.slots})
+    named = {"priced": whole(count.priced), "slots": whole(count.slots)}
+    if not by_weight:
+        return told("{priced} of {slots} slots", **named)
+    return told("{priced} of {slots} slots, {percent} % by weight", **named, percent=Figure(by_weight))
 
 
 def aggregate_cards(facts: Facts, sections: Sequence[Section]) -> list[Card]:
@@ -250,10 +309,11 @@ def aggregate_cards(facts: Facts, sections: Sequence[Section]) -> list[Card]:
         return []
     rows = {it.key: len(it.rows) for it in sections}
     count = sum(it.imputed for it in facts.carried.values())
+    share = f"{aggregates.imputed_percent(facts, facts.samples)}{PERCENT}"
     return [
-        Card(f"{aggregates.imputed_percent(facts, facts.samples)}{PERCENT}", "imputed, by weight", f"{count:,} series"),
-        Card(f"{rows['carry']:,}", "on the carry list", "aggregates with nothing to compare"),
-        Card(f"{rows['small']:,}", "small aggregates", "few priced series or outlets"),
+        Card(share, told("imputed, by weight"), told("{count} series", count=whole(count))),
+        Card(whole(rows["carry"]), told("on the carry list"), told("aggregates with nothing to compare")),
+        Card(whole(rows["small"]), told("small aggregates"), told("few priced series or outlets")),
     ]
 
 
@@ -264,7 +324,7 @@ FOLDED = ("table", "silent", "homogeneity", "carry-series", "outlets")
 def text_of_report(report: Report) -> str:
     """The report for a terminal: its cards, and the first rows of its sections."""
     warnings = [f"Warning: {it}" for it in report.warnings]
-    head = [f"{report.month} at {report.at}: {report.standing}", *filter(None, [report.lead]), *warnings]
+    head = [f"{report.month} at {report.at}: {report.standing}", *([report.lead] if report.lead else []), *warnings]
     cards = [f"  {it.figure:>9}  {it.name}{f' ({it.word})' if it.word else ''}" for it in report.cards]
     parts = [text_of(it, 16 if it.key == "top" else 8) for it in report.sections if it.key not in FOLDED]
     return "\n\n".join(["\n".join([*head, *cards]), *parts])

@@ -10,13 +10,12 @@ from collections.abc import Callable, Iterable, Iterator, Mapping
 from typing import Optional, TypeVar
 
 from ..exact import decimal
-from ..sections import Cell, Section, columns
+from ..sections import Cell, Section, columns, heads
 from ..stored import OBSERVED, REASONS, Assignment, Quote
-from ..terminal import month_before, month_text
+from ..terminal import month_before
+from ..told import month_of, told
 from .facts import NO_PLACE, Facts
-
-SILENT = "silent"
-"""Stands for the mark of a slot for which nothing was sent."""
+from .marks import SILENT, mark_words
 
 Key = TypeVar("Key", int, str)
 
@@ -58,7 +57,7 @@ class Count:
         return [self.slots, self.priced, percent(self.priced, self.slots), *replaced, self.missing, self.marks[SILENT]]
 
 
-RESPONSE = ("#slots", "#priced", "#percent", "#comparable", "#other", "#missing", "#silent")
+RESPONSE = heads("#slots", "#priced", "#percent", "#comparable", "#other", "#missing", "#silent")
 
 
 def counts(facts: Facts, key: Callable[[Assignment], Key]) -> dict[Key, Count]:
@@ -104,17 +103,16 @@ def most_silent(rows: list[list[Cell]]) -> list[list[Cell]]:
 def by_collector(facts: Facts) -> Section:
     """The response by collector."""
     rows: list[list[Cell]] = [[number, *it.cells()] for number, it in counts(facts, lambda it: it.collector).items()]
-    heads = columns("#collector", *RESPONSE)
-    return Section("collectors", "Response by collector", "Most silent slots first.", heads, most_silent(rows))
+    names, note = columns("#collector", *RESPONSE), told("Most silent slots first.")
+    return Section("collectors", told("Response by collector"), note, names, most_silent(rows))
 
 
 def by_outlet(facts: Facts) -> Section:
     """The response by outlet."""
     found = counts(facts, lambda it: it.outlet)
     rows: list[list[Cell]] = [[number, facts.outlets[number], *it.cells()] for number, it in found.items()]
-    heads = columns("#outlet", "name", *RESPONSE)
-    note = "Most silent slots first."
-    return Section("outlets", "Response by outlet", note, heads, most_silent(rows), is_open=False, shown=30)
+    names, note = columns("#outlet", "name", *RESPONSE), told("Most silent slots first.")
+    return Section("outlets", told("Response by outlet"), note, names, most_silent(rows), is_open=False, shown=30)
 
 
 def by_division(facts: Facts) -> Section:
@@ -125,12 +123,12 @@ def by_division(facts: Facts) -> Section:
         [code, facts.title(code), *it.cells(), weighted_percent(facts, [each for each in codes if each[:2] == code])]
         for code, it in found.items()
     ]
-    note = (
+    note = told(
         "A slot counts in the division in which the year's plan places its item. By weight: each aggregate's weight in"
         " the plan, by the share of its slots that have a price."
     )
-    heads = columns("=division", "title", *RESPONSE, "#percent by weight")
-    return Section("divisions", "Response by division", note, heads, rows)
+    names = columns("=division", "title", *RESPONSE, "#percent by weight")
+    return Section("divisions", told("Response by division"), note, names, rows)
 
 
 def by_reason(facts: Facts) -> Section:
@@ -141,11 +139,12 @@ def by_reason(facts: Facts) -> Section:
         for code, it in found.items()
         if it.missing
     ]
-    heads = columns("=division", "title", *(f"#{reason}" for reason in REASONS), "#all")
-    return Section("missing", "Missing, by reason", "What was sent where there was no price.", heads, rows)
+    names = columns("=division", "title", *(f"#{reason}" for reason in REASONS), "#all")
+    note = told("What was sent where there was no price.")
+    return Section("missing", told("Missing, by reason"), note, names, rows)
 
 
-PLACE = ("slot", "=aggregate", "item", "outlet")
+PLACE = heads("slot", "=aggregate", "item", "outlet")
 
 
 def silent(facts: Facts) -> Section:
@@ -153,9 +152,13 @@ def silent(facts: Facts) -> Section:
     rows: list[list[Cell]] = [
         [*facts.place_cells(it), facts.last.get(it[:2])] for it in facts.slots if facts.quote(it) is None
     ]
-    note = "Slots for which nothing was sent. At the freeze they count as missing."
-    heads = columns(*PLACE, "#last price")
-    return Section("silent", "Still silent", note, heads, rows, "Something was sent for every slot.", is_open=False)
+    note = told("Slots for which nothing was sent. At the freeze they count as missing.")
+    names, empty = columns(*PLACE, "#last price"), told("Something was sent for every slot.")
+    return Section("silent", told("Still silent"), note, names, rows, empty, is_open=False)
+
+
+# t: of a series: no price of it was ever found
+NEVER = told("never")
 
 
 def long_missing(facts: Facts) -> Section:
@@ -166,20 +169,20 @@ def long_missing(facts: Facts) -> Section:
         quote, last = facts.quote(it), seen.get(it.series, 0)
         is_new = it.first_month == facts.month and it.series == it[:2]
         if not facts.is_priced(it) and last < before and not is_new:
-            now = quote.mark if quote else SILENT
-            rows.append([*facts.place_cells(it), now, month_text(last) if last else "never"])
-    rows.sort(key=lambda row: (row[-1] != "never", str(row[-1])))
-    note = "No price in this month and in the month before. Ask for a replacement, or let the series end."
-    heads = columns(*PLACE, "now", "last priced")
-    return Section("long-missing", "Missing two months and more", note, heads, rows, is_open=False)
+            now = mark_words(quote.mark if quote else SILENT)
+            rows.append([*facts.place_cells(it), now, month_of(last) if last else NEVER])
+    rows.sort(key=lambda row: (row[-1] != NEVER, str(row[-1])))
+    note = told("No price in this month and in the month before. Ask for a replacement, or let the series end.")
+    names = columns(*PLACE, "now", "last priced")
+    return Section("long-missing", told("Missing two months and more"), note, names, rows, is_open=False)
 
 
 def gone(facts: Facts) -> Section:
     """Slots whose latest word is `gone`: nothing took the place of what went."""
-    rows: list[list[Cell]] = [[*facts.place_cells(it), month_text(month)] for it, month in gone_slots(facts)]
-    note = "The last that was sent of them is 'gone', and no replacement since."
-    heads = columns(*PLACE, "sent for")
-    return Section("gone", "Gone without a replacement", note, heads, rows, is_open=False)
+    rows: list[list[Cell]] = [[*facts.place_cells(it), month_of(month)] for it, month in gone_slots(facts)]
+    note = told("The last that was sent of them is 'gone', and no replacement since.")
+    names = columns(*PLACE, "sent for")
+    return Section("gone", told("Gone without a replacement"), note, names, rows, is_open=False)
 
 
 def gone_slots(facts: Facts) -> Iterator[tuple[Assignment, int]]:
@@ -199,10 +202,10 @@ def replacements(facts: Facts) -> Section:
         if quote and quote.mark in ("comparable", "other"):
             carried = facts.carried.get(it.series)
             scale = decimal(carried.knum, carried.kden * 10_000, 4) if carried else ""
-            rows.append([*facts.place_cells(it), facts.last.get(it[:2]), quote.mark, quote.value, scale])
-    note = (
+            rows.append([*facts.place_cells(it), facts.last.get(it[:2]), mark_words(quote.mark), quote.value, scale])
+    note = told(
         "A replacement marked 'other' enters without moving the index; its scale says what a minor unit of its price"
         " counts as."
     )
-    heads = columns(*PLACE, "#last price", "mark", "#price", "#scale")
-    return Section("replacements", "Replacements", note, heads, rows, is_open=False)
+    names = columns(*PLACE, "#last price", "mark", "#price", "#scale")
+    return Section("replacements", told("Replacements"), note, names, rows, is_open=False)

@@ -12,8 +12,9 @@ from collections.abc import Iterator, Sequence
 from ..sections import Cell, Section, columns
 from ..stored import COMPARABLE, OBSERVED
 from ..terminal import month_before, month_text
-from .aggregates import marks_of
+from ..told import month_of, told, whole
 from .facts import Facts
+from .marks import marks_of
 from .response import PLACE
 
 MONTHS_WITHOUT_MATCH = 3
@@ -69,13 +70,13 @@ def unmatched(facts: Facts) -> Section:
         sample = facts.samples[code]
         marks = [marks_of(sample, quotes) for quotes in found]
         rows.append([code, facts.title(code), facts.rows[code].weight, len(sample), *marks])
-    note = (
+    note = told(
         "No series had a comparable price and an observed one in the month before, in this month and in the two before"
         " it. So nothing moved what was missing. Have one series of each priced in every month, or place its items"
         " where others are."
     )
-    heads = columns("=aggregate", "title", "#weight", "#series", *map(month_text, reversed(months)))
-    return Section("unmatched", "Nothing compared for three months", note, heads, rows, is_open=False)
+    names = columns("=aggregate", "title", "#weight", "#series", *map(month_text, reversed(months)))
+    return Section("unmatched", told("Nothing compared for three months"), note, names, rows, is_open=False)
 
 
 # ---- series that are priced every third month
@@ -101,16 +102,17 @@ def quarterly_rows(facts: Facts) -> Iterator[list[Cell]]:
         months = observed.get(it.series, [])
         if is_quarterly(months):
             number = number_of(months[-1]) + QUARTER
-            due = month_text(number // 12 * 100 + number % 12 + 1)
+            due = month_of(number // 12 * 100 + number % 12 + 1)
             yield [*facts.place_cells(it), " ".join(map(month_text, months)), due]
 
 
 def quarterly(facts: Facts) -> Section:
     """The series that were priced every third month only."""
-    note = (
-        f"In the last {LOOKED_AT} months they were priced twice at least, each time three months after the last. Such a"
+    note = told(
+        "In the last {count} months they were priced twice at least, each time three months after the last. Such a"
         " series is never matched: it moves with its aggregate if another series there is priced in every month, and"
-        " else the carry list holds it still."
+        " else the carry list holds it still.",
+        count=whole(LOOKED_AT),
     )
-    heads = columns(*PLACE, "priced in", "next")
-    return Section("quarterly", "Priced every third month only", note, heads, [*quarterly_rows(facts)], is_open=False)
+    names, rows = columns(*PLACE, "priced in", "next"), [*quarterly_rows(facts)]
+    return Section("quarterly", told("Priced every third month only"), note, names, rows, is_open=False)

@@ -14,6 +14,7 @@ from typing import NamedTuple, Optional
 
 from ..exact import decimal, rounded
 from ..sections import Cell, Section, columns
+from ..told import Figure, Told, row, told, whole
 from .facts import Facts, Ratio
 from .response import PLACE
 
@@ -60,6 +61,12 @@ def in_ten_thousandths(it: Ratio) -> int:
     return rounded(ONE * it.price, it.last)
 
 
+# t: why a price is to be looked at again
+OF_AGGREGATE, OF_DIVISION = told("outside the fences of its aggregate"), told("outside the fences of its division")
+# t: why a price is to be looked at again: it was sent with the confirm button
+CONFIRMED = told("confirmed")
+
+
 class Usual:
     """The fences of each aggregate, and of each division for aggregates with too few changes."""
 
@@ -72,13 +79,13 @@ class Usual:
                 groups[code[:2]].append(ratio)
         self._fences = {key: fences_of(ratios, width) for key, ratios in groups.items()}
 
-    def why_not(self, code: str, ratio: int) -> Iterator[str]:
+    def why_not(self, code: str, ratio: int) -> Iterator[Told]:
         """Whose fences a ratio lies outside of, if it does."""
-        for key, name in ((code, "aggregate"), (code[:2], "division")):
+        for key, words in ((code, OF_AGGREGATE), (code[:2], OF_DIVISION)):
             fences = self._fences.get(key)
             if fences:
                 if ratio != ONE and not fences.hold(ratio):
-                    yield f"outside the fences of its {name}"
+                    yield words
                 return
 
 
@@ -88,25 +95,27 @@ def is_within_tolerance(facts: Facts, it: Ratio) -> bool:
     return -(-it.last * item.low // 1000) <= it.price <= it.last * item.high // 1000
 
 
-def why_unusual(facts: Facts, usual: Usual, it: Ratio) -> list[str]:
+def why_unusual(facts: Facts, usual: Usual, it: Ratio) -> list[Told]:
     """Why a price is to be looked at again, if it is."""
-    confirmed = [] if is_within_tolerance(facts, it) else ["confirmed"]
+    confirmed = [] if is_within_tolerance(facts, it) else [CONFIRMED]
     return [*confirmed, *usual.why_not(facts.code(it.slot.item), in_ten_thousandths(it))]
 
 
 def outliers(facts: Facts, width: int) -> Section:
     """The prices to look at again, the greatest changes first."""
     usual = Usual(facts, width)
-    found = [(it, ", ".join(why_unusual(facts, usual, it))) for it in facts.ratios]
+    found = [(it, row(why_unusual(facts, usual, it))) for it in facts.ratios]
     greatest = sorted((it for it in found if it[1]), key=lambda it: -abs(in_ten_thousandths(it[0]) - ONE))
     rows: list[list[Cell]] = [
         [*facts.place_cells(it.slot), it.last, it.price, decimal(100 * (it.price - it.last), it.last, 1), why]
         for it, why in greatest
     ]
-    note = (
+    note = told(
         "A price outside its item's tolerance can only stand where it was confirmed. The fences are Tukey's, of the"
         " ratios of an aggregate that aren't 1 (of its division where it has fewer than"
-        f" {LEAST_RATIOS}): its middle, and {decimal(width, 100, 1)} times the distances of the half middles from it."
+        " {least}): its middle, and {times} times the distances of the half middles from it.",
+        least=whole(LEAST_RATIOS),
+        times=Figure(decimal(width, 100, 1)),
     )
-    heads = columns(*PLACE, "#last price", "#price", "#percent", "why")
-    return Section("outliers", "Prices to look at again", note, heads, rows)
+    names = columns(*PLACE, "#last price", "#price", "#percent", "why")
+    return Section("outliers", told("Prices to look at again"), note, names, rows)

@@ -16,6 +16,7 @@ from ..csv_files import add_safe_csv
 from ..desk_app.words import add_serve
 from ..folders import written_folder
 from ..program import Cpi, add_program
+from ..report_language import add_language, chosen_language
 from ..sections import text_of, write_csv
 from ..stored import REASONS
 from ..terminal import Fault, Progress, ToolWords, a_moment, a_month, a_slot, at_least, needs
@@ -64,13 +65,14 @@ def run_month(chosen: argparse.Namespace) -> int:
     from .page import write_month  # (its package is this job's alone)
 
     asked = Asked(chosen.month, moment_of(chosen), chosen.left_out, chosen.width, chosen.small)
+    language = chosen_language(chosen)
     with written_folder(chosen.out, PAGE) as folder:
         with at_desk(chosen) as desk:
             report = report_of(desk.cpi, desk.copy, asked, desk.progress.now)
         write_csv(report.sections, folder)
         if not report.fault:
             (folder / "provisional.csv").write_bytes(report.table)
-        write_month(report, folder / PAGE)
+        write_month(report, folder / PAGE, language)
     print(text_of_report(report))
     print(f"\n{chosen.out / PAGE}")
     if report.fault:
@@ -243,6 +245,7 @@ def _add_month(jobs: argparse._SubParsersAction[ToolWords]) -> None:
         help="how far the fences lie from the middle, in percent of the half middles' distances (%(default)s)",
     )
     add("--small", type=at_least(1), default=3, metavar="N", help="fewer series or outlets are few (%(default)s)")
+    add_language(words, "the page")
     add_safe_csv(words)
     add_program(words)
     words.set_defaults(run=run_month)

@@ -13,7 +13,7 @@ import flask
 from werkzeug.exceptions import HTTPException
 from werkzeug.wrappers import Response
 
-from .. import pages
+from .. import pages, section_pages
 from ..terminal import Fault, time_text
 from . import (
     calendar_views,
@@ -25,6 +25,7 @@ from . import (
     sign_in_views,
     table_views,
 )
+from .asked import file_name
 from .desk import Desk
 from .sessions import Session
 from .sign_in_views import COOKIE
@@ -83,8 +84,8 @@ def make_app(desk: Desk, reached: Reached) -> flask.Flask:
     """The application over a desk."""
     app = flask.Flask(__name__, static_folder=None, template_folder=None)
     app.config.update(MAX_CONTENT_LENGTH=MOST_BYTES)
-    templates = pages.environment(TEMPLATES)
-    templates.globals.update(url_for=flask.url_for, time_text=time_text)
+    templates = section_pages.environment(TEMPLATES)
+    templates.globals.update(url_for=flask.url_for, time_text=time_text, file_name=file_name)
 
     def page(template: str, status: int = 200, /, **named: object) -> Response:
         found: Optional[Session] = flask.g.get("session")

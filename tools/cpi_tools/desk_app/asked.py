@@ -43,14 +43,19 @@ def month_of(text: str) -> int:
         flask.abort(404)
 
 
-def section_file(name: str, section: Section) -> Response:
+def file_name(month: str, key: str) -> str:
+    """The name of the CSV file of a table: `2026-01-silent.csv`."""
+    return f"{month}-{key}.csv"
+
+
+def section_file(month: str, section: Section) -> Response:
     """All rows of a section as a CSV file; a text that begins as a formula has an apostrophe before it."""
     text = io.StringIO()
     with formulas_told("", True):
         out = Writer(text)
         out.writerow([column.name for column in section.columns])
         out.writerows(["" if cell is None else cell for cell in row] for row in section.rows)
-    return csv_file(f"{name}-{section.key}.csv", text.getvalue())
+    return csv_file(file_name(month, section.key), text.getvalue())
 
 
 def csv_file(name: str, text: str) -> Response:

@@ -10,8 +10,9 @@ from collections import defaultdict
 from collections.abc import Callable, Iterable, Mapping, Sequence
 from typing import NamedTuple, Optional, TypeVar
 
-from ..desk.facts import NO_PLACE
-from ..desk.response import RESPONSE, SILENT, Count, most_silent, percent, weighted_by
+from ..desk.facts import NO_PLACE, NO_PLAN, NOT_IN_PLAN
+from ..desk.marks import SILENT
+from ..desk.response import RESPONSE, Count, most_silent, percent, weighted_by
 from ..sections import Cell, Section, columns
 from ..stored import StoredOffice
 from ..terminal import month_text, time_text
@@ -88,7 +89,7 @@ def by_division(slots: Slots, by_code: Mapping[str, Count]) -> Section:
     rows: list[list[Cell]] = []
     for code, it in slots.by(lambda collector, outlet, item: slots.code(item)[:2]).items():
         parts, weight = slots.weighed(by_code, [each for each in by_code if each[:2] == code])
-        title = slots.plan.titles.get(code, "not in the plan") if slots.plan else "no plan"
+        title = slots.plan.titles.get(code, NOT_IN_PLAN) if slots.plan else NO_PLAN
         rows.append([code, title, *it.cells(), percent(parts, weight * 10**6)])
     note = (
         "By weight: each aggregate's weight in the plan, by the share of its slots that have a price. A slot counts in"

@@ -11,14 +11,13 @@ from typing import NamedTuple, Optional
 
 from ..desk.facts import Facts, Ratio
 from ..desk.influence import estimates
-from ..desk.unusual import Usual, why_unusual
+from ..desk.unusual import CONFIRMED, Usual, why_unusual
 from ..exact import decimal
 from ..stored import Assignment, Series
 from ..terminal import slot_text
 
 ALONE = "the only price that is compared in its aggregate"
 OTHER = "a replacement of another quality"
-CONFIRMED = "confirmed"
 
 ASK = {
     CONFIRMED: "The price was confirmed though it is far from the last one: what is the price on the shelf, and of"
@@ -76,7 +75,7 @@ def _unusual(facts: Facts, width: int, moves: dict[Series, int]) -> Iterator[Loo
     usual = Usual(facts, width)
     alone = {facts.matched(code)[0] for code in facts.samples if len(facts.matched(code)) == 1}
     for it in facts.ratios:
-        why = why_unusual(facts, usual, it)
+        why: list[str] = [*why_unusual(facts, usual, it)]
         why += [ALONE] if it.slot.series in alone and len(facts.samples[facts.code(it.slot.item)]) > 1 else []
         if why:
             yield _look(facts, it.slot, it, why, moves)

@@ -20,7 +20,7 @@ from ..explain.whole import explained
 from ..sections import Section, columns
 from ..stored import REASONS, read_copy
 from ..terminal import Fault, a_slot
-from .asked import csv_file, desk, month_of, page, section_file
+from .asked import csv_file, desk, file_name, month_of, page, section_file
 from .trials import Tried
 
 views = flask.Blueprint("table", __name__)
@@ -70,7 +70,7 @@ def file(month: str, key: str) -> Response:
     if found is None:
         flask.abort(404)
     if key == "provisional" and found.report.table:
-        return csv_file(f"{month}-provisional.csv", found.report.table.decode())
+        return csv_file(file_name(month, key), found.report.table.decode())
     for section in found.report.sections:
         if section.key == key:
             return section_file(month, section)

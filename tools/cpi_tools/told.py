@@ -1,0 +1,96 @@
+"""Texts of a report that a page can say in another language: sentences of ours with what belongs in their places.
+
+Such a text is its English self for a terminal and a CSV file. It also knows its form, by which catalogues know it, and
+what its places hold: a figure, a month, a moment, a text of others, or a text of ours. `report_language` says it.
+"""
+
+from __future__ import annotations
+
+from collections.abc import Mapping, Sequence
+from typing import Optional
+
+from .others import Worded, worded
+from .terminal import month_text, time_text
+
+
+class Figure(str):
+    """A figure in ASCII, such as `1,626` or `-0.3`."""
+
+
+class Month(str):
+    """A month, `2026-01`."""
+
+
+class Moment(str):
+    """A moment, `2026-01-25 09:00 UTC`; `at` is in seconds since 1970."""
+
+    at: int
+
+
+def month_of(month: int) -> Month:
+    """`2026-01` of 202601."""
+    return Month(month_text(month))
+
+
+def moment_of(at: int) -> Moment:
+    """`2026-01-25 09:00 UTC` of seconds since 1970."""
+    made = Moment(time_text(at))
+    made.at = at
+    return made
+
+
+def whole(number: int) -> Figure:
+    """A whole number, `1,626`."""
+    return Figure(f"{number:,}")
+
+
+class Told(Worded):
+    """A text of ours in English. Its source is the text of the catalogues; with a count there are two of them."""
+
+    source: tuple[str, ...]
+    number: Optional[int]
+    places: Mapping[str, object]
+
+    @classmethod
+    def made(
+        cls, english: Worded, source: tuple[str, ...], number: Optional[int], places: Mapping[str, object]
+    ) -> Told:
+        """A text that is said otherwise in English than by its source."""
+        it = cls(english.form, *english.texts)
+        it.source, it.number, it.places = source, number, places
+        return it
+
+
+def told(source: str, **places: object) -> Told:
+    """A text of the catalogues with what its places hold."""
+    return Told.made(worded(source, **places), (source,), None, places)
+
+
+def told_of(one: str, many: str, count: int, **places: object) -> Told:
+    """The form of a text for a count, which is its place `{count}`."""
+    named: dict[str, object] = {"count": whole(count), **places}
+    return Told.made(worded(one if count == 1 else many, **named), (one, many), count, named)
+
+
+def sentences(*parts: Told) -> Told:
+    """Whole sentences, one after the other."""
+    places = {f"part_{at}": part for at, part in enumerate(parts)}
+    source = " ".join("{" + name + "}" for name in places)
+    return Told.made(worded(source, **places), (source,), None, places)
+
+
+def row(parts: Sequence[Told]) -> Told:
+    """Texts with commas between them; no text, if there are none."""
+    if not parts:
+        return sentences()
+    found = parts[0]
+    for part in parts[1:]:
+        # t: a list: one text, and another one
+        found = told("{before}, {after}", before=found, after=part)
+    return found
+
+
+def said_as(english: str, *parts: Told) -> Told:
+    """Sentences that a terminal has in other words, in English."""
+    named = sentences(*parts)
+    return Told.made(worded("{line}", line=english), named.source, None, named.places)
