@@ -35,18 +35,23 @@ KEYWORDS: Mapping[str, Any] = {
     "tc": ((1, "c"), 2),
     "tn": (1, 2),
     "gettext": None,
+    "pgettext": ((1, "c"), 2),
     "ngettext": (1, 2),
     "_": None,
     "told": None,
     "told_of": (1, 2),
+    "marked": None,
 }
-"""What functions take texts: a text, a context and a text, or the two forms of a count."""
+"""What functions take texts: a text, a context and a text, or the two forms of a count. `marked` only marks a text."""
 
 CONTEXT_ENDS = "\x04"
 """Between a context and its text, as in gettext's files."""
 
 PLACE = re.compile(r"\{([a-z_]+)\}|%\(([a-z_]+)\)s")
 """A place of a text: `{month}` in a page, `%(month)s` in a template."""
+
+TAG = re.compile(r"<[^>]*>")
+"""A tag of a text that is a part of a page."""
 
 COUNT = frozenset(("count", "num"))
 """The place of the count in a text with plural forms: of a page, of a template."""
@@ -199,7 +204,7 @@ def places(text: str) -> set[str]:
 
 def faults(catalog: Catalog, source: Catalog) -> Iterator[str]:
     """What is wrong with a catalogue, each in a line: a text that is missing, one that is there for nothing or not sure,
-    other places than the source has, plural forms that aren't those of CLDR."""
+    other places or tags than the source has, plural forms that aren't those of CLDR."""
     for message in source:
         if message.id:
             found = catalog.get(message.id, message.context)
@@ -231,9 +236,14 @@ def faults_of_text(message: Message, found: Optional[Message], count: int) -> It
     needed, allowed = set.intersection(*map(places, wanted)), set.union(*map(places, wanted))
     if len(wanted) > 1:
         needed -= COUNT  # (a form of one count may say it in words)
+    tags = sorted(TAG.findall(wanted[-1]))
     for form in forms:
         if not needed <= places(form) <= allowed:
             yield f"{told(message)}: its places are {sorted(allowed)}, and the translation has {sorted(places(form))}"
+        if sorted(TAG.findall(form)) != tags:
+            yield f"{told(message)}: its tags are {tags}, and the translation has {sorted(TAG.findall(form))}"
+        if '"' in TAG.sub("", form) and '"' not in TAG.sub("", wanted[-1]):
+            yield f"{told(message)}: a quotation mark that could end an attribute; take those of the language"
 
 
 def forms_of(message: Message) -> list[str]:

@@ -22,3 +22,10 @@ interface EventTarget {
 interface Window {
   LEVELS: any; // the levels of the contract page, which its own script gives it
 }
+
+// (what `assets/spoken.js` gives the other scripts of the website, which are no modules)
+declare function t(text: string, values?: object): string;
+declare function tn(one: string, many: string, count: number, values?: object): string;
+declare function figureText(text: string): string;
+declare function plainFigure(text: string): string;
+declare function monthText(month: string): string;

@@ -141,6 +141,42 @@ def test_a_text_that_is_not_marked_is_found() -> None:
     ]  # fmt: skip
 
 
+TEMPLATES = sorted((ROOT / "tools/cpi_tools/pack/templates").glob("*.html"))
+NOT_YET = set[str]()
+"""Templates of the website whose texts are in no catalogue yet: a list that only shrinks."""
+
+OF_NO_LANGUAGE = re.compile(
+    r"<(pre|script|style)\b.*?</\1>|<[^>]*>|&[a-z]+;|[\w.-]*\.(?:csv|xlsx|xml|json|px|html|zip)|\b(?:SDMX|CSV|ML|SVG|SHA)\b",
+    re.S,
+)
+"""What every language has: tags, what a machine reads, names of files and of forms of data."""
+
+COLUMNS = re.compile(r'<th scope="row"><code>[a-z_, ]+</code></th>')
+"""Columns of files, by their names."""
+
+MARKED = re.compile(r"{% trans.*?%}.*?{% endtrans %}", re.S)
+CODE = re.compile(r"{#.*?#}|{%.*?%}|{{.*?}}", re.S)
+READ_OUT = re.compile(r'(?:aria-label|title|alt|placeholder)="([^"]*)"')
+
+
+def left_in(template: str) -> list[str]:
+    """The words of a template that stand in no catalogue: in elements, and in attributes that are read out."""
+    text = CODE.sub("", MARKED.sub("", template))
+    found = [*READ_OUT.findall(text), OF_NO_LANGUAGE.sub(" ", COLUMNS.sub("", text))]
+    return re.findall(r"[A-Za-z]{2,}", OF_NO_LANGUAGE.sub(" ", " ".join(found)))
+
+
+@pytest.mark.parametrize("path", TEMPLATES, ids=lambda path: str(path.stem))
+def test_each_text_of_the_website_is_marked(path: Path) -> None:
+    found = left_in(path.read_text(encoding="utf-8"))
+    assert found if path.stem in NOT_YET else found == []
+
+
+def test_a_text_of_a_template_that_is_not_marked_is_found() -> None:
+    template = '<p aria-label="Some {{ of }}">{% trans %}Stored{% endtrans %} left {{ it }}</p><pre>code</pre> cpi.csv'
+    assert left_in(template) == ["Some", "left"]
+
+
 # ---- each catalogue is whole
 
 
@@ -183,6 +219,13 @@ def test_what_is_wrong_with_a_catalogue_is_said() -> None:
         "'{count} found': 3 plural forms, the language has 2"
     ]
     assert spoiled("{count} found", ("un", "{count}")) == []
+    link = 'The office signed it: <a href="check.html">how to check that</a>.'
+    assert spoiled(link, "L’office l’a signé.") == [
+        f"{link!r}: its tags are ['</a>', '<a href=\"check.html\">'], and the translation has []"
+    ]
+    assert spoiled("Sign in", 'Entrer "ici"') == [
+        "'Sign in': a quotation mark that could end an attribute; take those of the language"
+    ]
     catalog = catalogues.read(ROOT / "po", "fr")
     catalog.add("No page says so", "Rien")
     assert [*catalogues.faults(catalog, SOURCE)] == ["'No page says so': no page has it any more"]

@@ -46,7 +46,8 @@ def modules(tmp_path_factory: pytest.TempPathFactory) -> Path:
     shutil.copytree(SOURCES, folder / "choose")
     (folder / "choose/package.json").write_text('{"type": "module"}')
     (folder / "assets").mkdir()
-    shutil.copy(SEARCH, folder / "assets")
+    for path in (SEARCH, SEARCH.with_name("spoken.js")):
+        shutil.copy(path, folder / "assets")
     return folder / "choose"
 
 

@@ -84,7 +84,7 @@ def test_an_address_gives_the_result_of_its_revisions(levels: Path, published: l
 
 def test_the_address_of_a_result_gives_it_again(levels: Path) -> None:
     """An address that is read and written again is the same one, and names both revisions and the period."""
-    whole = "amount=1000.50&code=00&then=2025-06&now=2026-03&decimals=6&then-revision=1&now-revision=1&hundred=December+2024"
+    whole = "amount=1000.50&code=00&then=2025-06&now=2026-03&decimals=6&then-revision=1&now-revision=1&hundred=2024-12"
     read = (
         "(({ values, revisions }) => c.addressOf(c.computed(values, revisions, data)))(c.readAddress(given[0], data))"
     )
@@ -102,6 +102,9 @@ def test_a_later_revision_is_told_with_what_it_comes_to(levels: Path, published:
     minor = amount(published, ("2025-06-r1.csv", NEW), "01", 1)
     assert f"By the latest revisions the new amount is {minor[:-5]}\u202f{minor[-5:-2]}.{minor[-2:]} " in latest
     assert asked(levels, notices, address("2025-06", REVISED, 1)) == []
+    # (addresses of earlier versions have the period in words)
+    for same in ("2024-12", "December+2024"):
+        assert asked(levels, notices, address("2025-06", REVISED, 1, f"&hundred={same}")) == []
     (other,) = asked(levels, notices, address("2025-06", REVISED, 1, "&hundred=2025"))
     assert "with 2025 = 100. The office publishes it with December 2024 = 100 now" in other
     (of_set,) = asked(levels, notices, address("2025-06", REVISED, 1, "&now-revision=1", "FOOD"))

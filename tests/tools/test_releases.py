@@ -17,6 +17,7 @@ from cpi_tools.pack.public import Listed, Published
 from cpi_tools.pack.reasons import Reason
 from cpi_tools.pack.releases import releases_of
 from cpi_tools.publish import publish
+from cpi_tools.speech import SPEAKS_ENGLISH
 from published import REVISED, TITLES
 from test_measures import tea_again, two_years
 from test_site import words_of
@@ -166,7 +167,8 @@ def test_a_late_revision_is_of_a_month_that_is_final() -> None:
     february = next(it for it in tables if it.listed.month == "2026-02")
     late = february._replace(listed=Listed("2026-02", 2, tables[-1].listed.moment + 1))
     for months, wanted in ((2, 0), (3, 3)):
-        found = releases_of(series_of([*tables, late], ()), CONFIG._replace(reference="", provisional=months))
+        config = CONFIG._replace(reference="", provisional=months)
+        found = releases_of(series_of([*tables, late], ()), config, SPEAKS_ENGLISH)
         assert {it.name: it.provisional for it in found}["2026-02-r2"] == wanted
         assert {it.provisional for it in found if it.table.revision == 1} == {months}
 

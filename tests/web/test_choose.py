@@ -23,7 +23,8 @@ from years import BREAD, FLOUR, RICE, SUGAR, lived
 PAGE = "/published/choose.html"
 
 CELLS = """return [...document.querySelectorAll("#parts tbody tr")].map((row) =>
-  [...row.cells].map((cell) => [...cell.childNodes].filter((node) => node.nodeName !== "SUP")
+  [...row.cells].map((cell) => [...cell.childNodes]
+    .filter((node) => node.nodeName !== "SUP" && node.className !== "narrow") // (a month is there in short as well)
     .map((node) => node.textContent).join("")));"""
 HEADS = "return [...document.querySelectorAll('#parts thead th')].map((head) => head.textContent)"
 UNITS = "return [...document.querySelectorAll('#parts figcaption')].map((one) => one.textContent)"

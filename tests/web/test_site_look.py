@@ -174,7 +174,7 @@ def test_a_page_asks_for_few_files_and_for_none_elsewhere(browser: Browser, site
         for name in PAGES:
             browser.driver.get(f"{address}/{name}")
             asked = browser.run(ASKED)
-            assert len(asked) in (2, 3, 4) and all(it.startswith(f"{address}/") for it in asked), asked
+            assert 2 <= len(asked) <= 5 and all(it.startswith(f"{address}/") for it in asked), asked
 
 
 def test_the_first_page_is_light(browser: Browser, site: Path) -> None:

@@ -13,7 +13,7 @@ from typing import NamedTuple, Optional
 
 from markupsafe import Markup, escape
 
-from .terminal import month_name as month_name
+from .speech import SPEAKS_ENGLISH, Speech
 
 WIDTH, HEIGHT = 400, 224
 LEFT, RIGHT, TOP, FOOT = 40, 14, 16, 41
@@ -41,11 +41,13 @@ def signed(value: float) -> str:
 
 
 class Picture(NamedTuple):
-    """What a picture is: a key that no other picture of the page has, its title, and what it shows in words."""
+    """What a picture is: a key that no other picture of the page has, its title, what it shows in words, and how it says
+    figures and months."""
 
     key: str
     title: str
     says: str
+    speech: Speech = SPEAKS_ENGLISH
 
 
 class Line(NamedTuple):
@@ -79,10 +81,12 @@ def ticked(value: float) -> str:
 
 
 class Frame(NamedTuple):
-    """The axes of a picture: months from left to right, and the marks of the values from below to above."""
+    """The axes of a picture: months from left to right, the marks of the values from below to above, and how both are
+    said."""
 
     months: Sequence[str]
     marks: Sequence[float]
+    speech: Speech
 
     def x(self, at: float) -> float:
         """Where the middle of a month is; `at` counts months."""
@@ -98,7 +102,7 @@ class Frame(NamedTuple):
         lines = {"grid": "", "zero": ""}
         for mark in self.marks:
             lines["zero" if abs(mark) < 1e-9 else "grid"] += f"M{LEFT} {self.y(mark):.1f}H{WIDTH - RIGHT}"
-            yield f'<text class="end" x="{LEFT - 6}" y="{self.y(mark) + 4:.1f}">{ticked(mark)}</text>'
+            yield f'<text class="end" x="{LEFT - 6}" y="{self.y(mark) + 4:.1f}">{self.speech.figure(ticked(mark))}</text>'
         named = [*self._named()]
         lines["grid"] += "".join(f"M{self.x(at):.1f} {HEIGHT - FOOT}v4" for at in named)
         yield from (f'<path class="{kind}" d="{path}"/>' for kind, path in lines.items() if path)
@@ -114,9 +118,10 @@ class Frame(NamedTuple):
         is_first = True
         for at in named:
             month, x = self.months[at], f"{self.x(at):.1f}"
-            yield f'<text class="middle" x="{x}" y="{HEIGHT - FOOT + 17}">{month_name(month)[:3]}</text>'
+            yield f'<text class="middle" x="{x}" y="{HEIGHT - FOOT + 17}">{self.speech.month_mark(month)}</text>'
             if is_first or month.endswith("-01"):
-                yield f'<text class="middle year" x="{x}" y="{HEIGHT - FOOT + 34}">{month[:4]}</text>'
+                year = self.speech.year(month[:4])
+                yield f'<text class="middle year" x="{x}" y="{HEIGHT - FOOT + 34}">{year}</text>'
             is_first = False
 
 
@@ -151,7 +156,7 @@ def lines(
     known = [value for line in drawn for value in line.values if value is not None]
     known += [0.0] if has_zero else []
     room = max((max(known) - min(known)) / 10, (LEAST_POINTS - max(known) + min(known)) / 2)
-    frame = Frame(months, steps(min(known) - room, max(known) + room))
+    frame = Frame(months, steps(min(known) - room, max(known) + room), picture.speech)
     begins = [at for at, month in enumerate(months) if month in breaks]
     marked = [at for at, month in enumerate(months) if month in breaks or month in marks]
     places = [frame.x(at - 0.5) for at in marked]
@@ -212,7 +217,7 @@ def columns(picture: Picture, months: Sequence[str], values: Sequence[Optional[f
     low, high = min(0.0, *known, 0.0), max(0.0, *known, 0.0)
     if high - low < LEAST_PERCENT:
         low, high = (low, low + LEAST_PERCENT) if high > 0 or low == 0 else (-LEAST_PERCENT, 0.0)
-    frame = Frame(months, steps(low, high))
+    frame = Frame(months, steps(low, high), picture.speech)
     last = max(at for at, value in enumerate(values) if value is not None)
     wide = min((WIDTH - LEFT - RIGHT) / len(months) * 0.66, WIDEST)
     drawn: dict[str, str] = {}

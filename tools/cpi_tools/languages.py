@@ -8,7 +8,7 @@ from __future__ import annotations
 import argparse
 from collections.abc import Callable
 from pathlib import Path
-from typing import NamedTuple
+from typing import Any, NamedTuple, Union
 
 from .terminal import Fault, needs
 
@@ -17,17 +17,28 @@ PO = Path(__file__).resolve().parents[2] / "po"
 
 SOURCE = "en"
 
+COUNTS = (*range(1000), 10**6)
+"""Counts among which each category of CLDR has one."""
+
 
 class Language(NamedTuple):
-    """A language: its tag (BCP 47), the direction of its script, and what gives a text, and the form of it for a count."""
+    """A language: its tag (BCP 47), the direction of its script, and what gives a text, the form of it for a count, and
+    a text by its context."""
 
     tag: str
     dir: str
     gettext: Callable[[str], str]
     ngettext: Callable[[str, str, int], str]
+    pgettext: Callable[[str, str], str]
 
 
-ENGLISH = Language(SOURCE, "ltr", lambda text: text, lambda one, many, count: one if count == 1 else many)
+ENGLISH = Language(
+    SOURCE,
+    "ltr",
+    lambda text: text,
+    lambda one, many, count: one if count == 1 else many,
+    lambda context, text: text,
+)
 
 
 def known() -> list[str]:
@@ -48,17 +59,10 @@ def language_of(code: str) -> Language:
         return ENGLISH
     needs("babel", "python3-babel")
     from babel import Locale
-    from babel.messages.pofile import read_po
-    from gettext import c2py  # type: ignore[attr-defined]
 
-    path = PO / f"{code}.po"
-    try:
-        with path.open("rb") as file:
-            catalog = read_po(file, locale=code, abort_invalid=True)
-        form = c2py(catalog.plural_expr)
-    except (OSError, ValueError) as fault:
-        raise Fault(f"{path}: {fault}") from fault
+    catalog, form = _read(code)
     texts = {message.id: message.string for message in catalog if message.id and not message.context}
+    within = {(message.context, message.id): message.string for message in catalog if message.context}
     plurals = {names[0]: strings for names, strings in texts.items() if isinstance(names, tuple)}
 
     def ngettext(one: str, many: str, count: int) -> str:
@@ -66,5 +70,48 @@ def language_of(code: str) -> Language:
         return (strings[form(count)] if strings else "") or ENGLISH.ngettext(one, many, count)
 
     return Language(
-        code.replace("_", "-"), Locale.parse(code).text_direction, lambda text: texts.get(text) or text, ngettext
+        code.replace("_", "-"),
+        Locale.parse(code).text_direction,
+        lambda text: texts.get(text) or text,
+        ngettext,
+        lambda context, text: within.get((context, text)) or text,
     )
+
+
+class Words(NamedTuple):
+    """What scripts say in a language: texts by their English, one or its plural forms, and the number of the form for each
+    category of counts that CLDR has."""
+
+    texts: dict[str, Union[str, list[str]]]
+    plural: dict[str, int]
+
+
+def words_of(code: str, folder: str) -> Words:
+    """What the scripts of a folder of the repository say in a language. Raises Fault if its catalogue can't be read."""
+    from babel import Locale
+
+    catalog, form = _read(code)
+    texts: dict[str, Union[str, list[str]]] = {}
+    for message in catalog:
+        if any(place.startswith(folder) and place.endswith(".js") for place, _ in message.locations):
+            is_counted = isinstance(message.id, tuple)
+            texts[message.id[0] if is_counted else message.id] = [*message.string] if is_counted else message.string
+    rule, plural = Locale.parse(code).plural_form, dict[str, int]()
+    for count in COUNTS:
+        plural.setdefault(rule(count), form(count))
+    return Words(texts, {"other": max(plural.values()), **plural})
+
+
+def _read(code: str) -> tuple[Any, Callable[[int], int]]:
+    """A catalogue, and its plural form for a count."""
+    needs("babel", "python3-babel")
+    from babel.messages.pofile import read_po
+    from gettext import c2py  # type: ignore[attr-defined]
+
+    path = PO / f"{code}.po"
+    try:
+        with path.open("rb") as file:
+            catalog = read_po(file, locale=code, abort_invalid=True)
+        return catalog, c2py(catalog.plural_expr)
+    except (OSError, ValueError) as fault:
+        raise Fault(f"{path}: {fault}") from fault

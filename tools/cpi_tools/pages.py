@@ -13,10 +13,11 @@ from typing import Any, Optional
 import jinja2
 from markupsafe import Markup
 
-from . import charts, exact
+from . import exact
+from .inlined import Inlined
 from .languages import ENGLISH, Language
 from .others import isolated, others
-from .terminal import Fault, because_of
+from .terminal import Fault, because_of, month_name
 from .whole_files import in_place_of
 
 TEMPLATES = Path(__file__).resolve().parent / "templates"
@@ -39,7 +40,7 @@ FILTERS: Mapping[str, Callable[..., Any]] = {
     "percent": percent,
     "size": size,
     "points": exact.points,
-    "month_name": charts.month_name,
+    "month_name": month_name,
     "others": others,
     "isolated": isolated,
 }
@@ -62,7 +63,7 @@ def environment(own: Optional[Path] = None, language: Language = ENGLISH) -> jin
         trim_blocks=True,
         lstrip_blocks=True,
         auto_reload=False,
-        extensions=["jinja2.ext.i18n"],
+        extensions=[Inlined],
     )
     made.install_gettext_callables(language.gettext, language.ngettext, newstyle=True)  # type: ignore[attr-defined]
     made.policies["ext.i18n.trimmed"] = True

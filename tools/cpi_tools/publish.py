@@ -34,6 +34,7 @@ from .pack.manifest import (
     write_sums,
 )
 from .pack.measures import Contributions
+from .pack.notes import Notes
 from .pack.part import Now, known_of, write_part
 from .pack.public import Published
 from .pack.reason_files import added_reasons, write_reasons
@@ -75,7 +76,7 @@ class Pack(NamedTuple):
 def write_pack(pack: Pack, folder: Path, now: Now, before: Before) -> None:
     """Writes all files of a pack into an empty folder; those that are the same in the pack before are taken from it."""
     # (here, since the packages of its pages needn't be there for the other tools)
-    from .pack.site import Site
+    from .pack.sites import Shared, write_sites
 
     series, config = pack.series, pack.config
     signature = _write_manifest(pack, folder)
@@ -93,9 +94,8 @@ def write_pack(pack: Pack, folder: Path, now: Now, before: Before) -> None:
     recent = known_of(series.part(first, series.every[-1]), contributions.unexplained, shown)
     write_part(recent, config, data, now)
     known = Known(series, contributions, shown, recent)
-    site = Site(known, config, folder, signature, pack.cards, recent)
-    items = ItemFiles(known, site.notes, before, archives.same_to)
-    site.write(items, lambda done, of: now(f"pages, {done} of {of}"))
+    items = ItemFiles(known, Notes(shown, config.provisional), before, archives.same_to)
+    write_sites(known, recent, config, folder, Shared(items, signature, pack.cards), now)
     now("sums")
     write_sums(folder, {**sums, **before.taken})
 

@@ -13,9 +13,11 @@ from pathlib import Path
 
 from markupsafe import Markup
 
+from ..speech import SPEAKS_ENGLISH, Speech
 from .config import Config
 from .releases import Release
 from .tables import Series, iso
+from .versions import ALONE, Version
 
 SITEMAP = "sitemap.xml"
 LOST = "404.html"
@@ -40,22 +42,28 @@ TYPES = {
 # ---- the map of the pages (sitemaps.org)
 
 
-def write_sitemap(folder: Path, config: Config, series: Series, releases: Iterable[Release]) -> None:
-    """Writes the map of all pages of a folder, each with the moment at which it last changed: the page of a release is
-    changed by a revision, or by a reason that the office gives later, and all others by each table."""
+def write_sitemap(
+    folder: Path, config: Config, series: Series, releases: Iterable[Release], versions: Sequence[Version] = (ALONE,)
+) -> None:
+    """Writes the map of all pages of a pack in all languages, each with the moment at which it last changed: the page of a
+    release is changed by a revision, or by a reason that the office gives later, and all others by each table."""
     changed = {it.page: max(it.last_said, *(table.moment for table in it.later), 0) for it in releases}
-    pages = sorted(it.relative_to(folder).as_posix() for it in folder.rglob("*.html"))
-    rows = (
-        f"<url><loc>{address_of(config, page)}</loc><lastmod>{iso(changed.get(page, series.moment))}</lastmod></url>\n"
-        for page in pages
-        if page != LOST and not page.startswith(EMBEDDED)
-    )
+    folders = tuple(it.folder for it in versions if it.folder)
+    rows = list[str]()
+    for version in versions:
+        own = folder / version.folder
+        pages = sorted(it.relative_to(own).as_posix() for it in own.rglob("*.html"))
+        others = (LOST, EMBEDDED, *(() if version.folder else folders))
+        for page in pages:
+            if not page.startswith(others):
+                last = iso(changed.get(page, series.moment))
+                rows.append(f"<url><loc>{address_of(config, page, version)}</loc><lastmod>{last}</lastmod></url>\n")
     (folder / SITEMAP).write_text(f"{SITEMAP_HEAD}{''.join(rows)}</urlset>\n", encoding="utf-8")
 
 
-def address_of(config: Config, page: str) -> str:
-    """The one address of a page: that of the first page is the site's."""
-    return config.address + ("" if page == "index.html" else page)
+def address_of(config: Config, page: str, version: Version = ALONE) -> str:
+    """The one address of a page in a version of the site: that of the first page is its folder's."""
+    return config.address + version.folder + ("" if page == "index.html" else page)
 
 
 # ---- schema.org
@@ -67,15 +75,29 @@ def type_of(name: str) -> str:
     return "application/vnd.sdmx.structure+xml;version=2.1" if name.startswith("structure.") else TYPES[ends]
 
 
-def dataset(config: Config, series: Series, files: Sequence[tuple[str, int]]) -> Markup:
+def dataset(
+    config: Config,
+    series: Series,
+    files: Sequence[tuple[str, int]],
+    speech: Speech = SPEAKS_ENGLISH,
+    version: Version = ALONE,
+) -> Markup:
     """What the page of the data says of the index: its months, its publisher, and each file with its bytes."""
     return _script(
         {
             **_published_by(config),
-            "name": f"{config.title}, {config.country or config.area}",
-            "description": f"{config.title} of {config.office}: indices, changes, weights and contributions of"
-            f" {len(series.titles)} items by COICOP 2018, each month from {series.months[0]} to {series.months[-1]}.",
-            "url": f"{config.address}data.html",
+            "name": speech.row([config.title, config.country or config.area]),
+            "description": speech.t(
+                "{title} of {office}: indices, changes, weights and contributions of {count} items by COICOP 2018, each"
+                " month from {first} to {last}.",
+                title=config.title,
+                office=config.office,
+                count=len(series.titles),
+                first=series.months[0],
+                last=series.months[-1],
+            ),
+            **({"inLanguage": version.tag} if version.tag else {}),
+            "url": address_of(config, "data.html", version),
             "dateModified": iso(series.moment),
             "temporalCoverage": f"{series.months[0]}/{series.months[-1]}",
             "distribution": [_file(config, f"data/{name}", size) for name, size in files],
@@ -83,19 +105,22 @@ def dataset(config: Config, series: Series, files: Sequence[tuple[str, int]]) ->
     )
 
 
-def release_dataset(config: Config, release: Release, size: int) -> Markup:
+def release_dataset(config: Config, release: Release, size: int, version: Version = ALONE) -> Markup:
     """What the page of a release says of its table, which has so many bytes."""
     table = release.table
     return _script(
         {
             **_published_by(config),
-            "name": f"{config.title}, {table.month}, revision {table.revision}",
+            "name": release.shown.speech.t(
+                "{title}, {month}, revision {number}", title=config.title, month=table.month, number=table.revision
+            ),
             "description": f"{release.headline}.",
-            "url": config.address + release.page,
+            **({"inLanguage": version.tag} if version.tag else {}),
+            "url": address_of(config, release.page, version),
             "datePublished": iso(table.moment),
             "version": str(table.revision),
             "temporalCoverage": table.month,
-            "isPartOf": {"@type": "Dataset", "name": config.title, "url": f"{config.address}data.html"},
+            "isPartOf": {"@type": "Dataset", "name": config.title, "url": address_of(config, "data.html", version)},
             "distribution": [_file(config, f"data/tables/{release.name}.csv", size)],
         }
     )

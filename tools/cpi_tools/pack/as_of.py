@@ -42,6 +42,7 @@ class AsOf(Series):
         self.months = self.every = [month for month, table in self.latest.items() if table.rows]
         self.vintages = [it for it in self.whole.vintages if it.month <= of.month and it.moment <= of.moment]
         self.specials = {}
+        self.other_titles = self.whole.other_titles
         self.titles = {code: of.rows[code].title for code in whole.codes if code in of.rows}
 
     @property
@@ -58,7 +59,7 @@ class AsOf(Series):
     def title(self, code: str) -> str:
         """The title of a node in the release, or of one that left in the table of the link month."""
         row = self.of.rows.get(code) or self.row(link_of(self.of.month), code)
-        return row.title if row else self.whole.title(code)
+        return self.called(code, row.title) if row else self.whole.title(code)
 
     def starts(self, code: str) -> list[str]:
         """The first month of each of a node's runs up to the release: a month has the same nodes in each revision."""

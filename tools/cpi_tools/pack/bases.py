@@ -10,9 +10,15 @@ from collections import defaultdict
 from collections.abc import Iterator
 from typing import NamedTuple
 
+from ..speech import SPEAKS_ENGLISH, Speech, marked
 from .tables import Row, Series, Table, before, link_of
 
-INDEX, ON_MONTH, ON_YEAR = "the index", "the change on the month before", "the change on the year before"
+# t: a figure within a sentence: it counts in "the index"
+INDEX = marked("the index")
+# t: a figure within a sentence: it counts in "the change on the month before"
+ON_MONTH = marked("the change on the month before")
+# t: a figure within a sentence: it counts in "the change on the year before"
+ON_YEAR = marked("the change on the year before")
 
 Figures = dict[str, list[str]]
 """By the month that they are computed from, figures of a month in words."""
@@ -28,12 +34,12 @@ class Base(NamedTuple):
     figures: str
 
 
-def in_words(figures: list[str]) -> str:
+def in_words(figures: list[str], speech: Speech) -> str:
     """`the index and the change on the month before`."""
-    return " and ".join([*filter(None, [", ".join(figures[:-1])]), figures[-1]])
+    return speech.listed([speech.t(it) for it in figures])
 
 
-def hidden_bases(series: Series, row: Row, has_changes: bool = True) -> dict[str, str]:
+def hidden_bases(series: Series, row: Row, has_changes: bool = True, speech: Speech = SPEAKS_ENGLISH) -> dict[str, str]:
     """By month, the figures of a row of the last month that are computed from a revision of it that isn't published
     yet: figures that the published levels don't give, each computed again as the office computes and rounds it. Without
     its changes only the index is looked at."""
@@ -45,7 +51,7 @@ def hidden_bases(series: Series, row: Row, has_changes: bool = True) -> dict[str
         found[before(month)].append(ON_MONTH)
     if has_changes and not series.is_change_shown(month, row, True):
         found[before(month, 12)].append(ON_YEAR)
-    return {earlier: in_words(figures) for earlier, figures in found.items()}
+    return {earlier: in_words(figures, speech) for earlier, figures in found.items()}
 
 
 def hidden_months(series: Series) -> frozenset[str]:
@@ -53,7 +59,7 @@ def hidden_months(series: Series) -> frozenset[str]:
     return frozenset(month for row in series.last.rows.values() for month in hidden_bases(series, row))
 
 
-def revised_bases(series: Series, row: Row, hidden: frozenset[str]) -> Iterator[Base]:
+def revised_bases(series: Series, row: Row, hidden: frozenset[str], speech: Speech = SPEAKS_ENGLISH) -> Iterator[Base]:
     """The months that the figures of a node in the last month are computed from whose latest revision, which is
     published, changed the node's level; `hidden` has the months with a revision that isn't published."""
     month = series.months[-1]
@@ -66,4 +72,4 @@ def revised_bases(series: Series, row: Row, hidden: frozenset[str]) -> Iterator[
         if new is series.latest[new.month] and new.month in figures and new.month not in hidden:
             then, now = old.rows.get(row.code), new.rows.get(row.code)
             if then and now and then.chained != now.chained:
-                yield Base(old, new, (then.chained, now.chained), in_words(figures[new.month]))
+                yield Base(old, new, (then.chained, now.chained), in_words(figures[new.month], speech))

@@ -11,11 +11,12 @@ from datetime import datetime, timezone
 from pathlib import Path
 from typing import NamedTuple
 
-from ..charts import month_name
+from ..speech import SPEAKS_ENGLISH, Speech
 from .config import Config
 from .planned import Planned
 from .release_names import name_of, page_of_release
 from .releases import Release
+from .spoken import release_text
 from .tables import Series, before
 
 ICS = "calendar.ics"
@@ -70,27 +71,33 @@ class CalendarOf:
 # ---- for other programs: iCalendar, RFC 5545
 
 
-def write_ics(series: Series, config: Config, releases: Sequence[Release], to: Path) -> None:
+def write_ics(
+    series: Series, config: Config, releases: Sequence[Release], to: Path, speech: Speech = SPEAKS_ENGLISH
+) -> None:
     """Writes the releases of the last months and those to come."""
     first = before(series.months[-1], EVENT_MONTHS - 1)
     tables = [(it.table, it.headline) for it in releases if it.table.month >= first]
     events = [Event(it.month, it.revision, it.moment, says) for it, says in tables]
     events += [Event(*it) for it in coming(series, config.planned)]
-    lines = (line for it in _lines(series, config, events) for line in _folded(it))
+    lines = (line for it in _lines(series, config, events, speech) for line in _folded(it))
     to.write_bytes(b"".join(line + b"\r\n" for line in lines))
 
 
-def _lines(series: Series, config: Config, events: Sequence[Event]) -> Iterator[str]:
+def _lines(series: Series, config: Config, events: Sequence[Event], speech: Speech) -> Iterator[str]:
     """The lines of a calendar, whole."""
-    yield from ("BEGIN:VCALENDAR", "VERSION:2.0", "PRODID:-//Sabrethog//cpi-tools publish//EN", "METHOD:PUBLISH")
-    yield f"X-WR-CALNAME:{_text(f'{config.title}, {config.office}')}"
+    yield from (
+        "BEGIN:VCALENDAR",
+        "VERSION:2.0",
+        "PRODID:-//Sabrethog//cpi-tools publish//" + speech.language.tag.upper(),
+        "METHOD:PUBLISH",
+    )
+    yield f"X-WR-CALNAME:{_text(speech.row([config.title, config.office]))}"
     for it in events:
-        revision = f", revision {it.revision}" if it.revision > 1 else ""
         yield "BEGIN:VEVENT"
         yield f"UID:{name_of(it.month, it.revision)}.{config.area}.{config.agency}@cpi"
         yield f"DTSTAMP:{_stamp(series.moment)}"
         yield f"DTSTART:{_stamp(it.moment)}"
-        yield f"SUMMARY:{_text(f'{config.title}, {month_name(it.month)}{revision}')}"
+        yield f"SUMMARY:{_text(speech.row([config.title, release_text(speech, it.month, it.revision)]))}"
         if it.says:
             yield f"DESCRIPTION:{_text(f'{it.says}.')}"
         if config.address:

@@ -7,12 +7,12 @@ from collections.abc import Iterator, Sequence
 from pathlib import Path
 from xml.sax.saxutils import escape
 
-from ..charts import month_name
 from ..exact import ALL_ITEMS, tenths, with_sign
 from .cards import LETTERS, Cards
 from .config import Config
 from .releases import Release
 from .tables import before
+from .versions import ALONE, Version
 
 WIDTH, HEIGHT = 1200, 630
 MONTHS = 24
@@ -29,12 +29,15 @@ COLOURS = {(True, True): "#0a5c7d", (True, False): "#5f9bb5", (False, True): "#b
 """Of a bar, by whether it is no fall, and whether it is that of the release."""
 
 
-def write_cards(cards: Cards, config: Config, releases: Sequence[Release], folder: Path) -> None:
-    """Writes the card of each release into the folder of a site. Raises Fault."""
+def write_cards(
+    cards: Cards, config: Config, releases: Sequence[Release], pack: Path, version: Version = ALONE
+) -> None:
+    """Writes the card of each release, in the language of a version, into the folder of a pack. Raises Fault."""
     for it in releases if cards.are_written else ():
-        png = cards.card(it.card, card_svg(config, it))
+        name = version.folder + it.card
+        png = cards.card(name, card_svg(config, it))
         if png:
-            (folder / it.card).write_bytes(png)
+            (pack / name).write_bytes(png)
 
 
 def card_svg(config: Config, release: Release) -> str:
@@ -43,15 +46,14 @@ def card_svg(config: Config, release: Release) -> str:
 
 
 def _parts(config: Config, release: Release) -> Iterator[str]:
-    table, whole = release.table, release.whole
-    revision = f", revision {table.revision}" if table.revision > 1 else ""
+    whole, speech = release.whole, release.shown.speech
     yield f'<svg xmlns="http://www.w3.org/2000/svg" width="{WIDTH}" height="{HEIGHT}" font-family="{LETTERS}">'
     yield f'<rect width="{WIDTH}" height="{HEIGHT}" fill="#ffffff"/><rect width="{WIDTH}" height="12" fill="#0a5c7d"/>'
-    yield _line(LEFT, 76, 28, "#526170", f"{config.title}, {month_name(table.month)}{revision}")
+    yield _line(LEFT, 76, 28, "#526170", speech.row([config.title, release.text]))
     for at, line in enumerate(textwrap.wrap(release.headline, LINE)):
         yield _line(LEFT, 146 + 58 * at, 46, "#17222d", line, is_bold=True)
     yield from _bars(release, whole.year_change is not None)
-    yield _line(LEFT, 596, 26, "#526170", f"{config.office}{', ' + config.country if config.country else ''}")
+    yield _line(LEFT, 596, 26, "#526170", speech.row([*filter(None, [config.office, config.country])]))
     yield "</svg>"
 
 
@@ -67,7 +69,7 @@ def _line(x: float, y: float, size: int, colour: str, text: str, anchor: str = "
 
 def _bars(release: Release, is_annual: bool) -> Iterator[str]:
     """The changes of all items in the last months up to the release, with a line at zero."""
-    known = [*_changes(release, is_annual)]
+    known, speech = [*_changes(release, is_annual)], release.shown.speech
     values = [value for _, value in known]
     high, low = max(1, *values), min(0, *values)
     width, scale = (RIGHT - LEFT) / max(LEAST_BARS, len(known)), (FOOT - TOP) / (high - low)
@@ -79,9 +81,21 @@ def _bars(release: Release, is_annual: bool) -> Iterator[str]:
     yield f'<path d="M{LEFT} {zero:.1f}H{RIGHT}" stroke="#526170" stroke-width="1.5"/>'
     # (the figure of the last bar is above it, or below a fall)
     y = zero - values[-1] * scale + (-10 if values[-1] >= 0 else 30)
-    yield _line(LEFT + (len(known) - 0.5) * width - 3, y, 26, "#17222d", with_sign(tenths(values[-1])), "middle", True)
-    said = f"Change on the {'year' if is_annual else 'month'} before, in percent"
-    yield _line(LEFT, 556, 22, "#526170", f"{said}, {month_name(known[0][0])} to {month_name(known[-1][0])}")
+    yield _line(
+        LEFT + (len(known) - 0.5) * width - 3,
+        y,
+        26,
+        "#17222d",
+        speech.figure(with_sign(tenths(values[-1]))),
+        "middle",
+        True,
+    )
+    months = {"first": speech.month(known[0][0]), "last": speech.month(known[-1][0])}
+    if is_annual:
+        said = speech.t("Change on the year before, in percent, {first} to {last}", **months)
+    else:
+        said = speech.t("Change on the month before, in percent, {first} to {last}", **months)
+    yield _line(LEFT, 556, 22, "#526170", said)
 
 
 def _changes(release: Release, is_annual: bool) -> Iterator[tuple[str, int]]:

@@ -57,13 +57,18 @@ def item_ends(known: Known, notes: Mapping[str, str], code: str, first: int = 0)
 
 
 def write_chooser(series: Series, folder: Path) -> None:
-    """Writes what the page reads besides the items' files, into the folder of a site that has its other folders."""
+    """Writes what the page reads in each language besides the items' files, into the folder of a site that has its other
+    folders."""
     (folder / "assets" / "choose.js").write_text(script(), encoding="utf-8")
+    for code, rows in _earlier(series).items():
+        write_rows(folder / "node" / f"{code}-earlier.csv", HEAD, rows)
+
+
+def write_items(series: Series, folder: Path) -> None:
+    """Writes the list of all items with their titles, into the folder of a language."""
     items = [[code, closed(title)] for code, title in series.all_titles.items()]
     text = json.dumps(items, ensure_ascii=False, separators=(",", ":"))
     (folder / "assets" / "items.json").write_text(text, encoding="utf-8")
-    for code, rows in _earlier(series).items():
-        write_rows(folder / "node" / f"{code}-earlier.csv", HEAD, rows)
 
 
 def _earlier(series: Series) -> Mapping[str, list[Sequence[object]]]:
@@ -76,11 +81,14 @@ def _earlier(series: Series) -> Mapping[str, list[Sequence[object]]]:
     return found
 
 
-def known_to_page(series: Series, config: Config) -> dict[str, str]:
+def known_to_page(series: Series, config: Config, top: str = "", has_titles: bool = False) -> dict[str, str]:
     """What the page has to know before it reads a file, as attributes of its form: its first and its last month, the
     December before the first, the office's reference period, the moment of the last publication, and how many revisions
-    a month has at most."""
+    a month has at most; the way to the folder of the pack, if it has another one, and whether titles of its language
+    are in the list of items only."""
     return {
+        **({"top": top} if top else {}),
+        **({"titles": "listed"} if has_titles else {}),
         "first": series.months[0],
         "last": series.months[-1],
         "base": series.base,

@@ -14,7 +14,8 @@ import zoneinfo
 from datetime import datetime, timezone, tzinfo
 from typing import NamedTuple, Optional
 
-from ..terminal import Fault, month_name
+from ..speech import SPEAKS_ENGLISH, Speech
+from ..terminal import Fault
 
 CIVIL = "%Y-%m-%dT%H:%M"
 PLACE = re.compile(r"[A-Za-z][A-Za-z0-9_+-]*(/[A-Za-z0-9_+-]+)*")
@@ -38,21 +39,21 @@ class Clock(NamedTuple):
         ValueError."""
         return int(datetime.strptime(civil, CIVIL).replace(tzinfo=self.zone or timezone.utc).timestamp())
 
-    def local(self, moment: int) -> str:
+    def local(self, moment: int, speech: Speech = SPEAKS_ENGLISH) -> str:
         """`28 January 2026, 09:30 CET`, or `.., 08:30 UTC` without a zone."""
         at = datetime.fromtimestamp(moment, self.zone or timezone.utc)
-        return f"{at.day} {month_name(at.strftime('%Y-%m'))}, {at.strftime('%H:%M')} {self._zone_name(at)}"
+        return speech.moment(at, self._zone_name(at))
 
-    def day(self, moment: int) -> str:
+    def day(self, moment: int, speech: Speech = SPEAKS_ENGLISH) -> str:
         """`28 January 2026, 09:30 CET (08:30 UTC)`; without a zone only the time in UTC."""
-        local = self.local(moment)
-        return local if local.endswith(" UTC") else f"{local} ({self._utc(moment)})"
+        local = self.local(moment, speech)
+        return local if local.endswith(" UTC") else f"{local} ({self._utc(moment, speech)})"
 
-    def _utc(self, moment: int) -> str:
+    def _utc(self, moment: int, speech: Speech) -> str:
         """`08:30 UTC`, with the day if it is another one there."""
         own = datetime.fromtimestamp(moment, self.zone or timezone.utc)
         there = datetime.fromtimestamp(moment, timezone.utc)
-        return there.strftime("%H:%M UTC") if own.date() == there.date() else UTC.local(moment)
+        return speech.time(there, "UTC") if own.date() == there.date() else UTC.local(moment, speech)
 
     @staticmethod
     def _zone_name(at: datetime) -> str:

@@ -8,9 +8,11 @@ from collections.abc import Mapping
 from pathlib import Path
 from typing import NamedTuple, Optional
 
+from ..speech import LATIN
 from ..terminal import Fault, because_of
 from .clocks import UTC, Clock, NoZone, clock_of
 from .dated import Dated, dated_of, value_in
+from .office_languages import BadLanguages, OfficeLanguages, Own, read_languages
 from .planned import Planned, read_planned
 from .reasons import Reason, read_reasons
 from .shown import EXACT, RATES
@@ -28,7 +30,7 @@ ADDRESS = re.compile(r"https?://[A-Za-z0-9.-]+(:[0-9]{1,5})?(/[A-Za-z0-9._~-]+)*
 
 NAMES = ("agency", "area", "office", "title", "country", "contact", "licence", "reference", "currency", "minor_digits",
          "without", "aggregates", "rates", "language", "provisional", "address", "zone",
-         "calendar", "years", "revisions")  # fmt: skip
+         "calendar", "years", "revisions", "languages", "digits")  # fmt: skip
 NEEDED = ("agency", "area", "office")
 
 
@@ -70,8 +72,9 @@ class Config(NamedTuple):
     item came), `rates` is what changes are computed from (`shown.RATES`), `currency` and `minor_digits` (0 to 4) are
     those of the calculator's amounts, `without` has the forms that aren't written, `language` is that of titles, `ids`
     are the office's own ids of SDMX by those that are used else, `specials` its special aggregates, `provisional` is how
-    many of the last months it may still revise (0 to MOST_PROVISIONAL), and `years` how many years are in the files of
-    the folder `data` (None: as many as don't make them large).
+    many of the last months it may still revise (0 to MOST_PROVISIONAL), `years` how many years are in the files of
+    the folder `data` (None: as many as don't make them large), and `speaks` are the languages of the pages
+    (without one they are English).
     """
 
     agency: str
@@ -98,6 +101,7 @@ class Config(NamedTuple):
     years: Optional[int] = None
     all_provisional: tuple[Dated, ...] = ()
     reasons: tuple[Reason, ...] = ()
+    speaks: OfficeLanguages = OfficeLanguages()
 
     def reference_in(self, month: str) -> str:
         """The reference period of the release of a month."""
@@ -114,6 +118,10 @@ class Config(NamedTuple):
     def has(self, form: str) -> bool:
         """Whether the observations are written in a form."""
         return form not in self.without
+
+    def spoken(self, tag: str) -> Config:
+        """The same with the office's own texts in a language."""
+        return self._replace(**self.speaks.own.get(tag, Own()).words)  # type: ignore[arg-type]
 
     def id(self, name: str) -> str:
         """An id of SDMX as this office has it."""
@@ -136,18 +144,21 @@ def read_config(path: Path, known: KnownIds = KnownIds()) -> Config:
         raise BadConfig(f"{path}: {' '.join(str(fault).split())}") from fault
     if "office" not in parser:
         raise BadConfig(f"{path} has no section [office]")
-    for section in parser.sections():
-        if section not in ("office", "sdmx"):
-            raise BadConfig(f"{path}: there is no section [{section}], but [office] and [sdmx]")
     # (a word without a value is as one that isn't there; a value of several lines is one)
     found = {name: " ".join(value.split()) for name, value in parser["office"].items() if value.strip()}
     ids = dict(parser["sdmx"]) if "sdmx" in parser else {}
     specials, calendar, reasons = (found.pop(name, "") for name in ("aggregates", "calendar", "revisions"))
+    sections = {name: dict(parser[name]) for name in parser.sections() if name not in ("office", "sdmx")}
+    languages, digits = found.pop("languages", ""), found.pop("digits", LATIN)
     try:
+        speaks = read_languages(path, languages, digits, sections)
         config = _config(found, ids, known, read_specials(path.parent / specials) if specials else ())
     except BadConfig as fault:
         raise BadConfig(f"{path}: {fault}") from None
+    except BadLanguages as fault:
+        raise BadConfig(str(fault)) from None
     return config._replace(
+        speaks=speaks,
         planned=read_planned(path.parent / calendar, config.clock) if calendar else (),
         reasons=read_reasons(path.parent / reasons, config.clock) if reasons else (),
     )

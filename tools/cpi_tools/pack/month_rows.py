@@ -7,9 +7,8 @@ from collections.abc import Iterable, Mapping
 from markupsafe import Markup, escape
 
 from ..exact import points
-from ..pages import percent
-from ..terminal import month_name
 from .shown import Shown
+from .wording import changed
 
 
 class MonthRows:
@@ -17,7 +16,7 @@ class MonthRows:
     revision of the month's table. On a telephone the month is `Dec 2026`, and some columns aren't shown."""
 
     def __init__(self, shown: Shown):
-        self._shown = shown
+        self._shown, self._speech = shown, shown.speech
         self._heads: dict[str, str] = {}
 
     def of(self, code: str, months: Iterable[str], notes: Mapping[str, str], marks: Mapping[str, str]) -> Markup:
@@ -32,19 +31,18 @@ class MonthRows:
     def _row(self, code: str, month: str, notes: str) -> str:
         row = self._shown.row(month, code)
         assert row
-        changes = (f'<td class="n">{percent(change)}</td>' for change in (row.month_change, row.year_change))
+        speech, revision = self._speech, str(self._shown.series.latest[month].revision)
+        changes = (f'<td class="n">{changed(speech, it)}</td>' for it in (row.month_change, row.year_change))
         return (
-            f'{self._head(month)}<td class="n">{self._shown.text(month, code, 1)}</td>'
-            f'<td class="n wide">{points(row.within, 1)}</td>{"".join(changes)}'
+            f'{self._head(month)}<td class="n">{speech.figure(self._shown.text(month, code, 1))}</td>'
+            f'<td class="n wide">{speech.figure(points(row.within, 1))}</td>{"".join(changes)}'
             f'<td class="n">{escape(notes)}</td>'
-            f'<td class="n wide">{self._shown.series.latest[month].revision}</td></tr>'
+            f'<td class="n wide">{speech.figure(revision)}</td></tr>'
         )
 
     def _head(self, month: str) -> str:
         found = self._heads.get(month)
         if found is None:
-            name = month_name(month)
-            wide = f'<span class="wide">{name[3:-5]}</span>'
-            found = f'<tr><th scope="row" class="month">{name[:3]}{wide}{name[-5:]}</th>'
+            found = f'<tr><th scope="row" class="month">{self._speech.month_head(month)}</th>'
             self._heads[month] = found
         return found

@@ -12,25 +12,29 @@ from collections.abc import Iterable, Mapping
 from typing import Optional
 
 from ..exact import decimal
-from ..terminal import month_name
+from ..speech import SPEAKS_ENGLISH, Speech, marked
 from .shown import Shown
 from .tables import Row
 
 IMPUTED, REVISED, BREAK, PROVISIONAL = "i", "r", "b", "p"
 
 NAMES: Mapping[str, str] = {
-    IMPUTED: "imputed",
-    REVISED: "revised",
-    BREAK: "break",
-    PROVISIONAL: "provisional",
+    # t: the letter i next to a figure
+    IMPUTED: marked("imputed"),
+    # t: the letter r next to a figure
+    REVISED: marked("revised"),
+    # t: the letter b next to a figure: a break in a series
+    BREAK: marked("break"),
+    # t: the letter p next to a figure
+    PROVISIONAL: marked("provisional"),
 }
 """The letters in the order in which they are written, with their names."""
 
 SAYS: Mapping[str, str] = {
-    IMPUTED: "at least one price at or below the item was imputed",
-    REVISED: "the figure isn't the one that was published first",
-    BREAK: "the level isn't linked to the earlier ones",
-    PROVISIONAL: "the office may still revise it",
+    IMPUTED: marked("at least one price at or below the item was imputed"),
+    REVISED: marked("the figure isn't the one that was published first"),
+    BREAK: marked("the level isn't linked to the earlier ones"),
+    PROVISIONAL: marked("the office may still revise it"),
 }
 """What a letter says of a figure, in a few words."""
 
@@ -39,7 +43,7 @@ class Notes:
     """The notes of all figures. The last `provisional` months can still be revised."""
 
     def __init__(self, shown: Shown, provisional: int = 0):
-        self.shown, self.provisional = shown, provisional
+        self.shown, self.provisional, self.speech = shown, provisional, shown.speech
         series = shown.series
         self.last = frozenset(series.months[-provisional:] if provisional else [])
         """The provisional months."""
@@ -51,9 +55,11 @@ class Notes:
     @property
     def provisional_text(self) -> str:
         """What is said of provisional months."""
-        if self.provisional == 1:
-            return "Provisional: the office may still revise the last month."
-        return f"Provisional: the office may still revise the last {self.provisional} months."
+        return self.speech.tn(
+            "Provisional: the office may still revise the last month.",
+            "Provisional: the office may still revise the last {count} months.",
+            self.provisional,
+        )
 
     def first(self, month: str, code: str) -> Optional[Row]:
         """The row that was published first, if the latest one is another; a special aggregate has none."""
@@ -80,8 +86,10 @@ class Notes:
     def sentences(self, month: str, code: str) -> list[tuple[str, str]]:
         """The notes of a month's figures, each a letter and a sentence; of a break none, which has its own."""
         said = {
-            IMPUTED: "At least one price at or below this item was imputed in that month: it moved as the others of its"
-            " elementary aggregate did.",
+            IMPUTED: self.speech.t(
+                "At least one price at or below this item was imputed in that month: it moved as the others of its"
+                " elementary aggregate did."
+            ),
             REVISED: self._revised(month, code),
             PROVISIONAL: self.provisional_text,
         }
@@ -94,19 +102,30 @@ class Notes:
         if row is None:
             return ""
         then, now = decimal(*self.shown.of_level(row.chained, month, code), 1), self.shown.text(month, code, 1)
+        speech, named = self.speech, self.speech.month(month)
         if then == now:
-            return f"Revised: what was published first of {month_name(month)} differed by less than the index shows."
-        return f"Revised: the index of {month_name(month)} was published as {then} first."
+            return speech.t(
+                "Revised: what was published first of {month} differed by less than the index shows.", month=named
+            )
+        index = speech.figure(then)
+        return speech.t("Revised: the index of {month} was published as {index} first.", month=named, index=index)
 
 
-def provisional_then(months: int) -> str:
+def provisional_then(months: int, speech: Speech = SPEAKS_ENGLISH) -> str:
     """What a release says that stays, if its month was among so many last ones that could be revised on its day."""
-    if months == 1:
-        return "Provisional: on that day the office could still revise the last month."
-    return f"Provisional: on that day the office could still revise the last {months} months."
+    return speech.tn(
+        "Provisional: on that day the office could still revise the last month.",
+        "Provisional: on that day the office could still revise the last {count} months.",
+        months,
+    )
 
 
-def present(letters: dict[str, str]) -> list[tuple[str, str, str]]:
+def said(speech: Speech, of: Mapping[str, str]) -> dict[str, str]:
+    """Names, or what letters say, in a language."""
+    return {letter: speech.t(text) for letter, text in of.items()}
+
+
+def present(speech: Speech, letters: dict[str, str]) -> list[tuple[str, str, str]]:
     """The notes that some months have: letter, name and what it says."""
     found = {letter for each in letters.values() for letter in each}
-    return [(letter, NAMES[letter], SAYS[letter]) for letter in NAMES if letter in found]
+    return [(letter, speech.t(NAMES[letter]), speech.t(SAYS[letter])) for letter in NAMES if letter in found]

@@ -9,10 +9,11 @@ from typing import NamedTuple, Optional
 from markupsafe import Markup
 
 from .. import charts
-from ..charts import OTHER, OWN, Line, Picture, month_name
+from ..charts import OTHER, OWN, Line, Picture
 from ..exact import ALL_ITEMS, HUNDRED, decimal, depth_of
-from ..others import Worded, isolated, of_others, others
-from .shown import Shown, period_name
+from ..others import Worded, isolated, of_others, others, worded
+from ..speech import SPEAKS_ENGLISH, Speech, marked
+from .shown import Shown
 from .tables import Row, Series, before
 
 LEVEL, YEAR, MONTH, IMPUTED = "level", "year", "month", "imputed"
@@ -20,7 +21,8 @@ LEVEL, YEAR, MONTH, IMPUTED = "level", "year", "month", "imputed"
 
 
 class Chart(NamedTuple):
-    """A picture with its kind, its name and its unit, and what its lines and its marks are, where it has any."""
+    """A picture with its kind, its name and its unit, what its lines and its marks are, where it has any, and the
+    language of all of them."""
 
     kind: str
     name: str
@@ -29,13 +31,15 @@ class Chart(NamedTuple):
     full: Worded = of_others("")
     broken: Worded = of_others("")
     marks: str = ""
+    speech: Speech = SPEAKS_ENGLISH
 
     @property
     def key(self) -> Markup:
         """What its lines and its marks are, as elements of a page."""
         if not self.broken:
             return Markup("")
-        told = Markup("<b>Full line</b>: {}. <i>Broken line</i>: {}.").format(others(self.full), others(self.broken))
+        form = self.speech.t("<b>Full line</b>: {full}. <i>Broken line</i>: {broken}.")
+        told = Markup(form).format(full=others(self.full), broken=others(self.broken))
         return told + Markup(" {}").format(self.marks) if self.marks else told
 
 
@@ -52,45 +56,58 @@ def _ends(values: Sequence[Optional[float]], months: Sequence[str]) -> list[tupl
 
 def of_node(shown: Shown, code: str) -> list[Chart]:
     """The level, beside that of all items, and both changes: up to the last month of the node."""
-    series, title = shown.series, shown.series.title(code)
+    series, title, speech = shown.series, isolated(shown.series.title(code)), shown.speech
     end = next(at for at in range(len(series.months), 0, -1) if series.level(series.months[at - 1], code) is not None)
     months = series.months[max(0, end - charts.MOST_MONTHS) : end]
     rows = [shown.row(month, code) for month in months]
     found = [_level(shown, code, months)]
-    for name, kind in (("year_change", YEAR), ("month_change", MONTH)):
+    names = (
+        ("year_change", YEAR, speech.t("Change on the year before"), marked("{title}: change on the year before")),
+        ("month_change", MONTH, speech.t("Change on the month before"), marked("{title}: change on the month before")),
+    )
+    for name, kind, told, of_title in names:
         values = [_of(row, name, 10) for row in rows]
         known = _ends(values, months)
         if known:
             # (what isn't known yet isn't drawn: the annual change begins with the second year)
             first = months.index(known[0][0])
-            picture = Picture(kind, f"{isolated(title)}: change on the {kind} before", _between(known))
+            picture = Picture(kind, speech.t(of_title, title=title), _between(speech, known), speech)
             drawn = charts.columns(picture, months[first:], values[first:])
-            found.append(Chart(kind, f"Change on the {kind} before", "Percent", drawn))
+            found.append(Chart(kind, told, speech.t("Percent"), drawn, speech=speech))
     return found
 
 
-def _between(known: Sequence[tuple[str, float]]) -> str:
+def _between(speech: Speech, known: Sequence[tuple[str, float]]) -> str:
     """The least and the greatest of some changes in percent, each with its month."""
     (low_month, low), (high_month, high) = (most(known, key=lambda it: it[1]) for most in (min, max))
+    least, greatest = (speech.figure(charts.signed(it)) for it in (low, high))
     if len(known) == 1:
-        return f"{charts.signed(low)} percent in {month_name(low_month)}."
+        return speech.t("{change} percent in {month}.", change=least, month=speech.month(low_month))
     if low == high:
-        return f"{charts.signed(low)} percent from {month_name(known[0][0])} to {month_name(known[-1][0])}."
-    return (
-        f"Between {charts.signed(low)} percent in {month_name(low_month)}"
-        f" and {charts.signed(high)} percent in {month_name(high_month)}."
+        first, last = (speech.month(month) for month, _ in (known[0], known[-1]))
+        return speech.t("{change} percent from {first} to {last}.", change=least, first=first, last=last)
+    return speech.t(
+        "Between {least} percent in {least_month} and {greatest} percent in {greatest_month}.",
+        least=least,
+        least_month=speech.month(low_month),
+        greatest=greatest,
+        greatest_month=speech.month(high_month),
     )
 
 
 def base_text(shown: Shown, code: str) -> str:
     """The period in which the level of a node is 100, and the next one if the node left the index and came again."""
-    first, *others = [(month, f"{period_name(hundred)} = 100") for month, hundred in shown.hundreds(code)]
-    return "".join([first[1], *(f", from {month_name(month)} on {base}" for month, base in others)])
+    speech = shown.speech
+    first, *others = [(speech.month(month), speech.period(hundred)) for month, hundred in shown.hundreds(code)]
+    told = speech.t("{period} = 100", period=first[1])
+    for month, period in others:
+        told = speech.t("{bases}, from {month} on {period} = 100", bases=told, month=month, period=period)
+    return told
 
 
 def _level(shown: Shown, code: str, months: Sequence[str]) -> Chart:
     """The level of a node in some months, beside that of all items, which is 100 in the same period as the node's."""
-    series, title = shown.series, shown.series.title(code)
+    series, title, speech = shown.series, shown.series.title(code), shown.speech
     # (a first month alone is no line: it is drawn from the December before it, which it is linked to)
     months = [before(months[0]), *months] if len(months) == 1 else months
     texts = [_text(shown, month, code) for month in months]
@@ -99,12 +116,13 @@ def _level(shown: Shown, code: str, months: Sequence[str]) -> Chart:
         [month for month in found if months[0] < month <= months[-1]]
         for found in (series.starts(code)[1:], series.marks(code))
     )
-    lines = [Line(OWN, levels, next(filter(None, reversed(texts))))]
+    lines = [Line(OWN, levels, speech.figure(next(filter(None, reversed(texts)))))]
     if code != ALL_ITEMS:
         lines.append(Line(OTHER, [_beside(shown, code, month) for month in months]))
-    picture = Picture(LEVEL, f"{isolated(title)}: index", " ".join(_said([*zip(months, texts)], breaks)))
+    named, says = speech.t("{title}: index", title=isolated(title)), _said(speech, [*zip(months, texts)], breaks)
+    picture = Picture(LEVEL, named, " ".join(says), speech)
     drawn = charts.lines(picture, months, lines, breaks=breaks, marks=marks)
-    chart = Chart(LEVEL, "Index", base_text(shown, code), drawn)
+    chart = Chart(LEVEL, speech.t("Index"), base_text(shown, code), drawn, speech=speech)
     if code == ALL_ITEMS:
         return chart
     return chart._replace(
@@ -155,27 +173,38 @@ def _beside_text(shown: Shown, code: str) -> Worded:
     periods, title = [hundred for _, hundred in shown.hundreds(code)], shown.series.title(ALL_ITEMS)
     if periods == [hundred for _, hundred in shown.hundreds(ALL_ITEMS)]:
         return of_others(title)
+    speech, named = shown.speech, of_others(title)
     if len(periods) == 1:
-        return Worded(f"{{}}, with {period_name(periods[0])} = 100 too", title)
-    return Worded("{}, each time with the same period = 100", title)
+        return worded(speech.t("{title}, with {period} = 100 too"), title=named, period=speech.period(periods[0]))
+    return worded(speech.t("{title}, each time with the same period = 100"), title=named)
 
 
 def _marked(shown: Shown, code: str, breaks: Sequence[str], marks: Sequence[str]) -> str:
     """What the marks of a picture are."""
-    told = [f"from {month_name(month)} on {period_name(shown.hundred(month, code))} = 100" for month in breaks]
-    told += [f"from {month_name(month)} on other items are in it" for month in marks if month not in breaks]
-    return f"Mark: a break, {'; '.join(told)}." if told else ""
+    speech = shown.speech
+    told = [
+        speech.t(
+            "from {month} on {period} = 100",
+            month=speech.month(month),
+            period=speech.period(shown.hundred(month, code)),
+        )
+        for month in breaks
+    ]
+    others = [month for month in marks if month not in breaks]
+    told += [speech.t("from {month} on other items are in it", month=speech.month(month)) for month in others]
+    return speech.t("Mark: a break, {breaks}.", breaks="; ".join(told)) if told else ""
 
 
-def _said(levels: Sequence[tuple[str, str]], breaks: Sequence[str]) -> Iterator[str]:
+def _said(speech: Speech, levels: Sequence[tuple[str, str]], breaks: Sequence[str]) -> Iterator[str]:
     """The first level and the last one, of each part between two breaks."""
     limits = ["", *breaks, "9999-12"]
     for begin, end in zip(limits, limits[1:]):
-        part = [(month_name(month), text) for month, text in levels if text and begin <= month < end]
+        part = [(speech.month(month), speech.figure(text)) for month, text in levels if text and begin <= month < end]
         if len(part) == 1:
-            yield f"{part[0][1]} in {part[0][0]}."
+            yield speech.t("{level} in {month}.", level=part[0][1], month=part[0][0])
         elif part:
-            yield f"From {part[0][1]} in {part[0][0]} to {part[-1][1]} in {part[-1][0]}."
+            (first, then), (last, now) = part[0], part[-1]
+            yield speech.t("From {then} in {first} to {now} in {last}.", then=then, first=first, now=now, last=last)
 
 
 class Imputed(NamedTuple):
@@ -192,7 +221,7 @@ class Imputed(NamedTuple):
         return self.chart.picture
 
 
-def of_imputed(series: Series) -> Imputed:
+def of_imputed(series: Series, speech: Speech = SPEAKS_ENGLISH) -> Imputed:
     """How much of the weight is that of aggregates in which a price was imputed."""
     shares, months = [], series.months[-charts.MOST_MONTHS :]
     for month in months:
@@ -200,9 +229,13 @@ def of_imputed(series: Series) -> Imputed:
         imputed = sum(row.weight for row in rows.values() if row.is_imputed and depth_of(row.code) == 5)
         shares.append(decimal(100 * imputed, rows[ALL_ITEMS].weight, 0))
     low, high = (most(shares, key=int) for most in (min, max))
-    says = f"Between {low} and {high} percent of the weight." if low != high else f"{low} percent of the weight."
-    name = "Aggregates in which a price was imputed"
-    picture = Picture(IMPUTED, name, says)
-    figures = [(month_name(month), share) for month, share in zip(months, shares)][::-1]
-    drawn = charts.columns(picture, months, [float(it) for it in shares])
-    return Imputed(shares[-1], figures, Chart(IMPUTED, name, "Percent of all weight", drawn))
+    least, greatest = speech.figure(low), speech.figure(high)
+    if low != high:
+        says = speech.t("Between {least} and {greatest} percent of the weight.", least=least, greatest=greatest)
+    else:
+        says = speech.t("{share} percent of the weight.", share=least)
+    name = speech.t("Aggregates in which a price was imputed")
+    figures = [(speech.month(month), speech.figure(share)) for month, share in zip(months, shares)][::-1]
+    drawn = charts.columns(Picture(IMPUTED, name, says, speech), months, [float(it) for it in shares])
+    chart = Chart(IMPUTED, name, speech.t("Percent of all weight"), drawn, speech=speech)
+    return Imputed(figures[0][1], figures, chart)

@@ -8,7 +8,6 @@ from pathlib import Path
 
 import jinja2
 
-from ..charts import month_name
 from ..exact import ALL_ITEMS
 from ..others import isolated
 from ..pages import write_page
@@ -17,6 +16,7 @@ from .drawings import drawing
 from .notes import provisional_then
 from .pictures import LEVEL, MONTH, YEAR, Chart, of_node
 from .releases import Release
+from .versions import ALONE, Version
 
 
 def charts_then(release: Release) -> list[Chart]:
@@ -28,8 +28,8 @@ def charts_then(release: Release) -> list[Chart]:
 class ReleasePictures:
     """Writes them into the folder of a site, whose folders of pictures are there."""
 
-    def __init__(self, pages: jinja2.Environment, config: Config, folder: Path):
-        self._pages, self._config, self._folder = pages, config, folder
+    def __init__(self, pages: jinja2.Environment, config: Config, folder: Path, version: Version = ALONE):
+        self._pages, self._config, self._folder, self._version = pages, config, folder, version
 
     def write(self, release: Release) -> list[Chart]:
         """The pictures of a release; the files are written if the office has any."""
@@ -40,17 +40,26 @@ class ReleasePictures:
         return charts
 
     def _write_files(self, release: Release, charts: Sequence[Chart]) -> None:
-        config, table = self._config, release.table
-        revision = f", revision {table.revision}" if table.revision > 1 else ""
-        source = f"Source: {isolated(config.office)}, {isolated(config.title)}, {month_name(table.month)}{revision},"
-        source += f" published {config.clock.day(table.moment)}."
-        source += f" {provisional_then(release.provisional)}" if release.provisional else ""
+        source = self._source(release)
         for it in charts:
             text = drawing(it, release.shown.series.title(ALL_ITEMS), source)
             (self._folder / "picture" / f"{release.name}-{it.kind}.svg").write_bytes(text.encode())
+
+    def _source(self, release: Release) -> str:
+        """The line at the foot of a picture's file."""
+        config, speech = self._config, release.shown.speech
+        source = speech.t(
+            "Source: {office}, {title}, {release}, published {moment}.",
+            office=isolated(config.office),
+            title=isolated(config.title),
+            release=release.text,
+            moment=config.clock.day(release.table.moment, speech),
+        )
+        return f"{source} {provisional_then(release.provisional, speech)}" if release.provisional else source
 
     def _write_page(self, release: Release, charts: Sequence[Chart]) -> None:
         to = self._folder / "embed" / f"{release.name}.html"
         # (a frame whose address names no picture shows the last one of the page, that of the headline)
         words = {"release": release, "title": release.shown.series.title(ALL_ITEMS), "charts": charts[::-1]}
+        words["top"] = f"../{self._version.up}"
         write_page(self._pages, "release-embed.html", to, **words)

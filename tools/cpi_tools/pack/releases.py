@@ -12,9 +12,9 @@ from typing import NamedTuple, Optional
 
 import jinja2
 
-from ..charts import month_name
 from ..exact import ALL_ITEMS, decimal, parent_of
 from ..pages import write_page
+from ..speech import Speech
 from .as_of import AsOf, each_as_of, given_then
 from .bases import Base, hidden_bases, revised_bases
 from .config import Config
@@ -25,7 +25,8 @@ from .measures import Contributions
 from .reasons import GivenReason, given_reasons
 from .release_names import FOLDER, card_of, name_of, page_of_release
 from .revised import Revised, revised_of
-from .shown import EXACT, RATES_SAY, Shown, period_name
+from .shown import EXACT, Shown
+from .spoken import RATES_TEXTS, release_text
 from .tables import Row, Series, Table, before
 
 LAST_RELEASES = 5
@@ -58,12 +59,12 @@ class Release(NamedTuple):
     @property
     def headline(self) -> str:
         """Its sentence."""
-        return headline(self.table.month, self.whole)
+        return headline(self.table.month, self.whole, self.shown.speech)
 
     @property
     def index_text(self) -> str:
         """The index of all items with one decimal."""
-        return self.shown.text(self.table.month, ALL_ITEMS, 1)
+        return self.shown.speech.figure(self.shown.text(self.table.month, ALL_ITEMS, 1))
 
     @property
     def hundred(self) -> str:
@@ -86,6 +87,11 @@ class Release(NamedTuple):
         return page_of_release(self.table.month, self.table.revision)
 
     @property
+    def text(self) -> str:
+        """What it is called: its month, and its revision if it is a further one."""
+        return release_text(self.shown.speech, self.table.month, self.table.revision)
+
+    @property
     def card(self) -> str:
         """The address of its card in the site."""
         return card_of(self.table.month, self.table.revision)
@@ -98,14 +104,14 @@ class Moved(NamedTuple):
     left: list[tuple[str, str]]
 
 
-def releases_of(series: Series, config: Config) -> list[Release]:
+def releases_of(series: Series, config: Config, speech: Speech) -> list[Release]:
     """All releases that have rows, by month and revision. Raises BadReasons."""
     found, reasons = [], given_reasons(config.reasons, series, config.planned)
     for as_of in each_as_of(series):
         month = as_of.of.month
         reference = config.reference_in(month)
         is_covered = any(it.startswith(reference) for it in (as_of.base, *as_of.months))
-        shown = Shown(as_of, reference if is_covered else "", config.rates_in(month))
+        shown = Shown(as_of, reference if is_covered else "", config.rates_in(month)).spoken(speech)
         provisional = _provisional(as_of, config.provisional_in(month))
         own = tuple(reasons.get((month, as_of.of.revision), ()))
         found.append(Release(as_of, shown, tuple(_later(series, as_of.of)), provisional, own))
@@ -127,11 +133,14 @@ def _provisional(as_of: AsOf, months: int) -> int:
 def hundreds_of(releases: Sequence[Release]) -> str:
     """In which period the index of some releases, the last one first, is 100, and from which month on if they differ:
     `December 2024 = 100, from December 2025 on 2025 = 100`."""
-    found: dict[str, str] = {}
+    found, speech = dict[str, str](), releases[0].shown.speech
     for it in reversed(releases):
-        found.setdefault(period_name(it.hundred), month_name(it.table.month))
+        found.setdefault(speech.period(it.hundred), speech.month(it.table.month))
     first, *others = found
-    return ", ".join([f"{first} = 100", *(f"from {found[period]} on {period} = 100" for period in others)])
+    told = speech.t("{period} = 100", period=first)
+    for period in others:
+        told = speech.t("{bases}, from {month} on {period} = 100", bases=told, month=found[period], period=period)
+    return told
 
 
 # ---- what the page of a release says
@@ -151,15 +160,15 @@ def page_words(release: Release, contributions: Contributions) -> dict[str, obje
         "month": month,
         "table": as_of.of,
         "whole": whole,
-        "rates": RATES_SAY[shown.rates],
-        "level_of": lambda chained, of, code: decimal(*shown.of_level(chained, of, code), 1),
+        "rates_text": shown.speech.t(RATES_TEXTS[shown.rates]),
+        "level_of": lambda chained, of, code: shown.speech.figure(decimal(*shown.of_level(chained, of, code), 1)),
         "is_annual": is_annual,
         "change": change,
         "rows": rows,
         "zero": zero,
         "lead": lead_of(rows, change),
-        "hidden": hidden_bases(as_of, as_of.of.rows[ALL_ITEMS], shown.rates == EXACT),
-        "bases_revised": [*_revised_bases(as_of, rows)],
+        "hidden": hidden_bases(as_of, as_of.of.rows[ALL_ITEMS], shown.rates == EXACT, shown.speech),
+        "bases_revised": [*_revised_bases(as_of, rows, shown.speech)],
         "items": [(code, shown.row(month, code)) for code in as_of.titles],
         "revised": revision_before(as_of),
         "since": revised_since(as_of),
@@ -168,12 +177,12 @@ def page_words(release: Release, contributions: Contributions) -> dict[str, obje
     }
 
 
-def _revised_bases(as_of: AsOf, rows: list[Given]) -> Iterator[Base]:
+def _revised_bases(as_of: AsOf, rows: list[Given], speech: Speech) -> Iterator[Base]:
     """The revised months that the figures of all items are computed from, but those of which a further revision wasn't
     published then, as the divisions show it."""
     found = [as_of.of.rows[ALL_ITEMS], *(as_of.of.rows[it.code] for it in rows if it.row)]
     hidden = frozenset(month for row in found for month in hidden_bases(as_of, row))
-    return revised_bases(as_of, found[0], hidden)
+    return revised_bases(as_of, found[0], hidden, speech)
 
 
 def revision_before(as_of: AsOf) -> Optional[Revised]:
@@ -220,7 +229,7 @@ class ReleasePages:
 
     def __init__(self, known: Known, config: Config):
         self.contributions = known.contributions
-        self.all = releases_of(known.series, config)
+        self.all = releases_of(known.series, config, known.shown.speech)
 
     @property
     def latest(self) -> Release:
@@ -249,6 +258,5 @@ class ReleasePages:
         """Writes the page of each into the folder of a site; `more` is what its template is handed too."""
         (folder / FOLDER).mkdir()
         for it in self.all:
-            stands = {"root": "../", "here": f"{it.name}.html", "style_at": "../assets/style.css", "page_path": it.page}
             words = {**page_words(it, self.contributions), **more(it)}
-            write_page(pages, "release.html", folder / it.page, **stands, **words)
+            write_page(pages, "release.html", folder / it.page, **words)

@@ -12,6 +12,7 @@ from collections.abc import Mapping
 from typing import Optional
 
 from ..exact import HUNDRED, Ratio, decimal, points, rounded
+from ..speech import SPEAKS_ENGLISH, Speech
 from ..terminal import Fault, month_name
 from .measures import average, months_linked_to, reference_level, rereferenced
 from .tables import Row, Series, before, link_of, rounded_change
@@ -39,6 +40,7 @@ class Shown:
 
     def __init__(self, series: Series, reference: str = "", rates: str = EXACT):
         self.series, self.reference, self.rates = series, reference, rates
+        self.speech = SPEAKS_ENGLISH
         if reference not in ("", series.base) and not any(month.startswith(reference) for month in series.months):
             raise NotCovered(
                 f"reference: no table covers {reference}; they are of {series.months[0]} to {series.months[-1]}"
@@ -51,6 +53,12 @@ class Shown:
         found.series, last = series, series.every[-1]
         bases = ((code, self._bases.get(code)) for code in series.all_titles) if self.reference else ()
         found._bases = {code: base and (base[0], min(base[1], last), base[2]) for code, base in bases}
+        return found
+
+    def spoken(self, speech: Speech) -> Shown:
+        """The same figures for readers of another language."""
+        found = copy.copy(self)
+        found.speech = speech
         return found
 
     @property

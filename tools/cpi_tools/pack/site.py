@@ -11,16 +11,19 @@ import json
 import shutil
 from collections import defaultdict
 from collections.abc import Callable, Sequence
+from functools import partial
 from pathlib import Path
 from typing import Optional
 
-from ..charts import month_name
+from markupsafe import Markup
+
 from ..exact import ALL_ITEMS, HUNDRED, decimal, depth_of, rounded
-from ..others import isolated
+from ..others import isolated, others
 from ..pages import TEMPLATES, environment, write_new, write_page
+from ..speech import Speech
 from .bases import hidden_bases, hidden_months, revised_bases
 from .cards import NO_CARDS, Cards
-from .chooser import known_to_page, write_chooser
+from .chooser import known_to_page, write_chooser, write_items
 from .config import PICTURES, Config
 from .drawings import drawing
 from .example import change, given
@@ -30,29 +33,25 @@ from .headline import headline
 from .item_files import ItemFiles
 from .measures import reference_level
 from .month_rows import MonthRows
-from .notes import NAMES, SAYS, Notes, present
+from .notes import NAMES, SAYS, Notes, present, said
 from .pictures import Chart, base_text, of_imputed, of_node
 from .public import Source
-from .reason_files import REASONS
 from .reasons import given_reasons
 from .release_site import ReleaseSite
 from .revised import all_revised
-from .shown import EXACT, RATES_SAY, period_name
+from .shown import EXACT
 from .signature import Signature
 from .specials import Special
+from .spoken import FILES, RATES_TEXTS, ROUNDING_TEXTS, file_says, month_lead, node_lead, release_text, sections
 from .tables import Row, Table, before, link_of
-from .wording import FILTERS, page_of, share
+from .script_words import write_words
+from .versions import ALONE, Version
+from .wording import filters_of, page_of, share
 
 HERE = Path(__file__).resolve().parent
 
 CLAUSE_DEPTH = 2
 """The calculator offers all items, divisions and groups, and special aggregates."""
-
-FILES = ("cpi.xlsx", "printed.csv", "cpi.csv", "vintages.csv", "contributions.csv", "aggregates.csv",
-         "aggregate-contributions.csv", "aggregate-members.csv", "averages.csv", "twelve-month-rates.csv",
-         "rereferenced.csv", "releases.csv", REASONS, "cpi.sdmx.csv", "cpi.sdmx.xml", "structure.sdmx.xml", "cpi.jsonstat.json",
-         "cpi.px")  # fmt: skip
-"""The files of the folder `data`, as they are offered."""
 
 MOST_CODES = 5
 """Elementary aggregates that a page names one by one where others belong to a special aggregate."""
@@ -63,14 +62,11 @@ Told = Callable[[int, int], None]
 # ---- what pages show
 
 
-def _codes(codes: set[str]) -> str:
+def _codes(speech: Speech, codes: set[str]) -> str:
     """Some codes, or how many they are."""
-    return ", ".join(sorted(codes)) if len(codes) <= MOST_CODES else f"{len(codes)} elementary aggregates"
-
-
-def _standing(root: str, here: str, path: str) -> dict[str, object]:
-    """Where a page is: `root` leads from it to the folder of the site, and `page_path` from there to it."""
-    return {"root": root, "here": here, "style_at": f"{root}assets/style.css", "page_path": path}
+    if len(codes) <= MOST_CODES:
+        return speech.row(sorted(codes))
+    return speech.tn("{count} elementary aggregate", "{count} elementary aggregates", len(codes))
 
 
 class Site:
@@ -84,25 +80,30 @@ class Site:
         signature: Optional[Signature] = None,
         cards: Cards = NO_CARDS,
         recent: Optional[Known] = None,
+        version: Version = ALONE,
+        versions: Sequence[Version] = (),
     ):
-        """`recent` are the figures of the months that pages show, else all of them."""
+        """`recent` are the figures of the months that pages show, else all of them. The pages are those of a version, of
+        a site that has some; `folder` is that of the pack."""
         self.known, self.series, self.contributions, self.shown = known, known.series, known.contributions, known.shown
-        series, self.config, self.folder = known.series, config, folder
-        self.recent = recent or known
+        series, self.config, self.pack, self.folder = known.series, config, folder, folder / version.folder
+        self.version, self.versions = version, versions
+        self.recent, self.speech = recent or known, known.shown.speech
         self.month_rows = MonthRows(self.shown)
         self.month = series.months[-1]
         # (in the month before all others each item that begins there has 100, which a contract can count from)
         self.clause_months = [*([series.base] if series.base in series.latest else []), *series.months]
         self.hidden = hidden_months(series)
         self.notes = Notes(self.shown, config.provisional)
-        self.pages = environment(HERE / "templates")
-        self.pages.filters.update(FILTERS)
+        self.pages = environment(HERE / "templates", self.speech.language)
+        self.pages.filters.update(filters_of(self.speech))
         self._set_globals(signature)
-        self.releases = ReleaseSite(known, config, cards)
+        self.releases = ReleaseSite(known, config, cards, version)
         self.releases.prepare(self.pages)
 
     def _set_globals(self, signature: Optional[Signature]) -> None:
         """What each template knows."""
+        speech, names = self.speech, said(self.speech, NAMES)
         self.pages.globals.update(
             config=self.config,
             series=self.series,
@@ -112,36 +113,60 @@ class Site:
             base=self.series.base,
             signature=signature,
             shown=self.shown,
-            rates=RATES_SAY[self.shown.rates],
-            period=period_name,
-            level_of=lambda chained, month, code: decimal(*self.shown.of_level(chained, month, code), 1),
+            rates_text=speech.t(RATES_TEXTS[self.shown.rates]),
+            rounding_text=speech.t(ROUNDING_TEXTS[self.shown.rates]),
+            period=speech.period,
+            level_of=lambda chained, month, code: speech.figure(decimal(*self.shown.of_level(chained, month, code), 1)),
             share=share,
             depth_of=depth_of,
-            note_names=NAMES,
+            note_names=names,
+            names_of=lambda letters: speech.row([names[letter] for letter in letters]),
+            row=speech.row,
+            comma=speech.t("{before}, {after}", before="", after=""),
+            release_text=partial(release_text, speech),
             provisional_text=self.notes.provisional_text,
             provisional_months=self.notes.last,
-            headline_of=headline,
+            headline_of=partial(headline, speech=speech),
+            month_lead_of=partial(month_lead, speech),
+            linked=self._linked,
+            sections=sections(speech),
+            languages=self.versions,
         )
 
     def write(self, items: ItemFiles, told: Told) -> None:
-        """All pages, and the file beside that of each item; tells how many of how many nodes have theirs."""
+        """All pages, and in the folder of the pack the file beside that of each item; tells how many of how many nodes
+        have theirs."""
+        self._make_folders()
         self._write_own()
-        (self.folder / "node").mkdir()
-        if self.config.has(PICTURES):
-            (self.folder / "picture").mkdir()
-            (self.folder / "embed").mkdir()
-        write_chooser(self.series, self.folder)
+        if self.is_first:
+            write_chooser(self.series, self.folder)
+        write_items(self.series, self.folder)
+        write_words(self.speech, self.folder)
         codes = [*self.series.all_titles]
         for done, code in enumerate(codes, 1):
             self._node_page(code)
-            items.write(code, self.folder / "node")
+            if self.is_first:
+                items.write(code, self.folder / "node")
             told(done, len(codes))
-        self.releases.write(self.pages, self.folder)
+        self.releases.write(self.pages, self.pack)
+
+    @property
+    def is_first(self) -> bool:
+        """Whether the pages are in the folder of the pack, with what all languages share."""
+        return not self.version.folder
+
+    def _make_folders(self) -> None:
+        """The folders of the pages, and what all of them share."""
+        if self.is_first:
+            shutil.copytree(HERE / "assets", self.folder / "assets")
+            shutil.copyfile(TEMPLATES / "style.css", self.folder / "assets" / "style.css")
+        else:
+            (self.folder / "assets").mkdir(parents=True)
+        for name in ("node", *(("picture", "embed") if self.config.has(PICTURES) else ())):
+            (self.folder / name).mkdir()
 
     def _write_own(self) -> None:
-        """The pages of the site's own folder, and what all pages share."""
-        shutil.copytree(HERE / "assets", self.folder / "assets")
-        shutil.copyfile(TEMPLATES / "style.css", self.folder / "assets" / "style.css")
+        """The pages of the folder of a language."""
         (self.folder / "assets" / "levels.js").write_text(self._levels(), encoding="utf-8")
         self._page("index.html", **self._home())
         self._page("nodes.html")
@@ -155,39 +180,59 @@ class Site:
         )
         files = self._files()
         first_year, years = self.recent.series.months[0][:4], self._years()
-        data = {"files": files, "years": years, "first_year": first_year, "lacking": self._lacking()}
+        says = file_says(self.speech, self.config)
+        data = {"files": files, "file_says": says, "years": years, "first_year": first_year, "lacking": self._lacking()}
         self._page("data.html", **data, dataset=self.releases.dataset(files))
         self._page("method.html")
         changes = [change(self.shown, self.month, is_annual) for is_annual in (True, False)]
         part = given(Known(self.series, self.contributions, self.shown), self.month)
-        self._page("how-to-read.html", changes=[*filter(None, changes)], part=part, says=SAYS)
-        self._page("choose.html", known=known_to_page(self.series, self.config), says=SAYS)
+        self._page("how-to-read.html", changes=[*filter(None, changes)], part=part)
+        known = known_to_page(self.series, self.config, self.version.up, bool(self.series.other_titles))
+        self._page("choose.html", known=known, says=said(self.speech, SAYS))
         if self.pages.globals["signature"]:
             self._page("check.html")
 
     def _page(self, template: str, **named: object) -> None:
         """Writes a page of the site's own folder, which has the name of its template."""
-        write_page(self.pages, template, self.folder / template, **_standing("", template, template), **named)
+        write_page(
+            self.pages, template, self.folder / template, **self.version.standing("", template, template), **named
+        )
 
     def _node_page(self, code: str) -> None:
         """Writes the page of a node and its pictures."""
         to = self.folder / "node" / page_of(code)
-        charts, stands = of_node(self.shown, code), _standing("../", page_of(code), f"node/{page_of(code)}")
+        stands = self.version.standing("../", page_of(code), f"node/{page_of(code)}")
+        charts = of_node(self.shown, code)
         write_new(self.pages, "node.html", to, **stands, **self._node(code), charts=charts)
         if self.config.has(PICTURES):
-            self._pictures(code, [*charts, *([of_imputed(self.series).chart] if code == ALL_ITEMS else [])])
+            of_all = [of_imputed(self.series, self.speech).chart] if code == ALL_ITEMS else []
+            self._pictures(code, [*charts, *of_all])
 
     def _pictures(self, code: str, charts: Sequence[Chart]) -> None:
         """Writes each picture of a node as a file, and the page that other sites embed, which shows the first one if
         its address names none."""
-        title = self.series.title(code)
-        source = f"{isolated(self.config.office)}, {isolated(self.config.title)}, up to {month_name(self.month)}"
-        source += f". {self.notes.provisional_text}" if self.config.provisional else ""
+        title, source = self.series.title(code), self._source()
         for it in charts:
             to = self.folder / "picture" / f"{code}-{it.kind}.svg"
-            to.write_bytes(drawing(it, title, f"Source: {source}").encode())
+            to.write_bytes(drawing(it, title, source).encode())
         to = self.folder / "embed" / page_of(code)
-        write_new(self.pages, "embed.html", to, code=code, title=title, charts=[*charts][::-1])
+        write_new(
+            self.pages, "embed.html", to, code=code, title=title, charts=[*charts][::-1], top=f"../{self.version.up}"
+        )
+
+    def _source(self) -> str:
+        """The line at the foot of a picture's file."""
+        places = {
+            "office": isolated(self.config.office),
+            "title": isolated(self.config.title),
+            "month": self.speech.month(self.month),
+        }
+        if not self.config.provisional:
+            return self.speech.t("Source: {office}, {title}, up to {month}", **places)
+        provisional = self.notes.provisional_text
+        return self.speech.t(
+            "Source: {office}, {title}, up to {month}. {provisional}", **places, provisional=provisional
+        )
 
     # ---- what stands on each page
 
@@ -211,11 +256,11 @@ class Site:
             "zero": zero,
             "lead": lead_of(rows, change),
             "hidden": self._hidden(ALL_ITEMS),
-            "revised": [*revised_bases(self.series, whole, self.hidden)],
+            "revised": [*revised_bases(self.series, whole, self.hidden, self.speech)],
             "charts": of_node(self.shown, ALL_ITEMS),
             "letters": self.notes.by_month(ALL_ITEMS).get(self.month, ""),
             "sentences": self.notes.sentences(self.month, ALL_ITEMS),
-            "imputed": of_imputed(self.series),
+            "imputed": of_imputed(self.series, self.speech),
         }
 
     def _node(self, code: str) -> dict[str, object]:
@@ -227,13 +272,17 @@ class Site:
         history = [month for month in months if self.series.level(month, code) is not None]
         given = self.contributions.of(self.month, code, ALL_ITEMS)
         notes = self.notes.by_month(code, history)
+        shown_notes = present(self.speech, notes)
         return {
             "code": code,
             "title": self.series.title(code),
             "special": self._special(code),
             "marks": marks,
             "notes": defaultdict(str, notes),
-            "present": present(notes),
+            "present": shown_notes,
+            "named_notes": self.speech.row([f"{letter} {name}" for letter, name, _ in shown_notes] or [""]),
+            "lead": node_lead(self.speech, self.month, row, history[-1]),
+            "beside": "" if self.is_first else f"../{self.version.up}node/",
             "sentences": self.notes.sentences(self.month, code),
             "row": row,
             "is_annual": is_annual,
@@ -241,9 +290,8 @@ class Site:
             "zero": zero,
             "is_untold": bool(self.series.children(code)) and (self.month, is_annual) in self.contributions.unexplained,
             "hidden": self._hidden(code),
-            "revised": [*revised_bases(self.series, row, self.hidden)] if row else [],
+            "revised": [*revised_bases(self.series, row, self.hidden, self.speech)] if row else [],
             "path": self.series.path(code),
-            "last": history[-1],
             "months": self.month_rows.of(code, history[::-1], notes, marks),
             "is_whole": len(months) == len(self.series.months),
             "given": given.to_year if is_annual else given.to_month,
@@ -268,8 +316,9 @@ class Site:
         """By month, the figures of the last month that rest on a revision under embargo; of a special aggregate none,
         and no change that is computed from the printed index."""
         row = self.series.row(self.month, code)
-        is_none = row is None or code in self.series.specials
-        return {} if is_none or row is None else hidden_bases(self.series, row, self.shown.rates == EXACT)
+        if row is None or code in self.series.specials:
+            return {}
+        return hidden_bases(self.series, row, self.shown.rates == EXACT, self.speech)
 
     def _special(self, code: str) -> Optional[Special]:
         """What the office says of a special aggregate; None of a node."""
@@ -277,19 +326,45 @@ class Site:
 
     def _marks(self, code: str) -> dict[str, str]:
         """By month with a mark, what is said of it."""
+        speech = self.speech
         found = {
-            month: f"Break: from {month_name(month)} on, {period_name(hundred)} = 100. These levels aren't linked to"
-            " the earlier ones below."
+            month: speech.t(
+                "Break: from {month} on, {period} = 100. These levels aren't linked to the earlier ones below.",
+                month=speech.month(month),
+                period=speech.period(hundred),
+            )
             for month, hundred in self.shown.hundreds(code)[1:]
         }
         if code in self.series.specials:
             it = self.series.specials[code]
             for month in it.changes:
                 now, then = ({*it.members[year]} for year in (month[:4], link_of(month)[:4]))
-                parts = [("came", now - then), ("left", then - now)]
-                said = "; ".join(f"{what}: {_codes(codes)}" for what, codes in parts if codes)
-                found[month] = f"Break: from {month_name(month)} on, other elementary aggregates are in it ({said})."
+                found[month] = self._change(month, now - then, then - now)
         return found
+
+    def _change(self, month: str, came: set[str], left: set[str]) -> str:
+        """What is said of a month in which other elementary aggregates belong to a special aggregate."""
+        speech, parts = self.speech, list[str]()
+        if came:
+            parts.append(speech.t("came: {codes}", codes=_codes(speech, came)))
+        if left:
+            parts.append(speech.t("left: {codes}", codes=_codes(speech, left)))
+        return speech.t(
+            "Break: from {month} on, other elementary aggregates are in it ({changes}).",
+            month=speech.month(month),
+            changes="; ".join(parts),
+        )
+
+    def _linked(self, names: Sequence[str]) -> Markup:
+        """What a special aggregate is made of, each with the way to its page, if it has one."""
+        page, code = Markup('<a href="{}">{}</a>'), Markup('<span class="code">{}</span>')
+        found = (
+            page.format(page_of(name), others(self.speech.inner(self.series.title(name))))
+            if name in self.series.all_titles
+            else code.format(name)
+            for name in names
+        )
+        return Markup(self.speech.listed([*map(str, found)]))
 
     def _unexplained(self) -> list[tuple[str, bool]]:
         return sorted(self.contributions.unexplained)
@@ -299,12 +374,12 @@ class Site:
 
     def _files(self) -> list[tuple[str, int]]:
         """The files of the folder `data` with their sizes in bytes, in the order of their page."""
-        found = [(self.folder / "data" / name) for name in FILES]
+        found = [(self.pack / "data" / name) for name in FILES]
         return [(it.name, it.stat().st_size) for it in found if it.is_file()]
 
     def _years(self) -> list[tuple[str, int]]:
         """The archives of earlier years with their sizes in bytes, the last first."""
-        return [(it.stem, it.stat().st_size) for it in sorted(self.folder.glob("data/years/*.zip"), reverse=True)]
+        return [(it.stem, it.stat().st_size) for it in sorted(self.pack.glob("data/years/*.zip"), reverse=True)]
 
     def _lacking(self) -> list[str]:
         """The nodes that have no level in the whole reference period."""
@@ -328,7 +403,7 @@ class Site:
         ]
         millionths, tenths = ([it and rounded(parts * it.over, it.under) for it in found] for parts in (10**6, 10))
         hundreds = [
-            [self.clause_months.index(max(before(month), self.clause_months[0])), period_name(hundred)]
+            [self.clause_months.index(max(before(month), self.clause_months[0])), self.speech.period(hundred), hundred]
             for month, hundred in self.shown.hundreds(code)
         ]
         named = {"title": isolated(self.series.title(code)), "isSet": code in self.series.specials}
@@ -350,10 +425,12 @@ class Site:
                 exact = {code: self.shown.of_level(it, table.month, code) for code, it in levels.items()}
                 items = {code: [rounded(it.over * by, it.under) for by in (10**6, 10)] for code, it in exact.items()}
                 named = {"month": self.clause_months.index(table.month), "revision": table.revision}
-                found.append(
-                    {**named, "published": self.config.clock.day(table.moment), "sum": table.sha256, "items": items}
-                )
+                found.append({**named, "published": self._published(table), "sum": table.sha256, "items": items})
         return found
+
+    def _published(self, table: Table) -> str:
+        """When a table was published, by the office's clock."""
+        return self.config.clock.day(table.moment, self.speech)
 
     def _levels(self) -> str:
         """What the calculator counts with, as a script: levels in millionths and in tenths of a point."""
@@ -363,9 +440,9 @@ class Site:
             "currency": isolated(self.config.currency) if self.config.currency else "",
             "digits": self.config.minor_digits,
             "months": months,
-            "names": [month_name(month) for month in months],
+            "names": [self.speech.month(month) for month in months],
             "revisions": [table.revision for table in tables],
-            "published": [*map(self.config.clock.day, (table.moment for table in tables))],
+            "published": [*map(self._published, tables)],
             "sums": [table.sha256 for table in tables],
             "office": isolated(self.config.office),
             "title": isolated(self.config.title),

@@ -11,7 +11,7 @@ import bisect
 import copy
 import csv
 import functools
-from collections.abc import Iterable, Iterator, Sequence
+from collections.abc import Iterable, Iterator, Mapping, Sequence
 from datetime import datetime, timezone
 from typing import NamedTuple, Optional
 
@@ -129,6 +129,7 @@ class Series:
         self.titles = self.every_title = _titles(self.latest[month].rows for month in self.months)
         self._rows = {month: table.rows for month, table in self.latest.items()}
         self.specials: dict[str, Aggregated] = {}
+        self.other_titles: Mapping[str, str] = {}
         self._starts = _starts(self.latest[month] for month in self.months)
         self._twelve: dict[str, dict[str, int]] = {}
         self._children = _children(self.titles)
@@ -227,11 +228,23 @@ class Series:
     @property
     def all_titles(self) -> dict[str, str]:
         """The titles of all nodes by code, and then those of special aggregates by id."""
-        return {**self.titles, **{name: it.title for name, it in self.specials.items()}}
+        found = {**self.titles, **{name: it.title for name, it in self.specials.items()}}
+        return {code: self.called(code, title) for code, title in found.items()} if self.other_titles else found
 
     def title(self, code: str) -> str:
         """The title of a node."""
-        return self.specials[code].title if code in self.specials else self.titles[code]
+        return self.called(code, self.specials[code].title if code in self.specials else self.titles[code])
+
+    def called(self, code: str, title: str) -> str:
+        """The title of a node for readers, of that which a table has."""
+        return self.other_titles.get(code, title)
+
+    def titled(self, titles: Mapping[str, str]) -> Series:
+        """The same tables for readers of another language: its titles by code, and where it has none, those of the
+        tables."""
+        found = copy.copy(self)
+        found.other_titles = titles
+        return found
 
     def level_in(self, month: str, code: str) -> int:
         """A node's level in a month, in millionths of a point: 100 in the first month of all."""

@@ -1,36 +1,25 @@
-"""How the pages of a pack say figures: a name for each filter that its templates have beside those of all pages."""
+"""How the pages of a pack say figures, in a language: filters that its templates have beside those of all pages."""
 
 from __future__ import annotations
 
 from collections.abc import Callable
+from functools import partial
 from typing import Any, Optional
 
-from ..charts import month_name
-from ..exact import Ratio, decimal, with_sign
+from ..exact import Ratio, decimal, points, tenths, with_sign
 from ..pages import NO_FIGURE
-from ..terminal import time_text
+from ..speech import SPEAKS_ENGLISH, Speech
 from .tables import Row
 
 
-def pp(value: Optional[Ratio], digits: int = 2) -> str:
+def pp(value: Optional[Ratio], digits: int = 2, speech: Speech = SPEAKS_ENGLISH) -> str:
     """Percentage points as `+0.31`, or a dash."""
-    return NO_FIGURE if value is None else with_sign(decimal(value.over, value.under, digits))
+    return NO_FIGURE if value is None else speech.figure(with_sign(decimal(value.over, value.under, digits)))
 
 
-def day(moment: int) -> str:
-    """`28 January 2026, 08:30 UTC` of seconds since 1970."""
-    date, clock = time_text(moment).split(" ", 1)
-    return f"{int(date[8:])} {month_name(date[:7])}, {clock}"
-
-
-def moved(change: int) -> str:
-    """What prices did, in words."""
-    return "rose" if change > 0 else "fell" if change < 0 else "didn't change"
-
-
-def inner(title: str) -> str:
-    """A title within a sentence: its first letter small, where the second is small too."""
-    return title[:1].lower() + title[1:] if title[1:2].islower() else title
+def changed(speech: Speech, change: Optional[int]) -> str:
+    """`+0.3 %` of a change of 3 tenths of a percent, or a dash."""
+    return NO_FIGURE if change is None else speech.percent(with_sign(tenths(change)))
 
 
 def share(row: Row, whole: Row) -> str:
@@ -43,16 +32,20 @@ def page_of(code: str) -> str:
     return f"{code}.html"
 
 
-def sign(text: str) -> str:
-    """A number as it is read, with its sign: `+0.3`."""
-    return with_sign(text)
-
-
-FILTERS: dict[str, Callable[..., Any]] = {
-    "pp": pp,
-    "day": day,
-    "moved": moved,
-    "inner": inner,
-    "page": page_of,
-    "sign": sign,
-}
+def filters_of(speech: Speech) -> dict[str, Callable[..., Any]]:
+    """A name for each filter, in a language."""
+    return {
+        "figure": speech.figure,
+        "whole": speech.whole,
+        "percent": partial(changed, speech),
+        "share": speech.share,
+        "in_percent": speech.percent,
+        "size": lambda change: speech.figure(tenths(abs(change))),
+        "sign": lambda text: speech.figure(with_sign(text)),
+        "points": lambda millionths, digits: speech.figure(points(millionths, digits)),
+        "pp": partial(pp, speech=speech),
+        "month_name": speech.month,
+        "year": speech.year,
+        "inner": speech.inner,
+        "page": page_of,
+    }

@@ -5,9 +5,12 @@
 // A page that is opened from a disk can't load modules, so this is a plain script; a test loads it by `require`.
 "use strict";
 
-/** Minor units of "1 234.50" with so many decimals, or null. A comma is refused: it would be read in two ways. */
+if (typeof module !== "undefined") Object.assign(globalThis, require("./spoken.js"));
+
+/** Minor units of "1 234.50" with so many decimals, or null. In English a comma is refused, and a point where the comma is
+ * the decimal mark: it would be read in two ways. */
 function amountOf(text, digits) {
-  const plain = text.replace(/[\s\u00a0\u202f]/g, "");
+  const plain = plainFigure(text.replace(/[\s\u00a0\u202f]/g, ""));
   const found = /^(\d{1,15})(?:\.(\d*))?$/.exec(plain);
   if (!found || (found[2] || "").length > digits) return null;
   return BigInt(found[1] + (found[2] || "").padEnd(digits, "0"));
@@ -17,7 +20,7 @@ function amountOf(text, digits) {
 function moneyText(minor, digits) {
   const text = minor.toString().padStart(digits + 1, "0");
   const whole = text.slice(0, text.length - digits).replace(/\B(?=(\d{3})+$)/g, "\u202f");
-  return digits ? `${whole}.${text.slice(-digits)}` : whole;
+  return figureText(digits ? `${whole}.${text.slice(-digits)}` : whole);
 }
 
 /** a / b to the nearest whole number, halves upwards; b is above 0. */
@@ -29,7 +32,7 @@ const levelUsed = (item, month, decimals) => BigInt((decimals === 1 ? item.tenth
 /** "102.3" or "102.345678" of a level as it is used. */
 function levelText(level, decimals) {
   const text = level.toString().padStart(decimals + 1, "0");
-  return `${text.slice(0, -decimals)}.${text.slice(-decimals)}`;
+  return figureText(`${text.slice(0, -decimals)}.${text.slice(-decimals)}`);
 }
 
 /** What a contract pays, in minor units: amount * now / then. */
@@ -37,10 +40,18 @@ const clause = (amount, then, now) => rounded(amount * now, then);
 
 /** What is wrong with what stands in the form, or an empty text. `levels` are those of all months from the one to the other. */
 function faultOf(amount, item, levels, digits) {
-  if (amount === null && digits === 0) return "Write the amount as a whole number, without a point or a comma.";
-  if (amount === null) return `Write the amount as a number with a point before at most ${digits} decimals, and without commas.`;
-  if (levels[0] === null || levels[levels.length - 1] === null) return `${item.title} has no index in one of these months.`;
-  return levels.includes(null) ? `${item.title} left the index between these months and came again, so its indices can't be compared.` : "";
+  const title = item.title;
+  if (amount === null) return badAmount(digits);
+  if (levels[0] === null || levels[levels.length - 1] === null) return t("{title} has no index in one of these months.", { title });
+  return levels.includes(null) ? t("{title} left the index between these months and came again, so its indices can't be compared.", { title }) : "";
+}
+
+/** How an amount is written. */
+function badAmount(digits) {
+  const [mark, decimals] = [figureText("."), figureText(String(digits))];
+  if (digits === 0) return t("Write the amount as a whole number, without a point or a comma.");
+  if (mark === ".") return t("Write the amount as a number with a point before at most {decimals} decimals, and without commas.", { decimals });
+  return t("Write the amount as a number with the sign “{mark}” before at most {decimals} decimals, and without signs between thousands.", { mark, decimals });
 }
 
 // ---- revisions and addresses
@@ -58,22 +69,24 @@ function levelBy(revision, code, decimals) {
   return item.levels[revision.month] === null ? null : levelUsed(item, revision.month, decimals);
 }
 
-/** The period in which an item is 100, such as "2025", for its level of a month. */
-const hundredOf = (item, month) => item.hundreds.filter(([first]) => first <= month).pop()?.[1] ?? item.hundreds[0][1];
+/** The period in which an item is 100 for its level of a month: in words, such as "December 2025", and as an address has it
+ * in every language, `2025-12`. */
+const hundredOf = (item, month) => (item.hundreds.filter(([first]) => first <= month).pop() ?? item.hundreds[0]).slice(1);
 
 const NAMES = ["amount", "code", "then", "now", "decimals", "then-revision", "now-revision", "hundred"];
 
 /** The months of the tables in words, such as "January 2025 to December 2026". */
-const span = (data) => `${data.names[0]} to ${data.names[data.names.length - 1]}`;
+const span = (data) => t("{first} to {last}", { first: data.names[0], last: data.names[data.names.length - 1] });
 
-/** What each name of an address has to be, and whether a value is so. */
+/** Whether a value of a name of an address is one, and what is said if it isn't. */
 function wanted(data) {
   const isMonth = (text) => data.months.includes(text);
+  const month = (given) => t("The address has {given}. It has to be a month such as {month}, from {span}.", { given, month: data.months[0], span: span(data) });
   return {
-    code: [(text) => Object.hasOwn(data.items, text), () => "an item that the form offers"],
-    then: [isMonth, () => `a month such as ${data.months[0]}, from ${span(data)}`],
-    now: [isMonth, () => `a month such as ${data.months[0]}, from ${span(data)}`],
-    decimals: [(text) => ["1", "6"].includes(text), () => "1 or 6"],
+    code: [(text) => Object.hasOwn(data.items, text), (given) => t("The address has {given}. It has to be an item that the form offers.", { given })],
+    then: [isMonth, month],
+    now: [isMonth, month],
+    decimals: [(text) => ["1", "6"].includes(text), (given) => t("The address has {given}. It has to be 1 or 6.", { given })],
   };
 }
 
@@ -85,8 +98,8 @@ function readAddress(text, data) {
   for (const [name, value] of new URLSearchParams(text)) {
     const isKnown = NAMES.includes(name);
     const [isRight, says] = (isKnown && rules[name]) || [() => true];
-    if (!isKnown) asked.faults.push(`The address has \u201c${name}\u201d, which this page doesn't know. It knows ${NAMES.join(", ")}.`);
-    else if (!isRight(value)) asked.faults.push(`The address has ${name}=${value}. It has to be ${says()}.`);
+    if (!isKnown) asked.faults.push(t("The address has “{name}”, which this page doesn't know. It knows {names}.", { name, names: NAMES.join(", ") }));
+    else if (!isRight(value)) asked.faults.push(says(`${name}=${value}`));
     else if (name === "hundred") asked.hundred = value;
     else if (name.endsWith("-revision")) asked.revisions[name.split("-")[0]] = value;
     else asked.values[name] = value;
@@ -95,7 +108,9 @@ function readAddress(text, data) {
     const month = data.months.indexOf(asked.values[at]);
     if (month >= 0 && /^[1-9]$/.test(number) && revisionOf(data, month, Number(number))) asked.revisions[at] = Number(number);
     else {
-      asked.faults.push(`The address has ${at}-revision=${number}. ${month < 0 ? "It needs the month too" : `${data.names[month]} has the revisions 1 to ${data.revisions[month]}`}.`);
+      const [given, last] = [`${at}-revision=${number}`, figureText(String(data.revisions[month]))];
+      asked.faults.push(month < 0 ? t("The address has {given}. It needs the month too.", { given })
+        : t("The address has {given}. {month} has the revisions {first} to {last}.", { given, month: data.names[month], first: figureText("1"), last }));
       delete asked.revisions[at];
     }
   }
@@ -104,9 +119,9 @@ function readAddress(text, data) {
 
 /** The part of an address after # that gives the same result again. */
 function addressOf(chosen) {
-  const { amount, code, then, now, decimals, hundred } = chosen;
-  const named = { amount, code, then: then.name, now: now.name, decimals, "then-revision": then.revision, "now-revision": now.revision };
-  return `#${new URLSearchParams({ ...named, hundred })}`;
+  const { amount, code, then, now, decimals, period } = chosen;
+  const named = { amount: plainFigure(amount), code, then: then.name, now: now.name, decimals, "then-revision": then.revision, "now-revision": now.revision };
+  return `#${new URLSearchParams({ ...named, hundred: period })}`;
 }
 
 // ---- a result
@@ -123,40 +138,46 @@ function computed(values, revisions, data) {
   const between = item.levels.slice(Math.min(then.month, now.month), Math.max(then.month, now.month) + 1);
   const isGone = then.level === null || now.level === null;
   const fault = faultOf(minor, item, isGone ? [null] : between, data.digits);
-  const hundred = hundredOf(item, now.month);
-  const found = { amount, code, decimals, item, minor, then, now, hundred, fault };
+  const [hundred, period] = hundredOf(item, now.month);
+  const found = { amount, code, decimals, item, minor, then, now, hundred, period, fault };
   return fault ? found : { ...found, result: clause(minor, then.level, now.level) };
 }
 
 /** An amount with its currency. */
 const money = (minor, data) => `${moneyText(minor, data.digits)} ${data.currency}`.trim();
 
-/** "hundredth" and so on: what amounts are rounded to. */
-const unitText = (digits) => (digits ? `0.${"1".padStart(digits, "0")}` : "whole unit");
+/** A revision as a figure. */
+const numberText = (at) => figureText(String(at.revision));
 
-const decimalsText = (decimals) => (decimals === 1 ? "as it is printed, with one decimal" : "with all six decimals");
+/** What a text says of a month's index: the month, its level, its revision and when that was published. */
+const indexValues = (at, decimals) => ({ month: at.says, index: levelText(at.level, decimals), revision: numberText(at), moment: at.published });
 
 /** A month's index in words: "March 2026: 103.2 (revision 2, published 20 April 2026)". */
-const indexText = (at, decimals) => `${at.says}: ${levelText(at.level, decimals)} (revision ${at.revision}, published ${at.published})`;
+const indexText = (at, decimals) => t("{month}: {index} (revision {revision}, published {moment}).", indexValues(at, decimals));
 
 /** The clause for a contract that begins with the index of the earlier month. */
 function clauseText(chosen, data) {
   const { then, decimals, item, code, hundred } = chosen;
+  const of = { title: data.title, item: item.title, code, office: data.office };
   return [
-    `The amount follows the ${data.title}, ${item.title} (${code}), of ${data.office}, ${decimalsText(decimals)}.`,
-    `It counts from the index of ${indexText(then, decimals)}, with ${hundred} = 100.`,
-    "The new amount is the amount, times the index of the month of the adjustment, divided by the index from which it counts.",
-    `It is rounded once, to the nearest ${unitText(data.digits)}, halves upwards.`,
-    "If the index has another reference period later, both indices are those with that period.",
+    decimals === 1 ? t("The amount follows the {title}, {item} ({code}), of {office}, as it is printed, with one decimal.", of)
+      : t("The amount follows the {title}, {item} ({code}), of {office}, with all six decimals.", of),
+    t("It counts from the index of {month}: {index} (revision {revision}, published {moment}), with {period} = 100.", { ...indexValues(then, decimals), period: hundred }),
+    t("The new amount is the amount, times the index of the month of the adjustment, divided by the index from which it counts."),
+    data.digits ? t("It is rounded once, to the nearest {unit}, halves upwards.", { unit: figureText(`0.${"1".padStart(data.digits, "0")}`) })
+      : t("It is rounded once, to the nearest whole unit, halves upwards."),
+    t("If the index has another reference period later, both indices are those with that period."),
   ].join(" ");
 }
 
 /** The result for a letter, with the address that gives it again. */
 function resultText(chosen, data, address) {
   const { minor, then, now, decimals, item, code, hundred, result } = chosen;
+  const of = { title: data.title, item: item.title, code, office: data.office, period: hundred };
   return [
-    `${data.title}, ${item.title} (${code}), of ${data.office}, ${decimalsText(decimals)}, ${hundred} = 100.`,
-    `${indexText(then, decimals)}. ${indexText(now, decimals)}.`,
+    decimals === 1 ? t("{title}, {item} ({code}), of {office}, as it is printed, with one decimal, {period} = 100.", of)
+      : t("{title}, {item} ({code}), of {office}, with all six decimals, {period} = 100.", of),
+    indexText(then, decimals), indexText(now, decimals),
     `${money(minor, data)} \u00d7 ${levelText(now.level, decimals)} / ${levelText(then.level, decimals)} = ${money(result, data)}.`,
     address,
   ].join(" ");
@@ -168,21 +189,23 @@ function noticesOf(chosen, { revisions, hundred }, data) {
   const said = [];
   for (const [name, at] of item.isSet ? [["then", then], ["now", now]] : []) {
     if ((revisions[name] ?? at.revision) !== at.revision) {
-      said.push(`The address asks for revision ${revisions[name]} of ${at.says}. A special aggregate is computed from the latest revisions, so this is the amount by revision ${at.revision}.`);
+      const values = { asked: figureText(String(revisions[name])), month: at.says, revision: numberText(at) };
+      said.push(t("The address asks for revision {asked} of {month}. A special aggregate is computed from the latest revisions, so this is the amount by revision {revision}.", values));
     }
   }
   for (const at of [then, now]) {
     if (!at.isLatest) {
       const latest = revisionOf(data, at.month);
-      said.push(`${at.says} was revised after revision ${at.revision}: its index is ${levelText(levelBy(latest, code, decimals), decimals)} by revision ${latest.revision}, published ${latest.published}.`);
+      const values = { month: at.says, earlier: numberText(at), index: levelText(levelBy(latest, code, decimals), decimals), revision: numberText(latest), moment: latest.published };
+      said.push(t("{month} was revised after revision {earlier}: its index is {index} by revision {revision}, published {moment}.", values));
     }
   }
   if (!then.isLatest || !now.isLatest) {
     const latest = computed({ ...chosen, then: then.name, now: now.name }, {}, data);
-    if (!latest.fault) said.push(`By the latest revisions the new amount is ${money(latest.result, data)}.`);
+    if (!latest.fault) said.push(t("By the latest revisions the new amount is {amount}.", { amount: money(latest.result, data) }));
   }
-  if (hundred !== null && hundred !== chosen.hundred) {
-    said.push(`This address was made for an index with ${hundred} = 100. The office publishes it with ${chosen.hundred} = 100 now, so the amount may differ by the rounding of the indices.`);
+  if (![null, chosen.hundred, chosen.period].includes(hundred)) {
+    said.push(t("This address was made for an index with {then} = 100. The office publishes it with {now} = 100 now, so the amount may differ by the rounding of the indices.", { then: /^\d{4}-\d\d$/.test(hundred) ? monthText(hundred) : hundred, now: chosen.hundred }));
   }
   return said;
 }
@@ -211,15 +234,15 @@ function show(form, state, data) {
   write("fault", chosen.fault);
   for (const id of ["result", "texts"]) document.getElementById(id).hidden = chosen.fault !== "";
   writeLines("notices", chosen.fault ? [] : noticesOf(chosen, state, data));
-  document.getElementById("latest").hidden = chosen.fault !== "" || (chosen.then.isLatest && chosen.now.isLatest && [null, chosen.hundred].includes(state.hundred));
+  document.getElementById("latest").hidden = chosen.fault !== "" || (chosen.then.isLatest && chosen.now.isLatest && [null, chosen.hundred, chosen.period].includes(state.hundred));
   if (chosen.fault) return null;
   const { then, now, decimals, minor, item, result } = chosen;
   const address = ownAddress() + addressOf(chosen);
   write("value", money(result, data));
-  write("words", `${item.title}: ${levelText(then.level, decimals)} in ${then.says}, ${levelText(now.level, decimals)} in ${now.says}.`);
+  write("words", t("{title}: {then_index} in {then}, {now_index} in {now}.", { title: item.title, then: then.says, then_index: levelText(then.level, decimals), now: now.says, now_index: levelText(now.level, decimals) }));
   write("formula", `${moneyText(minor, data.digits)} \u00d7 ${levelText(now.level, decimals)} / ${levelText(then.level, decimals)} = ${moneyText(result, data.digits)}`);
   for (const [id, at] of [["then-source", then], ["now-source", now]]) {
-    write(id, `${at.says}: revision ${at.revision}, published ${at.published}, table with SHA-256 ${at.sum}.`);
+    write(id, t("{month}: revision {revision}, published {moment}, table with SHA-256 {sum}.", { month: at.says, revision: numberText(at), moment: at.published, sum: at.sum }));
   }
   write("clause-text", clauseText(chosen, data));
   write("result-text", resultText(chosen, data, address));
@@ -231,7 +254,7 @@ function show(form, state, data) {
 /** Puts what an address asks for into the form, and says what it asks for in vain. */
 function fill(form, data) {
   const asked = readAddress(location.hash.slice(1), data);
-  for (const [name, value] of Object.entries(asked.values)) form.elements[name].value = value;
+  for (const [name, value] of Object.entries(asked.values)) form.elements[name].value = name === "amount" ? figureText(value) : value;
   writeLines("address-faults", asked.faults);
   return { revisions: asked.revisions, hundred: asked.hundred };
 }
@@ -242,10 +265,10 @@ async function copy(button) {
   const said = button.parentElement.querySelector("[role=status]");
   try {
     await navigator.clipboard.writeText(from.textContent);
-    said.textContent = "Copied.";
+    said.textContent = t("Copied.");
   } catch {
     getSelection().selectAllChildren(from);
-    said.textContent = "The text is selected: copy it by the keyboard.";
+    said.textContent = t("The text is selected: copy it by the keyboard.");
   }
 }
 

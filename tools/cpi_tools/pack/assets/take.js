@@ -4,7 +4,8 @@
 /** How many times as large as the SVG a PNG is. */
 const TIMES = 3;
 
-const NOT_MADE = "The PNG can't be made here: open this page from its web site, or take the SVG.";
+/** What is said if there is none. */
+const NOT_MADE = document.currentScript?.dataset.fault ?? "";
 
 /** The picture of an SVG as PNG. Rejects if the browser doesn't read it, or doesn't give out what it has drawn. */
 async function png(address) {

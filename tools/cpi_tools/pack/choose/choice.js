@@ -1,22 +1,23 @@
 // The choice of a reader, and its address, such as `choose.html?items=00+01.1&show=index+year&from=2025-01`.
 // A word that is left out has its default. Nothing here needs a page, so a test runs it by itself.
+import { t } from "../assets/spoken.js";
 
 export const MOST_ITEMS = 20;
 
 /** The measures by their words in an address: name, unit, and the column of an item's file. */
 export const MEASURES = new Map([
-  ["index", { name: "Index", unit: "", column: "chained" }],
-  ["year", { name: "Change on the year before", unit: "Percent", column: "shown_year_change" }],
-  ["month", { name: "Change on the month before", unit: "Percent", column: "shown_month_change" }],
+  ["index", { name: t("Index"), unit: "", column: "chained" }],
+  ["year", { name: t("Change on the year before"), unit: t("Percent"), column: "shown_year_change" }],
+  ["month", { name: t("Change on the month before"), unit: t("Percent"), column: "shown_month_change" }],
   ["contribution-year", {
-    name: "Contribution to the change of all items on the year before", unit: "Percentage points",
+    name: t("Contribution to the change of all items on the year before"), unit: t("Percentage points"),
     column: "contribution_year",
   }],
   ["contribution-month", {
-    name: "Contribution to the change of all items on the month before", unit: "Percentage points",
+    name: t("Contribution to the change of all items on the month before"), unit: t("Percentage points"),
     column: "contribution_month",
   }],
-  ["weight", { name: "Weight in use", unit: "Parts of the weight of all items in that month", column: "weight" }],
+  ["weight", { name: t("Weight in use"), unit: t("Parts of the weight of all items in that month"), column: "weight" }],
 ]);
 
 /** What holds without a word: `from` is two years before `to`, `to` is the newest month. */
@@ -36,12 +37,6 @@ export function moved(month, by) {
   const count = Number(month.slice(0, 4)) * 12 + Number(month.slice(5)) - 1 + by;
   return `${String(Math.floor(count / 12)).padStart(4, "0")}-${String((count % 12) + 1).padStart(2, "0")}`;
 }
-
-const NAMES = ["January", "February", "March", "April", "May", "June", "July", "August", "September", "October",
-  "November", "December"];
-
-/** `December 2025` of `2025-12`. */
-export const monthName = (month) => `${NAMES[Number(month.slice(5)) - 1]} ${month.slice(0, 4)}`;
 
 /** The months from one to another. */
 export function monthsBetween(from, to) {
@@ -71,13 +66,13 @@ export function choiceOf(search, known) {
   const choice = { ...DEFAULTS }, faults = [];
   for (const [word, text] of new URLSearchParams(search)) {
     const read = READERS[word];
-    const found = read ? read(text.trim(), known) : { fault: `it is no word of this page; ${WORDS}` };
+    const found = read ? read(text.trim(), known) : { fault: t("it is no word of this page; its words are {words}", { words: WORDS }) };
     if (found.fault) faults.push({ read: `${word}=${text}`, fault: found.fault });
     if ("value" in found) choice[word] = found.value;
   }
   const last = choice.to || known.last;
   if (choice.from > last) {
-    faults.push({ read: `from=${choice.from}`, fault: `it is after ${last}, the last month that is chosen` });
+    faults.push({ read: `from=${choice.from}`, fault: t("it is after {month}, the last month that is chosen", { month: last }) });
     choice.from = "";
   }
   return { choice, faults };
@@ -104,21 +99,24 @@ export function fixed(choice, known, period) {
 
 // ---- the words of an address
 
-const WORDS = `its words are ${Object.keys(DEFAULTS).join(", ")}`;
+const WORDS = Object.keys(DEFAULTS).join(", ");
 
 const READERS = {
   items: (text) => {
     const all = parts(text), bad = all.filter((code) => !CODE.test(code)), good = all.filter((code) => CODE.test(code));
-    const many = good.length > MOST_ITEMS ? `it names ${good.length} items, and the page takes ${MOST_ITEMS}` : "";
-    const odd = bad.length ? `${bad.join(", ")} is no code such as 01.1.1, and no id of a special aggregate` : "";
+    const many = good.length > MOST_ITEMS
+      ? t("it names {given} items, and the page takes {most}", { given: good.length, most: MOST_ITEMS }) : "";
+    const odd = bad.length
+      ? t("{codes} is no code such as 01.1.1, and no id of a special aggregate", { codes: bad.join(", ") }) : "";
     const value = good.length ? good.slice(0, MOST_ITEMS) : DEFAULTS.items;
-    return { value, fault: odd || many || (good.length ? "" : "it names no item, such as items=00+01.1") };
+    return { value, fault: odd || many || (good.length ? "" : t("it names no item, such as items=00+01.1")) };
   },
   show: (text) => {
     const all = parts(text), bad = all.filter((word) => !MEASURES.has(word));
     const value = [...MEASURES.keys()].filter((word) => all.includes(word));
-    const wanted = `the measures are ${[...MEASURES.keys()].join(", ")}`;
-    const fault = bad.length ? `${bad.join(", ")} is no measure; ${wanted}` : value.length ? "" : wanted;
+    const words = [...MEASURES.keys()].join(", "), read = bad.join(", ");
+    const none = value.length ? "" : t("the measures are {words}", { words });
+    const fault = bad.length ? t("{read} is no measure; the measures are {words}", { read, words }) : none;
     return { value: value.length ? value : DEFAULTS.show, fault };
   },
   from: (text, known) => monthOf(text, known),
@@ -126,17 +124,19 @@ const READERS = {
   hundred: (text, known) => {
     const isPeriod = (MONTH.test(text) && text >= known.base && text <= known.last) || fullYears(known).includes(text);
     if (isPeriod || text === "same" || text === "own") return { value: text };
-    const years = YEAR.test(text) ? " with twelve months" : "";
-    return { fault: `it is neither same nor own, nor a year${years} or a month from ${known.base} to ${known.last}` };
+    const span = { first: known.base, last: known.last };
+    return { fault: YEAR.test(text)
+      ? t("it is neither same nor own, nor a year with twelve months or a month from {first} to {last}", span)
+      : t("it is neither same nor own, nor a year or a month from {first} to {last}", span) };
   },
   revision: (text) => (text === "latest" || /^[1-9]$/.test(text) || isMoment(text) ? { value: text }
-    : { fault: "it is neither latest, nor a revision from 1 to 9, nor a moment such as 2026-01-28T08:30:00Z" }),
-  decimals: (text) => (text === "shown" || text === "all" ? { value: text } : { fault: "it is neither shown nor all" }),
+    : { fault: t("it is neither latest, nor a revision from 1 to 9, nor a moment such as 2026-01-28T08:30:00Z") }),
+  decimals: (text) => (text === "shown" || text === "all" ? { value: text } : { fault: t("it is neither shown nor all") }),
 };
 
 const parts = (text) => [...new Set(text.split(/[\s,]+/).filter(Boolean))];
 
 function monthOf(text, { first, last }) {
   if (text === "" || (MONTH.test(text) && text >= first && text <= last)) return { value: text };
-  return { fault: `it is no month from ${first} to ${last}` };
+  return { fault: t("it is no month from {first} to {last}", { first, last }) };
 }

@@ -1,5 +1,5 @@
 // The figures of measures as tables of the page, and as a file.
-import { monthName } from "./choice.js";
+import { figureText, monthText, shortMonth, t } from "../assets/spoken.js";
 import { made, others } from "./elements.js";
 
 const MOST_COLUMNS = 6; // so that a table isn't wider than a sheet of paper
@@ -9,26 +9,30 @@ export function tablesOf({ name, unit, lines }, months) {
   const groups = [];
   for (let at = 0; at < lines.length; at += MOST_COLUMNS) groups.push(lines.slice(at, at + MOST_COLUMNS));
   return groups.map((group, n) => {
-    const part = groups.length > 1 ? `, ${n + 1} of ${groups.length}` : "";
+    const values = { name, part: figureText(String(n + 1)), parts: figureText(String(groups.length)), unit };
+    const isParted = groups.length > 1;
+    const caption = isParted ? t("{name} ({unit}), {part} of {parts}", values) : t("{name} ({unit})", values);
+    const label = isParted ? t("{name}, {part} of {parts}", values) : name;
     const rows = months.map((month, at) => rowOf(month, at, group)).reverse();
-    const table = made("table", {}, made("caption", {}, `${name} (${unit})${part}`),
+    const table = made("table", {}, made("caption", {}, caption),
       headOf(group), made("tbody", {}, ...rows));
-    return made("div", { class: "scroll", tabindex: 0, role: "region", "aria-label": `${name}${part}` }, table);
+    return made("div", { class: "scroll", tabindex: 0, role: "region", "aria-label": label }, table);
   });
 }
 
-const headOf = (lines) => made("thead", {}, made("tr", {}, made("th", { scope: "col" }, "Month"),
+const headOf = (lines) => made("thead", {}, made("tr", {}, made("th", { scope: "col" }, t("Month")),
   ...lines.map(({ code, title, hundred }) => made("th", { scope: "col", class: "n" },
     made("a", { href: `node/${code}.html` }, others(title)), ...(hundred ? [made("small", {}, hundred)] : [])))));
 
 function rowOf(month, at, lines) {
   const cells = lines.map(({ texts, exact, marks }) => made("td", { class: "n" }, texts[at],
     ...(exact[at] && marks[at] ? [made("sup", {}, marks[at])] : [])));
-  return made("tr", {}, made("th", { scope: "row", class: "month" }, ...short(monthName(month))), ...cells);
+  return made("tr", {}, made("th", { scope: "row", class: "month" }, ...headOfRow(month)), ...cells);
 }
 
 /** A month that is `Dec 2026` on a telephone. */
-const short = (name) => [name.slice(0, 3), made("span", { class: "wide" }, name.slice(3, -5)), name.slice(-5)];
+const headOfRow = (month) =>
+  [made("span", { class: "wide" }, monthText(month)), made("span", { class: "narrow" }, shortMonth(month))];
 
 // ---- a file
 

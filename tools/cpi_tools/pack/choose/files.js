@@ -1,11 +1,16 @@
 // The files of the site that the page reads: the file of each chosen item, and the list of all items. Each is asked for
 // once.
+import { t } from "../assets/spoken.js";
 import { rowsOf } from "./lines.js";
+
+/** The way from the page to the folder of the pack, and whether titles are those of the list of items, not of files: the
+ * page sets both. */
+export const site = { top: "", isListed: false };
 
 /** A file that can't be had: its name, and the status of the server, 0 if there was no answer. */
 export class NoFile extends Error {
   constructor(name, status) {
-    super(status ? `${name}: the server answers ${status}` : `${name}: the server doesn’t answer`);
+    super(status ? t("{name}: the server answers {status}", { name, status }) : t("{name}: the server doesn’t answer", { name }));
     this.status = status;
   }
 }
@@ -26,10 +31,11 @@ async function fetched(name) {
 
 /** An item: its code, its title, its latest rows, and those of earlier revisions if `hasEarlier` asks for them. */
 export async function itemOf(code, hasEarlier) {
-  const latest = rowsOf(await textOf(`node/${code}.csv`));
+  const latest = rowsOf(await textOf(`${site.top}node/${code}.csv`));
   const isRevised = hasEarlier && latest.some(({ revision }) => revision !== "1");
-  const earlier = isRevised ? rowsOf(await textOf(`node/${code}-earlier.csv`).catch(noneOf404)) : [];
-  return { code, title: plain(latest.at(-1).title), latest, earlier };
+  const earlier = isRevised ? rowsOf(await textOf(`${site.top}node/${code}-earlier.csv`).catch(noneOf404)) : [];
+  const listed = site.isListed ? (await allItems()).find(([other]) => other === code)?.[1] : undefined;
+  return { code, title: listed ?? plain(latest.at(-1).title), latest, earlier };
 }
 
 /** A title without the apostrophe that `publish --safe-csv` writes before what a spreadsheet takes for a formula. */

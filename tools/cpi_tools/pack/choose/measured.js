@@ -1,13 +1,14 @@
 // The figures of a measure: a line for each chosen item, as it is shown and with all its digits.
-import { MEASURES, monthName } from "./choice.js";
+import { figureText, monthText, t } from "../assets/spoken.js";
+import { MEASURES } from "./choice.js";
 import { decimal, indexIn, NONE, shortened, signed } from "./lines.js";
 
 const DECIMALS = { index: 1, "contribution-year": 2, "contribution-month": 2 };
 
-const EACH_ITS_OWN = "each item with a period of its own = 100";
+const EACH_ITS_OWN = t("each item with a period of its own = 100");
 
 /** `December 2025 = 100`, or `2025 = 100`. */
-const saysHundred = (period) => `${period.length === 4 ? period : monthName(period)} = 100`;
+const saysHundred = (period) => t("{period} = 100", { period: period.length === 4 ? figureText(period) : monthText(period) });
 
 /**
  * A measure `{ word, name, unit, isLevel, lines }` of items `{ code, title, rows }` over months; `wanted` is the period
@@ -45,20 +46,22 @@ const NO_CELL = { text: NONE, exact: "", period: "" };
 function cellOf(row, rows, word, wanted, decimals) {
   if (word === "index") {
     const { over, under, period } = indexIn(rows, row.month, wanted), exact = decimal(over, under, 6);
-    return { text: decimals === "all" ? exact : decimal(over, under, DECIMALS.index), exact, period };
+    return { text: figureText(decimals === "all" ? exact : decimal(over, under, DECIMALS.index)), exact, period };
   }
   const exact = row[MEASURES.get(word).column];
   const text = decimals === "all" || !(word in DECIMALS) ? exact : shortened(exact, DECIMALS[word]);
-  return { text: signed(text, word !== "weight"), exact, period: "" };
+  return { text: figureText(signed(text, word !== "weight")), exact, period: "" };
 }
 
 /** `December 2024 = 100, from January 2027 on December 2026 = 100`. */
 function said(hundreds, months) {
-  const begun = hundreds.flatMap((text, n) => {
-    const before = hundreds.slice(0, n).findLast(Boolean);
-    return text && text !== before ? [before ? `from ${monthName(months[n])} on ${text}` : text] : [];
-  });
-  return begun.join(", ");
+  let told = "", before = "";
+  for (const [n, text] of hundreds.entries()) {
+    const values = { bases: told, month: monthText(months[n]), base: text };
+    if (text && text !== before) told = told ? t("{bases}, from {month} on {base}", values) : text;
+    before = text || before;
+  }
+  return told;
 }
 
 /** The rows, counted from 0, with a break before them; the first one has none. */

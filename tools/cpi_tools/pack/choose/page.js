@@ -1,11 +1,10 @@
 // The page: what its form and its address choose, as pictures, tables and a file. The address comes first: a change of
 // the form is written there, and shown from there, so back and forward work.
-import {
-  addressOf, choiceOf, DEFAULTS, fixed, fullYears, MEASURES, monthName, monthsBetween, monthsOf,
-} from "./choice.js";
+import { figureText, monthText, t } from "../assets/spoken.js";
+import { addressOf, choiceOf, DEFAULTS, fixed, fullYears, MEASURES, monthsBetween, monthsOf } from "./choice.js";
 import { byId, made, others } from "./elements.js";
 import { csvOf, tablesOf } from "./figures.js";
-import { itemOf } from "./files.js";
+import { itemOf, site } from "./files.js";
 import { chosenRows, hundredOf } from "./lines.js";
 import { measureOf } from "./measured.js";
 import { listenToPicker, picker, showChosen } from "./picker.js";
@@ -16,6 +15,8 @@ const NARROW = 640; // pixels of a page, as in style.css
 const FIELDS = ["from", "to", "hundred", "revision", "decimals"]; // their ids are the words of an address
 
 const known = byId("choice").dataset; // first, last, base, reference, moment, revisions: see choose.html
+site.top = known.top ?? "";
+site.isListed = known.titles === "listed";
 
 let choice = DEFAULTS;
 let shown = { items: [], months: [], measures: [] };
@@ -29,14 +30,15 @@ const option = (value, text) => made("option", { value }, text);
 /** Fills the fields that have a choice of months, periods, revisions and measures. */
 function fillForm() {
   const months = monthsBetween(known.first, known.last).reverse();
-  const named = (values) => values.map((value) => option(value, value.length === 4 ? value : monthName(value)));
-  byId("from").append(option("", "Two years before"), ...named(months));
-  byId("to").append(option("", `The newest, ${monthName(known.last)}`), ...named(months));
-  byId("hundred").append(option("same", "The same for all items"), option("own", "Each item’s own"),
+  const named = (values) => values.map((value) => option(value, value.length === 4 ? figureText(value) : monthText(value)));
+  byId("from").append(option("", t("Two years before")), ...named(months));
+  byId("to").append(option("", t("The newest, {month}", { month: monthText(known.last) })), ...named(months));
+  byId("hundred").append(option("same", t("The same for all items")), option("own", t("Each item’s own")),
     ...named(fullYears(known).reverse()), ...named([...months, known.base]));
   const numbers = Array.from({ length: Number(known.revisions) }, (_, n) => String(n + 1));
-  byId("revision").append(option("latest", "The latest of each month"), ...numbers.map((number) =>
-    option(number, number === "1" ? "The first of each month" : `Revision ${number}, or the one before it`)));
+  byId("revision").append(option("latest", t("The latest of each month")), ...numbers.map((number) =>
+    option(number, number === "1" ? t("The first of each month")
+      : t("Revision {number}, or the one before it", { number: figureText(number) }))));
   byId("show").append(...[...MEASURES].map(([word, { name }]) => made("label", {},
     made("input", { type: "checkbox", value: word, onchange: () => choose({ show: ticked() }) }), " ", name)));
 }
@@ -48,7 +50,7 @@ const ticked = () => boxes().filter(({ checked }) => checked).map(({ value }) =>
 function setForm() {
   for (const word of FIELDS) {
     const field = byId(word), value = choice[word];
-    if (![...field.options].some((one) => one.value === value)) field.append(option(value, `As published on ${value}`));
+    if (![...field.options].some((one) => one.value === value)) field.append(option(value, t("As published on {moment}", { moment: value })));
     field.value = value;
   }
   for (const box of boxes()) {
@@ -78,18 +80,18 @@ function follow() {
 
 function tell(faults) {
   byId("fault").hidden = !faults.length;
-  byId("fault").replaceChildren(...faults.map(({ read, fault }) => made("p", {}, others(read), `: ${fault}.`)));
+  byId("fault").replaceChildren(...faults.map(({ read, fault }) => made("p", {}, others(read), t(": {fault}.", { fault }))));
 }
 
 const guarded = (work) => (...words) => Promise.resolve().then(() => work(...words)).catch(failed);
-const failed = (fault) => tell([{ read: "This page", fault: `it met a fault, ${fault.message}` }]);
+const failed = (fault) => tell([{ read: t("This page"), fault: t("it met a fault, {fault}", { fault: fault.message }) }]);
 
 /** Asks for the files of the chosen items, and shows them. `faults` are those of the address. */
 async function show(faults) {
   const mine = (asked += 1);
   setForm();
   tell(faults);
-  byId("said").textContent = "The figures are on their way.";
+  byId("said").textContent = t("The figures are on their way.");
   const answers = await Promise.all(choice.items.map((code) => itemOf(code, choice.revision !== "latest")
     .then((item) => [item, null], (reason) => [{ code, title: "" }, { read: code, fault: faultOf(reason) }])));
   if (mine !== asked) return;
@@ -100,7 +102,8 @@ async function show(faults) {
 
 /** Why an item isn't shown. */
 const faultOf = ({ status, message }) => (status === 404
-  ? "no item and no special aggregate of this site has this code" : `${message}. Load the page again in a moment`);
+  ? t("no item and no special aggregate of this site has this code")
+  : t("{fault}. Load the page again in a moment", { fault: message }));
 
 function draw(found) {
   const items = found.map((item) => ({ ...item, rows: chosenRows(item.latest, item.earlier, choice.revision) }));
@@ -108,7 +111,8 @@ function draw(found) {
   const wanted = hundredOf(all, months, choice.hundred, known.reference) ?? known.reference;
   const measures = choice.show.map((word) => measureOf(word, items, months, wanted, choice.decimals));
   shown = { items, months, measures };
-  byId("said").textContent = items.length ? `${monthName(months[0])} to ${monthName(months.at(-1))}` : "";
+  byId("said").textContent = items.length
+    ? t("{first} to {last}", { first: monthText(months[0]), last: monthText(months.at(-1)) }) : "";
   byId("parts").replaceChildren(...(items.length ? measures.map(partOf) : []));
   drawPictures();
   offer();
@@ -117,8 +121,9 @@ function draw(found) {
 /** The place of a measure: its picture, the key to the picture, and its tables. */
 function partOf(measure, n) {
   const { name, unit, lines } = measure, first = lines.slice(0, MOST_LINES);
+  const values = { shown: figureText(String(MOST_LINES)), all: figureText(String(lines.length)) };
   const few = lines.length > MOST_LINES ? [made("p", { class: "note" },
-    `The picture shows the first ${MOST_LINES} of ${lines.length} items.`)] : [];
+    t("The picture shows the first {shown} of {all} items.", values))] : [];
   return made("section", { "aria-labelledby": `part-${n}` }, made("h2", { id: `part-${n}` }, name),
     made("figure", { class: "lines" }, made("figcaption", {}, made("small", {}, unit)),
       made("div", { class: "picture" })),
@@ -137,19 +142,19 @@ function drawPictures() {
   for (const [n, holder] of document.querySelectorAll(".picture").entries()) {
     const { name, unit, isLevel, word, lines } = shown.measures[n], few = lines.slice(0, MOST_LINES);
     if (!few.some(({ values }) => values.some((value) => value !== null))) {
-      holder.replaceChildren(made("p", { class: "note" }, "These items have no such figures in these months."));
+      holder.replaceChildren(made("p", { class: "note" }, t("These items have no such figures in these months.")));
       continue;
     }
     width = Math.max(280, Math.floor(holder.clientWidth));
     const hasZero = !isLevel && word !== "weight", { months } = shown;
     const readout = holder.closest("section").querySelector(".readout");
     const told = (at) => readout.replaceChildren(...(at === null ? [] : read(few, months, at)));
-    holder.replaceChildren(pictureOf({ name: `${name} (${unit})`, months, lines: few, hasZero, width }, told));
+    holder.replaceChildren(pictureOf({ name: t("{name} ({unit})", { name, unit }), months, lines: few, hasZero, width }, told));
   }
 }
 
 /** The figures of a month in words. */
-const read = (lines, months, at) => [`${monthName(months[at])}: `, ...lines.flatMap(({ title, texts, hundreds }, n) =>
+const read = (lines, months, at) => [`${monthText(months[at])}: `, ...lines.flatMap(({ title, texts, hundreds }, n) =>
   [n ? ", " : "", others(title), ` ${texts[at]}${hundreds[at] ? ` (${hundreds[at]})` : ""}`])];
 
 /** Offers the file, and the address under which these figures stay. */

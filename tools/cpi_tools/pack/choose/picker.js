@@ -3,6 +3,7 @@ import { MOST_ITEMS } from "./choice.js";
 import { byId, made, others } from "./elements.js";
 import { allItems } from "./files.js";
 import { find, listOf, saidOf } from "../assets/search.js";
+import { figureText, t } from "../assets/spoken.js";
 
 const MOST_FOUND = 12;
 
@@ -28,13 +29,13 @@ async function seek() {
   byId("matches").replaceChildren(...shown.map(([code, title]) => made("li", {}, made("button", {
     type: "button", "data-code": code, disabled: picker.codes.includes(code), onclick: () => add(code),
   }, made("span", { class: "code" }, code), " ", others(title)))));
-  const more = found.length > shown.length ? ` The first ${shown.length} are shown.` : "";
-  byId("match-count").textContent = said + more;
+  const more = found.length > shown.length ? [t("The first {count} items are shown.", { count: figureText(String(shown.length)) })] : [];
+  byId("match-count").textContent = [said, ...more].join(" ");
 }
 
 function add(code) {
   if (picker.codes.length >= MOST_ITEMS) {
-    byId("match-count").textContent = `The page takes ${MOST_ITEMS} items: take one out first.`;
+    byId("match-count").textContent = t("The page takes {most} items: take one out first.", { most: figureText(String(MOST_ITEMS)) });
     return;
   }
   byId("seek").value = "";
@@ -48,10 +49,10 @@ function add(code) {
 export function showChosen(items) {
   picker.codes = items.map(({ code }) => code);
   byId("chosen").replaceChildren(...items.map(({ code, title }) => made("li", {}, made("button", {
-    type: "button", disabled: items.length === 1, title: items.length === 1 ? "The last item stays" : "Take it out",
+    type: "button", disabled: items.length === 1, title: items.length === 1 ? t("The last item stays") : t("Take it out"),
     onclick: () => picker.chosen(picker.codes.filter((other) => other !== code)),
   }, others(title), " ", made("span", { class: "code" }, code), made("span", { "aria-hidden": "true" }, " ×"),
-  made("span", { class: "hidden" }, ", take it out")))));
+  made("span", { class: "hidden" }, t(", take it out"))))));
 }
 
 export function listenToPicker() {

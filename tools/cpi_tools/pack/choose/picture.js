@@ -1,5 +1,5 @@
 // A picture of lines over months, by pointer and by arrow keys. Figures are texts; floats are in pictures only.
-import { monthName } from "./choice.js";
+import { figureText, monthText, t } from "../assets/spoken.js";
 import { made, isolated } from "./elements.js";
 
 const LEFT = 48, RIGHT = 14, TOP = 12, FOOT = 44; // what is free around the lines, in pixels
@@ -29,7 +29,7 @@ export function pictureOf({ name, months, lines, hasZero, width }, told) {
   const x = (n) => LEFT + (months.length < 2 ? 0.5 : n / (months.length - 1)) * (width - LEFT - RIGHT);
   const y = (value) => TOP + (axis.high - value) / (axis.high - axis.low) * (height - TOP - FOOT);
   const place = { width, height, x, y };
-  const said = `${name}. ${summary(lines, months)}. Arrow keys tell the months.`;
+  const said = t("{name}. {lines}. Arrow keys tell the months.", { name, lines: summary(lines, months) });
   const svg = drawn("svg", { viewBox: `0 0 ${width} ${height}`, role: "img", tabindex: 0, "aria-label": said });
   const breaks = new Set(lines.flatMap((line) => line.breaks));
   // (the first line is drawn last, above the others)
@@ -44,8 +44,9 @@ export function pictureOf({ name, months, lines, hasZero, width }, told) {
 function summary(lines, months) {
   return lines.map(({ title, texts, values, hundreds }) => {
     const last = values.findLastIndex((value) => value !== null);
-    const hundred = hundreds[last] ? ` (${hundreds[last]})` : "";
-    return `${isolated(title)}: ${last < 0 ? "none" : `${texts[last]}${hundred} in ${monthName(months[last])}`}`;
+    if (last < 0) return t("{title}: none", { title: isolated(title) });
+    const base = hundreds[last], places = { title: isolated(title), figure: texts[last], month: monthText(months[last]) };
+    return base ? t("{title}: {figure} ({base}) in {month}", { ...places, base }) : t("{title}: {figure} in {month}", places);
   }).join("; ");
 }
 
@@ -63,7 +64,7 @@ function levels(axis, hasZero, { width, y }) {
     const text = (isZero ? 0 : value).toFixed(digits).replace("-", "−");
     return [
       drawn("line", { class: kind, x1: LEFT, x2: width - RIGHT, y1: y(value), y2: y(value) }),
-      drawn("text", { class: "end", x: LEFT - 7, y: y(value) + 4 }, text),
+      drawn("text", { class: "end", x: LEFT - 7, y: y(value) + 4 }, figureText(text)),
     ];
   });
 }

@@ -1,0 +1,23 @@
+"""What the scripts of the site say in another language than English: its texts, and how it writes figures."""
+
+from __future__ import annotations
+
+import json
+from pathlib import Path
+
+from ..languages import SOURCE, words_of
+from ..speech import Speech
+
+SCRIPTS = "tools/cpi_tools/pack/"
+"""Where the scripts are in the repository, by which the catalogues know their texts."""
+
+
+def write_words(speech: Speech, folder: Path) -> None:
+    """Writes `assets/words.js` into the folder of a language; scripts have English themselves."""
+    tag = speech.language.tag
+    if tag == SOURCE:
+        return
+    texts, plural = words_of(tag.replace("-", "_"), SCRIPTS)
+    data = {"tag": tag, "digits": speech.digits, "signs": speech.signs, "plural": plural, "texts": texts}
+    text = json.dumps(data, ensure_ascii=False, separators=(",", ":"))
+    (folder / "assets" / "words.js").write_text(f"globalThis.WORDS = {text};\n", encoding="utf-8")

@@ -1,0 +1,53 @@
+"""The pages of a pack in each of its languages."""
+
+from __future__ import annotations
+
+from collections.abc import Mapping
+from pathlib import Path
+from typing import NamedTuple, Optional
+
+from ..speech import SPEAKS_ENGLISH, Speech, speech_of
+from .addresses import write_sitemap
+from .cards import Cards
+from .config import Config
+from .figures import Known
+from .item_files import ItemFiles
+from .office_languages import Own
+from .part import Now
+from .signature import Signature
+from .site import Site
+from .versions import ALONE, versions_of
+
+
+class Shared(NamedTuple):
+    """What the pages of all languages have in common: the files of items, which have the titles of the tables, the
+    signature of the manifest, and the cards."""
+
+    items: ItemFiles
+    signature: Optional[Signature]
+    cards: Cards
+
+
+def write_sites(known: Known, recent: Known, config: Config, folder: Path, shared: Shared, now: Now) -> None:
+    """Writes the pages of all languages into the folder of a pack, whose data files are there; `recent` are the figures
+    of the months that pages show."""
+    languages, digits, own = config.speaks
+    speeches = [speech_of(tag.replace("-", "_"), digits) for tag in languages] or [SPEAKS_ENGLISH]
+    versions = versions_of(speeches)
+    for speech, version in zip(speeches, versions or [ALONE]):
+        tag = speech.language.tag
+        titles, spoken = own.get(tag, Own()).titles, config.spoken(tag)
+        figures, shown = (_in(it, speech, titles) for it in (known, recent))
+        site = Site(figures, spoken, folder, shared.signature, shared.cards, shown, version, versions)
+        site.write(shared.items, lambda done, of: now(f"pages, {done} of {of}"))
+    if config.address:
+        write_sitemap(folder, config, known.series, site.releases.releases.all, versions or [ALONE])
+
+
+def _in(known: Known, speech: Speech, titles: Mapping[str, str]) -> Known:
+    """The same figures for readers of a language, with its titles."""
+    if speech is known.shown.speech and not titles:
+        return known
+    series, shown = known.series.titled(titles), known.shown.spoken(speech)
+    shown.series = series
+    return Known(series, known.contributions, shown)

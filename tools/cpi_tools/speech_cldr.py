@@ -1,0 +1,107 @@
+"""How other languages than English say figures, months and moments: by CLDR, as Babel has it."""
+
+from __future__ import annotations
+
+import functools
+import re
+from collections.abc import Mapping, Sequence
+from datetime import date, datetime
+
+from babel import Locale
+from babel.dates import format_date, format_skeleton
+from babel.lists import format_list
+from markupsafe import Markup, escape
+
+from .languages import Language
+from .speech import LATIN, Speech
+
+MINUS = "\u2212"
+"""What a page has for the hyphen that CLDR writes as a sign."""
+
+ZEROS: Mapping[str, str] = {"latn": "0", "arab": "\u0660", "deva": "\u0966"}
+"""The first digit of each system."""
+
+ARABIC: Mapping[str, str] = {
+    "decimal": "\u066b", "group": "\u066c", "percentSign": "\u066a\u061c", "plusSign": "\u061c+", "minusSign": "\u061c-",
+}  # fmt: skip
+"""The signs that go with the digits `arab` by CLDR; Babel has those of a language's Latin digits only. Those that go with
+`deva` are the same as with Latin digits."""
+
+NUMBER = re.compile(r"[#0,.]+")
+
+
+class Cldr(Speech):
+    """A language by its locale, with a system of digits."""
+
+    def __init__(self, language: Language, digits: str = LATIN):
+        super().__init__(language, digits)
+        self._locale = locale = Locale.parse(language.tag, sep="-")
+        zero = ord(ZEROS[digits])
+        own = {chr(ord("0") + at): chr(zero + at) for at in range(10)}
+        signs = {**locale.number_symbols, **(ARABIC if digits == "arab" else {})}
+        minus = signs["minusSign"].replace("-", MINUS)
+        named = {".": signs["decimal"], ",": signs["group"], "+": signs["plusSign"], "-": minus, MINUS: minus}
+        self._signs = {**own, **named}
+        self._digits, self._figures = str.maketrans(own), str.maketrans(self._signs)
+        before, after = NUMBER.split(locale.percent_formats[None].pattern, maxsplit=1)
+        self._percent = [part.replace("%", signs["percentSign"]) for part in (before, after)]
+
+    def listed(self, texts: Sequence[str]) -> str:
+        return str(format_list(texts, locale=self._locale))
+
+    def inner(self, title: str) -> str:
+        """A title as it is: where a language has small letters, CLDR doesn't say."""
+        return title
+
+    def figure(self, text: str) -> str:
+        return text.translate(self._figures)
+
+    @property
+    def signs(self) -> dict[str, str]:
+        return {sign: text for sign, text in self._signs.items() if sign != text}
+
+    def whole(self, number: int) -> str:
+        return self.figure(f"{number:,}")
+
+    def percent(self, text: str) -> str:
+        return self.figure(text).join(self._percent)
+
+    def share(self, text: str) -> str:
+        return self.percent(text)
+
+    @functools.lru_cache(maxsize=2000)
+    def month(self, month: str) -> str:
+        return self._dated("yMMMM", _day(month))
+
+    def year(self, year: str) -> str:
+        return year.translate(self._digits)
+
+    @functools.lru_cache(maxsize=2000)
+    def month_mark(self, month: str) -> str:
+        names: Mapping[int, str] = self._locale.months["stand-alone"]["abbreviated"]
+        return names[int(month[5:])]
+
+    @functools.lru_cache(maxsize=2000)
+    def month_head(self, month: str) -> str:
+        names = escape(self.month(month)), escape(self._dated("yMMM", _day(month)))
+        return Markup('<span class="wide">{}</span><span class="narrow">{}</span>').format(*names)
+
+    def moment(self, at: datetime, zone: str) -> str:
+        told = self._locale.datetime_formats["long"].replace("'", "")
+        parts = {
+            "{0}": self.time(at, zone),
+            "{1}": format_date(at, "long", locale=self._locale).translate(self._digits),
+        }
+        return re.sub(r"\{[01]\}", lambda found: parts[found[0]], told)
+
+    def time(self, at: datetime, zone: str) -> str:
+        return f"{self._dated('Hm', at)} {zone}"
+
+    def _dated(self, skeleton: str, at: date) -> str:
+        """A date in the form that the language has for some of its parts."""
+        return str(format_skeleton(skeleton, at, locale=self._locale)).translate(self._digits)
+
+
+def _day(month: str) -> datetime:
+    """The first day of a month."""
+    return datetime(int(month[:4]), int(month[5:]), 1)
