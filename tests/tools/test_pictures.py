@@ -119,7 +119,9 @@ def test_each_picture_of_a_page_is_a_file(pack: Path) -> None:
             name_of, unit = re.findall(r"<figcaption>(.*?)<small>(.*?)</small>", figure)[0]
             assert {name_of, unit} <= {*texts_of(path)}, path
             found.add(path)
-    assert found == {*(pack / "picture").resolve().iterdir()} and len(found) == 4 * 3 + 1
+    # (those of releases, such as 2026-01-r1-level.svg, are below the pages of these)
+    of_items = {it for it in (pack / "picture").resolve().iterdir() if not re.match(r"\d{4}-\d\d-r\d-", it.name)}
+    assert found == of_items and len(found) == 4 * 3 + 1
 
 
 def test_a_file_says_whose_it_is(pack: Path) -> None:

@@ -417,8 +417,9 @@ class Links(HTMLParser):
 
 def test_pages_lead_to_what_is_there_and_to_nothing_else(site: Path) -> None:
     pages = sorted(site.rglob("*.html"))
-    # (a page for each release that has rows, their list, the calendar, and the page that is shown if there is none)
-    assert len(pages) == 8 + 2 * CODES + len(shown()) - 1 + 3
+    # (each item and each release that has rows has a page, and one that other sites embed; besides these there are the
+    # list of releases, the calendar, and the page that is shown if there is none)
+    assert len(pages) == 8 + 2 * CODES + 2 * (len(shown()) - 1) + 3
     for page in pages:
         links = Links()
         links.feed(page.read_text(encoding="utf-8"))
