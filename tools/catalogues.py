@@ -41,6 +41,7 @@ KEYWORDS: Mapping[str, Any] = {
     "told": None,
     "told_of": (1, 2),
     "marked": None,
+    "marked_as": ((1, "c"), 2),
 }
 """What functions take texts: a text, a context and a text, or the two forms of a count. `marked` only marks a text."""
 

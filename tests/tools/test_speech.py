@@ -10,6 +10,7 @@ import pytest
 from cpi_tools.languages import ENGLISH, Language
 from cpi_tools.pack.clocks import clock_of
 from cpi_tools.pack.headline import headline
+from cpi_tools.pack.notes import note_names
 from cpi_tools.pack.tables import Row
 from cpi_tools.pages import environment
 from cpi_tools.speech import SPEAKS_ENGLISH, Speech, speech_of
@@ -93,6 +94,16 @@ def rendered(template: str, language: Language, **named: object) -> str:
 def test_a_text_of_a_template_is_put_in_when_it_is_compiled(template: str, english: str, loud: str) -> None:
     assert rendered(template, ENGLISH, it="<x>", n=2) == english
     assert rendered(template, LOUD, it="<x>", n=2) == loud
+
+
+@pytest.mark.parametrize(
+    ("tag", "heading", "note"),
+    [("en", "imputed", "imputed"), ("fr", "imputés", "imputé"), ("es", "imputados", "imputado")],
+)
+def test_a_note_is_translated_apart_from_the_heading_of_the_same_word(tag: str, heading: str, note: str) -> None:
+    """The heading counts prices of an aggregate; the note is of one figure."""
+    speech = speech_of(tag)
+    assert speech.t("imputed") == heading and note_names(speech)["i"] == note
 
 
 def test_english_pays_nothing_for_other_languages() -> None:

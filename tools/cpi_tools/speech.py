@@ -30,6 +30,10 @@ class Speech:
         found = self.language.gettext(text)
         return found.format(**places) if places else found
 
+    def tc(self, context: str, text: str) -> str:
+        """A text that catalogues have by its context, since other places of it are translated otherwise."""
+        return self.language.pgettext(context, text)
+
     def tn(self, one: str, many: str, count: int, **places: object) -> str:
         """The form of a text for a count, which fills the place `{count}`."""
         return self.language.ngettext(one, many, count).format(count=self.whole(count), **places)
@@ -121,3 +125,8 @@ def speech_of(code: str, digits: str = LATIN) -> Speech:
 def marked(text: str) -> str:
     """A text that is translated where it is used: only a mark for the catalogues."""
     return text
+
+
+def marked_as(context: str, text: str) -> tuple[str, str]:
+    """The same of a text with its context."""
+    return context, text

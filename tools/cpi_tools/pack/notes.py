@@ -12,21 +12,17 @@ from collections.abc import Iterable, Mapping
 from typing import Optional
 
 from ..exact import decimal
-from ..speech import SPEAKS_ENGLISH, Speech, marked
+from ..speech import SPEAKS_ENGLISH, Speech, marked, marked_as
 from .shown import Shown
 from .tables import Row
 
 IMPUTED, REVISED, BREAK, PROVISIONAL = "i", "r", "b", "p"
 
-NAMES: Mapping[str, str] = {
-    # t: the letter i next to a figure
-    IMPUTED: marked("imputed"),
-    # t: the letter r next to a figure
-    REVISED: marked("revised"),
-    # t: the letter b next to a figure: a break in a series
-    BREAK: marked("break"),
-    # t: the letter p next to a figure
-    PROVISIONAL: marked("provisional"),
+NAMES: Mapping[str, tuple[str, str]] = {
+    IMPUTED: marked_as("a note at a figure", "imputed"),
+    REVISED: marked_as("a note at a figure", "revised"),
+    BREAK: marked_as("a note at a figure", "break"),
+    PROVISIONAL: marked_as("a note at a figure", "provisional"),
 }
 """The letters in the order in which they are written, with their names."""
 
@@ -120,12 +116,18 @@ def provisional_then(months: int, speech: Speech = SPEAKS_ENGLISH) -> str:
     )
 
 
-def said(speech: Speech, of: Mapping[str, str]) -> dict[str, str]:
-    """Names, or what letters say, in a language."""
-    return {letter: speech.t(text) for letter, text in of.items()}
+def note_names(speech: Speech) -> dict[str, str]:
+    """The names of letters in a language."""
+    return {letter: speech.tc(*name) for letter, name in NAMES.items()}
+
+
+def said(speech: Speech) -> dict[str, str]:
+    """What letters say in a language."""
+    return {letter: speech.t(text) for letter, text in SAYS.items()}
 
 
 def present(speech: Speech, letters: dict[str, str]) -> list[tuple[str, str, str]]:
     """The notes that some months have: letter, name and what it says."""
     found = {letter for each in letters.values() for letter in each}
-    return [(letter, speech.t(NAMES[letter]), speech.t(SAYS[letter])) for letter in NAMES if letter in found]
+    names, says = note_names(speech), said(speech)
+    return [(letter, names[letter], says[letter]) for letter in NAMES if letter in found]

@@ -33,7 +33,7 @@ from .headline import headline
 from .item_files import ItemFiles
 from .measures import reference_level
 from .month_rows import MonthRows
-from .notes import NAMES, SAYS, Notes, present, said
+from .notes import Notes, note_names, present, said
 from .pictures import Chart, base_text, of_imputed, of_node
 from .public import Source
 from .reasons import given_reasons
@@ -103,7 +103,7 @@ class Site:
 
     def _set_globals(self, signature: Optional[Signature]) -> None:
         """What each template knows."""
-        speech, names = self.speech, said(self.speech, NAMES)
+        speech, names = self.speech, note_names(self.speech)
         self.pages.globals.update(
             config=self.config,
             series=self.series,
@@ -188,7 +188,7 @@ class Site:
         part = given(Known(self.series, self.contributions, self.shown), self.month)
         self._page("how-to-read.html", changes=[*filter(None, changes)], part=part)
         known = known_to_page(self.series, self.config, self.version.up, bool(self.series.other_titles))
-        self._page("choose.html", known=known, says=said(self.speech, SAYS))
+        self._page("choose.html", known=known, says=said(self.speech))
         if self.pages.globals["signature"]:
             self._page("check.html")
 
