@@ -230,5 +230,5 @@ def needs(module: str, package: str) -> None:
     if importlib.util.find_spec(module) is None:
         raise Fault(
             f"{sys.executable} has no {module}: Debian's {package} has it for /usr/bin/python3,"
-            " which CPI_PYTHON=/usr/bin/python3 lets cpi-tools take"
+            " which cpi-tools takes if CPI_PYTHON names no other Python"
         )
