@@ -8,6 +8,7 @@
 `index_faults`   each decision stands once, and in the index at its section.
 `running_faults` RUNNING tells what the shipped program needs, and what to do at each line of a fault.
 `example_faults` the example of FORMATS is the case of tests/cases that it names.
+`theorem_faults` THEOREM says of each statement how many definitions it rests on (theorem.py).
 `english_faults` few sentences have a form that an editor of plain English changes (plain_english.py).
 
 Each answers lines, none where nothing is wrong.
@@ -24,6 +25,7 @@ from pathlib import Path
 
 from .crate_readmes import all_numbers, crate_readme_faults
 from .plain_english import english_faults
+from .theorem import theorem_faults
 
 ROOT = Path(__file__).resolve().parents[2]
 FENCED = re.compile(r"^```.*?^```$", re.S | re.M)
@@ -313,13 +315,14 @@ def index_faults(text: str) -> Iterator[str]:
         yield "a number is missing, or is there twice, here or in the README of a crate"
 
 
-NAMED = {"README.md", *(f"docs/{it}.md" for it in ("PROOF", "AUDIT", "ARCHITECTURE", "CHANGING"))}
-CLAIMING = {"README.md", "docs/PROOF.md", "docs/AUDIT.md"}
+NAMED = {"README.md", *(f"docs/{it}.md" for it in ("PROOF", "THEOREM", "AUDIT", "ARCHITECTURE", "CHANGING"))}
+CLAIMING = {"README.md", "docs/PROOF.md", "docs/THEOREM.md", "docs/AUDIT.md"}
 ALONE = {
     "docs/DECISIONS.md": index_faults,
     "docs/FORMATS.md": example_faults,
     "docs/PROMISE.md": promise_faults,
     "docs/RUNNING.md": running_faults,
+    "docs/THEOREM.md": theorem_faults,
 }
 
 
