@@ -5,7 +5,7 @@
 `claim_faults`   where a function is named with its clauses, or a definition with its file, it has them.
 `promise_faults` each sentence of PROMISE names the heading of PROOF that carries it.
 `script_faults`  each script of a folder has its line in the folder's README.
-`index_faults`   each decision stands once, and in the index at its section.
+`record_faults`  each record of DECISIONS has a number of its own, a date, and what it replaced.
 `running_faults` RUNNING tells what the shipped program needs, and what to do at each line of a fault.
 `example_faults` the example of FORMATS is the case of tests/cases that it names.
 `theorem_faults` THEOREM says of each statement how many definitions it rests on (theorem.py).
@@ -23,7 +23,7 @@ from dataclasses import dataclass, field
 from functools import lru_cache
 from pathlib import Path
 
-from .crate_readmes import all_numbers, crate_readme_faults
+from .crate_readmes import all_numbers, crate_readme_faults, numbers_in
 from .plain_english import english_faults
 from .theorem import theorem_faults
 
@@ -298,27 +298,25 @@ def running_faults(text: str) -> Iterator[str]:
     yield from (f"no word of {it}, which FORMATS has" for it in told or ["the lines of faults"] if it not in text)
 
 
-DECISION = re.compile(r"^\*\*(\d+)\. ", re.M)
+RECORD = re.compile(r"^\*\*(\d+)\. ", re.M)
+DATED = re.compile(r"\*\*\d+\. .*?\*\* \(\d{4}-\d{2}-\d{2}\)")
 
 
-def index_faults(text: str) -> Iterator[str]:
-    """Each decision has a number of its own, and the index at the top has it at its section."""
-    sections = {it.split("\n", 1)[0]: set(DECISION.findall(it)) for it in text.split("\n### ")[1:]}
-    for section, told in re.findall(r"^- \[(.*?)\]\(#.*?\): (.*)$", text, re.M):
-        ends = [it.split(" to ") for it in told.split(", ")]
-        numbers = {str(it) for pair in ends for it in range(int(pair[0]), int(pair[-1]) + 1)}
-        if numbers != sections.pop(section, None):
-            yield f"the index has other numbers of {section} than the section"
-    yield from (f"the index has no {section}" for section in sections)
-    every = sorted([*map(int, DECISION.findall(text)), *all_numbers()])
-    if every != [*range(1, 1 + len(every))]:
-        yield "a number is missing, or is there twice, here or in the README of a crate"
+def record_faults(text: str) -> Iterator[str]:
+    """Each record has a date and says what it replaced, and a number that no other decision has."""
+    for part in (it for _, it in paragraphs(text) if RECORD.match(it)):
+        if not DATED.match(part):
+            yield f"a record without a date: {part[:60]}.."
+        if "n place of" not in part:
+            yield f"a record that doesn't say what it replaced: {part[:60]}.."
+    every = [*numbers_in(text), *all_numbers()]
+    yield from (f"two decisions have the number {it}" for it in sorted({it for it in every if every.count(it) > 1}))
 
 
 NAMED = {"README.md", *(f"docs/{it}.md" for it in ("PROOF", "THEOREM", "AUDIT", "ARCHITECTURE", "CHANGING"))}
 CLAIMING = {"README.md", "docs/PROOF.md", "docs/THEOREM.md", "docs/AUDIT.md"}
 ALONE = {
-    "docs/DECISIONS.md": index_faults,
+    "docs/DECISIONS.md": record_faults,
     "docs/FORMATS.md": example_faults,
     "docs/PROMISE.md": promise_faults,
     "docs/RUNNING.md": running_faults,
