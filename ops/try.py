@@ -126,9 +126,10 @@ def write_website(cpi: Cpi, file: Path, folder: Path, is_country: bool) -> None:
 
 def of_country(published: list[Published]) -> Config:
     """Who publishes in the made-up country, whose reference period is its first year, wherever that was moved to. Its
-    address is that of another site."""
+    address is that of another site, and its reasons are those of months that weren't moved."""
     first = min(each.listed.month for each in published if each.table)
-    return read_config(ROOT / "examples/national/office.ini")._replace(reference=first[:4], address="")
+    country = read_config(ROOT / "examples/national/office.ini")
+    return country._replace(reference=first[:4], address="", reasons=())
 
 
 class Office:

@@ -4,12 +4,13 @@
 The example is run with the built program. From the data files and the quotes as `examples/national/prices` writes them,
 and from nothing that the program answered, this finds which quotes stand (lib/nation.py), which aggregates had nothing
 to compare, and all tables (lib/by_the_manual.py), by the formulas of the Consumer Price Index Manual (2020) with the
-rounding of docs/OFFICE.md, in fractions. A check is a month's table with every figure, a month's carry list, or one of
-these:
+rounding of docs/OFFICE.md, in fractions. A check is the table of a month's revision with every figure, its carry list, or one
+of these:
 
 - one seed gives the same quotes twice, and another seed gives others;
 - prices move the weights of the last year from its reference month to its link month; those of the second and of the
   third are what was spent in the year before, moved to the link month by the mean of that year; those of the first stand;
+- two months are revised after prices that came late, and later months are computed from the revisions;
 - an aggregate comes in the second year; one isn't in it, and is back in the third;
 - as many entries were refused, by 23, 24 and 26, and as many quotes stand, as were counted here;
 - the records that were sent give the same lines when they are replayed at once;
@@ -40,16 +41,18 @@ from functools import partial
 from pathlib import Path
 from typing import Any
 
-from lib.by_the_manual import Month, coming_and_going, moving, printed, tables
+from lib.by_the_manual import Month, coming_and_going, latest, moving, printed, tables
 from lib.cases import content
 from lib.harness import Check, Checks, Fault, program_of, words_of
-from lib.nation import EXAMPLE, ZONE, Survey
+from lib.nation import EXAMPLE, ZONE, Survey, revisions
 from lib.pack_drawn import drawn_faults, keeping
-from lib.pack_faults import CHANGES, csv_faults, cube_faults, differing, printed_rows, sdmx_faults, workbook_faults
-from lib.pack_figures import Figures, sets_of_the_nation
+from lib.pack_faults import CHANGES, csv_faults, cube_faults, differing, printed_rows, sdmx_faults, table_name
+from lib.pack_faults import workbook_faults
+from lib.pack_figures import ALL, Figures, sets_of_the_nation
 from lib.pack_forms import rows_of_csv
 from lib.pack_releases import first_page_faults, release_faults
 from lib.pack_then import releases
+from lib.pack_vintages import changed, reasons, revised
 from lib.program import Program
 from lib.records import rows_of
 from lib.site import site_faults
@@ -93,7 +96,8 @@ class Ran:
         self.survey = Survey(self.quotes)
         self.sent = rows_of(content(folder, "records.csv").decode())
         self.told: list[dict[str, Any]] = [json.loads(line) for line in content(folder, "lines").splitlines()]
-        self.found = tables(self.survey)
+        self.tables = tables(self.survey)
+        self.found = latest(self.tables)
 
     def same_seed(self) -> Fault:
         """One seed gives the same quotes twice."""
@@ -155,18 +159,30 @@ class Ran:
         first = content(self.folder, "tables", f"{self.survey.months[0]}.csv")
         return "it has rows" if first else None
 
-    def table(self, month: str, wanted: Month) -> Fault:
-        """Every figure of a month."""
-        wrote = rows_of(content(self.folder, "tables", f"{month}.csv").decode())
+    def table(self, month: str, revision: int, wanted: Month) -> Fault:
+        """Every figure of a month's revision."""
+        wrote = rows_of(content(self.folder, "tables", table_name(month, revision)).decode())
         rows = [printed(row) for row in wanted.rows]
         if len(wrote) != len(rows):
             return f"{len(wrote)} rows, wanted {len(rows)}"
         return first_of(f"wrote {own}, wanted {row}" for own, row in zip(wrote, rows) if own != row)
 
-    def carried(self, month: str, wanted: Month) -> Fault:
-        """The carry list of a month, as the desk froze it at last."""
-        frozen = [record[4:] for record in self.sent if record[2:4] == ["freeze", month]][-1]
-        return None if frozen == wanted.carry else f"the desk carried {frozen}, wanted {wanted.carry}"
+    def carried(self, month: str, revision: int, wanted: Month) -> Fault:
+        """The carry list of a month's revision, as the desk froze it at last."""
+        done = (record for record, reply in zip(self.sent, self.told) if reply == {"done": True})
+        frozen = [record[4:] for record in done if record[2:4] == ["freeze", month]]
+        is_right = len(frozen) == len(revisions(month)) and frozen[revision - 1] == wanted.carry
+        return None if is_right else f"the desk carried {frozen}, wanted {wanted.carry} in revision {revision}"
+
+    def revised(self) -> Iterator[str]:
+        """The months that the desk reopened: each got another table, and what came too late counts in it."""
+        found = revised(self.tables)
+        if [(it.month, it.revision) for it in found] != [*reasons()] or len(found) != 2:
+            yield f"revised were {[it.month for it in found]}, and the office says why of {[*reasons()]}"
+        for it in found:
+            came = self.survey.quotes[it.month].items() - self.survey.at_first[it.month].items()
+            if not (came and it.differing and it.old[ALL].level != it.new[ALL].level):
+                yield f"{it.month} was revised: {len(came)} prices came, {len(it.differing)} levels differ"
 
     def reported(self, out: str, *words: str) -> Fault:
         """The pack of the tables, made by the example's report, with its cards kept as they are handed to be drawn."""
@@ -187,16 +203,16 @@ class Ran:
         config = Path(EXAMPLE, "office.ini").read_text(encoding="utf-8")
         own = "rates = published\nwithout = sdmx-csv sdmx-ml json-stat px\n"
         (out / "office.ini").write_text(config + own, encoding="utf-8")
-        for name in ("aggregates.csv", "announced.csv"):
+        for name in ("aggregates.csv", "announced.csv", "revisions.csv"):
             shutil.copy(os.path.join(EXAMPLE, name), out)
         fault = self.reported(str(out), "--config", str(out / "office.ini"))
         if fault:
             yield fault
             return
-        known = Figures(self.found, sets_of_the_nation(), YEAR, is_from_printed=True)
+        known = Figures(self.found, sets_of_the_nation(), YEAR, True, changed(self.tables))
         yield from differing("printed.csv", rows_of_csv(out / "site/data/printed.csv"), printed_rows(known))
         yield from workbook_faults(out / "site", known, CHANGES)
-        then = [*releases(self.found, YEAR, is_from_printed=True)]
+        then = releases(self.tables, YEAR, is_from_printed=True)
         yield from release_faults(out / "site", out / "tables", then)
         yield from first_page_faults(out / "site", known)
         yield from drawn_faults(out / "site", known, then, out / "kept")
@@ -205,15 +221,16 @@ class Ran:
 
     def pack_checks(self) -> Iterator[Check]:
         """The pack, form by form."""
-        site, known = Path(self.folder, "site"), Figures(self.found, sets_of_the_nation(), YEAR)
+        site = Path(self.folder, "site")
+        known = Figures(self.found, sets_of_the_nation(), YEAR, first=changed(self.tables))
         tables, first = Path(self.folder, "tables"), self.survey.months[0]
         yield Check("the pack", lambda: self.reported(self.folder))
-        yield Check("its CSV files", lambda: first_of(csv_faults(site, known, tables)))
+        yield Check("its CSV files", lambda: first_of(csv_faults(site, known, self.tables, tables)))
         yield Check("its SDMX", lambda: first_of(sdmx_faults(site, known)))
         yield Check("its JSON-stat and PX", lambda: first_of(cube_faults(site, known)))
         yield Check("its workbook", lambda: first_of(workbook_faults(site, known)))
         yield Check("its pages", lambda: first_of(site_faults(self.folder, known, self.found, first)))
-        then = [*releases(self.found, YEAR)]
+        then = releases(self.tables, YEAR)
         yield Check("its first page", lambda: first_of(first_page_faults(site, known)))
         yield Check("its releases", lambda: first_of(release_faults(site, tables, then)))
         yield Check("its pictures and cards", lambda: first_of(drawn_faults(site, known, then, site.parent / "kept")))
@@ -230,9 +247,11 @@ class Ran:
         yield Check("moved weights", lambda: first_of(moving(self.found)))
         yield Check("an aggregate that comes, and one that is back", lambda: first_of(coming_and_going(self.found)))
         yield Check("the first table", self.first_table)
-        for month, wanted in self.found.items():
-            yield Check(f"the table of {month}", partial(self.table, month, wanted))
-            yield Check(f"the carry list of {month}", partial(self.carried, month, wanted))
+        yield Check("two months that were revised", lambda: first_of(self.revised()))
+        for (month, revision), wanted in self.tables.items():
+            of = f"{month}, revision {revision}" if revision > 1 else month
+            yield Check(f"the table of {of}", partial(self.table, month, revision, wanted))
+            yield Check(f"the carry list of {of}", partial(self.carried, month, revision, wanted))
         yield from self.pack_checks()
 
 

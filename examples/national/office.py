@@ -37,7 +37,9 @@ class Office:
     def __init__(self):
         self.basket, self.outlets = rows_of("basket"), rows_of("outlets")
         self.items = {row["item"]: row for row in rows_of("items")}
-        self.calendar = {row["month"]: row for row in rows_of("calendar")}
+        self.calendar = collections.defaultdict(list)
+        for row in rows_of("calendar"):
+            self.calendar[row["month"]].append(row)
         self.months = sorted(self.calendar)
         self.plans = {row["year"]: row for row in rows_of("plans")}
         self.keys = {int(row["collector"]): row["key"] for row in rows_of("collectors")}
@@ -108,6 +110,11 @@ class Office:
         reference = self.plans[year]["reference"]
         return text_of([*rows, ("R", reference)] if reference else rows)
 
-    def window(self, month):
-        row = self.calendar[month]
+    def is_reopened(self, month):
+        """Whether a month has a second row in the calendar, so that it gets a revision."""
+        return len(self.calendar[month]) > 1
+
+    def window(self, month, revision=1):
+        """The calendar row of a month's revision, as the desk sends it."""
+        row = self.calendar[month][revision - 1]
         return [month, row["opens"], row["closes"], row["publishes"]]

@@ -14,6 +14,8 @@ SALE_MONTHS = ("01", "07")
 CLOSED_MONTHS = 22  # of one outlet each
 PER_MILLE = {"stock": 8, "refused": 1, "gone": 4, "comparable": 4, "other": 2}
 LATE, SLIP, CORRECTED = 0.002, 0.003, 0.002
+LATE_DAY, DAY_AGAIN = 25, 29
+"""When a late price comes, and when it comes again if the month is reopened."""
 
 Entry = collections.namedtuple("Entry", "day slot mark value confirm")
 
@@ -69,6 +71,7 @@ class Shelf:
     def __init__(self, office, trends, series, closed):
         self.series, self.closed = series, closed
         self.item = office.items[series.item]
+        self.is_reopened = office.is_reopened
         self.trends, self.row = trends, trends.row(self.item["aggregate"])
         self.drawn = random.Random(f"{trends.seed} {series.collector} {series.slot}")
         self.usual = int(self.item["price"]) * (0.9 + 0.2 * self.drawn.random())
@@ -136,13 +139,22 @@ class Shelf:
         if mark == "missing":
             return [entry]
         if self.chance(LATE):
-            return [entry._replace(day=25)]
+            return self.late(entry, month)
         entries = self.with_slip(entry) if turn and mark == "price" else [entry]
         if mark != "other" and not self.is_inside(value):
             entries.append(entry._replace(day=day + 2, confirm=True))
         if mark == "other" or self.is_inside(entries[-1].value) or entries[-1].confirm:
             self.last = entries[-1].value
         return entries
+
+    def late(self, entry, month):
+        """A price that comes after the window; in a month that is reopened it comes again, and is taken."""
+        late = entry._replace(day=LATE_DAY)
+        if not self.is_reopened(month):
+            return [late]
+        is_far = entry.mark != "other" and not self.is_inside(entry.value)
+        self.last = entry.value
+        return [late, entry._replace(day=DAY_AGAIN, confirm=is_far)]
 
     def with_slip(self, entry):
         """The entry, or one with a slip of the pen before it; nine in ten of those that are refused come again."""

@@ -6,11 +6,11 @@ Only the rounding is that of docs/OFFICE.md.
 from __future__ import annotations
 
 import collections
-from collections.abc import Iterable, Iterator
+from collections.abc import Iterable, Iterator, Mapping
 from fractions import Fraction
 from typing import NamedTuple, Optional
 
-from .nation import Place, Quote, Survey, data, previous, year_before
+from .nation import Place, Quote, Survey, data, previous, revisions, year_before
 
 MILLIONTHS = 10**6
 TICKS = 10_000  # a minor unit
@@ -47,6 +47,10 @@ class Month(NamedTuple):
 
     rows: list[Row]
     carry: list[str]
+
+
+Id = tuple[str, int]
+"""A month and a revision of it."""
 
 
 def nearest(number: Fraction, parts: int) -> Fraction:
@@ -129,6 +133,18 @@ class Year:
             found[place] = Kept(imputed, imputed / price if price else kept[place].scale, True)
         return found, bool(lacking and not matched)
 
+    def carried(self, kept: Prices, now: Quotes, before: Quotes) -> tuple[Prices, dict[str, bool], list[str]]:
+        """The carried prices of all aggregates, whether something was imputed in each, and those with nothing to move a
+        missing price by."""
+        found: Prices = {}
+        flags, carry = dict[str, bool](), list[str]()
+        for code in sorted(self.weights):
+            own, is_idle = self.carry(code, kept, now, before)
+            found.update(own)
+            flags[code] = any(it.is_imputed for it in own.values())
+            carry += [code] if is_idle else []
+        return found, flags, carry
+
     def dutot(self, code: str, kept: Prices) -> Fraction:
         """The mean price now over the mean base price."""
         sample = self.samples[code]
@@ -160,28 +176,30 @@ def change(before: Fraction | None, now: Fraction) -> Fraction | None:
     return size if now >= before else -size
 
 
-def tables(survey: Survey) -> dict[str, Month]:
-    """By month: the rows of the table, and the aggregates that had to be carried."""
+def tables(survey: Survey) -> dict[Id, Month]:
+    """By month and revision, in the order in which they were frozen: the rows of the table, and the aggregates that had to
+    be carried. A month is computed from the last revisions of those before it."""
     year: Year | None = None
     kept: Prices = {}
-    levels, found = dict[str, Levels](), dict[str, Month]()
+    levels, found = dict[str, Levels](), dict[Id, Month]()
     for month in survey.months[1:]:
         if month.endswith("-01"):
             year = Year(survey, int(month[:4]), dict(kept), levels)
             kept = year.base
         assert year
-        carried: Prices = {}
-        flags, carry = dict[str, bool](), list[str]()
-        for code in sorted(year.weights):
-            own, is_idle = year.carry(code, kept, survey.quotes[month], survey.quotes[previous(month)])
-            carried.update(own)
-            flags[code] = any(it.is_imputed for it in own.values())
-            carry += [code] if is_idle else []
-        kept = carried
-        rows = list(year.rows(kept, flags, levels, month))
-        levels[month] = {row.code: row.level for row in rows}
-        found[month] = Month(rows, carry)
+        before = kept
+        for revision in revisions(month):
+            quotes = survey.of_revision(month, revision)
+            kept, flags, carry = year.carried(before, quotes, survey.quotes[previous(month)])
+            rows = list(year.rows(kept, flags, levels, month))
+            found[month, revision] = Month(rows, carry)
+            levels[month] = {row.code: row.level for row in rows}
     return found
+
+
+def latest(found: Mapping[Id, Month]) -> dict[str, Month]:
+    """The last revision of each month."""
+    return {month: table for (month, _), table in sorted(found.items())}
 
 
 def moving(found: dict[str, Month]) -> Iterator[str]:

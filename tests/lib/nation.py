@@ -52,7 +52,7 @@ class Survey:
 
     def __init__(self, prices: list[Record]) -> None:
         self.items = {row["item"]: row for row in data("items")}
-        self.months = [row["month"] for row in data("calendar")]
+        self.months = sorted(CALENDAR)
         self.bearer = {row["key"]: int(row["collector"]) for row in data("collectors")}
         self.series: dict[Place, tuple[str, str, str]] = {}  # item, first and last month
         slots = collections.Counter[int]()
@@ -69,6 +69,8 @@ class Survey:
         for row in sorted(data("handovers"), key=lambda row: row["month"]):
             self.hand_over(row["month"], int(row["collector"]), int(row["to"]), slots)
         self.quotes: dict[str, dict[Place, Quote]] = {month: {} for month in self.months}
+        self.at_first: dict[str, dict[Place, Quote]] = {}
+        """Those of the first revision of a month that was reopened."""
         self.last: dict[Place, dict[str, int]] = {}
         self.refused = collections.Counter[int]()
         for moment, key, _, body in prices:
@@ -92,11 +94,17 @@ class Survey:
     # (from here on a place is the series: nothing that a former collector sends after a hand-over is stored, since the
     # windows of the months before have closed, so the copied price is the last one of the series)
 
+    def of_revision(self, month: str, revision: int) -> dict[Place, Quote]:
+        """The quotes that stood when a revision of a month was frozen."""
+        return self.at_first.get(month, self.quotes[month]) if revision == 1 else self.quotes[month]
+
     def take(self, moment: int, place: Place, month: str, quote: Quote, is_confirmed: bool) -> None:
         """Stores a quote, or counts its refusal."""
         if self.quotes[month].get(place) == quote:
             return
-        begins, ends = window(month)
+        begins, ends = window(month, moment)
+        if begins != window(month)[0] and month not in self.at_first:
+            self.at_first[month] = dict(self.quotes[month])
         if not begins <= moment < ends:
             self.refused[24 if moment >= ends else 23] += 1
         elif not is_confirmed and self.is_outside(place, month, quote):
@@ -118,25 +126,38 @@ class Survey:
 
 
 @functools.lru_cache(None)
-def window(month: str) -> tuple[int, int]:
-    """The window from the 1st at 06:00 to the 24th at 18:00 of Central Europe, in seconds since 1970."""
-    year, number = map(int, month.split("-"))
-    summer_begins, summer_ends = (last_sunday(year, at) for at in (3, 10))
-    found = []
-    for day, hour in ((1, 6), (24, 18)):
-        date = datetime.datetime(year, number, day, hour, tzinfo=datetime.timezone.utc)
-        ahead = 2 if summer_begins <= date.date() < summer_ends else 1
-        found.append(int(date.timestamp()) - 3600 * ahead)
-    return found[0], found[1]
-
-
-def published_at(month: str) -> int:
-    """The 28th at 09:30 of Central Europe, in seconds since 1970."""
-    summer_begins, summer_ends = (last_sunday(int(month[:4]), at) for at in (3, 10))
-    local = datetime.datetime(int(month[:4]), int(month[5:]), 28, 9, 30, tzinfo=datetime.timezone.utc)
+def seconds(civil: str) -> int:
+    """The moment of a civil time of Central Europe such as 2026-01-28T09:30, in seconds since 1970."""
+    local = datetime.datetime.fromisoformat(f"{civil}+00:00")
+    summer_begins, summer_ends = (last_sunday(local.year, at) for at in (3, 10))
     return int(local.timestamp()) - 3600 * (2 if summer_begins <= local.date() < summer_ends else 1)
+
+
+def window(month: str, moment: int = 0) -> tuple[int, int]:
+    """The first window of a month, from the 1st at 06:00 to the 24th at 18:00 of Central Europe, in seconds since 1970; if
+    the month was reopened, the second one from its beginning on."""
+    for row in CALENDAR[month][1:]:
+        if seconds(row["opens"]) <= moment:
+            return seconds(row["opens"]), seconds(row["closes"])
+    return seconds(f"{month}-01T06:00"), seconds(f"{month}-24T18:00")
+
+
+def published_at(month: str, revision: int = 1) -> int:
+    """The 28th at 09:30 of Central Europe, in seconds since 1970; of a further revision what its calendar row says."""
+    return seconds(f"{month}-28T09:30" if revision == 1 else CALENDAR[month][revision - 1]["publishes"])
+
+
+def revisions(month: str) -> list[int]:
+    """The numbers of a month's revisions."""
+    return [*range(1, len(CALENDAR[month]) + 1)]
 
 
 def last_sunday(year: int, month: int) -> datetime.date:
     days = (datetime.date(year, month, day) for day in range(31, 24, -1))
     return next(day for day in days if day.weekday() == 6)
+
+
+CALENDAR: dict[str, list[dict[str, str]]] = {}
+"""By month the rows of the office's calendar: a second one reopens the month."""
+for _row in data("calendar"):
+    CALENDAR.setdefault(_row["month"], []).append(_row)

@@ -134,16 +134,16 @@ def drawn(markup: str) -> list[str]:
 
 def of_release(site: Path, then: Then) -> Wanted:
     """The pictures of a release: in its page, as files, and in its page for frames."""
-    pictures = pictures_in(Texts.of_page(site / f"release/{then.month}-r1.html"))
+    pictures = pictures_in(Texts.of_page(site / f"release/{then.name}.html"))
     yield "pictures", [*pictures], ["year" if then.is_annual else "month", "level"]
     yield from of_page(pictures, then.known, then.month)
-    framed = pictures_in(Texts.of_page(site / f"embed/{then.month}-r1.html"))
+    framed = pictures_in(Texts.of_page(site / f"embed/{then.name}.html"))
     yield "framed", framed, pictures
     for kind, picture in pictures.items():
-        file = (site / f"picture/{then.month}-r1-{kind}.svg").read_text(encoding="utf-8")
+        file = (site / f"picture/{then.name}-{kind}.svg").read_text(encoding="utf-8")
         yield f"file of {kind}", drawn(file), drawn(picture)
         said = " ".join(Texts(file).of("text"))
-        yield f"source of {kind}", f"{NAME}, {named(then.month)}, published" in said, True
+        yield f"source of {kind}", f"{NAME}, {then.called}, published" in said, True
 
 
 # ---- cards
@@ -166,7 +166,7 @@ def keeping(folder: Path) -> Mapping[str, str]:
 
 def of_card(site: Path, kept: Mapping[str, bytes], then: Then) -> Wanted:
     """The texts and the bars of a release's card."""
-    png = (site / f"release/{then.month}-r1.png").read_bytes()
+    png = (site / f"release/{then.name}.png").read_bytes()
     (wanted,) = re.findall(rb"SHA-256 of SVG ([0-9a-f]{64}), ", png) or [b""]
     svg = kept.get(wanted.decode())
     yield "card is drawn from what was kept", svg is not None, True
@@ -177,7 +177,7 @@ def of_card(site: Path, kept: Mapping[str, bytes], then: Then) -> Wanted:
     values = changes(then.known, then.month, then.is_annual)
     first = previous_by(then.month, CARD_MONTHS - 1)
     values = [it for it in values if it[0] >= first]
-    yield "card: head", texts[0][1], f"{NAME}, {named(then.month)}"
+    yield "card: head", texts[0][1], f"{NAME}, {then.called}"
     yield "card: headline", " ".join(said for size, said in texts if size == "46"), then.headline
     of = "year" if then.is_annual else "month"
     said = f"Change on the {of} before, in percent, {named(values[0][0])} to {named(then.month)}"
@@ -216,8 +216,8 @@ def drawn_faults(site: Path, known: Figures, all_of_them: Sequence[Then], kept: 
     looked_at = [("index.html", *it) for it in of_page(first, known, known.months[-1])]
     looked_at.append(("index.html", "pictures", sorted(first), ["imputed", "level", "month", "year"]))
     for then in all_of_them:
-        looked_at += [(f"release {then.month}", *it) for it in of_release(site, then)]
-        looked_at += [(f"release {then.month}", *it) for it in of_card(site, svgs, then)]
+        looked_at += [(f"release {then.name}", *it) for it in of_release(site, then)]
+        looked_at += [(f"release {then.name}", *it) for it in of_card(site, svgs, then)]
     for page, what, says, wanted in looked_at:
         if says != wanted:
             yield f"{page}: {what}: says {says}, wanted {wanted}"

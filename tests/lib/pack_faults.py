@@ -15,9 +15,12 @@ from itertools import zip_longest
 from pathlib import Path
 from typing import Optional, TypeVar
 
-from .nation import published_at
-from .pack_figures import ALL, Figures, Given, Line, december_before, depth
+from .by_the_manual import Id, Month
+from .by_the_manual import Row as ByTheManual
+from .nation import published_at, revisions
+from .pack_figures import ALL, Figures, Given, Line, december_before, depth, months_of
 from .pack_forms import Attributes, px_cells, read_json_stat, read_sdmx_ml, read_sheets, rows_of_csv
+from .pack_vintages import reasons, rows_by_code
 
 Row = Mapping[str, str]
 Key = TypeVar("Key")
@@ -33,9 +36,15 @@ def text(number: Optional[Fraction], digits: int) -> str:
 
 
 @cache
-def moment(month: str) -> str:
-    """When the table of a month is published, UTC."""
-    return datetime.datetime.fromtimestamp(published_at(month), datetime.timezone.utc).strftime("%Y-%m-%dT%H:%M:%SZ")
+def moment(month: str, revision: int = 1) -> str:
+    """When a revision of a month is published, UTC."""
+    at = datetime.datetime.fromtimestamp(published_at(month, revision), datetime.timezone.utc)
+    return at.strftime("%Y-%m-%dT%H:%M:%SZ")
+
+
+def latest_of(month: str) -> int:
+    """The number of a month's last revision."""
+    return revisions(month)[-1]
 
 
 def differing(name: str, wrote: Iterable[Row], wanted: Iterable[Row]) -> Iterator[str]:
@@ -55,10 +64,10 @@ def apart(name: str, wrote: Mapping[Key, object], wanted: Mapping[Key, object]) 
 # ---- CSV
 
 
-def line_row(known: Figures, month: str, code: str, line: Line) -> Row:
+def line_row(known: Figures, month: str, code: str, line: Line, revision: int) -> Row:
     """A row of cpi.csv."""
     return {
-        "month": month, "revision": "1", "published": moment(month), "code": code,
+        "month": month, "revision": str(revision), "published": moment(month, revision), "code": code,
         "depth": "" if code in known.sets else str(depth(code)), "title": known.titles[code],
         "weight": str(line.weight), "index": text(line.within, 6), "chained": text(line.level, 6),
         "month_change": text(line.monthly, 1), "year_change": text(line.annual, 1),
@@ -73,7 +82,39 @@ def table_rows(known: Figures, codes: Iterable[str]) -> Iterator[Row]:
         for code in own:
             line = known.line(code, month)
             if line:
-                yield line_row(known, month, code, line)
+                yield line_row(known, month, code, line, latest_of(month))
+
+
+Reopened = Mapping[Id, Mapping[str, ByTheManual]]
+"""The tables of the months that were revised, their rows by code."""
+
+
+def earlier_row(known: Figures, tables: Reopened, month: str, revision: int, code: str) -> Row:
+    """The row of an item in a revision, which has the same items as the last one."""
+    row = tables[month, revision][code]
+    figures = row.weight, row.within, row.level, row.monthly, row.annual, row.is_imputed
+    now = known.lines[code][month]
+    return line_row(known, month, code, Line(*figures, now.base, now.is_break), revision)
+
+
+def vintage_rows(known: Figures, tables: Reopened) -> Iterator[Row]:
+    """The rows that a revision changed: as they were at first, and as it has them."""
+    for month, code in sorted(known.first):
+        yield from (earlier_row(known, tables, month, revision, code) for revision in (1, 2))
+
+
+def earlier_rows(known: Figures, tables: Reopened, code: str) -> Iterator[Row]:
+    """The rows of an item in the tables that a further revision came after."""
+    for month, revision in sorted(tables):
+        if revision < latest_of(month) and code in tables[month, revision]:
+            yield earlier_row(known, tables, month, revision, code)
+
+
+def reason_rows() -> Iterator[Row]:
+    """Why months were revised."""
+    for (month, revision), found in sorted(reasons().items()):
+        own = {"month": month, "revision": str(revision), "added": moment(month, revision)}
+        yield from ({**own, "reason": reason} for reason in found)
 
 
 ADDED = ("shown_month_change", "shown_year_change", "contribution_month", "contribution_year")
@@ -86,8 +127,7 @@ def item_rows(known: Figures, code: str) -> Iterator[Row]:
         changes = [text(it, 1) for it in known.changes(code, row["month"])]
         given = Given(None, None) if code == ALL else known.given(row["month"], code, ALL)
         added = (*changes, text(given.to_month, 6), text(given.to_year, 6))
-        notes = "".join(letter for letter, is_there in (("i", row["imputed"]), ("b", row["break"])) if is_there == "1")
-        yield {**row, **dict(zip(ADDED, added)), "notes": notes}
+        yield {**row, **dict(zip(ADDED, added)), "notes": known.notes(code, row["month"])}
 
 
 def given_rows(known: Figures, pairs: Callable[[str], Iterable[tuple[str, str]]]) -> Iterator[Row]:
@@ -163,15 +203,24 @@ def release_rows(known: Figures, tables: Path) -> Iterator[Row]:
     """Each publication: the first December has no rows."""
     for month in [december_before(known.months[0]), *known.months]:
         rows = sum(month in known.lines[code] for code in known.nodes)
-        sha = hashlib.sha256((tables / f"{month}.csv").read_bytes()).hexdigest()
-        yield {"month": month, "revision": "1", "published": moment(month), "rows": str(rows), "sha256": sha}
+        for revision in revisions(month):
+            sha = hashlib.sha256((tables / table_name(month, revision)).read_bytes()).hexdigest()
+            own = {"month": month, "revision": str(revision), "published": moment(month, revision)}
+            yield {**own, "rows": str(rows), "sha256": sha}
 
 
-def csv_faults(site: Path, known: Figures, tables: Path) -> Iterator[str]:
-    """All CSV files but those of SDMX."""
+def table_name(month: str, revision: int) -> str:
+    """The file of a table in the folder that the example's run writes."""
+    return f"{month}.csv" if revision == 1 else f"{month}-r{revision}.csv"
+
+
+def csv_faults(site: Path, known: Figures, tables: Mapping[Id, Month], folder: Path) -> Iterator[str]:
+    """All CSV files but those of SDMX; the folder has the tables as the program printed them."""
+    reopened = {of: rows_by_code(table) for of, table in tables.items() if latest_of(of[0]) > 1}
     wanted = {
         "cpi": table_rows(known, known.nodes),
-        "vintages": [],  # (none of the country's tables was revised)
+        "vintages": vintage_rows(known, reopened),
+        "revision-reasons": reason_rows(),
         "aggregates": table_rows(known, known.sets),
         "contributions": given_rows(known, lambda _: known.pairs()),
         "aggregate-contributions": given_rows(known, known.pairs_of_sets),
@@ -180,7 +229,7 @@ def csv_faults(site: Path, known: Figures, tables: Path) -> Iterator[str]:
         "twelve-month-rates": rate_rows(known),
         "rereferenced": level_rows(known),
         "printed": printed_rows(known),
-        "releases": release_rows(known, tables),
+        "releases": release_rows(known, folder),
     }
     wrote = {path.stem for path in (site / "data").glob("*.csv")}
     if wrote != {*wanted, "cpi.sdmx"}:
@@ -189,6 +238,11 @@ def csv_faults(site: Path, known: Figures, tables: Path) -> Iterator[str]:
         yield from differing(f"{name}.csv", rows_of_csv(site / f"data/{name}.csv"), rows)
     for code in known.lines:
         yield from differing(f"{code}.csv", rows_of_csv(site / f"node/{code}.csv"), item_rows(known, code))
+        earlier, wanted_rows = site / f"node/{code}-earlier.csv", [*earlier_rows(known, reopened, code)]
+        if earlier.exists() != bool(wanted_rows):
+            yield f"{earlier.name} is {'there' if earlier.exists() else 'missing'}, wanted {len(wanted_rows)} rows"
+        elif wanted_rows:
+            yield from differing(earlier.name, rows_of_csv(earlier), wanted_rows)
 
 
 # ---- SDMX
@@ -217,15 +271,16 @@ def observations(known: Figures) -> Observations:
                     status = "B" if line and line.is_break and unit == "IX" else "A"
                     period = {"CPI": periods, "CPIC": " ".join(bases)}[measure] if unit == "IX" else ""
                     imputed = str(int(line.is_imputed)) if line else ""
-                    key = "M", measure, unit, item_id(code), kind, month
-                    found[key] = text(value, digits), period, str(digits), status, imputed, "1", moment(month)
+                    key, number = ("M", measure, unit, item_id(code), kind, month), latest_of(month)
+                    of = imputed, str(number), moment(month, number)
+                    found[key] = text(value, digits), period, str(digits), status, *of
         for year in full_years(known):
             mean, changed = known.mean(code, year), known.mean_change(code, year)
             if mean:
                 base = lines[f"{year}-01"].base
                 shown = text(known.shown(code, base, mean), 6)
                 status = "B" if lines[f"{year}-01"].is_break else "A"
-                last = status, "", "", moment(f"{year}-12")
+                last = status, "", "", max(moment(it, latest_of(it)) for it in months_of(year))
                 found["A", "CPI", "IX", item_id(code), "N", year] = shown, periods, "6", *last
                 if changed is not None:
                     found["A", "CPI", "PC", item_id(code), "G1", year] = text(changed, 1), "", "1", *last

@@ -12,7 +12,7 @@ from fractions import Fraction
 from functools import cache, partial
 from typing import NamedTuple, Optional
 
-from .by_the_manual import Month, change
+from .by_the_manual import Month, Row, change
 from .nation import data, previous, year_before
 from .sets import Elementary, Set, figures, nearest
 
@@ -122,10 +122,19 @@ class Given(NamedTuple):
 
 class Figures:
     """All figures of the items of a pack, with the year in which the index is 100, and whether changes are those between
-    printed indices. Items are in the order of the pack, nodes by their codes and then sets."""
+    printed indices. Items are in the order of the pack, nodes by their codes and then sets. `first` has by month and code
+    the rows that were published first, of which the last ones are others."""
 
-    def __init__(self, found: Mapping[str, Month], sets: Sets, year: str, is_from_printed: bool = False) -> None:
+    def __init__(
+        self,
+        found: Mapping[str, Month],
+        sets: Sets,
+        year: str,
+        is_from_printed: bool = False,
+        first: Mapping[tuple[str, str], Row] = {},
+    ) -> None:
         self.months, self.year, self.is_from_printed = sorted(found), year, is_from_printed
+        self.first = first
         nodes = lines_of_nodes(found)
         self.nodes = sorted(nodes)
         self.sets = sets
@@ -232,6 +241,14 @@ class Figures:
         if then == base and not self.line(code, then):
             return change(nearest(self.shown(code, base, HUNDRED), 10), self.printed(code, month))
         return change(self.printed(code, then), self.printed(code, month)) if self.line(code, then) else None
+
+    # ---- notes
+
+    def notes(self, code: str, month: str) -> str:
+        """The letters of a figure: a price was imputed, the figure was revised, the level isn't linked to the earlier
+        ones."""
+        line = self.lines[code][month]
+        return "i" * line.is_imputed + "r" * ((month, code) in self.first) + "b" * line.is_break
 
     # ---- pairs of items
 

@@ -3,6 +3,7 @@ were computed here."""
 
 from __future__ import annotations
 
+import datetime
 import hashlib
 import re
 from collections.abc import Iterator
@@ -10,17 +11,27 @@ from fractions import Fraction
 from pathlib import Path
 from xml.etree import ElementTree
 
-from .nation import previous
-from .pack_faults import moment, text
+from .nation import previous, published_at, revisions, seconds, year_before
+from .pack_faults import latest_of, moment, table_name, text
 from .pack_figures import ALL, Figures, above, december_before, depth
 from .pack_then import Then, lead, named
+from .pack_vintages import GREATEST
 from .page_texts import Rows, Texts
 from .site import percent, signed
 
 ADDRESS, NAME = "https://prices.example/", "Consumer price index"
 ATOM = "{http://www.w3.org/2005/Atom}"
 LAST = 24
-"""Releases of the feed and of the calendar."""
+"""Releases of the feed, and months of the calendar."""
+
+
+def day(month: str, revision: int) -> str:
+    """When a revision was published, by the office's clock and in UTC: `28 January 2026, 09:30 CET (08:30 UTC)`."""
+    at = datetime.datetime.fromtimestamp(published_at(month, revision), datetime.timezone.utc)
+    ahead = 1 if seconds(f"{at:%Y-%m-%dT%H:%M}") == at.timestamp() - 3600 else 2
+    local = at + datetime.timedelta(hours=ahead)
+    return f"{local.day} {local:%B %Y, %H:%M} {('CET', 'CEST')[ahead - 1]} ({at:%H:%M} UTC)"
+
 
 Wanted = Iterator[tuple[str, object, object]]
 """What is looked at, what the page says, and what is wanted."""
@@ -33,7 +44,7 @@ def headline_faults(then: Then, page: Texts) -> Wanted:
     yield "h1", page.of("h1"), [then.headline]
     yield "description", page.said("description"), [f"{then.headline}."]
     yield "og:image:alt", page.said("og:image:alt"), [f"{then.headline}."]
-    yield "og:image", page.said("og:image"), [f"{ADDRESS}release/{then.month}-r1.png"]
+    yield "og:image", page.said("og:image"), [f"{ADDRESS}release/{then.name}.png"]
     yield "lead", page.of('p class="lead"'), [lead(then)]
     monthly, annual = then.known.changes(ALL, then.month)
     index, hundred = then.indexed(ALL)
@@ -66,21 +77,75 @@ def contribution_table(then: Then, part: Texts, codes: list[str], has_total: boo
 
 def page_of(site: Path, tables: Path, then: Then) -> Wanted:
     """All figures of the page of a release."""
-    page = Texts.of_page(site / f"release/{then.month}-r1.html")
+    page = Texts.of_page(site / f"release/{then.name}.html")
     yield from headline_faults(then, page)
     yield from contribution_table(then, page.part("What contributed"), then.known.below(ALL), True)
     yield "divisions and groups", page.part("Divisions and groups").rows, divisions(then)
     yield "why", page.part("Why figures differ from those of the month before").of("li"), [*why(then)]
-    before = previous(then.month)
-    is_first = len(then.known.months) == 1
-    yield "revisions", page.part("Revisions").of("p"), [
-        "This is the first release." if is_first else
-        f"Nothing was revised after the release of {named(before)} and up to this one."
-    ]  # fmt: skip
-    table = (tables / f"{then.month}.csv").read_bytes()
+    yield from revisions_of(then, page)
+    table = (tables / table_name(then.month, then.revision)).read_bytes()
     yield "sum", page.of('span class="hash"'), [hashlib.sha256(table).hexdigest()]
     yield "table", f"the whole table of this release, {len(then.items)} items," in page.part("Files").of("li")[0], True
-    yield "moment", re.findall('<time datetime="([^"]*)">', page.markup)[0], moment(then.month)
+    yield "moment", re.findall('<time datetime="([^"]*)">', page.markup)[0], moment(then.month, then.revision)
+
+
+def revisions_of(then: Then, page: Texts) -> Wanted:
+    """What a release says of revisions: its own and why, those since the release before, and those that came later."""
+    part = page.part("Revisions")
+    yield "revisions", [*part.of("p"), *part.of("li")], [*says_of_revisions(then)]
+    it = then.change_of_it
+    yield "greatest differences", part.rows, [
+        [f"{row.title} {row.code}", text(old.level, 3), text(row.level, 3)] for old, row in it.differing[:GREATEST]
+    ] if it else []  # fmt: skip
+    told = [it for it in page.of("p") if it.startswith("Why the office revised this month: ")]
+    yield "reasons", told, [f"Why the office revised this month: {it}" for it in then.reasons]
+    later = [it for it in page.of('p class="result"') if it.startswith("Revision ")]
+    numbers = [it for it in revisions(then.month) if it > then.revision]
+    yield "later revisions", later, [
+        f"Revision {it} of {named(then.month)} was published {day(then.month, it)}." for it in numbers
+    ]
+    notes = [it for it in page.of('p class="note"') if " was revised on " in it]
+    yield "revised bases", notes, [*based_on(then)]
+
+
+def says_of_revisions(then: Then) -> Iterator[str]:
+    """The part on revisions."""
+    it, before = then.change_of_it, previous(then.month)
+    if it:
+        yield (
+            f"This is a further revision of {named(then.month)}. Revision {it.revision - 1} was published"
+            f" {day(it.month, it.revision - 1)}, and stays. {it.counted}"
+        )
+    elif len(then.known.months) == 1:
+        yield "This is the first release."
+    elif then.since:
+        yield f"After the release of {named(before)} and up to this one the office revised:"
+        for it in then.since:
+            now, old = (then.shown_level(it.month, rows[ALL].level) for rows in (it.new, it.old))
+            yield (
+                f"{named(it.month)}, revision {it.revision}, published {day(it.month, it.revision)}: {it.counted}"
+                f" The index of all items is {now}, and was {old} before."
+            )
+    else:
+        yield f"Nothing was revised after the release of {named(before)} and up to this one."
+
+
+def based_on(then: Then) -> Iterator[str]:
+    """Below the figures: the revised months that those of all items are computed from."""
+    line = then.known.lines[ALL][then.month]
+    figures = {december_before(then.month): ["the index"]}
+    figures.setdefault(previous(then.month), []).append("the change on the month before")
+    if line.annual is not None:
+        figures.setdefault(year_before(then.month), []).append("the change on the year before")
+    for it in then.revised:
+        if it.month in figures and it.old[ALL].level != it.new[ALL].level:
+            now, old = (then.shown_level(it.month, rows[ALL].level) for rows in (it.new, it.old))
+            found = figures[it.month]
+            counts = ", ".join(found[:-2] + [" and ".join(found[-2:])])
+            yield (
+                f"{named(it.month)} was revised on {day(it.month, it.revision)}: its index is {now}, and was {old}"
+                f" before. The revised one counts in {counts} (revisions)."
+            )
 
 
 def divisions(then: Then) -> Rows:
@@ -111,6 +176,8 @@ def why(then: Then) -> Iterator[str]:
             found = [f"{items[it]} {it}" for it in sorted(apart) if above(it) not in apart]
             if found:
                 yield f"{begin} with this month: {', '.join(found)}."
+    if then.since or then.revision > 1:
+        yield "Revised figures are counted here, also as those of the month or the year before."
     if then.known.lines[ALL][then.month].is_imputed:
         yield (
             "Some prices were missing or couldn’t be compared, and were imputed (i): each was moved as the other prices"
@@ -123,13 +190,13 @@ def why(then: Then) -> Iterator[str]:
 
 def release_faults(site: Path, tables: Path, all_of_them: list[Then]) -> Iterator[str]:
     """The pages of all releases, the list of them, the feed and the calendar."""
-    names = {f"{it.month}-r1.html" for it in all_of_them}
+    names = {f"{it.name}.html" for it in all_of_them}
     if {it.name for it in (site / "release").glob("*.html")} != names:
         yield "site: the folder of releases has other pages"
     for then in all_of_them:
         for what, says, wanted in page_of(site, tables, then):
             if says != wanted:
-                yield f"release {then.month}: {what}: says {says}, wanted {wanted}"
+                yield f"release {then.name}: {what}: says {says}, wanted {wanted}"
     for what, says, wanted in [*lists(site, all_of_them)]:
         if says != wanted:
             yield f"{what}: says {says}, wanted {wanted}"
@@ -137,27 +204,31 @@ def release_faults(site: Path, tables: Path, all_of_them: list[Then]) -> Iterato
 
 def lists(site: Path, all_of_them: list[Then]) -> Wanted:
     """The list of releases, the feed and the calendar."""
-    last = all_of_them[:-LAST - 1:-1]  # fmt: skip
+    last = sorted(all_of_them, key=lambda it: published_at(it.month, it.revision))[:-LAST - 1:-1]  # fmt: skip
     rows = Texts.of_page(site / "releases.html").rows
     wanted = []
-    for then in reversed(all_of_them):
-        earlier = next((it for it in all_of_them if it.month == previous(then.month)), then)
+    for then, earlier in zip(all_of_them[::-1], [*all_of_them[-2::-1], all_of_them[0]]):
         is_other = then.hundred(ALL) != earlier.hundred(ALL)
-        note = f" (from this month on {then.hundred(ALL)} = 100)" if is_other else ""
+        note = " (revised)" if then.revision < latest_of(then.month) else ""
+        note += f" (from this month on {then.hundred(ALL)} = 100)" if is_other else ""
         changes = map(percent, then.known.changes(ALL, then.month))
-        wanted.append([f"{named(then.month)}{note}", then.indexed(ALL)[0], *changes])
+        wanted.append([f"{then.called}{note}", then.indexed(ALL)[0], *changes])
     yield "releases.html", [row[:4] for row in rows], wanted
     feed = ElementTree.parse(site / "feed.xml").getroot()
     told = [[entry.findtext(f"{ATOM}{name}") for name in ("id", "title", "summary", "published", "updated")]
             for entry in feed.findall(f"{ATOM}entry")]  # fmt: skip
     yield "feed.xml", told, [
-        [f"{ADDRESS}release/{it.month}-r1.html", f"{named(it.month)}: {it.headline}", f"{it.headline}.",
-         moment(it.month), moment(it.month)]
+        [f"{ADDRESS}release/{it.name}.html", f"{it.called}: {it.headline}",
+         " ".join([f"{it.headline}.", *(f"Why the office revised this month: {why}" for why in it.reasons)]),
+         *[moment(it.month, it.revision)] * 2]
         for it in last
     ]  # fmt: skip
     lines = (site / "calendar.ics").read_bytes().replace(b"\r\n ", b"").decode().split("\r\n")
     says = [line.removeprefix("DESCRIPTION:") for line in lines if line.startswith("DESCRIPTION:")]
-    yield "calendar.ics", says, [f"{it.headline}." for it in reversed(last)]
+    since = all_of_them[-1].month
+    for _ in range(LAST - 1):
+        since = previous(since)
+    yield "calendar.ics", says, [f"{it.headline}." for it in all_of_them if it.month >= since]
 
 
 def imputed(known: Figures, month: str) -> list[tuple[str, Fraction]]:

@@ -1,17 +1,18 @@
-"""A release of the nation: what it says, by the tables up to its month. A figure that a later table would change is no part
-of it."""
+"""A release of the nation: what it says, by the tables that were published up to it. A figure that a later table would
+change is no part of it."""
 
 from __future__ import annotations
 
 import datetime
-from collections.abc import Iterator, Mapping
+from collections.abc import Mapping
 from fractions import Fraction
 from typing import NamedTuple, Optional
 
-from .by_the_manual import Month
-from .nation import previous
+from .by_the_manual import Id, Month
+from .nation import previous, published_at
 from .pack_faults import text
 from .pack_figures import ALL, Figures, depth
+from .pack_vintages import Revised, by_moment, changed, reasons, revised
 from .site import ABSENT, percent, signed
 
 
@@ -26,13 +27,52 @@ def period(of: str) -> str:
 
 
 class Then(NamedTuple):
-    """A release: its month, all figures as they were known on its day, and the titles of all items of the month and of
-    the one before, by their codes."""
+    """A release: its month, all figures as they were known on its day, the titles of all items of the month and of the
+    one before, by their codes, its revision, and all tables that were published up to it."""
 
     month: str
     known: Figures
     items: Mapping[str, str] = {}
     before: Mapping[str, str] = {}
+    revision: int = 1
+    tables: Mapping[Id, Month] = {}
+
+    @property
+    def name(self) -> str:
+        """That of its files."""
+        return f"{self.month}-r{self.revision}"
+
+    @property
+    def called(self) -> str:
+        """What it is called: its month, and its revision if it is a further one."""
+        return named(self.month) + (f", revision {self.revision}" if self.revision > 1 else "")
+
+    @property
+    def revised(self) -> list[Revised]:
+        """What was revised up to it."""
+        return revised(self.tables)
+
+    @property
+    def change_of_it(self) -> Optional[Revised]:
+        """What it changed of the revision before, if it is a further one."""
+        return next((it for it in self.revised if (it.month, it.revision) == (self.month, self.revision)), None)
+
+    @property
+    def since(self) -> list[Revised]:
+        """What was revised after the first release of the month before, up to the first one of this month."""
+        last = published_at(previous(self.month))
+        later = (it for it in self.revised if published_at(it.month, it.revision) > last and it.month != self.month)
+        return [*later] if self.revision == 1 else []
+
+    @property
+    def reasons(self) -> list[str]:
+        """Why the month was revised."""
+        return reasons().get((self.month, self.revision), [])
+
+    @property
+    def letters(self) -> str:
+        """Those of its headline, as they were on its day."""
+        return self.known.notes(ALL, self.month)
 
     @property
     def change(self) -> Fraction:
@@ -69,6 +109,10 @@ class Then(NamedTuple):
     def hundred(self, code: str) -> str:
         return period(self.known.hundred(code, self.known.lines[code][self.month].base))
 
+    def shown_level(self, month: str, level: Fraction) -> str:
+        """A level of all items with one decimal, as the release shows it."""
+        return text(self.known.shown(ALL, self.known.lines[ALL][month].base, level), 1)
+
     def share(self, code: str) -> str:
         """An item's share of all weight."""
         line, whole = self.known.line(code, self.month), self.known.lines[ALL][self.month]
@@ -87,15 +131,19 @@ def moved(change: Fraction) -> str:
     return f"{way} by {text(abs(change), 1)} percent" if change else way
 
 
-def releases(found: Mapping[str, Month], year: str, is_from_printed: bool = False) -> Iterator[Then]:
-    """Each release with what was known then, of all items, divisions and groups; the year and the rule are those of
-    `Figures`."""
-    few = {month: it._replace(rows=[row for row in it.rows if depth(row.code) <= 2]) for month, it in found.items()}
-    for month in sorted(found):
-        both = (found[it].rows if it in found else [] for it in (month, previous(month)))
+def releases(tables: Mapping[Id, Month], year: str, is_from_printed: bool = False) -> list[Then]:
+    """Each release, by month and revision, with what was known then of all items, divisions and groups; the year and the
+    rule are those of `Figures`."""
+    found, out, last = list[Then](), dict[Id, Month](), dict[str, Month]()
+    for (month, revision), table in by_moment(tables):
+        out[month, revision] = last[month] = table
+        both = (last[it].rows if it in last else [] for it in (month, previous(month)))
         items, before = ({row.code: row.title for row in rows} for rows in both)
-        known = Figures({it: few[it] for it in few if it <= month}, {}, year, is_from_printed)
-        yield Then(month, known, items, before)
+        few = {it: known._replace(rows=[row for row in known.rows if depth(row.code) <= 2])
+               for it, known in last.items() if it <= month}  # fmt: skip
+        known = Figures(few, {}, year, is_from_printed, changed(out))
+        found.append(Then(month, known, items, before, revision, dict(out)))
+    return sorted(found, key=lambda it: (it.month, it.revision))
 
 
 def lead(then: Then) -> str:

@@ -1,0 +1,67 @@
+"""What a pack says of the nation's revisions: the tables that others came after, and the rows that they changed."""
+
+from __future__ import annotations
+
+from collections.abc import Iterator, Mapping
+from typing import NamedTuple
+
+from .by_the_manual import Id, Month, Row, printed
+from .nation import data, published_at
+
+GREATEST = 10
+"""Items whose levels a revision changed that a page shows."""
+
+
+class Revised(NamedTuple):
+    """A revision with the one before: how many levels differ, and the greatest differences, each a row before and now."""
+
+    month: str
+    revision: int
+    old: Mapping[str, Row]
+    new: Mapping[str, Row]
+
+    @property
+    def differing(self) -> list[tuple[Row, Row]]:
+        """The rows whose levels differ, the greatest difference first."""
+        found = [(self.old[code], row) for code, row in self.new.items() if self.old[code].level != row.level]
+        return sorted(found, key=lambda it: (-abs(it[1].level - it[0].level), it[1].code))
+
+    @property
+    def counted(self) -> str:
+        """How many levels differ, as pages say it."""
+        return f"{len(self.differing)} of {len(self.new)} levels differ."
+
+
+def rows_by_code(table: Month) -> dict[str, Row]:
+    return {row.code: row for row in table.rows}
+
+
+def revised(tables: Mapping[Id, Month]) -> list[Revised]:
+    """Each revision with the one before, in the order of their months."""
+    return [
+        Revised(month, revision, rows_by_code(tables[month, revision - 1]), rows_by_code(table))
+        for (month, revision), table in sorted(tables.items())
+        if revision > 1
+    ]
+
+
+def changed(tables: Mapping[Id, Month]) -> dict[tuple[str, str], Row]:
+    """By month and code the rows that were published first, of which the last one of the month is another."""
+    found = {}
+    for month, last in {it.month: it.new for it in revised(tables)}.items():
+        first = rows_by_code(tables[month, 1])
+        found.update({(month, code): row for code, row in first.items() if printed(row) != printed(last[code])})
+    return found
+
+
+def reasons() -> dict[Id, list[str]]:
+    """Why the office revised months, in its own words."""
+    found: dict[Id, list[str]] = {}
+    for row in data("revisions"):
+        found.setdefault((row["month"], int(row["revision"])), []).append(row["reason"])
+    return found
+
+
+def by_moment(tables: Mapping[Id, Month]) -> Iterator[tuple[Id, Month]]:
+    """The tables in the order in which they were published."""
+    yield from sorted(tables.items(), key=lambda it: published_at(*it[0]))
