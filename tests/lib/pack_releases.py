@@ -53,6 +53,11 @@ def headline_faults(then: Then, page: Texts) -> Wanted:
     figures = re.sub(r"<sup.*?</sup>", "", page.markup, flags=re.S)
     found = Texts("".join(re.findall('<dl class="cards">(.*?)</dl>', figures, flags=re.S)))
     yield "figures", dict(zip(found.of("dt"), found.of("dd"))), cards
+    marks = re.findall(
+        r'<sup class="marks"><a href="#notes" aria-label="Notes: ([a-z, ]*)">([a-z]*)</a></sup>', page.markup
+    )
+    names = ", ".join({"i": "imputed", "r": "revised"}[letter] for letter in then.letters)
+    yield "marks", marks, [(names, then.letters)] * len(cards) if names else []
 
 
 def contribution_table(then: Then, part: Texts, codes: list[str], has_total: bool) -> Wanted:
@@ -82,11 +87,28 @@ def page_of(site: Path, tables: Path, then: Then) -> Wanted:
     yield from contribution_table(then, page.part("What contributed"), then.known.below(ALL), True)
     yield "divisions and groups", page.part("Divisions and groups").rows, divisions(then)
     yield "why", page.part("Why figures differ from those of the month before").of("li"), [*why(then)]
+    (notes,) = re.findall('<div id="notes" class="note">(.*?)</div>', page.markup, flags=re.S) or [""]
+    yield "notes", [it.replace("\u2002", " ") for it in Texts(notes).of("p")], [*notes_of(then)]
     yield from revisions_of(then, page)
     table = (tables / table_name(then.month, then.revision)).read_bytes()
     yield "sum", page.of('span class="hash"'), [hashlib.sha256(table).hexdigest()]
     yield "table", f"the whole table of this release, {len(then.items)} items," in page.part("Files").of("li")[0], True
     yield "moment", re.findall('<time datetime="([^"]*)">', page.markup)[0], moment(then.month, then.revision)
+
+
+def notes_of(then: Then) -> Iterator[str]:
+    """What the letters of the headline say, by what was known on the day of the release."""
+    if "i" in then.letters:
+        yield (
+            "i At least one price at or below this item was imputed in that month: it moved as the others of its"
+            " elementary aggregate did."
+        )
+    if "r" in then.letters:
+        now, old = then.indexed(ALL)[0], then.shown_level(then.month, then.known.first[then.month, ALL].level)
+        if now != old:
+            yield f"r Revised: the index of {named(then.month)} was published as {old} first."
+        else:
+            yield f"r Revised: what was published first of {named(then.month)} differed by less than the index shows."
 
 
 def revisions_of(then: Then, page: Texts) -> Wanted:
@@ -122,9 +144,10 @@ def says_of_revisions(then: Then) -> Iterator[str]:
         yield f"After the release of {named(before)} and up to this one the office revised:"
         for it in then.since:
             now, old = (then.shown_level(it.month, rows[ALL].level) for rows in (it.new, it.old))
+            says = f"is {now}, and was {old} before" if now != old else "differs by less than is shown"
             yield (
                 f"{named(it.month)}, revision {it.revision}, published {day(it.month, it.revision)}: {it.counted}"
-                f" The index of all items is {now}, and was {old} before."
+                f" The index of all items {says}."
             )
     else:
         yield f"Nothing was revised after the release of {named(before)} and up to this one."
@@ -142,9 +165,10 @@ def based_on(then: Then) -> Iterator[str]:
             now, old = (then.shown_level(it.month, rows[ALL].level) for rows in (it.new, it.old))
             found = figures[it.month]
             counts = ", ".join(found[:-2] + [" and ".join(found[-2:])])
+            says = f"is {now}, and was {old} before" if now != old else "differs by less than is shown"
             yield (
-                f"{named(it.month)} was revised on {day(it.month, it.revision)}: its index is {now}, and was {old}"
-                f" before. The revised one counts in {counts} (revisions)."
+                f"{named(it.month)} was revised on {day(it.month, it.revision)}: its index {says}."
+                f" The revised one counts in {counts} (revisions)."
             )
 
 

@@ -137,6 +137,22 @@ def test_a_revision_says_what_it_changed(published: list[Published], tmp_path: P
     assert "Nothing was revised after the release of April 2026" in words_of(site / "release/2026-05-r1.html")
 
 
+# ---- notes at the headline
+
+
+def test_a_headline_has_the_letters_of_its_day(published: list[Published], tmp_path: Path) -> None:
+    """Only a further revision is marked as revised, and it says what was published first."""
+    site = made(published, tmp_path / "public", CONFIG)
+    marks, said = {}, {}
+    for revision in (1, 2):
+        page = site / f"release/{REVISED}-r{revision}.html"
+        marks[revision] = re.findall(r'<sup class="marks">.*?>([a-z]*)</a></sup>', page.read_text(encoding="utf-8"))
+        said[revision] = re.findall(r"Revised: the index of \w+ \d+ was published as ([0-9.]+) first", words_of(page))
+    first = re.search(r"Index, 2025 = 100 ([0-9.]+)", words_of(site / f"release/{REVISED}-r1.html"))
+    assert marks == {1: [], 2: ["r"] * len(marks[2])} and len(marks[2]) >= 2
+    assert first and said == {1: [], 2: [first[1]]}
+
+
 # ---- provisional months
 
 
@@ -152,7 +168,9 @@ def test_a_release_says_whether_its_month_was_provisional_on_its_day(
     for name, page in pages.items():
         months = 0 if name < REVISED else 2 if name.startswith(REVISED) else 3
         assert (
-            (f"{then} {months} months." in page) == (page.count('aria-label="Notes: provisional"') >= 2) == (months > 0)
+            (f"{then} {months} months." in page)
+            == (len(re.findall('aria-label="Notes: [a-z, ]*provisional"', page)) >= 2)
+            == (months > 0)
         )
     entries = (site / "feed.xml").read_text(encoding="utf-8")
     assert entries.count(f"{then} 3 months.") + entries.count(f"{then} 2 months.") == sum(it >= REVISED for it in pages)

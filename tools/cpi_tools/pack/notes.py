@@ -9,7 +9,7 @@
 from __future__ import annotations
 
 from collections.abc import Iterable, Mapping
-from typing import Optional
+from typing import NamedTuple, Optional
 
 from ..exact import decimal
 from ..speech import SPEAKS_ENGLISH, Speech, marked, marked_as
@@ -105,6 +105,23 @@ class Notes:
             )
         index = speech.figure(then)
         return speech.t("Revised: the index of {month} was published as {index} first.", month=named, index=index)
+
+
+class Then(NamedTuple):
+    """The notes of a release's headline as they were known on its day: the letters, and each with its sentence."""
+
+    letters: str
+    sentences: list[tuple[str, str]]
+
+
+def notes_then(shown: Shown, code: str, provisional: int) -> Then:
+    """Those of an item in the last month of the tables that were published up to a release; `provisional` is 0, or of how
+    many months the office said on that day that it may still revise them."""
+    month, notes = shown.series.months[-1], Notes(shown)
+    letters, sentences = notes.by_month(code, [month]).get(month, ""), notes.sentences(month, code)
+    if not provisional:
+        return Then(letters, sentences)
+    return Then(letters + PROVISIONAL, [*sentences, (PROVISIONAL, provisional_then(provisional, shown.speech))])
 
 
 def provisional_then(months: int, speech: Speech = SPEAKS_ENGLISH) -> str:

@@ -22,6 +22,7 @@ from .figures import Known
 from .given import Given, lead_of, sorted_values, with_bars
 from .headline import headline
 from .measures import Contributions
+from .notes import notes_then
 from .reasons import GivenReason, given_reasons
 from .release_names import FOLDER, card_of, name_of, page_of_release
 from .revised import Revised, revised_of
@@ -164,6 +165,7 @@ def page_words(release: Release, contributions: Contributions) -> dict[str, obje
         "level_of": lambda chained, of, code: shown.speech.figure(decimal(*shown.of_level(chained, of, code), 1)),
         "is_annual": is_annual,
         "change": change,
+        "notes": notes_then(shown, ALL_ITEMS, release.provisional),
         "rows": rows,
         "zero": zero,
         "lead": lead_of(rows, change),
