@@ -56,10 +56,11 @@ def words_of(page: str) -> str:
 
 
 class Application:
-    """An application over an office's file, which is served meanwhile or not."""
+    """An application over an office's file, which is served meanwhile or not; notes of the field are kept for so many
+    months, 0 if none are taken."""
 
-    def __init__(self, cpi: Cpi, file: Path, room: Path, port: int):
-        self.cpi, self.file, self.room, self.port = cpi, file, room, port
+    def __init__(self, cpi: Cpi, file: Path, room: Path, port: int, field_months: int = 0):
+        self.cpi, self.file, self.room, self.port, self.field_months = cpi, file, room, port, field_months
         self.desk = self._begun()
 
     def _begun(self) -> Desk:
@@ -67,7 +68,7 @@ class Application:
         copies = self.room.parent / "copies"
         copies.mkdir(mode=0o700, exist_ok=True)
         url = f"http://127.0.0.1:{self.port}"
-        desk = Desk(Given(url, self.file, self.room, str(self.cpi.path), 1800, CLOCK, copies, 8))
+        desk = Desk(Given(url, self.file, self.room, str(self.cpi.path), 1800, CLOCK, copies, 8, self.field_months))
         self.app = make_app(desk, Reached(LISTEN, None))
         return desk
 
@@ -89,11 +90,11 @@ class Application:
 
 
 @contextlib.contextmanager
-def applied(cpi: Cpi, file: Path, room: Path) -> Iterator[Application]:
+def applied(cpi: Cpi, file: Path, room: Path, field_months: int = 0) -> Iterator[Application]:
     """An application over an office that is served."""
     port = free_port()
     with served(cpi, file, port, 100_000):
-        application = Application(cpi, file, room, port)
+        application = Application(cpi, file, room, port, field_months)
         try:
             yield application
         finally:

@@ -199,6 +199,11 @@ class StoredOffice:
         """The key of each collector; it is never printed."""
         return dict(self.ask("SELECT number, key FROM collector ORDER BY number"))  # type: ignore[arg-type]
 
+    def collector_of(self, key: str) -> Optional[int]:
+        """The number of the collector who bears a key, if there is one."""
+        found = self.ask("SELECT number FROM collector WHERE key = ?", key)
+        return int(found[0][0]) if found else None
+
     def outlets(self) -> dict[int, str]:
         """The name of each outlet."""
         return dict(self.ask("SELECT number, name FROM outlet ORDER BY number"))  # type: ignore[arg-type]

@@ -36,11 +36,15 @@ TEMPLATES = Path(__file__).resolve().parent / "templates"
 FREE = ("sign_in.show", "sign_in.enter", "style")
 """What is answered without a session, by the names of the views."""
 
+FIELD, FIELD_PATHS = "field", "/notes/"
+"""The views that collectors' phones ask, each time with a key of their own, and where they are."""
+
 MOST_BYTES = 4_000_000
 """Bytes of a form at most."""
 
 POLICY = (
-    "default-src 'none'; style-src 'self'; img-src data:; form-action 'self'; base-uri 'none'; frame-ancestors 'none'"
+    "default-src 'none'; style-src 'self'; img-src 'self' data:; form-action 'self'; base-uri 'none';"
+    " frame-ancestors 'none'"
 )
 FIELDS = {
     "Content-Security-Policy": POLICY,
@@ -115,6 +119,11 @@ def make_app(desk: Desk, reached: Reached) -> flask.Flask:
         log_views,
     ):
         app.register_blueprint(views.views)
+    if desk.field:
+        from . import field_pages, field_views  # (they need python3-pil, which an office without notes hasn't)
+
+        app.register_blueprint(field_views.views)
+        app.register_blueprint(field_pages.views)
     return app
 
 
@@ -126,6 +135,8 @@ def _let_in() -> Optional[Response]:
     request = flask.request
     if request.host not in reached.hosts:
         return _refused(400, f"This application isn't {request.host!r}: it is reached as {sorted(reached.hosts)[0]}.")
+    if request.path.startswith(FIELD_PATHS):
+        return None if request.blueprint == FIELD else _refused(404, "There is no such page.")
     origin = request.headers.get("Origin")
     if request.method == "POST" and origin and origin not in reached.origins:
         return _refused(403, "The form came from another site, so nothing was done.")

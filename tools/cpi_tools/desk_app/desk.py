@@ -11,6 +11,7 @@ from ..pack.clocks import Clock
 from ..program import Cpi, Reply
 from .copies import Copies, Copy
 from .desk_log import DeskLog
+from .field_notes import FieldNotes
 from .freezes import PreparedFreeze
 from .marks import Marks
 from .observed import Observed
@@ -24,11 +25,13 @@ from .watching import Watch
 
 LOG = "desk.log"
 
+FIELD_NOTES = "field-notes.db"
+
 
 class Given(NamedTuple):
     """What the words of the command line say: the office's URL and file, the application's folder, the program, after
-    how many idle seconds a session ends, the office's clock, where copies lie, and how many quotes a trial leaves out
-    in turn.
+    how many idle seconds a session ends, the office's clock, where copies lie, how many quotes a trial leaves out in
+    turn, and for how many months notes of the field are kept, 0 if none are taken.
     """
 
     url: str
@@ -39,6 +42,7 @@ class Given(NamedTuple):
     clock: Clock
     copies: Path
     left_out: int
+    field_months: int = 0
 
 
 class Desk:
@@ -57,6 +61,8 @@ class Desk:
         self.trials = Trials(self.cpi, self.copies, self.tables, given.copies, given.left_out)
         self.marks = Marks(given.room / "looks.jsonl")
         self.prepared = PreparedFreeze(given.room / "prepared-freeze.json")
+        months = given.field_months
+        self.field: Optional[FieldNotes] = FieldNotes(given.room / FIELD_NOTES, months) if months else None
 
     def send(self, by: Session, records: Sequence[Sequence[str]]) -> list[Optional[Reply]]:
         """Sends records of a person, as `Sender.send` does. Raises Fault if nothing was sent."""
@@ -83,3 +89,5 @@ class Desk:
         self.trials.close()
         self.copies.close()
         self.log.close()
+        if self.field:
+            self.field.close()

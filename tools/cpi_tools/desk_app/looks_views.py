@@ -12,6 +12,8 @@ from ..others import isolated
 from ..stored import read_copy
 from ..terminal import Fault, counted
 from .asked import desk, month_of, page, session
+from .field_notes import FieldNote
+from .field_of_month import by_slot
 from .lines import line_of
 from .looks import Look
 from .marks import NOTE, SEEN, UNSEEN, Mark, Price
@@ -24,12 +26,14 @@ SHOWN = 50
 
 
 class Row(NamedTuple):
-    """A price to look at as a page shows it: with its history as a picture, and the desk's notes."""
+    """A price to look at as a page shows it: with its history as a picture, the desk's notes, and those of the
+    field."""
 
     look: Look
     picture: Markup
     notes: list[Mark]
     is_seen: bool
+    field: list[FieldNote]
 
 
 def price_of(month: int, it: Look) -> Price:
@@ -57,12 +61,12 @@ def show(month: str) -> Response:
 def rows_of(month: int, found: Tried, looks: list[Look]) -> list[Row]:
     """Some prices with their histories."""
     seen, notes = desk().marks.seen_by(session().person, month), desk().marks.notes_of(month)
-    rows = list[Row]()
+    rows, field = list[Row](), by_slot(month)
     with read_copy(found.copy) as office:
         for it in looks:
             price = price_of(month, it)
             picture = line_of(office.quotes_of_series(it.series), month)
-            rows.append(Row(it, picture, notes.get(price, []), price in seen))
+            rows.append(Row(it, picture, notes.get(price, []), price in seen, field.get(it.slot, [])))
     return rows
 
 

@@ -50,6 +50,11 @@ class Office:
         """Whether a key is the desk's. Raises NotSent or NoReply."""
         return self._asked("GET", "/work/2000-01", key, None, QUICK_SECONDS).get("refused") == NOT_FOR_THE_DESK
 
+    def quotes(self, key: str, month: str) -> Reply:
+        """What the office has of a month of the collector with a key, or how it refuses the key. Raises NotSent or
+        NoReply."""
+        return self._asked("GET", f"/quotes/{month}/{month}", key, None, QUICK_SECONDS)
+
     def wait(self) -> None:
         """Returns when the office has dealt with every message that came before this one: it answers one after the
         other. Raises NotSent or NoReply."""

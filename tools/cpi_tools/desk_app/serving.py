@@ -3,9 +3,11 @@ it."""
 
 from __future__ import annotations
 
+import contextlib
 import os
 import sys
 import tempfile
+import threading
 import urllib.parse
 from pathlib import Path
 
@@ -16,6 +18,9 @@ from .app import Reached, make_app
 from .desk import Desk, Given
 
 THREADS = 8
+
+FORGETTING = 3_600
+"""Seconds from one look for notes of the field that are kept no longer to the next."""
 
 
 def serve(given: Given, listen: str, front: str) -> None:
@@ -55,7 +60,17 @@ def listening(desk: Desk, reached: Reached) -> None:
     if reached.front:
         print(f"cpi-tools desk serve: listening on {reached.listen}, behind that front", flush=True)
     print(f"cpi-tools desk serve: process {os.getpid()}; its log is {desk.log.path}", file=sys.stderr, flush=True)
+    over = threading.Event()
+    threading.Thread(target=_forgetting, args=(desk, over), daemon=True, name="forgetting").start()
     try:
         server.run()
     finally:
+        over.set()
         server.close()
+
+
+def _forgetting(desk: Desk, over: threading.Event) -> None:
+    """Removes the notes of the field whose time has passed, each hour, whoever looks at the pages."""
+    while desk.field and not over.wait(FORGETTING):
+        with contextlib.suppress(Fault):  # (the next page of the notes meets it too)
+            desk.field.forget()

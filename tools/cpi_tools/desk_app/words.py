@@ -21,6 +21,8 @@ def run(chosen: argparse.Namespace) -> int:
     """Serves until a signal ends it."""
     for module in ("flask", "waitress", "jinja2"):
         needs(module, f"python3-{module}")
+    if chosen.field_notes:
+        needs("PIL", "python3-pil")
     from .desk import Given  # (its packages are this job's alone)
     from .serving import serve
 
@@ -41,6 +43,7 @@ def run(chosen: argparse.Namespace) -> int:
         clock_of(chosen.zone),
         copies,
         chosen.left_out,
+        chosen.field_notes,
     )
     serve(given, chosen.listen, chosen.front or "")
     return 0
@@ -116,6 +119,13 @@ def add_serve(jobs: argparse._SubParsersAction[ToolWords]) -> None:
         default=8,
         metavar="N",
         help="quotes that a trial leaves out in turn (%(default)s)",
+    )
+    add(
+        "--field-notes",
+        type=at_least(0),
+        default=0,
+        metavar="MONTHS",
+        help="take notes of the field from phones, and keep them for so many months (0: take none)",
     )
     add("--copies", type=Path, metavar="FOLDER", help="where copies of the office's file lie (else where TMPDIR says)")
     add_program(words)

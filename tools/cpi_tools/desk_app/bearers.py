@@ -1,0 +1,61 @@
+"""Which collector a key is: the office says whether it takes the key, and a copy of its file which number that is."""
+
+from __future__ import annotations
+
+import re
+from typing import NamedTuple, Optional
+
+from ..stored import read_copy
+from ..terminal import Fault, month_text
+from .desk import Desk
+
+FIELD = re.compile("[ \t]*CPI-Key +([0-9a-f]{32})[ \t]*", re.ASCII | re.IGNORECASE)
+
+NOBODY, DESK = 11, 12
+"""How the office refuses a key that nobody bears, and one that isn't a collector's."""
+
+STATUS = {NOBODY: 401, DESK: 403}
+
+
+class NotABearer(Exception):
+    """A request without a collector's key: a status, and the office's number of the refusal."""
+
+    def __init__(self, number: int):
+        super().__init__(number)
+        self.number, self.status = number, STATUS.get(number, 409)
+
+
+class Bearer(NamedTuple):
+    """A collector, and by slot the receipt of the quote that the office has of a month."""
+
+    collector: int
+    receipts: dict[int, int]
+
+
+def bearer_of(desk: Desk, field: str, month: int) -> Bearer:
+    """The collector of a field Authorization. Raises NotABearer, or Fault if the office can't be asked."""
+    found = FIELD.fullmatch(field)
+    if not found or found[1] != found[1].lower():
+        raise NotABearer(NOBODY)
+    reply = desk.office.quotes(found[1], month_text(month))
+    if "refused" in reply:
+        raise NotABearer(int(reply["refused"]))
+    receipts = {int(slot): int(receipt) for slot, _, _, _, receipt in reply.get("quotes", [])}
+    return Bearer(_number_of(desk, found[1]), receipts)
+
+
+def _number_of(desk: Desk, key: str) -> int:
+    """The number of a collector whom the office knows. Raises Fault."""
+    with desk.copies.latest() as copy:
+        number = _in_copy(copy.path, key)
+    if number is None:
+        with desk.copies_now() as copy:
+            number = _in_copy(copy.path, key)
+    if number is None:
+        raise Fault("a collector's key isn't in a copy of the office's file that was taken now: is it this office's?")
+    return number
+
+
+def _in_copy(path: object, key: str) -> Optional[int]:
+    with read_copy(path) as office:  # type: ignore[arg-type]
+        return office.collector_of(key)

@@ -1,0 +1,27 @@
+"""What a note of the field may have at most. `web/collect/note-limits.js` has the same names for the phone."""
+
+from __future__ import annotations
+
+MOST_LETTERS = 500
+"""Letters of the text."""
+
+MOST_BRAND_LETTERS = 80
+"""Letters of a brand."""
+
+MOST_QUANTITY_LETTERS = 40
+"""Letters of a quantity, such as `750 g`."""
+
+MOST_PHOTO_BYTES = 300_000
+"""Bytes of a photograph, as it comes and as it is kept."""
+
+MOST_PHOTO_SIDE = 1_280
+"""Pixels of the longer side of a photograph, as it is kept."""
+
+MOST_SENT_SIDE = 4_000
+"""The same as it comes: a longer one isn't opened."""
+
+MOST_MESSAGE_BYTES = MOST_PHOTO_BYTES + 20_000
+"""Bytes of a message with a note."""
+
+MOST_NOTES = 500
+"""Notes of a collector of one month."""

@@ -1,0 +1,169 @@
+"""The notes of the field: what collectors said of their prices, in an SQLite file of its own beside the office's.
+
+A note is of one price: the slot, the month and the receipt. It has a collector's number and never a key. Whoever reads
+one names whose it is to be, so a collector is never handed another's. Notes of months that are long past go by
+themselves, and the bytes that they had are written over.
+"""
+
+from __future__ import annotations
+
+import contextlib
+import hashlib
+import json
+import os
+import sqlite3
+import threading
+import time
+from collections.abc import Callable, Iterator
+from pathlib import Path
+from typing import NamedTuple, Optional
+
+from ..terminal import Fault, because_of
+from .field_limits import MOST_NOTES
+
+SCHEMA = """
+CREATE TABLE IF NOT EXISTS note (
+  number INTEGER PRIMARY KEY AUTOINCREMENT, collector INTEGER NOT NULL, slot INTEGER NOT NULL, month INTEGER NOT NULL,
+  receipt INTEGER NOT NULL, at INTEGER NOT NULL, is_sale INTEGER NOT NULL, brand TEXT NOT NULL, quantity TEXT NOT NULL,
+  text TEXT NOT NULL, photo BLOB, digest TEXT NOT NULL UNIQUE
+);
+CREATE INDEX IF NOT EXISTS of_month ON note (month, collector, slot);
+"""
+COLUMNS = "number, collector, slot, month, receipt, at, is_sale, brand, quantity, text, photo IS NOT NULL"
+
+
+class Of(NamedTuple):
+    """The price that a note is of: who has sent it, in which slot and month, and its receipt."""
+
+    collector: int
+    slot: int
+    month: int
+    receipt: int
+
+
+class Said(NamedTuple):
+    """What a collector says of a price: whether it is a sale's, brand and quantity of a replacement, a text, and a
+    photograph as it came, empty for none."""
+
+    is_sale: bool
+    brand: str
+    quantity: str
+    text: str
+    photo: bytes
+
+
+class FieldNote(NamedTuple):
+    """A note that is kept: its number, the price that it is of, when it came in seconds since 1970 UTC, and what it
+    says."""
+
+    number: int
+    collector: int
+    slot: int
+    month: int
+    receipt: int
+    at: int
+    is_sale: bool
+    brand: str
+    quantity: str
+    text: str
+    has_photo: bool
+
+
+class TooMany(Exception):
+    """A collector has MOST_NOTES notes of the month."""
+
+
+class FieldNotes:
+    """The file. Notes are kept for so many months, the one that it is now being the first; `clock` tells the seconds
+    since 1970 UTC."""
+
+    def __init__(self, path: Path, months: int, clock: Callable[[], float] = time.time):
+        """Opens the file, or makes it. Raises Fault."""
+        self.path, self.months, self._clock = path, months, clock
+        self._lock = threading.Lock()
+        try:
+            os.close(os.open(path, os.O_RDWR | os.O_CREAT, 0o600))
+            self._link = sqlite3.connect(path, check_same_thread=False, isolation_level=None)
+            for text in ("PRAGMA secure_delete = ON", "PRAGMA synchronous = FULL"):
+                self._link.execute(text)
+            self._link.executescript(SCHEMA)
+        except OSError as fault:
+            raise Fault(because_of(fault)) from fault
+        except sqlite3.Error as fault:
+            raise Fault(f"{path} can't be read as the notes of the field: {fault}") from fault
+        self.forget()
+
+    def close(self) -> None:
+        """Ends it."""
+        with self._lock:
+            self._link.close()
+
+    @contextlib.contextmanager
+    def _asking(self) -> Iterator[sqlite3.Connection]:
+        """The file, which nobody else asks meanwhile. Raises Fault."""
+        with self._lock:
+            try:
+                yield self._link
+            except sqlite3.Error as fault:
+                raise Fault(f"{self.path}: {fault}") from fault
+
+    # ---- writing
+
+    def add(self, of: Of, said: Said, photo: Optional[bytes]) -> int:
+        """Keeps a note with its photograph as it is to be kept; its number. The same note of the same price has the
+        number that it had. It is on the disk afterwards. Raises TooMany or Fault."""
+        digest = digest_of(of, said)
+        with self._asking() as link:
+            had = link.execute("SELECT number FROM note WHERE digest = ?", (digest,)).fetchone()
+            if had:
+                return int(had[0])
+            counted = "SELECT count(*) FROM note WHERE month = ? AND collector = ?"
+            if link.execute(counted, (of.month, of.collector)).fetchone()[0] >= MOST_NOTES:
+                raise TooMany
+            row = (of.collector, of.slot, of.month, of.receipt, int(self._clock()), *said[:4], photo, digest)
+            made = link.execute(
+                "INSERT INTO note (collector, slot, month, receipt, at, is_sale, brand, quantity, text, photo, digest)"
+                " VALUES (?, ?, ?, ?, ?, ?, ?, ?, ?, ?, ?)",
+                row,
+            )
+            assert made.lastrowid is not None
+            return made.lastrowid
+
+    def remove(self, month: int, number: int) -> bool:
+        """Removes a note of a month for good; whether it was there. Raises Fault."""
+        with self._asking() as link:
+            return link.execute("DELETE FROM note WHERE month = ? AND number = ?", (month, number)).rowcount > 0
+
+    def forget(self) -> int:
+        """Removes the notes of months that are past for long enough; how many. Raises Fault."""
+        with self._asking() as link:
+            return link.execute("DELETE FROM note WHERE month < ?", (self.first_month(),)).rowcount
+
+    def first_month(self) -> int:
+        """The first month whose notes are kept."""
+        now = time.gmtime(self._clock())
+        count = now.tm_year * 12 + now.tm_mon - self.months
+        return count // 12 * 100 + count % 12 + 1
+
+    # ---- reading
+
+    def of_month(self, month: int, collector: Optional[int] = None) -> list[FieldNote]:
+        """The notes of a month, of one collector or of all, the first ones first. Raises Fault."""
+        where, of = ("", ()) if collector is None else (" AND collector = ?", (collector,))
+        with self._asking() as link:
+            found = link.execute(f"SELECT {COLUMNS} FROM note WHERE month = ?{where} ORDER BY number", (month, *of))
+            return [FieldNote(*row)._replace(is_sale=bool(row[6]), has_photo=bool(row[10])) for row in found]
+
+    def photo(self, number: int, collector: Optional[int] = None) -> Optional[bytes]:
+        """The photograph of a note, if it has one and is this collector's, or whoever's if none is named. Raises
+        Fault."""
+        where, of = ("", ()) if collector is None else (" AND collector = ?", (collector,))
+        with self._asking() as link:
+            row = link.execute(f"SELECT photo FROM note WHERE number = ?{where}", (number, *of)).fetchone()
+            return row[0] if row else None
+
+
+def digest_of(of: Of, said: Said) -> str:
+    """A sum by which a note that is sent twice is known, in hexadecimal."""
+    photo = hashlib.sha256(said.photo).hexdigest() if said.photo else ""
+    return hashlib.sha256(json.dumps([*of, *said[:4], photo]).encode()).hexdigest()
