@@ -152,6 +152,21 @@ def events_of(run: Run) -> dict[str, tuple[object, str, str]]:
     return {str(it["UID"]): (it["DTSTART"].dt, str(it["SUMMARY"]), str(it.get("DESCRIPTION", ""))) for it in found}
 
 
+def test_an_event_leads_to_a_page_that_is_there(runs: list[Run]) -> None:
+    """On the day on which somebody takes the calendar, and on each day after it; in the calendar's page the release is
+    listed until it is out, and as long as it is one of the last."""
+    for at, run in enumerate(runs):
+        led = set[str]()
+        for it in icalendar.Calendar.from_ical(run.files["calendar.ics"]).walk("VEVENT"):
+            page, _, name = str(it["URL"]).removeprefix(ADDRESS).partition("#")
+            led.add(page)
+            assert all(page in later.files for later in runs[at:]) and name in str(it["UID"])
+            if name:
+                listed = [later for later in runs[at : at + 5] if name in later.new or later is run]
+                assert all(f'id="{name}"' in later.files[page].decode() for later in listed)
+        assert led >= {"calendar.html", f"release/{run.new[-1]}.html"}
+
+
 def test_each_manifest_follows_the_one_before(runs: list[Run]) -> None:
     for before, now in pairs(runs):
         previous = json.loads(now.files["manifest.json"])["previous"]

@@ -206,6 +206,7 @@ def test_other_programs_read_the_calendar(site: Path) -> None:
     coming = by_title["Consumer price index, January 2027"]
     assert coming.decoded("DTSTART") == datetime.datetime(2027, 1, 28, 8, 30, tzinfo=datetime.timezone.utc)
     assert "Consumer price index, December 2026, revision 2" in by_title and "DESCRIPTION" not in coming
+    assert "URL" not in coming  # (this office says no address)
     said = str(by_title["Consumer price index, December 2026"]["DESCRIPTION"])
     assert said == "In December 2026 consumer prices were 5.0 percent higher than a year before."
 

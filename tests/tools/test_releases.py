@@ -143,7 +143,8 @@ def test_a_revision_says_what_it_changed(published: list[Published], tmp_path: P
 def test_a_headline_has_the_letters_of_its_day(published: list[Published], tmp_path: Path) -> None:
     """Only a further revision is marked as revised, and it says what was published first."""
     site = made(published, tmp_path / "public", CONFIG)
-    marks, said = {}, {}
+    marks: dict[int, list[str]] = {}
+    said: dict[int, list[str]] = {}
     for revision in (1, 2):
         page = site / f"release/{REVISED}-r{revision}.html"
         marks[revision] = re.findall(r'<sup class="marks">.*?>([a-z]*)</a></sup>', page.read_text(encoding="utf-8"))

@@ -19,7 +19,7 @@ from .releases import Release
 from .spoken import release_text
 from .tables import Series, before
 
-ICS = "calendar.ics"
+ICS, PAGE = "calendar.ics", "calendar.html"
 EVENT_MONTHS = 24
 """Of published releases `calendar.ics` has those of so many months."""
 
@@ -28,12 +28,20 @@ LINE_BYTES = 75
 
 
 class Event(NamedTuple):
-    """A release of the calendar: its month and revision, its moment in seconds since 1970 UTC, and what is known of it."""
+    """A release of the calendar: its month and revision, its moment in seconds since 1970 UTC, and what is known of it once
+    it is out."""
 
     month: str
     revision: int
     moment: int
     says: str = ""
+
+    @property
+    def address(self) -> str:
+        """A page of the site that is there whenever somebody follows it: that of a release which is out, or else the
+        calendar, which leads to the release later."""
+        name = name_of(self.month, self.revision)
+        return page_of_release(self.month, self.revision) if self.says else f"{PAGE}#{name}"
 
 
 def coming(series: Series, planned: Sequence[Planned]) -> list[Planned]:
@@ -101,7 +109,7 @@ def _lines(series: Series, config: Config, events: Sequence[Event], speech: Spee
         if it.says:
             yield f"DESCRIPTION:{_text(f'{it.says}.')}"
         if config.address:
-            yield f"URL:{config.address}{page_of_release(it.month, it.revision)}"
+            yield f"URL:{config.address}{it.address}"
         yield from ("TRANSP:TRANSPARENT", "END:VEVENT")
     yield "END:VCALENDAR"
 
