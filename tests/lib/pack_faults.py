@@ -122,10 +122,11 @@ ADDED = ("shown_month_change", "shown_year_change", "contribution_month", "contr
 
 
 def item_rows(known: Figures, code: str) -> Iterator[Row]:
-    """The rows of the file of an item: what it gives to all items, the changes of pages, and the letters of its notes."""
+    """The rows of the file of an item: what it gives to all items, which give their own change to themselves, the changes
+    of pages, and the letters of its notes."""
     for row in table_rows(known, [code]):
         changes = [text(it, 1) for it in known.changes(code, row["month"])]
-        given = Given(None, None) if code == ALL else known.given(row["month"], code, ALL)
+        given = known.given(row["month"], code, ALL)
         added = (*changes, text(given.to_month, 6), text(given.to_year, 6))
         yield {**row, **dict(zip(ADDED, added)), "notes": known.notes(code, row["month"])}
 

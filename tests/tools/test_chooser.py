@@ -91,11 +91,29 @@ def test_an_items_file_has_what_the_other_files_have(pack: Path) -> None:
                 assert row[f"shown_{name}"] == shown[key][name]
                 different += row[name] != row[f"shown_{name}"]
             for name in ("contribution_month", "contribution_year"):
-                assert row[name] == (given[key][name] if key in given else "")
+                assert code == "00" or row[name] == (given[key][name] if key in given else "")
             assert ("i" in row["notes"], "b" in row["notes"]) == (row["imputed"] == "1", row["break"] == "1")
             is_other = first.get(key, row)["chained"] != row["chained"]
             assert ("r" in row["notes"] or not is_other) and ("r" not in row["notes"] or row["month"] == REVISED)
     assert different > 0  # (this office's changes come from the printed index)
+
+
+def test_divisions_add_up_to_what_all_items_give(pack: Path) -> None:
+    """All items give their own change, as it is before rounding: the sum of what divisions give, of which each is rounded
+    to a millionth, and their indices too."""
+    sums: dict[tuple[str, str], Fraction] = {}
+    names, divisions = ("contribution_month", "contribution_year"), set[str]()
+    for row in rows_of(pack / "data/contributions.csv"):
+        if len(row["code"]) == 2 and row["of"] == "00":
+            divisions.add(row["code"])
+            for name in names:
+                if row[name]:
+                    key = row["month"], name
+                    sums[key] = sums.get(key, Fraction()) + Fraction(row[name])
+    rows = rows_of(pack / "node/00.csv")
+    found = {(row["month"], name): Fraction(row[name]) for row in rows for name in names if row[name]}
+    assert found.keys() == sums.keys() and len(found) > 40
+    assert all(abs(value - sums[key]) < Fraction(len(divisions) + 1, 10**6) for key, value in found.items())
 
 
 def test_earlier_revisions_are_those_that_are_not_the_latest(pack: Path) -> None:

@@ -12,11 +12,12 @@ import re
 from collections.abc import Mapping, Sequence
 from pathlib import Path
 
+from ..exact import ALL_ITEMS
 from ..others import closed
 from .config import Config
 from .figures import GIVEN_MONTH, GIVEN_YEAR, MONTH_CHANGE, YEAR_CHANGE, Known
 from .tables import Series, iso
-from .tidy import HEAD, figure_row, write_rows
+from .tidy import HEAD, figure_row, write_rows, written
 
 SOURCES = Path(__file__).resolve().parent / "choose"
 
@@ -52,8 +53,18 @@ def item_rows(known: Known, notes: Mapping[str, str], code: str) -> list[Sequenc
 
 def item_ends(known: Known, notes: Mapping[str, str], code: str, first: int = 0) -> list[tuple[str, ...]]:
     """The cells of ITEM_HEAD after those of HEAD, in all months, or from one on that is counted from 0."""
-    figures = (known.texts(figure, code, first) for figure in (MONTH_CHANGE, YEAR_CHANGE, GIVEN_MONTH, GIVEN_YEAR))
-    return [*zip(*figures, (notes.get(month, "") for month in known.series.months[first:]))]
+    months, is_whole = known.series.months[first:], code == ALL_ITEMS
+    kinds = (MONTH_CHANGE, YEAR_CHANGE, *(() if is_whole else (GIVEN_MONTH, GIVEN_YEAR)))
+    figures = [known.texts(kind, code, first) for kind in kinds]
+    figures += _given_by_all(known, months) if is_whole else []
+    return [*zip(*figures, (notes.get(month, "") for month in months))]
+
+
+def _given_by_all(known: Known, months: Sequence[str]) -> list[list[str]]:
+    """What all items give to their own changes in some months: the changes before rounding, to which divisions add up. Other
+    files have no such rows, since nobody has to be told there that a sum is itself."""
+    found = [known.contributions.of(month, ALL_ITEMS, ALL_ITEMS) for month in months]
+    return [[written(it.to_month, 6) for it in found], [written(it.to_year, 6) for it in found]]
 
 
 def write_chooser(series: Series, folder: Path) -> None:
