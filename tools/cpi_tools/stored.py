@@ -1,4 +1,5 @@
-"""What the file of an office has stored, as Python values: the one place with SQL. `docs/FORMATS.md` has the tables.
+"""What the file of an office has stored, as Python values: the one place with SQL, but for `stored_pages`.
+`docs/FORMATS.md` has the tables.
 
 A file is read by Python's sqlite3, so by the C library, and is never one that `cpi` has open: it is a copy.
 """
@@ -9,7 +10,7 @@ import contextlib
 import hashlib
 import sqlite3
 from collections import defaultdict
-from collections.abc import Iterable, Iterator
+from collections.abc import Callable, Iterable, Iterator
 from pathlib import Path
 from typing import Any, NamedTuple, Optional
 
@@ -140,6 +141,10 @@ class StoredOffice:
     def ask(self, text: str, *of: object) -> list[tuple[Any, ...]]:
         """The rows that answer a question in SQL."""
         return self._link.execute(text, of).fetchall()
+
+    def define(self, name: str, function: Callable[..., int]) -> None:
+        """Lets questions call a function of Python by a name."""
+        self._link.create_function(name, -1, function)
 
     # ---- whether the file is sound
 

@@ -18,10 +18,12 @@ from ..terminal import Fault, time_text
 from . import (
     calendar_views,
     freeze_views,
+    key_views,
     log_views,
     looks_views,
     month_views,
     records_views,
+    sample_views,
     sign_in_views,
     table_views,
 )
@@ -115,6 +117,8 @@ def make_app(desk: Desk, reached: Reached) -> flask.Flask:
         table_views,
         freeze_views,
         calendar_views,
+        sample_views,
+        key_views,
         records_views,
         log_views,
     ):

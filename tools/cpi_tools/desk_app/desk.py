@@ -20,6 +20,7 @@ from .sending import Sender
 from .sessions import Session, Sessions
 from .standing import looked_up
 from .tables_kept import TablesKept
+from .tray import Tray
 from .trials import Trials
 from .watching import Watch
 
@@ -31,7 +32,8 @@ FIELD_NOTES = "field-notes.db"
 class Given(NamedTuple):
     """What the words of the command line say: the office's URL and file, the application's folder, the program, after
     how many idle seconds a session ends, the office's clock, where copies lie, how many quotes a trial leaves out in
-    turn, and for how many months notes of the field are kept, 0 if none are taken.
+    turn, for how many months notes of the field are kept, 0 if none are taken, and the address of the front that
+    collectors reach, if sheets with their keys are printed here.
     """
 
     url: str
@@ -43,6 +45,7 @@ class Given(NamedTuple):
     copies: Path
     left_out: int
     field_months: int = 0
+    phones: str = ""
 
 
 class Desk:
@@ -63,6 +66,7 @@ class Desk:
         self.prepared = PreparedFreeze(given.room / "prepared-freeze.json")
         months = given.field_months
         self.field: Optional[FieldNotes] = FieldNotes(given.room / FIELD_NOTES, months) if months else None
+        self.tray = Tray(given.room / "rows.json")
 
     def send(self, by: Session, records: Sequence[Sequence[str]]) -> list[Optional[Reply]]:
         """Sends records of a person, as `Sender.send` does. Raises Fault if nothing was sent."""

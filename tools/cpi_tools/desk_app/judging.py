@@ -34,7 +34,7 @@ def records_of(text: str, clock: Clock) -> list[list[str]]:
     try:
         for fields in rows:
             if fields:
-                found.append(_by_clock(_looked_at(fields, rows.line_num), clock))
+                found.append(at_clock(_looked_at(fields, rows.line_num), clock))
     except csv.Error as fault:
         raise NotRead(f"line {rows.line_num}: {fault}: wanted are fields with commas between them") from fault
     if len(found) > MOST_RECORDS:
@@ -54,7 +54,7 @@ def _looked_at(fields: list[str], line: int) -> list[str]:
     return fields
 
 
-def _by_clock(fields: list[str], clock: Clock) -> list[str]:
+def at_clock(fields: list[str], clock: Clock) -> list[str]:
     """A record whose civil times are moments; what is none stays, and `cpi` refuses it."""
     if fields[0] != "calendar":
         return fields
@@ -71,5 +71,9 @@ def _moment(text: str, clock: Clock) -> str:
 def judged(cpi: Cpi, office_copy: Path, records: Sequence[Sequence[str]]) -> list[Reply]:
     """What `cpi` answers to records now, on a further copy. Raises Fault."""
     now = int(time.time())
+    # (as one import, so that the copy is written once, and not for each record)
+    asked = record(now, "desk", "import", "".join(f"{record(*fields)}\n" for fields in records))
     with private_copy(office_copy) as copy:
-        return cpi.replay([record(now, "desk", *fields) for fields in records], db=copy)
+        (reply,) = cpi.replay([asked] if records else [], db=copy) or [{"rows": []}]
+    replies: list[Reply] = reply.get("rows", [reply] * len(records))
+    return replies

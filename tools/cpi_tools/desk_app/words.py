@@ -8,6 +8,7 @@ import tempfile
 import urllib.parse
 from pathlib import Path
 
+from ..keys.words import an_origin
 from ..pack.clocks import clock_of
 from ..program import add_program
 from ..terminal import Fault, ToolWords, at_least, needs
@@ -44,6 +45,7 @@ def run(chosen: argparse.Namespace) -> int:
         copies,
         chosen.left_out,
         chosen.field_notes,
+        chosen.phones or "",
     )
     serve(given, chosen.listen, chosen.front or "")
     return 0
@@ -112,6 +114,7 @@ def add_serve(jobs: argparse._SubParsersAction[ToolWords]) -> None:
         metavar="N",
         help="a session ends after so many (%(default)s)",
     )
+    add("--phones", type=an_origin, metavar="URL", help="the front that collectors reach, for sheets with their keys")
     add("--zone", default="", metavar="ZONE", help="the office's clock: a place, or a rule as POSIX has it (else UTC)")
     add(
         "--left-out",

@@ -45,8 +45,12 @@ def code_of(link: str) -> Markup:
     return Markup(code.svg_inline(border=QUIET, dark="#000", light="#fff", omitsize=True))
 
 
+def page_of(url: str, sheets: Iterable[Sheet], language: Language = ENGLISH) -> str:
+    """The page in a language."""
+    template = pages.environment(TEMPLATES, language).get_template("keys.html")
+    return template.render(sheets=[*sheets], address=address_of_page(url))
+
+
 def write_sheets(to: Path, url: str, sheets: Iterable[Sheet], language: Language = ENGLISH) -> None:
     """Writes the page in a language, whole or not at all, for its owner only. Raises OSError."""
-    template = pages.environment(TEMPLATES, language).get_template("keys.html")
-    text = template.render(sheets=[*sheets], address=address_of_page(url))
-    write_whole(to, text.encode(), 0o600)
+    write_whole(to, page_of(url, sheets, language).encode(), 0o600)

@@ -1,0 +1,168 @@
+"""Rows that a person pastes from a spreadsheet: cells apart by tabs, semicolons or commas, with a heading or without one.
+
+A text is read in one way, or refused in one line: what was read, where, and what is wanted. What the cells say is left to
+`cpi`; only months in other spellings are read as months, since a spreadsheet writes them in its own way.
+"""
+
+from __future__ import annotations
+
+import csv
+from collections.abc import Sequence
+from typing import NamedTuple, Optional
+
+from ..cells import shown
+from ..months_of_texts import month_of
+from .judging import MOST_RECORDS, NotRead
+from .sample_kinds import Kind, column_of, told_columns
+
+SEPARATORS = {"\t": "tabs", ";": "semicolons", ",": "commas"}
+"""What may be between two cells, and how it is called; the first one that fits is taken."""
+
+
+class Pasted(NamedTuple):
+    """The rows of a text, each with a cell for each column of its kind (an empty one if it isn't there); and what the
+    heading names that isn't read."""
+
+    rows: list[list[str]]
+    unread: list[str]
+
+
+class Line(NamedTuple):
+    """The number of a line, and its cells without blanks round them."""
+
+    number: int
+    cells: list[str]
+
+
+def pasted(text: str, kind: Kind) -> Pasted:
+    """The rows of a text. Raises NotRead."""
+    lines, separator = lines_of(text.removeprefix("\ufeff"), kind)
+    if not lines:
+        raise NotRead(f"there are no rows: write or paste one a line, with the cells {told_columns(kind.columns)}")
+    columns = heading_of(lines[0], kind)
+    if columns:
+        lines = lines[1:]
+        unread = [head for head, column in zip(columns.written, columns.names) if head and not column]
+    else:
+        unread = []
+    if len(lines) > MOST_RECORDS:
+        raise NotRead(f"there are {len(lines):,} rows: {MOST_RECORDS:,} are taken at once at most")
+    names = columns.names if columns else None
+    return Pasted([cells_of(line, kind, names, separator) for line in lines], unread)
+
+
+# ---- lines
+
+
+def lines_of(text: str, kind: Kind) -> tuple[list[Line], str]:
+    """The lines that aren't empty, by the separator with which most of them have the cells that are wanted."""
+    found = [it for it in SEPARATORS if it in text]
+    best: Optional[tuple[list[Line], str]] = None
+    fault: Optional[NotRead] = None
+    most = -1
+    for separator in found or [","]:
+        try:
+            lines = split(text, separator)
+        except NotRead as told:
+            fault = fault or told
+            continue
+        fit = sum(len(without_ends(it.cells, len(kind.columns))) in widths(kind) for it in lines)
+        if lines and is_heading(names_in(lines[0], kind), kind):
+            fit = len(lines) + 1
+        if fit > most:
+            best, most = (lines, separator), fit
+    if best is None:
+        assert fault
+        raise fault
+    return best
+
+
+def split(text: str, separator: str) -> list[Line]:
+    """The lines of a text by one separator. Raises NotRead at a quotation mark that isn't closed."""
+    rows = csv.reader(text.splitlines(keepends=True), delimiter=separator, strict=True)
+    found = list[Line]()
+    try:
+        for cells in rows:
+            if any(it.strip() for it in cells):
+                found.append(Line(rows.line_num, [it.strip() for it in cells]))
+    except csv.Error as fault:
+        raise NotRead(f"line {rows.line_num}: {fault}: look at its quotation marks") from fault
+    return found
+
+
+def without_ends(cells: Sequence[str], most: int) -> list[str]:
+    """The cells without empty ones at the end, as far as there are more than `most`: a spreadsheet has them."""
+    found = [*cells]
+    while len(found) > most and not found[-1]:
+        found.pop()
+    return found
+
+
+def widths(kind: Kind) -> tuple[int, ...]:
+    """How many cells a row without a heading may have."""
+    count = len(kind.columns)
+    return (count, count - 1) if kind.optional else (count,)
+
+
+# ---- the heading
+
+
+class Heading(NamedTuple):
+    """The columns of a heading, empty where a cell names none, and its cells as they are written."""
+
+    names: list[str]
+    written: list[str]
+
+
+def names_in(line: Line, kind: Kind) -> list[str]:
+    """The column that each cell of a line names, empty if it names none."""
+    return [column_of(kind, cell) for cell in line.cells]
+
+
+def needed_of(kind: Kind) -> list[str]:
+    """The columns that have to be there."""
+    return [it for it in kind.columns if it != kind.optional]
+
+
+def is_heading(names: Sequence[str], kind: Kind) -> bool:
+    """Whether a line names so many columns that it is a heading."""
+    return sum(map(bool, names)) >= min(2, len(needed_of(kind)))
+
+
+def heading_of(line: Line, kind: Kind) -> Optional[Heading]:
+    """The heading that a line is, if it names columns. Raises NotRead if it lacks one, or names one twice."""
+    names = names_in(line, kind)
+    if not is_heading(names, kind):
+        return None
+    if lacks := [it for it in needed_of(kind) if it not in names]:
+        raise NotRead(
+            f"line {line.number} is a heading without {told_columns(lacks)}: it has {told_columns(map(shown, line.cells))}"
+        )
+    if twice := [it for it in kind.columns if names.count(it) > 1]:
+        raise NotRead(f"line {line.number} is a heading that has {twice[0]} twice: rename one of the two")
+    return Heading(names, line.cells)
+
+
+# ---- cells
+
+
+def cells_of(line: Line, kind: Kind, names: Optional[Sequence[str]], separator: str) -> list[str]:
+    """A cell for each column of the kind. Raises NotRead if the line has too few cells, or too many."""
+    cells = without_ends(line.cells, len(names) if names else len(kind.columns))
+    if names is None:
+        names = kind.columns
+        if kind.optional and len(cells) == len(names) - 1:
+            names = [it for it in names if it != kind.optional]
+    if len(cells) != len(names):
+        told = "the cell" if len(cells) == 1 else f"{len(cells)} cells"
+        raise NotRead(
+            f"line {line.number} has {told} {told_columns(map(shown, cells[:8]))} by {SEPARATORS[separator]}: wanted are"
+            f" {told_columns(it or 'one that is not read' for it in names)}"
+        )
+    by_name = {name: cell for name, cell in zip(names, cells) if name}
+    return [_read(by_name.get(it, ""), it in kind.months) for it in kind.columns]
+
+
+def _read(cell: str, is_month: bool) -> str:
+    """A cell; a month in another spelling is that month, and what is none stays for `cpi` to refuse."""
+    return (month_of(cell) or cell) if is_month else cell

@@ -1,0 +1,227 @@
+"""The sample as tables: items, outlets, collectors, assignments and hand-overs, searched page by page; and rows that a
+person writes or pastes, judged on a copy row by row, and then sent.
+
+Each kind (`items`, `outlets`, `collectors`, `assignments`, `handovers`, `calendar`) has the page `/sample/KIND` and three
+forms, which need the session's `token`:
+
+- `/sample/KIND/judge` takes `pasted`, rows from a spreadsheet; or fields with the names of the kind's
+  columns (item, text, unit, low, high; outlet, name; collector, key; collector, slot, outlet, item, first, last;
+  collector, slot, to, to_slot, month; month, opens, closes, publishes), each of them once a row; or neither, and what
+  waits is judged anew. `instead` has numbers of waiting rows that go, apart by blanks.
+- `/sample/KIND/send` takes `seen`, the sum of the rows that the page showed, and sends those.
+- `/sample/KIND/drop` takes `number`, of one row or more, or `all`.
+"""
+
+from __future__ import annotations
+
+import io
+import time
+from collections.abc import Sequence
+from typing import Any, NamedTuple
+
+import flask
+from werkzeug.wrappers import Response
+
+from ..csv_files import Writer, formulas_told, line_of
+from ..languages import known
+from ..stored import StoredOffice, read_copy
+from ..stored_pages import LISTINGS, Found, found_in
+from ..terminal import Fault, counted, month_text
+from .asked import csv_file, desk, page, session
+from .pasted import pasted
+from .sample_kinds import KINDS, Kind
+from .sampling import NotAsSeen, Sent, judge, send, settle, state_of
+from .tray import GOING, GOOD, NEW, REFUSED, Waiting
+
+views = flask.Blueprint("sample", __name__)
+
+SHOWN = 100
+"""Rows of a page."""
+
+ORDER = (REFUSED, NEW, GOING, GOOD)
+"""Waiting rows as a page shows them: first those that want somebody's hand."""
+
+MONTHS = ("first", "last", "month")
+
+
+class Shown(NamedTuple):
+    """A page of rows: their columns, how many there are in all, the first one's number from 0 on, and the cells."""
+
+    columns: Sequence[str]
+    total: int
+    first: int
+    rows: list[list[str]]
+
+
+def kind_of(name: str) -> Kind:
+    """The kind of an address; of any other name there is no page."""
+    if name not in KINDS:
+        flask.abort(404)
+    return KINDS[name]
+
+
+def number_in(name: str) -> int:
+    """A number of the address, 0 if it is none."""
+    text = flask.request.args.get(name, "0")
+    return int(text) if text.isdecimal() and len(text) < 9 else 0
+
+
+# ---- pages
+
+
+@views.get("/sample")
+def first() -> Response:
+    """To the items."""
+    return flask.redirect(flask.url_for("sample.show", kind="items"))
+
+
+@views.get("/sample/<kind>")
+def show(kind: str) -> Response:
+    """What is registered of a kind, and the rows that wait."""
+    it = kind_of(kind)
+    settle(desk(), session().person, it)
+    return shown(it)
+
+
+def shown(
+    kind: Kind, status: int = 200, fault: str = "", answer: str = "", text: str = "", unread: str = ""
+) -> Response:
+    """The page of a kind, with what came of a step; `text` is what couldn't be read."""
+    waiting = desk().tray.rows(session().person, kind.name)
+    mended = [it for it in waiting if str(it.number) in flask.request.args.get("mend", "").split(",")]
+    named: dict[str, Any] = {
+        "kind": kind,
+        "kinds": KINDS,
+        "listed": listed(kind),
+        "query": flask.request.args.get("query", ""),
+        "cut": cut_of(kind),
+        "step": SHOWN,
+        "waiting_rows": shown_waiting(waiting),
+        "waiting_first": number_in("waiting"),
+        "waiting_count": len(waiting),
+        "good": sum(it.state == GOOD for it in waiting),
+        "refused_numbers": ",".join(str(it.number) for it in waiting if it.state == REFUSED),
+        "seen": state_of(waiting),
+        "mended": mended[0] if len(mended) == 1 else None,
+        "instead": " ".join(str(it.number) for it in mended),
+        "text": text or (text_of(kind, mended) if len(mended) > 1 else ""),
+        "zone": desk().given.clock.name or "UTC",
+        "phones": desk().given.phones,
+        "languages": known(),
+    }
+    return page("sample.html", status, fault=fault, answer=answer, unread=unread, **named)
+
+
+def listed(kind: Kind) -> Shown:
+    """The rows of the page that is asked for."""
+    with desk().copies_now() as copy, read_copy(copy.path) as office:
+        if kind.name not in LISTINGS:
+            return windows(office)
+        query = flask.request.args.get("query", "")
+        found = found_in(office, kind.name, query, cut_of(kind), number_in("from"), SHOWN)
+    return Shown(LISTINGS[kind.name].columns, found.total, found.first, rows_of(kind, found))
+
+
+def rows_of(kind: Kind, found: Found) -> list[list[str]]:
+    """Rows as texts."""
+    columns = LISTINGS[kind.name].columns
+    return [[month_text(cell) if of in MONTHS else str(cell) for of, cell in zip(columns, row)] for row in found.rows]
+
+
+def windows(office: StoredOffice) -> Shown:
+    """The windows by the office's clock, the latest month first."""
+    clock = desk().given.clock
+    rows = [[month_text(it.month), *map(clock.local, it[1:])] for it in reversed(office.calendar())]
+    return Shown(KINDS["calendar"].columns, len(rows), 0, rows)
+
+
+def cut_of(kind: Kind) -> dict[str, str]:
+    """The values to which the address cuts a list down, by their columns."""
+    columns = LISTINGS[kind.name].cut_by if kind.name in LISTINGS else ()
+    return {it: flask.request.args[it] for it in columns if flask.request.args.get(it)}
+
+
+def shown_waiting(rows: Sequence[Waiting]) -> list[Waiting]:
+    """The waiting rows of a page, those first that want somebody's hand."""
+    start = number_in("waiting")
+    return sorted(rows, key=lambda it: ORDER.index(it.state))[start : start + SHOWN]
+
+
+def text_of(kind: Kind, rows: Sequence[Waiting]) -> str:
+    """Waiting rows as a text to mend, with a heading."""
+    return "".join(f"{line_of(cells)}\n" for cells in [kind.columns, *(it.cells for it in rows)])
+
+
+@views.get("/sample/<kind>.csv")
+def file(kind: str) -> Response:
+    """All rows that a search finds, as a file; keys of collectors aren't in it."""
+    it = kind_of(kind)
+    if it.name not in LISTINGS:
+        flask.abort(404)
+    with desk().copies_now() as copy, read_copy(copy.path) as office:
+        found = found_in(office, it.name, flask.request.args.get("query", ""), cut_of(it))
+    text = io.StringIO()
+    with formulas_told("", True):
+        out = Writer(text)
+        out.writerow(LISTINGS[it.name].columns)
+        out.writerows(rows_of(it, found))
+    return csv_file(f"{it.name}-{time.strftime('%Y-%m-%d', time.gmtime())}.csv", text.getvalue())
+
+
+# ---- forms
+
+
+@views.post("/sample/<kind>/judge")
+def judge_rows(kind: str) -> Response:
+    """Takes rows, and judges all that wait."""
+    it, text, unread = kind_of(kind), flask.request.form.get("pasted", ""), list[str]()
+    instead = [int(each) for each in flask.request.form.get("instead", "").split() if each.isdecimal()]
+    try:
+        rows = rows_in_fields(it)
+        if text.strip():
+            rows, unread = pasted(text, it)
+        if rows:
+            desk().tray.take(session().person, it.name, rows, instead)
+        judge(desk(), session().person, it)
+    except Fault as fault:
+        return shown(it, 400, str(fault), text=text)
+    if unread:
+        return shown(it, unread=", ".join(unread))
+    return flask.redirect(flask.url_for("sample.show", kind=it.name), 303)
+
+
+def rows_in_fields(kind: Kind) -> list[list[str]]:
+    """The rows of a form that has a field for each column; one of which nothing but its month was given is none."""
+    columns = [[each.strip() for each in flask.request.form.getlist(it)] for it in kind.columns]
+    rows = [[*row] for row in zip(*columns)]
+    return [row for row in rows if any(cell for it, cell in zip(kind.columns, row) if it != "month")]
+
+
+@views.post("/sample/<kind>/send")
+def send_rows(kind: str) -> Response:
+    """Sends the rows that the page showed as good."""
+    it = kind_of(kind)
+    try:
+        sent = send(desk(), session(), it, flask.request.form.get("seen", ""))
+    except NotAsSeen as fault:
+        return shown(it, 409, str(fault))
+    except Fault as fault:
+        return shown(it, 503, f"Nothing was sent: {fault}")
+    return shown(it, answer=told_sent(sent))
+
+
+def told_sent(sent: Sent) -> str:
+    """How many rows were carried out."""
+    if sent.done == sent.total:
+        return f"{counted(sent.total, 'row')} sent, and carried out."
+    return f"{sent.done:,} of {counted(sent.total, 'row')} carried out: the others are below, with what was answered."
+
+
+@views.post("/sample/<kind>/drop")
+def drop_rows(kind: str) -> Response:
+    """Drops waiting rows: those of these numbers, or all that aren't on their way."""
+    it, form = kind_of(kind), flask.request.form
+    rows = [row for row in desk().tray.rows(session().person, it.name) if row.state != GOING]
+    gone = [row for row in rows if form.get("all") or str(row.number) in form.getlist("number")]
+    desk().tray.change(session().person, it.name, {row.number: None for row in gone})
+    return flask.redirect(flask.url_for("sample.show", kind=it.name), 303)

@@ -1,0 +1,193 @@
+"""Rows of a person's tray: judged by `cpi` on a copy, row by row, and sent to the office. What isn't carried out stays in
+the tray with the answer."""
+
+from __future__ import annotations
+
+import hashlib
+import secrets
+from collections.abc import Iterator, Sequence
+from typing import NamedTuple, Optional
+
+from ..csv_files import line_of
+from ..pack.clocks import Clock
+from ..program import Reply
+from ..stored import StoredOffice, read_copy
+from ..terminal import Fault
+from .desk import Desk
+from .desk_log import ANSWERED, HIDDEN, LOOKED_UP, SENT, Entry, shown
+from .free_slots import FreeSlots
+from .judging import at_clock, judged
+from .sample_kinds import Kind
+from .sessions import Session
+from .told import NO_REPLY, NOT_SENT, told
+from .tray import COLLECTORS, GOING, GOOD, KEY, REFUSED, Tray, Waiting
+
+KEY_IS_GONE = (
+    "a key is kept in memory only, and the application was started anew since: drop this row, and give it again"
+)
+WAS_NOT_SENT = "not sent: the application was ended before it could be"
+
+
+class Record(NamedTuple):
+    """A row of the tray with the record that goes to the office, or why there is none."""
+
+    row: Waiting
+    fields: list[str]
+    fault: str = ""
+
+
+# ---- records of rows
+
+
+def records_of(tray: Tray, kind: Kind, rows: Sequence[Waiting], office: StoredOffice, clock: Clock) -> list[Record]:
+    """The records of rows: with the slots and keys that nobody gave, and with moments by the office's clock."""
+    if kind.name == COLLECTORS:
+        return [_with_key(tray, kind, it) for it in rows]
+    cells = [[*it.cells] for it in rows]
+    if kind.optional:
+        fill_slots(kind, cells, office)
+    return [Record(row, at_clock([kind.word, *own], clock)) for row, own in zip(rows, cells)]
+
+
+def _with_key(tray: Tray, kind: Kind, row: Waiting) -> Record:
+    if tray.key(row.number) is None and not row.cells[KEY]:
+        tray.keep_key(row.number, secrets.token_hex(16))
+    key = tray.key(row.number)
+    return Record(row, [kind.word, row.cells[0], key or HIDDEN], "" if key else KEY_IS_GONE)
+
+
+def fill_slots(kind: Kind, rows: Sequence[list[str]], office: StoredOffice) -> None:
+    """Fills in the slots that nobody named."""
+    at = kind.columns.index(kind.optional)
+    holders = {row[at - 1] for row in rows} | {row[0] for row in rows}
+    slots = FreeSlots(office, holders)
+    for row in rows:
+        if row[at]:
+            slots.take(row[at - 1], row[at])
+    for row in rows:
+        if not row[at]:
+            given = [*row[:at], *row[at + 1 :]]
+            row[at] = slots.assigned(*given) if kind.word == "assign" else slots.handed_over(*given)
+
+
+# ---- judging
+
+
+def judge(desk: Desk, person: str, kind: Kind) -> None:
+    """Judges all rows of a person's tray anew, together and in their order. Raises Fault."""
+    settle(desk, person, kind)
+    rows = [it for it in desk.tray.rows(person, kind.name) if it.state != GOING]
+    if not rows:
+        return
+    with desk.copies_now() as copy:
+        with read_copy(copy.path) as office:
+            records = records_of(desk.tray, kind, rows, office, desk.given.clock)
+        asked = [it.fields for it in records if not it.fault]
+        replies = iter(judged(desk.cpi, copy.path, asked))
+    changed = {it.row.number: _judged(it, None if it.fault else next(replies)) for it in records}
+    desk.tray.change(person, kind.name, changed)
+
+
+def _judged(it: Record, reply: Optional[Reply]) -> Waiting:
+    record = shown(it.fields)
+    if reply is None:
+        return it.row._replace(record=record, state=REFUSED, answer=it.fault, since=0)
+    state = REFUSED if "refused" in reply else GOOD
+    return it.row._replace(record=record, state=state, answer=told(record, reply).answer, since=0)
+
+
+# ---- sending
+
+
+def state_of(rows: Sequence[Waiting]) -> str:
+    """A sum of the rows that would be sent, so that nothing is sent but what was seen."""
+    seen = [line_of([it.number, *it.record]) for it in rows if it.state == GOOD]
+    return hashlib.sha256("\n".join(seen).encode()).hexdigest()
+
+
+class Sent(NamedTuple):
+    """How many rows were sent, and how many of them were carried out."""
+
+    total: int
+    done: int
+
+
+class NotAsSeen(Fault):
+    """The rows that would be sent aren't those that the person saw; one line."""
+
+
+def send(desk: Desk, session: Session, kind: Kind, seen: str) -> Sent:
+    """Sends the rows that the copy would carry out, if they are those of the sum `seen`. Raises Fault if nothing was
+    sent."""
+    with desk.tray.lock:
+        all_rows = desk.tray.rows(session.person, kind.name)
+        rows = [it for it in all_rows if it.state == GOOD]
+        if not rows or state_of(all_rows) != seen:
+            raise NotAsSeen("these rows were sent already, or changed since they were shown: look at what is here now")
+        records = [_for_office(desk.tray, kind, it) for it in rows]
+        since = desk.log.entries[-1].number if desk.log.entries else 0
+        going = {it.number: it._replace(state=GOING, answer=NO_REPLY, since=since) for it in rows}
+        desk.tray.change(session.person, kind.name, going)
+    try:
+        replies = desk.send(session, records)
+    except Fault as fault:
+        why = f"{NOT_SENT}: {fault}"
+        desk.tray.change(session.person, kind.name, {it.number: it._replace(answer=why) for it in rows})
+        raise
+    waiting = {tuple(it) for entry in desk.log.open_entries() for it in entry.records}
+    after = {row.number: _after(row, since, reply, waiting) for row, reply in zip(rows, replies)}
+    desk.tray.change(session.person, kind.name, after)
+    return Sent(len(rows), sum(it is None for it in after.values()))
+
+
+def _for_office(tray: Tray, kind: Kind, row: Waiting) -> list[str]:
+    """The record of a row, with its key. Raises Fault if the key is gone."""
+    if kind.name != COLLECTORS:
+        return row.record
+    key = tray.key(row.number)
+    if key is None:
+        raise Fault(KEY_IS_GONE)
+    return [*row.record[:2], key]
+
+
+def _after(row: Waiting, since: int, reply: Optional[Reply], waiting: set[tuple[str, ...]]) -> Optional[Waiting]:
+    """A row after it was sent: None if it was carried out."""
+    if reply is None:
+        if tuple(row.record) in waiting:
+            return row._replace(state=GOING, answer=NO_REPLY, since=since)
+        return row._replace(answer=NOT_SENT, since=0)
+    answer = told(row.record, reply)
+    return None if answer.is_done else row._replace(state=REFUSED, answer=answer.answer, since=0)
+
+
+# ---- what was on its way as the application ended
+
+
+def settle(desk: Desk, person: str, kind: Kind) -> None:
+    """Finds in the log what became of rows that were on their way; those that were carried out go. Raises Fault."""
+    going = [it for it in desk.tray.rows(person, kind.name) if it.state == GOING]
+    if going:
+        entries = [*desk.log.entries]
+        changed = {it.number: found_in_log(it, entries) for it in going}
+        desk.tray.change(person, kind.name, changed)
+
+
+def found_in_log(row: Waiting, entries: Sequence[Entry]) -> Optional[Waiting]:
+    """A row by what the log says of it: None if it was carried out."""
+    for reply in _replies(row, entries):
+        if reply is None:
+            return row
+        answer = told(row.record, reply)
+        return None if answer.is_done else row._replace(state=REFUSED, answer=answer.answer, since=0)
+    return row._replace(state=REFUSED, answer=WAS_NOT_SENT, since=0)
+
+
+def _replies(row: Waiting, entries: Sequence[Entry]) -> Iterator[Optional[Reply]]:
+    """The reply to each time that a row was sent; None of one whose reply isn't known."""
+    for entry in entries:
+        if entry.what == SENT and entry.number > row.since and row.record in entry.records:
+            ends = [it for it in entries if it.of == entry.number]
+            if not ends:
+                yield None
+            elif ends[0].what in (ANSWERED, LOOKED_UP):
+                yield ends[0].replies[entry.records.index(row.record)]
