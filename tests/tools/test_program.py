@@ -19,6 +19,13 @@ from conftest import ROOT
 def test_a_record_is_quoted_where_it_has_to_be() -> None:
     assert record(0, "desk", "outlet", 3, 'Harbour, "east"') == '0,desk,outlet,3,"Harbour, ""east"""'
     assert record(0, "desk", "plan", 2026, "T,00,All\n") == '0,desk,plan,2026,"T,00,All\n"'
+    for end in ("\n", "\r", "\r\n"):
+        assert record("outlet", 3, f"Harbour{end}freeze") == f'outlet,3,"Harbour{end}freeze"'
+
+
+def test_a_text_with_the_end_of_a_line_is_no_second_record(cpi: Cpi) -> None:
+    given = [record(0, "desk", "outlet", 3, f"Harbour{end}0,desk,outlet,4,East") for end in ("\n", "\r", "\r\n")]
+    assert cpi.replay(given) == [{"refused": 10}] * 3
 
 
 def executable(path: Path) -> Path:

@@ -24,6 +24,9 @@ from .terminal import Fault, counted
 BEGINS = frozenset("=+-@\t\r")
 """How a text begins that a spreadsheet takes as a formula."""
 
+END = "\r\n"
+"""Both of its characters end a line for some reader."""
+
 NUMBER = re.compile(r"[+-][0-9]+(\.[0-9]+)?")
 
 MOST_SHOWN = 40
@@ -71,10 +74,11 @@ class Cells(dict[str, str]):
 
 
 def line_of(cells: Iterable[object]) -> str:
-    """The line of some cells, without its end."""
+    """The line of some cells, without its end. A text in which a line ends is between quotes, so it stays one cell."""
     text = io.StringIO()
-    csv.writer(text, lineterminator="").writerow(cells)
-    return text.getvalue()
+    # (a writer quotes only the ends that it writes itself)
+    csv.writer(text, lineterminator=END).writerow(cells)
+    return text.getvalue().removesuffix(END)
 
 
 class Writer:

@@ -8,8 +8,6 @@ from __future__ import annotations
 
 import argparse
 import contextlib
-import csv
-import io
 import json
 import os
 import shutil
@@ -19,6 +17,7 @@ from collections.abc import Iterable, Iterator, Sequence
 from pathlib import Path
 from typing import Any, NoReturn, Optional, Union
 
+from .csv_files import line_of
 from .terminal import Fault, because_of
 from .words import told_fault
 
@@ -46,9 +45,7 @@ class CpiFailed(Fault):
 
 def record(*fields: object) -> str:
     """A record as one CSV row without the end of its line: `record(0, "desk", "outlet", 3, "Harbour, east")`."""
-    written = io.StringIO()
-    csv.writer(written, lineterminator="").writerow(fields)
-    return written.getvalue()
+    return line_of(fields)
 
 
 # ---- where the program is
