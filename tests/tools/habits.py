@@ -400,7 +400,7 @@ HABITS: dict[str, Habit] = {
     "`prices.csv` and `2025-prices.csv`": Habit(beside("2025-prices.csv", PLAIN)),
     "`notes.docx`": Habit(beside("notes.docx")),
     "`prices.ods` or `.xls`, with LibreOffice": Habit(of_another_kind),
-    "`prices.ods` or `.xls`, without it": Habit(of_another_kind),
+    "`prices.ods` or `.xls`, without LibreOffice": Habit(of_another_kind),
     "a folder in the folder": Habit(older),
     "`prices.xlsm`": Habit(book(lambda _: None, name="prices.xlsm")),
     "a workbook with a password": Habit(put_bytes(bytes.fromhex("d0cf11e0a1b11ae1") + bytes(504), name="prices.xlsx")),
@@ -498,4 +498,4 @@ HABITS: dict[str, Habit] = {
     "an item `SEP1` that a spreadsheet took for a date": Habit(of_items),
     "a window that opens on a day without a time": Habit(date_of_window),
 }  # fmt: skip
-"""By the words of the table in docs/CHANGING-OVER.md."""
+"""By the words of habits.txt, which are those of docs/CHANGING-OVER.md."""

@@ -1,4 +1,7 @@
-"""Each row of the table of habits in docs/CHANGING-OVER.md: what becomes of such a sheet is what the table says."""
+"""Each habit in the lists of docs/CHANGING-OVER.md: what becomes of its sheet is what the guide says.
+
+habits.txt has the habits as a table, with the line that the tool says.
+"""
 
 from __future__ import annotations
 
@@ -19,6 +22,8 @@ from ran import Ran, rows_of, run
 from spreadsheets import replayed
 
 GUIDE = ROOT / "docs/CHANGING-OVER.md"
+TABLE = Path(__file__).with_name("habits.txt")
+FATES = {"Read": "read", "Read, with a warning": "read, with a warning", "Refused": "refused"}
 
 
 class Told(NamedTuple):
@@ -30,11 +35,18 @@ class Told(NamedTuple):
 
 
 def table() -> list[Told]:
-    """The rows of the guide's table."""
-    text = GUIDE.read_text(encoding="utf-8").partition("\n## Habits of spreadsheets\n")[2].partition("\n## ")[0]
-    rows = [line.strip("|").split(" | ") for line in text.splitlines() if line.startswith("|")]
-    found = [Told(*(cell.strip() for cell in row)) for row in rows[2:]]
+    """The rows of habits.txt, a row a line."""
+    rows = [line.split(" | ") for line in TABLE.read_text(encoding="utf-8").splitlines()]
+    found = [Told(*(cell.strip() for cell in row)) for row in rows]
     return [it._replace(line=re.sub(r"^`+ ?|(?<! ) ?`+$", "", it.line)) for it in found]
+
+
+def guide() -> dict[str, list[str]]:
+    """The habits of each list of the guide, by what becomes of them."""
+    text = GUIDE.read_text(encoding="utf-8").partition("\n## Habits of spreadsheets\n")[2].partition("\n## ")[0]
+    parts = [part.partition("\n") for part in text.split("\n### ")[1:]]
+    items = {heading: re.findall(r"^- \*\*.*?\*\*: (.*)$", body, re.M) for heading, _, body in parts}
+    return {FATES[heading]: [habit for item in found for habit in item.split("; ")] for heading, found in items.items()}
 
 
 STAND_IN = """\
@@ -81,6 +93,11 @@ def test_the_table_has_each_habit_that_is_tried() -> None:
     assert [it.habit for it in table()] == [*HABITS]
 
 
+def test_the_guide_says_of_each_habit_what_becomes_of_it() -> None:
+    every = table()
+    assert guide() == {fate: [it.habit for it in every if it.becomes == fate] for fate in FATES.values()}
+
+
 def named(told: Told) -> str:
     """The habit that a test is of."""
     return told.habit
@@ -88,7 +105,7 @@ def named(told: Told) -> str:
 
 @pytest.mark.parametrize("told", table(), ids=named)
 def test_what_becomes_of_a_habit(cpi: Cpi, tmp_path: Path, libreoffice: Path, told: Told) -> None:
-    if told.habit.endswith("without it"):
+    if told.habit.endswith("without LibreOffice"):
         libreoffice.unlink()
     habit: Habit = HABITS[told.habit]
     folder = base(tmp_path / "office")
