@@ -7,7 +7,7 @@ for the prover, or for hours. `./cpi` stands for the program that is tried, whic
 for a free one. What a guide leaves running is ended.
 
 Each relative link of each document points to a file that is there, and its #anchor to a heading of it. Each path and
-each name of code that it tells is there, and no paragraph or cell is too long (tests/lib/documents.py).
+each name of code that it tells is there, and no paragraph, cell or document is too long (tests/lib/documents.py).
 
 Each help says what its command reads and writes, an example and the exit statuses. The examples of `replay` and `table`
 run in a folder with the records of examples/table.csv and a key of the desk: what they print is what the program
@@ -31,7 +31,7 @@ from functools import partial
 from typing import NamedTuple
 
 from lib import cases
-from lib.documents import document_faults
+from lib.documents import all_words, document_faults
 from lib.harness import TOP, Check, Checks, Fault, Job, program_of, words_of
 from lib.program import Going, Program
 from lib.served import free_port
@@ -200,6 +200,7 @@ def main() -> int:
         # (their commands in turn, since some of them write to the same places)
         checks.do((Job(name, partial(run_guide, checks, chosen.program, name)) for name in names), lanes=1)
         checks.run(Check(name, partial(document_fault, name)) for name in names)
+        checks.run([] if chosen.only else [Check("the words of docs/", all_words)])
         helps = [] if chosen.only else COMMANDS
         checks.run(Check(f"help {' '.join(it)}", partial(help_fault, chosen.program, it)) for it in helps)
     return checks.status

@@ -1,6 +1,7 @@
 """What a document owes besides commands that run: a layout within bounds, and names of things that are there.
 
 `layout_faults`  no paragraph, list item or cell of a table is too long to read; README is two screens.
+`length_faults`  a document has at most 5,000 words, and all of docs/ have no more than their bound (`all_words`).
 `name_faults`    each path, and each name of code, stands in the repository.
 `claim_faults`   where a function is named with its clauses, or a definition with its file, it has them.
 `promise_faults` each sentence of PROMISE names the heading of PROOF that carries it.
@@ -83,6 +84,26 @@ def readme_faults(text: str) -> Iterator[str]:
     yield from (f"a line of {len(it)} characters: {it[:60]}.." for it in lines if len(it) > 300)
     rows = [part for is_row, part in paragraphs(text) if is_row]
     yield from (f"a cell of {len(it)} characters: {it[:60]}.." for row in rows for it in cells(row) if len(it) > 90)
+
+
+# ---- the length
+
+MOST_WORDS, MOST_OF_ALL = 5000, 66000
+"""Words as `wc -w` counts them: of a document, and of docs/*.md together."""
+
+LONG = {f"docs/{it}.md" for it in ("DESK", "PUBLISHING", "RUNNING")}
+"""Documents that may be longer."""
+
+
+def length_faults(name: str, text: str) -> Iterator[str]:
+    if name.startswith("docs/") and name not in LONG and len(text.split()) > MOST_WORDS:
+        yield f"{len(text.split())} words, over {MOST_WORDS}"
+
+
+def all_words() -> str | None:
+    """What is wrong with the length of docs/*.md together, if it is."""
+    count = sum(len(it.read_text(encoding="utf-8").split()) for it in (ROOT / "docs").glob("*.md"))
+    return f"{count} words, over {MOST_OF_ALL}" if count > MOST_OF_ALL else None
 
 
 # ---- the code
@@ -327,6 +348,7 @@ ALONE = {
 def document_faults(name: str, text: str) -> Iterator[str]:
     """What is wrong with a document, by its name from the top of the repository."""
     yield from layout_faults(name, text)
+    yield from length_faults(name, text)
     yield from english_faults(name, text)
     yield from crate_readme_faults(name, text)
     yield from path_faults(text)
