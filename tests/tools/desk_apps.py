@@ -14,6 +14,7 @@ from cpi_tools.desk_app.app import Reached, make_app
 from cpi_tools.desk_app.desk import Desk, Given
 from cpi_tools.pack.clocks import clock_of
 from cpi_tools.program import Cpi
+from cpi_tools.speech import SPEAKS_ENGLISH, Speech
 from lib.served import free_port
 from loads import DESK_KEY, served
 
@@ -59,8 +60,11 @@ class Application:
     """An application over an office's file, which is served meanwhile or not; notes of the field are kept for so many
     months, 0 if none are taken."""
 
-    def __init__(self, cpi: Cpi, file: Path, room: Path, port: int, field_months: int = 0):
-        self.cpi, self.file, self.room, self.port, self.field_months = cpi, file, room, port, field_months
+    def __init__(
+        self, cpi: Cpi, file: Path, room: Path, port: int, field_months: int = 0, speech: Speech = SPEAKS_ENGLISH
+    ):
+        self.cpi, self.file, self.room, self.port = cpi, file, room, port
+        self.field_months, self.speech = field_months, speech
         self.desk = self._begun()
 
     def _begun(self) -> Desk:
@@ -68,7 +72,10 @@ class Application:
         copies = self.room.parent / "copies"
         copies.mkdir(mode=0o700, exist_ok=True)
         url = f"http://127.0.0.1:{self.port}"
-        desk = Desk(Given(url, self.file, self.room, str(self.cpi.path), 1800, CLOCK, copies, 8, self.field_months))
+        given = Given(
+            url, self.file, self.room, str(self.cpi.path), 1800, CLOCK, copies, 8, self.field_months, speech=self.speech
+        )
+        desk = Desk(given)
         self.app = make_app(desk, Reached(LISTEN, None))
         return desk
 
@@ -90,11 +97,13 @@ class Application:
 
 
 @contextlib.contextmanager
-def applied(cpi: Cpi, file: Path, room: Path, field_months: int = 0) -> Iterator[Application]:
+def applied(
+    cpi: Cpi, file: Path, room: Path, field_months: int = 0, speech: Speech = SPEAKS_ENGLISH
+) -> Iterator[Application]:
     """An application over an office that is served."""
     port = free_port()
     with served(cpi, file, port, 100_000):
-        application = Application(cpi, file, room, port, field_months)
+        application = Application(cpi, file, room, port, field_months, speech)
         try:
             yield application
         finally:

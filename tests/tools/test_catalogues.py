@@ -2,6 +2,7 @@
 
 from __future__ import annotations
 
+import ast
 import re
 import shutil
 import subprocess
@@ -141,9 +142,10 @@ def test_a_text_that_is_not_marked_is_found() -> None:
     ]  # fmt: skip
 
 
-TEMPLATES = sorted((ROOT / "tools/cpi_tools/pack/templates").glob("*.html"))
+FOLDERS = ("pack", "desk_app")
+TEMPLATES = sorted(path for folder in FOLDERS for path in (ROOT / f"tools/cpi_tools/{folder}/templates").glob("*.html"))
 NOT_YET = set[str]()
-"""Templates of the website whose texts are in no catalogue yet: a list that only shrinks."""
+"""Templates whose texts are in no catalogue yet: a list that only shrinks."""
 
 OF_NO_LANGUAGE = re.compile(
     r"<(pre|script|style)\b.*?</\1>|<[^>]*>|&[a-z]+;|[\w.-]*\.(?:csv|xlsx|xml|json|px|html|zip)|\b(?:SDMX|CSV|ML|SVG|SHA)\b",
@@ -166,8 +168,8 @@ def left_in(template: str) -> list[str]:
     return re.findall(r"[A-Za-z]{2,}", OF_NO_LANGUAGE.sub(" ", " ".join(found)))
 
 
-@pytest.mark.parametrize("path", TEMPLATES, ids=lambda path: str(path.stem))
-def test_each_text_of_the_website_is_marked(path: Path) -> None:
+@pytest.mark.parametrize("path", TEMPLATES, ids=lambda path: f"{path.parents[1].name}/{path.stem}")
+def test_each_text_of_a_template_is_marked(path: Path) -> None:
     found = left_in(path.read_text(encoding="utf-8"))
     assert found if path.stem in NOT_YET else found == []
 
@@ -175,6 +177,54 @@ def test_each_text_of_the_website_is_marked(path: Path) -> None:
 def test_a_text_of_a_template_that_is_not_marked_is_found() -> None:
     template = '<p aria-label="Some {{ of }}">{% trans %}Stored{% endtrans %} left {{ it }}</p><pre>code</pre> cpi.csv'
     assert left_in(template) == ["Some", "left"]
+
+
+CALLS = ("_", "told", "told_of", "columns", "heads", "marked", "of_others")
+"""The functions whose strings catalogues have, and the one whose texts have no language."""
+
+MODULES = sorted(
+    path
+    for path in (ROOT / "tools/cpi_tools/desk_app").glob("*.py")
+    # (what a command prints, and what the log's file has, is English)
+    if path.name not in ("words.py", "serving.py", "desk_log.py")
+)
+
+
+def outside_of_python(module: str) -> list[str]:
+    """The texts of a module that are in no catalogue: strings of two words, but for docstrings, what such calls take, and
+    what is written to the log."""
+    tree, known = ast.parse(module), set[ast.AST]()
+    for node in ast.walk(tree):
+        called = node.func if isinstance(node, ast.Call) else None
+        name = called.id if isinstance(called, ast.Name) else called.attr if isinstance(called, ast.Attribute) else ""
+        is_docstring = isinstance(node, ast.Expr) and isinstance(node.value, ast.Constant)
+        if name in CALLS or name == "append" or is_docstring:
+            known.update(ast.walk(node))
+    texts = (it.value for it in ast.walk(tree) if isinstance(it, ast.Constant) and it not in known)
+    return [
+        text
+        for text in texts
+        if isinstance(text, str) and re.search("[A-Za-z]{2,} [A-Za-z]{2,}", text) and not NO_TEXT.search(text)
+    ]
+
+
+NO_TEXT = re.compile(
+    r"^default-src |^<svg |^\"/?><path |^record or step$|isn't as it was written|^refused by |^not carried out; it would be |^; $"
+)
+"""What is no text of a page: a field of HTTP, markup, a heading of a file, why the application doesn't start, and a
+refusal's line in English."""
+
+
+@pytest.mark.parametrize("path", MODULES, ids=lambda path: str(path.stem))
+def test_each_text_of_the_desk_s_application_is_in_the_catalogues(path: Path) -> None:
+    assert outside_of_python(path.read_text(encoding="utf-8")) == []
+
+
+def test_a_text_of_python_outside_of_the_catalogues_is_found() -> None:
+    module = (
+        'def f():\n    """Says so."""\n    return _("Two words"), "two words", f"{x} are left", columns("one head")\n'
+    )
+    assert outside_of_python(module) == ["two words", " are left"]
 
 
 # ---- each catalogue is whole

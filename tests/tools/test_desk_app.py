@@ -215,7 +215,7 @@ def test_a_month_at_a_glance_worked_by_hand(ada: Person) -> None:
     """Of three slots one is priced, two are missing; rice has 600,000 of the weight and one price of two: 30
     percent."""
     words = ada.words("/month/2026-02/")
-    assert "priced 33.3 % 1 / 3" in words and "priced, by weight 30.0 %" in words
+    assert "priced 33.3 % 1 of 3" in words and "priced, by weight 30.0 %" in words
     assert "silent slots 0" in words and "missing, with a reason 2" in words
     assert "closed, not frozen" in words
     rows = [*csv.DictReader(io.StringIO(ada.get("/month/2026-02/glance/collectors.csv").text))]
@@ -243,7 +243,7 @@ def test_the_glance_follows_the_office_and_hears_collectors(application: Applica
         assert heard(peer).endswith(b'{"receipt":7}\n')
     application.desk.watch.renew()
     words = ada.words("/month/2026-02/")
-    assert "priced 66.7 % 2 / 3" in words and "priced, by weight 60.0 %" in words
+    assert "priced 66.7 % 2 of 3" in words and "priced, by weight 60.0 %" in words
     rows = [*csv.DictReader(io.StringIO(ada.get("/month/2026-02/glance/collectors.csv").text))]
     seen = {it["collector"]: it["last entry seen"] for it in rows}
     assert seen["8"] == "" and re.fullmatch(r"20\d\d-\d\d-\d\d \d\d:\d\d UTC", seen["7"])

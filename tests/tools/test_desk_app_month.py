@@ -12,6 +12,7 @@ import pytest
 import surveys
 from cpi_tools.desk_app.freezes import PreparedFreeze
 from cpi_tools.desk_app.lines import line_of
+from cpi_tools.report_language import ENGLISH
 from cpi_tools.desk_app.marks import NOTE, SEEN, UNSEEN, Marks, Price
 from cpi_tools.desk_app.tables_kept import TablesKept
 from cpi_tools.program import Cpi, record
@@ -93,7 +94,7 @@ def test_what_a_handful_of_prices_would_change(ada: Person) -> None:
     words = words_of(ada.post(f"/month/{MONTH}/what-if", text="7/1=220\n").text)
     assert "00 105.698455 1.5 106.363636 2.1" in words and "01.1.1.1-01 106.164091 2.4 107.272727 3.5" in words
     refused = ada.post(f"/month/{MONTH}/what-if", text="7/1=220\n7/x=1\n")
-    assert refused.status_code == 400 and "line 2: 7/x isn't COLLECTOR/SLOT" in words_of(refused.text)
+    assert refused.status_code == 400 and "Line 2: 7/x isn't COLLECTOR/SLOT" in words_of(refused.text)
     assert "7/1=220\n7/x=1" in refused.text
 
 
@@ -120,7 +121,7 @@ def test_a_price_is_seen_by_a_person_and_noted_for_all(tried: Application, ada: 
     ben = tried.person(BEN)
     page = f"/month/{MONTH}/looks"
     assert "1 to look at, 0 seen by you" in ada.words(page)
-    assert "The only price that is compared in its aggregate." in ada.words(page)
+    assert "Why: the only price that is compared in its aggregate." in ada.words(page)
     of = {"collector": "8", "slot": "1", "price": "252"}
     assert ada.post(page, what=SEEN, **of).status_code == 303
     assert ada.post(page, what=NOTE, text="called <b>on Monday</b>", **of).status_code == 303
@@ -182,9 +183,9 @@ def test_marks_are_of_one_price_and_outlive_a_crash(tmp_path: Path) -> None:
 
 def test_a_history_is_a_line_with_gaps() -> None:
     quotes = {202512: ("price", 200), 202601: ("missing", 0), 202602: ("price", 300)}
-    drawn = str(line_of(quotes, 202602))
+    drawn = str(line_of(quotes, 202602, ENGLISH.say))
     assert drawn.count("<circle") == 2 and drawn.count("M") == 2 and "2 prices in 13 months, from 200 to 300" in drawn
-    assert line_of({}, 202602) == ""
+    assert line_of({}, 202602, ENGLISH.say) == ""
 
 
 # ---- the freeze
@@ -205,14 +206,14 @@ def frozen_months(application: Application) -> list[tuple[int, tuple[str, ...]]]
 def test_two_people_freeze_a_month(tried: Application, ada: Person) -> None:
     ben, page = tried.person(BEN), f"/month/{MONTH}/freeze"
     assert "1 aggregate with nothing to compare" in ada.words(page) and "1 closed" in ada.words(page)
-    assert f"say why {CODE} is carried" in told(ada, "prepare")
+    assert f"Say why {CODE} is carried" in told(ada, "prepare")
     assert "No freeze of this month is prepared" in told(ben, "confirm")
     assert ada.post(f"{page}/prepare", **WHY).status_code == 303
     assert "You prepared it, so another person confirms it" in ada.words(page)
     for same in (ADA, "ADA", "\uff21da"):
         assert "another person confirms it" in told(tried.person(same), "confirm")
     assert [it[0] for it in frozen_months(tried)] == [202512, 202601]
-    assert "2026-02 is frozen, revision 1" in told(ben, "confirm")
+    assert "February 2026 is frozen, revision 1" in told(ben, "confirm")
     assert frozen_months(tried)[-1] == (202602, (CODE,))
     assert "No freeze of this month is prepared" in told(ben, "confirm")
     log = ada.get("/log.csv").text
@@ -258,10 +259,10 @@ def test_before_its_window_has_closed_a_month_isn_t_prepared(application: Applic
 
 def test_the_freeze_isn_t_a_record_among_others(ada: Person) -> None:
     for text, says in (
-        (f"freeze,{MONTH}\n", "line 1: a month is frozen on its own page"),
-        ("\noutlet,12,A\nquote,1,2026-02,price,3\n", "line 3: 'quote' is no word of a record here"),
+        (f"freeze,{MONTH}\n", "Line 1: a month is frozen on its own page"),
+        ("\noutlet,12,A\nquote,1,2026-02,price,3\n", "Line 3: quote is no word of a record here"),
         ('outlet,12,"A\n', "unexpected end of data"),
-        ("\n", "there are no records"),
+        ("\n", "There are no records"),
     ):
         answer = ada.post("/records/judge", text=text)
         assert answer.status_code == 400 and says in words_of(answer.text), answer.text
@@ -294,8 +295,8 @@ def test_times_of_the_calendar_are_those_of_the_office_s_clock(application: Appl
 def test_a_window_is_set_by_a_form_in_the_office_s_time(application: Application, ada: Person) -> None:
     words = ada.words("/calendar")
     assert "by the office's clock, Europe/Prague" in words
-    assert "2026-01 1 January 1970, 01:16 CET 1 January 1970, 01:33 CET 1 January 1970, 01:50 CET frozen" in words
-    assert "2026-02 1 January 1970, 01:33 CET" in words and "closed, not frozen" in words
+    assert "January 2026 1 January 1970, 01:16 CET 1 January 1970, 01:33 CET 1 January 1970, 01:50 CET frozen" in words
+    assert "February 2026 1 January 1970, 01:33 CET" in words and "closed, not frozen" in words
     fields = ["2026-03", "2030-03-01T11:00", "2030-07-01T12:00", "2030-07-05T12:00"]
     form = {"token": ada.token, "word": "calendar", "field": fields}
     judged = ada.client.post("/records/judge", data=form, base_url=f"http://{LISTEN}")
@@ -303,4 +304,4 @@ def test_a_window_is_set_by_a_form_in_the_office_s_time(application: Application
     (offer,) = re.findall('name="offer" value="([^"]+)"', judged.text)
     assert "1 of 1 done" in words_of(ada.post("/records/send", offer=offer).text)
     window = "1 March 2030, 11:00 CET 1 July 2030, 12:00 CEST 5 July 2030, 12:00 CEST not open yet"
-    assert f"2026-03 {window}" in ada.words("/calendar")
+    assert f"March 2026 {window}" in ada.words("/calendar")

@@ -2,88 +2,24 @@
 
 from __future__ import annotations
 
-import re
 from collections.abc import Iterator
-from html.parser import HTMLParser
 from pathlib import Path
-from typing import Optional
 
 import pytest
-from babel.messages.catalog import Catalog
-from babel.messages.pofile import read_po, write_po
 
 import surveys
-from cpi_tools import languages
 from cpi_tools.program import Cpi
 from cpi_tools.report_language import VARIABLE, teller_of
 from cpi_tools.told import Figure, moment_of, month_of, row, sentences, told, told_of, whole
-from conftest import ROOT
+from nobodys import greek, left_in_english, nobodys_in, seen
 from ran import Ran, run
 from surveys import closes
-
-GREEK = str.maketrans("abcdefghijklmnopqrstuvwxyz", "αβψδεφγηιξκλμνοπχρστθωςχυζ")
-
-PLACE = re.compile(r"(\{[a-z0-9_]+\}|%\([a-z]+\)s|%)")
-"""A place of a text, or a percent sign."""
-
-
-def greek(text: str) -> str:
-    """A text of a language that nobody speaks: in letters that no English word has."""
-    parts = PLACE.split(text)
-    return "".join(it if at % 2 else it.lower().translate(GREEK) for at, it in enumerate(parts))
 
 
 @pytest.fixture
 def nobodys(tmp_path: Path, monkeypatch: pytest.MonkeyPatch) -> str:
-    """A language that nobody speaks, with a catalogue of all texts; its code is that of Greek, for months in its letters."""
-    with (ROOT / "po/cpi.pot").open("rb") as file:
-        source = read_po(file)
-    made = Catalog(locale="el", fuzzy=False)
-    for message in source:
-        if message.id:
-            forms = [message.id] if isinstance(message.id, str) else [*message.id]
-            told_so = [greek(form) for form in forms]
-            string = told_so[0] if isinstance(message.id, str) else tuple(told_so)
-            made.add(message.id, string, message.locations, context=message.context)
-    po = tmp_path / "po"
-    po.mkdir()
-    with (po / "el.po").open("wb") as out:
-        write_po(out, made)
-    monkeypatch.setattr(languages, "PO", po)
-    return "el"
-
-
-class Seen(HTMLParser):
-    """The texts of a page that aren't of others, and those of attributes that are read."""
-
-    def __init__(self) -> None:
-        super().__init__()
-        self.texts: list[str] = []
-        self.figures: list[str] = []
-        self._open: list[tuple[str, str]] = []
-
-    def handle_starttag(self, tag: str, attrs: list[tuple[str, Optional[str]]]) -> None:
-        has = dict(attrs)
-        self.texts += [has[name] or "" for name in ("aria-label", "title", "alt") if name in has]
-        if tag not in ("meta", "link", "br"):
-            self._open.append((tag, has.get("class") or ""))
-
-    def handle_endtag(self, tag: str) -> None:
-        while self._open and self._open.pop()[0] != tag:
-            pass
-
-    def handle_data(self, data: str) -> None:
-        if any(tag in ("bdi", "style", "script") or kind == "code" for tag, kind in self._open):
-            return
-        if self._open and self._open[-1] == ("td", "n"):
-            self.figures.append(data)
-        self.texts.append(data)
-
-
-def seen(page: Path) -> Seen:
-    parser = Seen()
-    parser.feed(page.read_text(encoding="utf-8"))
-    return parser
+    """The code of a language that nobody speaks."""
+    return nobodys_in(tmp_path, monkeypatch)
 
 
 def month(cpi: Cpi, file: Path, at: object, out: Path, *words: str) -> Ran:
@@ -99,10 +35,6 @@ def office(cpi: Cpi, tmp_path_factory: pytest.TempPathFactory) -> Iterator[Path]
     yield path
 
 
-NAMES = re.compile(r"[a-z-]+\.csv|UTC")
-"""What is the same in each language: names of files, and of the zone."""
-
-
 @pytest.mark.parametrize("at", ["closes", "before"])
 def test_no_word_is_left_in_english(cpi: Cpi, office: Path, tmp_path: Path, nobodys: str, at: str) -> None:
     """Also of a month whose window is still open, which is refused when it is frozen at that moment or later."""
@@ -111,8 +43,7 @@ def test_no_word_is_left_in_english(cpi: Cpi, office: Path, tmp_path: Path, nobo
     assert ran.status == 0
     page = seen(tmp_path / "report/month.html")
     assert len(page.texts) > 500
-    left = [text for text in page.texts if re.search("[A-Za-z]{2,}", NAMES.sub("", text))]
-    assert left == []
+    assert left_in_english(page) == []
 
 
 def test_a_refusal_is_said_in_the_language(cpi: Cpi, tmp_path: Path, nobodys: str) -> None:
@@ -125,10 +56,10 @@ def test_a_refusal_is_said_in_the_language(cpi: Cpi, tmp_path: Path, nobodys: st
     assert "desk month: no provisional table: a freeze of 2026-03: refused by 46: it is neither the last" in ran.err
     page = seen(out / "month.html")
     assert greek("Refused by ") in " ".join(page.texts)
-    assert [it for it in page.texts if re.search("[A-Za-z]{2,}", NAMES.sub("", it))] == []
+    assert left_in_english(page) == []
 
 
-FIGURES = str.maketrans({"\u202f": "", "\u00a0": "", "\u2066": "", "\u2069": "", "\u2212": "-"})
+FIGURES = str.maketrans({**dict.fromkeys("\u202f\u00a0\u2066\u2069\u200e", ""), "\u2212": "-"})
 
 
 @pytest.mark.parametrize(
@@ -170,13 +101,13 @@ def test_the_language_of_the_office_is_in_the_environment(
 
 def test_what_is_in_a_place_is_said_in_the_language() -> None:
     """By hand: the decimal mark, months and moments of CLDR, and a code whose signs stay in their order."""
-    french, arabic = (teller_of(languages.language_of(code)) for code in ("fr", "ar"))
+    french, arabic = (teller_of(code) for code in ("fr", "ar"))
     level = told("level {level}", level=Figure("1,626.55"))
     assert str(french.say(level)) == "niveau 1\u202f626,55"
     assert str(arabic.say(level)) == "المستوى \u20661,626.55\u2069"
     assert str(french.say(month_of(202602))) == "février 2026"
-    assert str(french.say(moment_of(1_769_590_800))) == "28 janv. 2026, 09:00 UTC"
-    assert str(arabic.say(moment_of(1_769_590_800))) == "28 يناير 2026, \u206609:00 UTC\u2069"
+    assert str(french.say(moment_of(1_769_590_800))) == "28 janvier 2026 à 09:00 UTC"
+    assert str(arabic.say(moment_of(1_769_590_800))) == "28 يناير 2026 في 09:00 UTC"
     assert arabic.code("01.1.1.1-01") == "\u206601.1.1.1-01\u2069" and french.code("01") == "01"
     assert str(arabic.say(row([told("price"), told("other")]))) == "السعر، آخر"
     assert str(sentences(told("None."), told("never"))) == "None. never" and str(row([])) == ""
@@ -189,5 +120,5 @@ def test_a_text_in_a_place_stays_the_text_of_others() -> None:
 
     text = told("{title} (left the plan)", title=of_others("<b>\u202e"))
     assert others(text) == "<bdi>&lt;b&gt;\u202e</bdi> (left the plan)"
-    french = teller_of(languages.language_of("fr")).say(text)
+    french = teller_of("fr").say(text)
     assert others(french) == "<bdi>&lt;b&gt;\u202e</bdi> (sorti du plan)"

@@ -1,4 +1,5 @@
-"""The language of a report: how a page says its texts, figures, months and moments. English has them as they are made."""
+"""How the page of a report says its texts, figures, months and moments: in the language that its tool was asked for, and
+by the office's clock. `speech` has what a language says."""
 
 from __future__ import annotations
 
@@ -6,16 +7,18 @@ import argparse
 import os
 import re
 from collections.abc import Callable, Mapping
-from datetime import datetime, timezone
 from typing import Any
 
-from .languages import SOURCE, Language, a_language, known, language_of
+from .languages import SOURCE, a_language, known
 from .others import Worded, worded
-from .terminal import Fault, month_name
+from .pack.clocks import UTC, Clock, clock_of
+from .speech import DIGITS, LATIN, SPEAKS_ENGLISH, Speech, speech_of
+from .terminal import Fault
 from .told import Figure, Moment, Month, Told
 
-VARIABLE = "CPI_LANGUAGE"
-"""The variable of the environment that an office sets for the language of its reports."""
+VARIABLE, DIGITS_VARIABLE, ZONE_VARIABLE = "CPI_LANGUAGE", "CPI_DIGITS", "CPI_ZONE"
+"""The variables of the environment that an office sets for its reports: their language, the digits of all languages but
+English, and the clock."""
 
 FIGURE = re.compile(r"[+\u2212-]?[0-9][0-9,]*(\.[0-9]+)?(\u202f?%)?")
 
@@ -24,24 +27,21 @@ LEFT_TO_RIGHT, ENDS = "\u2066", "\u2069"
 
 
 def add_language(words: argparse.ArgumentParser, what: str) -> None:
-    """The word `--language` of a tool, whose page is in it."""
+    """The words `--language` and `--digits` of a tool, and `--zone`: how its page is written."""
+    add = words.add_argument
     says = f"the language of {what}, such as fr (else that of {VARIABLE}, or en): one with a catalogue"
-    words.add_argument("--language", type=a_language, metavar="LANG", help=says)
-
-
-def chosen_language(chosen: argparse.Namespace) -> Language:
-    """The language of --language, else that of the office, else English. Raises Fault if the office's has no catalogue."""
-    code = chosen.language or os.environ.get(VARIABLE) or SOURCE
-    if code not in known():
-        raise Fault(f"{VARIABLE} is {code!r}, which has no catalogue: one of {', '.join(known())}")
-    return language_of(code)
+    add("--language", type=a_language, metavar="LANG", help=says)
+    says = f"digits of another language than English: {', '.join(DIGITS)} (else those of {DIGITS_VARIABLE}, or {LATIN})"
+    add("--digits", choices=DIGITS, metavar="DIGITS", help=says)
+    says = f"the clock of {what}: a place, or a rule as POSIX has it (else that of {ZONE_VARIABLE}, or UTC)"
+    add("--zone", metavar="ZONE", help=says)
 
 
 class Teller:
-    """English."""
+    """What says a report: a language, and the clock of its moments."""
 
-    def __init__(self, language: Language):
-        self.language = language
+    def __init__(self, speech: Speech = SPEAKS_ENGLISH, clock: Clock = UTC):
+        self.speech, self.clock = speech, clock
 
     @property
     def filters(self) -> Mapping[str, Callable[..., Any]]:
@@ -50,87 +50,92 @@ class Teller:
             "say": self.say,
             "told_cell": self.cell,
             "figure": self.figure,
+            "whole": self.whole,
+            "in_percent": self.in_percent,
             "code": self.code,
             "month_words": self.month,
+            "moment": self.moment,
         }
 
     def say(self, value: object) -> object:
         """What a page has for a text, or for what is in a place of one. A text of others stays as it is."""
-        return value
-
-    def cell(self, value: object) -> object:
-        """A cell of a column of texts, which is of others if it isn't told."""
-        return self.say(value) if isinstance(value, (Told, Month)) else value
-
-    def figure(self, value: object) -> object:
-        """A figure; anything else stays as it is."""
-        return value
-
-    def code(self, value: object) -> object:
-        """The code of a node or an item."""
-        return value
-
-    def month(self, month: str) -> str:
-        """`January 2026` of `2026-01`."""
-        return month_name(month)
-
-
-class Cldr(Teller):
-    """Another language, by its catalogue and by CLDR."""
-
-    def __init__(self, language: Language):
-        super().__init__(language)
-        from babel import Locale
-
-        self._locale = Locale.parse(language.tag, sep="-")
-        signs = self._locale.number_symbols
-        self._signs = str.maketrans({".": signs["decimal"], ",": signs["group"], "-": "\u2212"})
-
-    def say(self, value: object) -> object:
         if isinstance(value, Told):
+            if value.is_english and self.speech.language.tag == SOURCE:
+                return value
             return worded(self._form(value), **{name: self._placed(it) for name, it in value.places.items()})
         if isinstance(value, (Figure, Month, Moment)):
             return self._placed(value)
-        return value if isinstance(value, Worded) or not isinstance(value, str) else self.language.gettext(value)
+        return value if isinstance(value, Worded) or not isinstance(value, str) else self.speech.t(value)
+
+    def cell(self, value: object) -> object:
+        """A cell of a column of texts, which is of others if it isn't told."""
+        return self.say(value) if isinstance(value, (Told, Month, Moment)) else value
 
     def _form(self, text: Told) -> str:
         if text.number is None:
-            return self.language.gettext(text.source[0]) if text.source[0] else ""
-        return self.language.ngettext(text.source[0], text.source[1], text.number)
+            return self.speech.t(text.source[0]) if text.source[0] else ""
+        return self.speech.language.ngettext(text.source[0], text.source[1], text.number)
 
     def _placed(self, value: object) -> object:
         if isinstance(value, Told):
             return self.say(value)
         if isinstance(value, Moment):
-            return self._moment(value)
+            return self.moment(value.at)
         if isinstance(value, Month):
             return self.month(value)
         return self.figure(value) if isinstance(value, (Figure, int)) else value
 
     def figure(self, value: object) -> object:
-        text = f"{value:,}" if isinstance(value, int) else value
+        """A figure, such as `1,626.5` or `+0.3 %`; anything else stays as it is. A whole number is written without marks
+        of thousands, since it may be that of a collector."""
+        text = str(value) if isinstance(value, int) else value
         if not isinstance(text, str) or not FIGURE.fullmatch(text):
             return value
-        return self.code(text.translate(self._signs))
+        if text.endswith("%"):
+            return self.in_percent(text.rstrip("%\u202f"))
+        return self.code(self.speech.figure(text))
+
+    def whole(self, number: int) -> object:
+        """How many there are, `1,626`."""
+        return self.code(self.speech.whole(number))
+
+    def in_percent(self, text: str) -> object:
+        """A figure in percent, `12.5 %`."""
+        return self.code(self.speech.percent(text))
 
     def code(self, value: object) -> object:
-        return f"{LEFT_TO_RIGHT}{value}{ENDS}" if self.language.dir == "rtl" and value else value
+        """The code of a node or an item, or a figure, between whose signs nothing turns."""
+        return f"{LEFT_TO_RIGHT}{value}{ENDS}" if self.speech.language.dir == "rtl" and value else value
 
     def month(self, month: str) -> str:
-        return self._dated("yMMMM", datetime(int(month[:4]), int(month[5:]), 1))
+        """`January 2026` of `2026-01`."""
+        return self.speech.month(month)
 
-    def _moment(self, moment: Moment) -> str:
-        at = datetime.fromtimestamp(moment.at, timezone.utc)
-        form = self._locale.datetime_formats["medium"].replace("'", "")
-        day, time = self._dated("yMMMd", at), f"{self._dated('Hm', at)} UTC"
-        return str(form).replace("{1}", day).replace("{0}", str(self.code(time)))
+    def moment(self, at: int) -> str:
+        """`28 January 2026, 09:30 CET` of seconds since 1970 UTC."""
+        return self.clock.local(at, self.speech)
 
-    def _dated(self, skeleton: str, at: datetime) -> str:
-        from babel.dates import format_skeleton
-
-        return str(format_skeleton(skeleton, at, locale=self._locale))
+    def day(self, at: int) -> str:
+        """The same with the time in UTC, `28 January 2026, 09:30 CET (08:30 UTC)`."""
+        return self.clock.day(at, self.speech)
 
 
-def teller_of(language: Language) -> Teller:
-    """What says a report in a language."""
-    return Teller(language) if language.tag == SOURCE else Cldr(language)
+ENGLISH = Teller()
+"""English, by UTC."""
+
+
+def teller_of(code: str, digits: str = LATIN, clock: Clock = UTC) -> Teller:
+    """What says a report in a language. Raises Fault if its catalogue can't be read."""
+    return Teller(speech_of(code, digits), clock)
+
+
+def chosen_teller(chosen: argparse.Namespace) -> Teller:
+    """The language, digits and clock of a tool's words, else those of the office, else English, ASCII and UTC. Raises Fault
+    if the office's settings have something else."""
+    code = chosen.language or os.environ.get(VARIABLE) or SOURCE
+    if code not in known():
+        raise Fault(f"{VARIABLE} is {code!r}, which has no catalogue: one of {', '.join(known())}")
+    digits = chosen.digits or os.environ.get(DIGITS_VARIABLE) or LATIN
+    if digits not in DIGITS:
+        raise Fault(f"{DIGITS_VARIABLE} is {digits!r}: wanted is one of {', '.join(DIGITS)}")
+    return teller_of(code, digits, clock_of(chosen.zone or os.environ.get(ZONE_VARIABLE) or ""))

@@ -8,8 +8,7 @@ import jinja2
 from markupsafe import Markup
 
 from . import pages
-from .languages import ENGLISH, Language
-from .report_language import teller_of
+from .report_language import ENGLISH, Teller
 
 
 def style() -> Markup:
@@ -17,9 +16,9 @@ def style() -> Markup:
     return pages.style() + Markup((pages.TEMPLATES / "sections.css").read_text(encoding="utf-8"))
 
 
-def environment(own: Path, language: Language = ENGLISH) -> jinja2.Environment:
+def environment(own: Path, teller: Teller = ENGLISH) -> jinja2.Environment:
     """The templates of a tool whose pages are made of sections; its own stand in a folder."""
-    made = pages.environment(own, language)
+    made = pages.environment(own, teller.speech.language)
     made.globals["style"] = style
-    made.filters.update(teller_of(language).filters)
+    made.filters.update(teller.filters)
     return made

@@ -45,11 +45,13 @@ def whole(number: int) -> Figure:
 
 
 class Told(Worded):
-    """A text of ours in English. Its source is the text of the catalogues; with a count there are two of them."""
+    """A text of ours in English. Its source is the text of the catalogues; with a count there are two of them. One
+    that `is_english` has words of its own in English."""
 
     source: tuple[str, ...]
     number: Optional[int]
     places: Mapping[str, object]
+    is_english: bool = False
 
     @classmethod
     def made(
@@ -93,4 +95,6 @@ def row(parts: Sequence[Told]) -> Told:
 def said_as(english: str, *parts: Told) -> Told:
     """Sentences that a terminal has in other words, in English."""
     named = sentences(*parts)
-    return Told.made(worded("{line}", line=english), named.source, None, named.places)
+    made = Told.made(worded("{line}", line=english), named.source, None, named.places)
+    made.is_english = True
+    return made

@@ -10,6 +10,7 @@ from pathlib import Path
 from typing import NamedTuple, Optional
 
 from ..copying import private_copy
+from ..others import of_others
 from ..program import Cpi, record
 from ..sections import Section
 from ..stored import read_copy
@@ -88,7 +89,7 @@ def closed_of(facts: Facts, closes: int, frozen: FrozenMonth, early: list[Early]
 def named_of(facts: Facts, code: str) -> Named:
     """What is told of an aggregate that a refusal named."""
     title = facts.title(code)
-    series = aggregates.carry_series(facts, [code])._replace(title=f"{code} {title}")
+    series = aggregates.carry_series(facts, [code])._replace(title=of_others(f"{code} {title}"))
     return Named(code, title, marks_of(facts.samples[code], facts.frozen), series)
 
 

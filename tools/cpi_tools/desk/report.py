@@ -12,7 +12,6 @@ from ..others import of_others
 from ..program import Cpi
 from ..sections import Section, text_of
 from ..stored import read_copy
-from ..terminal import month_text
 from ..told import Figure, Moment, Month, Told, moment_of, month_of, sentences, told, whole
 from ..trial import Frozen, Refused, State, as_frozen, freeze_on_copy, state_of
 from . import aggregates, influence, provisional, response, sparse, unusual
@@ -102,7 +101,7 @@ def tried_on(cpi: Cpi, office_copy: Path, copy: Path, asked: Asked, now: Now) ->
         state = state_of(office, asked.month)
         carry = next((each.carry for each in reversed(office.releases()) if each.month == asked.month), ())
         early = early_tables(office, state, asked.at)
-    now(f"freezing {month_text(asked.month)} on a copy")
+    now(told("freezing {month} on a copy", month=month_of(asked.month)))
     try:
         frozen = (
             as_frozen(cpi, copy, state, carry)
@@ -123,10 +122,10 @@ def report_with(cpi: Cpi, office_copy: Path, tried: OnCopy, facts: Facts, asked:
     """All there is to say of a month that was tried on a copy, whose facts these are."""
     state, frozen, left = tried.state, tried.frozen, list[influence.Left]()
     if frozen and facts.rows and asked.left_out and not state.is_frozen:
-        now("leaving quotes out in turn")
+        now(told("leaving quotes out in turn"))
         trial = influence.Trial(cpi, office_copy, state, frozen_at(state, asked), frozen.carry)
         left = influence.left_out(facts, trial, asked.left_out)
-    now("counting")
+    now(told("counting"))
     sections = sections_of(facts, asked, frozen, left)
     report = gathered(facts, asked, state, sections, tried.fault, frozen.table if frozen else b"")
     return report._replace(warnings=[it.told() for it in tried.early])

@@ -16,6 +16,7 @@ from ..program import Cpi
 from ..sections import Cell, Section, columns
 from ..stored import StoredOffice, Window, read_copy
 from ..terminal import Fault, month_text, slot_text
+from ..told import told
 from ..trial import Frozen, Record, as_frozen, freeze_on_copy, reopened, state_of
 from .early import until_when
 
@@ -83,7 +84,7 @@ HEADS = columns(
 def differences(beside: Beside) -> Section:
     """The rows of the two tables that differ, side by side."""
     rows = differing(beside.as_is.table, beside.tried.table)
-    return Section("what-if", "Nodes that differ", "", HEADS, rows, "None: the tables are the same.")
+    return Section("what-if", told("Nodes that differ"), "", HEADS, rows, told("None: the tables are the same."))
 
 
 def differing(one: bytes, other: bytes) -> list[list[Cell]]:

@@ -16,7 +16,7 @@ from ..csv_files import add_safe_csv
 from ..desk_app.words import add_serve
 from ..folders import written_folder
 from ..program import Cpi, add_program
-from ..report_language import add_language, chosen_language
+from ..report_language import add_language, chosen_teller
 from ..sections import text_of, write_csv
 from ..stored import REASONS
 from ..terminal import Fault, Progress, ToolWords, a_moment, a_month, a_slot, at_least, needs
@@ -65,14 +65,14 @@ def run_month(chosen: argparse.Namespace) -> int:
     from .page import write_month  # (its package is this job's alone)
 
     asked = Asked(chosen.month, moment_of(chosen), chosen.left_out, chosen.width, chosen.small)
-    language = chosen_language(chosen)
+    teller = chosen_teller(chosen)
     with written_folder(chosen.out, PAGE) as folder:
         with at_desk(chosen) as desk:
             report = report_of(desk.cpi, desk.copy, asked, desk.progress.now)
         write_csv(report.sections, folder)
         if not report.fault:
             (folder / "provisional.csv").write_bytes(report.table)
-        write_month(report, folder / PAGE, language)
+        write_month(report, folder / PAGE, teller)
     print(text_of_report(report))
     print(f"\n{chosen.out / PAGE}")
     if report.fault:

@@ -14,7 +14,9 @@ from werkzeug.exceptions import HTTPException
 from werkzeug.wrappers import Response
 
 from .. import pages, section_pages
-from ..terminal import Fault, time_text
+from ..others import of_others
+from ..terminal import Fault
+from ..told import Told, told as _
 from . import (
     calendar_views,
     freeze_views,
@@ -29,6 +31,7 @@ from . import (
 )
 from .asked import file_name
 from .desk import Desk
+from .faults import says
 from .sessions import Session
 from .sign_in_views import COOKIE
 
@@ -40,6 +43,10 @@ FREE = ("sign_in.show", "sign_in.enter", "style")
 
 FIELD, FIELD_PATHS = "field", "/notes/"
 """The views that collectors' phones ask, each time with a key of their own, and where they are."""
+ENDED = _("Your session has ended, so nothing was done. Sign in in another tab, go back here, and send it again.")
+NO_PAGE = _("There is no such page.")
+BY_STATUS = {404: NO_PAGE, 405: NO_PAGE, 413: _("The form is longer than is taken.")}
+"""What is said to a request that isn't carried out."""
 
 MOST_BYTES = 4_000_000
 """Bytes of a form at most."""
@@ -90,8 +97,8 @@ def make_app(desk: Desk, reached: Reached) -> flask.Flask:
     """The application over a desk."""
     app = flask.Flask(__name__, static_folder=None, template_folder=None)
     app.config.update(MAX_CONTENT_LENGTH=MOST_BYTES)
-    templates = section_pages.environment(TEMPLATES)
-    templates.globals.update(url_for=flask.url_for, time_text=time_text, file_name=file_name)
+    templates = section_pages.environment(TEMPLATES, desk.teller)
+    templates.globals.update(url_for=flask.url_for, file_name=file_name, day=desk.teller.day)
 
     def page(template: str, status: int = 200, /, **named: object) -> Response:
         found: Optional[Session] = flask.g.get("session")
@@ -138,41 +145,42 @@ def _let_in() -> Optional[Response]:
     reached: Reached = flask.current_app.extensions["reached"]
     request = flask.request
     if request.host not in reached.hosts:
-        return _refused(400, f"This application isn't {request.host!r}: it is reached as {sorted(reached.hosts)[0]}.")
+        return _refused(400, _not_here(request.host, reached))
     if request.path.startswith(FIELD_PATHS):
-        return None if request.blueprint == FIELD else _refused(404, "There is no such page.")
+        return None if request.blueprint == FIELD else _refused(404, NO_PAGE)
     origin = request.headers.get("Origin")
     if request.method == "POST" and origin and origin not in reached.origins:
-        return _refused(403, "The form came from another site, so nothing was done.")
+        return _refused(403, _("The form came from another site, so nothing was done."))
     flask.g.session = desk.sessions.of(request.cookies.get(COOKIE))
     if request.endpoint in FREE:
         return None
     if flask.g.session is None:
         if request.method == "POST":
-            told = (
-                "Your session has ended, so nothing was done. Sign in in another tab, go back here, and send it again."
-            )
-            return _refused(403, told)
+            return _refused(403, ENDED)
         return flask.redirect(flask.url_for("sign_in.show", to=request.full_path.rstrip("?")))
     if request.method == "POST" and not flask.g.session.has_token(request.form.get("token", "")):
-        return _refused(403, "The form is of another session, so nothing was done. Load the page anew.")
+        return _refused(403, _("The form is of another session, so nothing was done. Load the page anew."))
     return None
 
 
-def _refused(status: int, told: str) -> Response:
+def _not_here(host: str, reached: Reached) -> Told:
+    address = of_others(sorted(reached.hosts)[0])
+    return _("This application isn't {host}: it is reached as {address}.", host=of_others(host), address=address)
+
+
+def _refused(status: int, told: object) -> Response:
     found: Response = flask.current_app.extensions["page"]("refused.html", status, told=told)
     return found
 
 
 def _fault(fault: Fault) -> Response:
-    return _refused(503, str(fault))
+    return _refused(503, says(fault))
 
 
 def _http_fault(fault: HTTPException) -> Response:
     if fault.code is None or fault.code < 400:
         return fault.get_response()  # type: ignore[return-value]
-    told = {404: "There is no such page.", 405: "There is no such page.", 413: "The form is longer than is taken."}
-    return _refused(fault.code, told.get(fault.code, f"{fault.code} {fault.name}"))
+    return _refused(fault.code, BY_STATUS.get(fault.code, f"{fault.code} {fault.name}"))
 
 
 def _with_fields(answer: Response) -> Response:

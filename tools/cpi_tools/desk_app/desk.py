@@ -9,6 +9,8 @@ from typing import NamedTuple, Optional
 
 from ..pack.clocks import Clock
 from ..program import Cpi, Reply
+from ..report_language import Teller
+from ..speech import SPEAKS_ENGLISH, Speech
 from .copies import Copies, Copy
 from .desk_log import DeskLog
 from .field_notes import FieldNotes
@@ -32,8 +34,8 @@ FIELD_NOTES = "field-notes.db"
 class Given(NamedTuple):
     """What the words of the command line say: the office's URL and file, the application's folder, the program, after
     how many idle seconds a session ends, the office's clock, where copies lie, how many quotes a trial leaves out in
-    turn, for how many months notes of the field are kept, 0 if none are taken, and the address of the front that
-    collectors reach, if sheets with their keys are printed here.
+    turn, for how many months notes of the field are kept, 0 if none are taken, the address of the front that collectors
+    reach, if sheets with their keys are printed here, and how the pages speak.
     """
 
     url: str
@@ -46,6 +48,7 @@ class Given(NamedTuple):
     left_out: int
     field_months: int = 0
     phones: str = ""
+    speech: Speech = SPEAKS_ENGLISH
 
 
 class Desk:
@@ -54,6 +57,7 @@ class Desk:
     def __init__(self, given: Given):
         """Raises Fault if the log or a file of the folder can't be taken."""
         self.given, self.cpi = given, Cpi(given.program)
+        self.teller = Teller(given.speech, given.clock)
         self.office = Office(given.url)
         self.log = DeskLog(given.room / LOG)
         self.copies = Copies(given.file, given.copies)

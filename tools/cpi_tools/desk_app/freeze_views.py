@@ -9,9 +9,13 @@ import flask
 from werkzeug.wrappers import Response
 
 from ..desk.closing import close
-from ..terminal import Fault, counted, month_text, time_text
+from ..others import Worded, of_others
+from ..terminal import Fault
+from ..told import Figure, Told, moment_of, month_of as month_words, sentences, told_of, whole
+from ..told import told as _
 from .asked import desk, month_of, page, session
 from .desk_log import SAID
+from .faults import says
 from .freezes import Prepared, prepared_of, table_sum
 from .looks_views import price_of
 from .sessions import is_same
@@ -21,12 +25,18 @@ from .trials import Tried
 views = flask.Blueprint("freeze", __name__)
 
 
+NOTHING = Worded("")
+NO_TRIAL = _("There is no trial of this month that could be frozen: make one first.")
+CHANGED = _("The office isn't as it was when this was prepared, so its table would be another one: prepare it again.")
+NOT_PREPARED = _("No freeze of this month is prepared: somebody may have sent or dropped it. See the log.")
+
+
 class Step(NamedTuple):
     """A step of the checklist: what it is, how it is, and whether it is as it should be: None is for people to
     judge."""
 
-    name: str
-    says: str
+    name: Told
+    says: Worded
     is_good: Optional[bool]
 
 
@@ -36,7 +46,7 @@ def show(month: str) -> Response:
     return shown(month)
 
 
-def shown(month: str, status: int = 200, fault: str = "", answer: str = "") -> Response:
+def shown(month: str, status: int = 200, fault: Worded = NOTHING, answer: Worded = NOTHING) -> Response:
     """The checklist, with what came of a step."""
     number = month_of(month)
     found, prepared = desk().trials.latest(number), desk().prepared.read()
@@ -56,28 +66,52 @@ def steps_of(month: int, found: Tried) -> list[Step]:
     """The steps before a freeze, as the last trial has them."""
     window, closed = found.state.window, found.closed
     is_closed = time.time() >= window.closes
-    until = time_text(window.closes)
+    closes = moment_of(window.closes)
     seen = desk().marks.seen_by(session().person, month)
     left = sum(price_of(month, it) not in seen for it in found.looks)
-    share = next((f"{it.figure} priced: {it.word}" for it in found.report.cards if it.name == "priced"), "")
+    until = _("closed {moment}", moment=closes)
     steps = [
-        Step("Window", f"closed {until}" if is_closed else f"open until {until}: a freeze is refused", is_closed),
-        Step("Response", share, None),
         Step(
-            "Prices to look at", f"{left:,} of {len(found.looks):,} not seen by you" if left else "all seen", not left
+            _("Window"), until if is_closed else _("open until {moment}: a freeze is refused", moment=closes), is_closed
         ),
+        Step(_("Response"), response_of(found), None),
+        Step(_("Prices to look at"), looks_left(left, len(found.looks)), not left),
     ]
     if found.report.fault:
-        steps.append(Step("Trial", found.report.fault, False))
+        steps.append(Step(_("Trial"), found.report.fault, False))
     if closed:
-        count = len(closed.named)
-        says = f"{counted(count, 'aggregate')} with nothing to compare" if count else "empty: nothing needs it"
-        steps.append(Step("Carry list", says, not count))
-    warnings = found.report.warnings
-    steps.append(
-        Step("Embargo", " ".join(warnings) or "no table comes out before one that it is computed from", not warnings)
-    )
-    return steps
+        steps.append(Step(_("Carry list"), carry_list(len(closed.named)), not closed.named))
+    return [*steps, embargo(found.report.warnings)]
+
+
+def response_of(found: Tried) -> Worded:
+    """How many slots have a price."""
+    for it in found.report.cards:
+        if it.name == "priced" and it.word:
+            # t: how many percent of the slots have a price; slots is a text such as 8 of 10 slots
+            return _("{percent} priced: {slots}", percent=Figure(it.figure), slots=it.word)
+    return NOTHING
+
+
+def looks_left(left: int, count: int) -> Told:
+    """How many prices this person hasn't seen."""
+    if not left:
+        # t: all prices that are to be looked at
+        return _("all seen")
+    return _("{left} of {count} not seen by you", left=whole(left), count=whole(count))
+
+
+def carry_list(count: int) -> Told:
+    """What is on the carry list."""
+    if not count:
+        return _("empty: nothing needs it")
+    return told_of("{count} aggregate with nothing to compare", "{count} aggregates with nothing to compare", count)
+
+
+def embargo(warnings: list[Told]) -> Step:
+    """Whether a table comes out too early."""
+    good = _("no table comes out before one that it is computed from")
+    return Step(_("Embargo"), sentences(*warnings) if warnings else good, not warnings)
 
 
 @views.post("/month/<month>/freeze/prepare")
@@ -85,16 +119,17 @@ def prepare(month: str) -> Response:
     """One person prepares the freeze."""
     found, form = desk().trials.latest(month_of(month)), flask.request.form
     if found is None or found.closed is None:
-        return shown(month, 409, "There is no trial of this month that could be frozen: make one first.")
+        return shown(month, 409, NO_TRIAL)
     if time.time() < found.state.window.closes:
-        return shown(month, 409, f"The window is open until {time_text(found.state.window.closes)}: prepare it then.")
+        closes = moment_of(found.state.window.closes)
+        return shown(month, 409, _("The window is open until {moment}: prepare it then.", moment=closes))
     try:
         why = [form.get(f"why-{it.code}", "") for it in found.closed.named]
         made = prepared_of(session().person, found.closed, found.report.table, why)
         desk().log.append(session().person, SAID, text=f"prepared: {said(made)}")
         desk().prepared.keep(made)
     except Fault as fault:
-        return shown(month, 400, f"{fault}.")
+        return shown(month, 400, says(fault))
     return flask.redirect(flask.url_for("freeze.show", month=month), 303)
 
 
@@ -118,36 +153,36 @@ def confirm(month: str) -> Response:
     """Another person confirms it, and it is sent."""
     prepared, number = desk().prepared.read(), month_of(month)
     if prepared is None or prepared.month != number:
-        return shown(
-            month, 409, "No freeze of this month is prepared: somebody may have sent or dropped it. See the log."
-        )
+        return shown(month, 409, NOT_PREPARED)
     if is_own(prepared):
-        return shown(
-            month, 403, f"{prepared.by} prepared it, so another person confirms it, under a name of their own."
-        )
+        by = of_others(prepared.by)
+        # t: name is the person who prepared the freeze
+        text = _("{name} prepared it, so another person confirms it, under a name of their own.", name=by)
+        return shown(month, 403, text)
     if differs := what_differs(prepared):
         return shown(month, 409, differs)
     try:
         desk().log.append(session().person, SAID, text=f"confirmed: {said(prepared)}")
         (reply,) = desk().send(session(), [prepared.record])
     except Fault as fault:
-        return shown(month, 503, f"Nothing was sent: {fault}.")
+        return shown(month, 503, _("Nothing was sent: {fault}", fault=says(fault)))
     answer = told(prepared.record, reply)
     if reply is not None:
         desk().prepared.drop()
         desk().trials.begin(number)
     if not answer.is_done:
-        return shown(month, 409, f"{answer.answer[0].upper()}{answer.answer[1:]}.")
-    return shown(month, answer=f"{month_text(number)} is frozen, revision {prepared.revision}.")
+        return shown(month, 409, answer.answer)
+    places = {"month": month_words(number), "revision": whole(prepared.revision)}
+    return shown(month, answer=_("{month} is frozen, revision {revision}.", **places))
 
 
-def what_differs(prepared: Prepared) -> str:
+def what_differs(prepared: Prepared) -> Worded:
     """Why a freeze now wouldn't be the one that was prepared, or nothing: it is tried again on a copy."""
     try:
         with desk().copies_now() as copy:
             closed = close(desk().cpi, copy.path, prepared.month, int(time.time()))
     except Fault as fault:
-        return f"It can't be frozen now: {fault}."
+        return _("It can't be frozen now: {fault}", fault=says(fault))
     if [it.code for it in closed.named] != prepared.carry or table_sum(closed.table) != prepared.table:
-        return "The office isn't as it was when this was prepared, so its table would be another one: prepare it again."
-    return ""
+        return CHANGED
+    return NOTHING

@@ -15,6 +15,7 @@ from typing import NamedTuple, Optional
 
 from ..desk.closing import Closed
 from ..terminal import Fault, because_of, month_text
+from ..told import told as _
 from ..whole_files import write_whole
 
 
@@ -45,7 +46,11 @@ def prepared_of(by: str, closed: Closed, table: bytes, why: Sequence[str]) -> Pr
     """What one person prepares of a month that was frozen on a copy; `why` is of each aggregate on the carry list."""
     carry = [it.code for it in closed.named]
     if lacks := [code for code, each in zip(carry, why) if not each.strip()]:
-        raise Fault(f"say why {', '.join(lacks)} is carried: that is the desk's decision, and the log keeps it")
+        # t: codes is a list of elementary aggregates, with commas
+        text = _(
+            "Say why {codes} is carried: that is the desk's decision, and the log keeps it.", codes=", ".join(lacks)
+        )
+        raise Fault(text)
     return Prepared(
         by, int(time.time()), closed.month, closed.revision, carry, [it.strip() for it in why], table_sum(table)
     )
@@ -66,7 +71,8 @@ class PreparedFreeze:
         except OSError as fault:
             raise Fault(because_of(fault)) from fault
         except (ValueError, TypeError) as fault:
-            raise Fault(f"{self._path} isn't as it was written: put it aside, and prepare the freeze again") from fault
+            text = _("{file} isn't as it was written: put it aside, and prepare the freeze again.", file=self._path)
+            raise Fault(text) from fault
 
     def keep(self, it: Prepared) -> None:
         """Keeps it in place of one that is there. Raises Fault."""

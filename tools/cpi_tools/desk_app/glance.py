@@ -15,11 +15,15 @@ from ..desk.marks import SILENT
 from ..desk.response import RESPONSE, Count, most_silent, percent, weighted_by
 from ..sections import Cell, Section, columns
 from ..stored import StoredOffice
-from ..terminal import month_text, time_text
+from ..terminal import month_text
+from ..told import moment_of, month_of, told
 from ..trial import State, state_of
 from .observed import Heard
 
 Key = TypeVar("Key", int, str)
+
+
+NO_SLOTS = told("The month has no slots.")
 
 
 class Share(NamedTuple):
@@ -91,12 +95,12 @@ def by_division(slots: Slots, by_code: Mapping[str, Count]) -> Section:
         parts, weight = slots.weighed(by_code, [each for each in by_code if each[:2] == code])
         title = slots.plan.titles.get(code, NOT_IN_PLAN) if slots.plan else NO_PLAN
         rows.append([code, title, *it.cells(), percent(parts, weight * 10**6)])
-    note = (
+    note = told(
         "By weight: each aggregate's weight in the plan, by the share of its slots that have a price. A slot counts in"
         " the division in which the year's plan places its item."
     )
     heads = columns("=division", "title", *RESPONSE, "#percent by weight")
-    return Section("divisions", "By division", note, heads, rows, "The month has no slots.")
+    return Section("divisions", told("By division"), note, heads, rows, NO_SLOTS)
 
 
 def by_collector(slots: Slots, last: Mapping[int, int], heard: Mapping[int, Heard]) -> Section:
@@ -104,14 +108,14 @@ def by_collector(slots: Slots, last: Mapping[int, int], heard: Mapping[int, Hear
     rows: list[list[Cell]] = []
     for number, it in slots.by(lambda collector, outlet, item: collector).items():
         known = heard.get(number)
-        moment = time_text(known.at) if known and known.is_seen else ""
-        rows.append([number, month_text(last[number]) if number in last else "", moment, *it.cells()])
-    note = (
+        moment = moment_of(known.at) if known and known.is_seen else ""
+        rows.append([number, month_of(last[number]) if number in last else "", moment, *it.cells()])
+    note = told(
         "Most silent slots first. The file of the office has no moment of a price: the one that is here is when this"
         " application first saw the last entry, so it is there only of entries that came while it was running."
     )
     heads = columns("#collector", "last month with an entry", "last entry seen", *RESPONSE)
-    return Section("collectors", "By collector", note, heads, most_silent(rows), "The month has no slots.", shown=100)
+    return Section("collectors", told("By collector"), note, heads, most_silent(rows), NO_SLOTS, shown=100)
 
 
 def by_outlet(slots: Slots) -> Section:
@@ -119,8 +123,8 @@ def by_outlet(slots: Slots) -> Section:
     found = slots.by(lambda collector, outlet, item: outlet)
     rows: list[list[Cell]] = [[number, slots.outlets[number], *it.cells()] for number, it in found.items()]
     heads = columns("#outlet", "name", *RESPONSE)
-    note = "Most silent slots first."
-    return Section("outlets", "By outlet", note, heads, most_silent(rows), "The month has no slots.", False, 100)
+    note = told("Most silent slots first.")
+    return Section("outlets", told("By outlet"), note, heads, most_silent(rows), NO_SLOTS, False, 100)
 
 
 def month_at(office: StoredOffice, at: int) -> Optional[int]:

@@ -11,7 +11,10 @@ from pathlib import Path
 from ..copying import private_copy
 from ..pack.clocks import Clock
 from ..program import Cpi, Reply, record
+from ..others import of_others
 from ..terminal import Fault
+from ..told import told as _
+from ..told import whole
 from .standing import TABLES
 
 FREEZE = "freeze"
@@ -36,21 +39,28 @@ def records_of(text: str, clock: Clock) -> list[list[str]]:
             if fields:
                 found.append(at_clock(_looked_at(fields, rows.line_num), clock))
     except csv.Error as fault:
-        raise NotRead(f"line {rows.line_num}: {fault}: wanted are fields with commas between them") from fault
+        places = {"line": whole(rows.line_num), "fault": of_others(str(fault))}
+        raise NotRead(_("Line {line}: {fault}. Wanted are fields with commas between them.", **places)) from fault
     if len(found) > MOST_RECORDS:
-        raise NotRead(f"there are {len(found):,} records: {MOST_RECORDS:,} are sent at once at most")
+        places = {"count": whole(len(found)), "most": whole(MOST_RECORDS)}
+        raise NotRead(_("There are {count} records: {most} are sent at once at most.", **places))
     if not found:
-        raise NotRead("there are no records: write one a line, such as outlet,10,Corner shop")
+        raise NotRead(
+            _("There are no records: write one a line, such as {example}.", example=of_others("outlet,10,Corner shop"))
+        )
     return found
 
 
 def _looked_at(fields: list[str], line: int) -> list[str]:
     if fields[0] == FREEZE:
-        raise NotRead(f"line {line}: a month is frozen on its own page, where one person prepares and another confirms")
-    if fields[0] not in WORDS:
-        raise NotRead(
-            f"line {line}: {fields[0][:20]!r} is no word of a record here: wanted is one of {', '.join(WORDS)}"
+        says = _(
+            "Line {line}: a month is frozen on its own page: one person prepares it, another confirms it.",
+            line=whole(line),
         )
+        raise NotRead(says)
+    if fields[0] not in WORDS:
+        places = {"line": whole(line), "word": of_others(fields[0][:20]), "words": of_others(", ".join(WORDS))}
+        raise NotRead(_("Line {line}: {word} is no word of a record here. Wanted is one of {words}.", **places))
     return fields
 
 

@@ -2,11 +2,12 @@
 
 from __future__ import annotations
 
-from collections.abc import Mapping
+from collections.abc import Callable, Mapping
 
-from markupsafe import Markup
+from markupsafe import Markup, escape
 
 from ..terminal import month_before
+from ..told import Figure, Told, told_of, whole
 
 MONTHS, WIDE, HIGH, EDGE = 13, 120, 32, 3
 
@@ -24,8 +25,9 @@ def history(quotes: Mapping[int, tuple[str, int]], month: int) -> list[tuple[int
     return [(it, quotes[it][1]) for it in months_to(month) if it in quotes and quotes[it][1]]
 
 
-def line_of(quotes: Mapping[int, tuple[str, int]], month: int) -> Markup:
-    """The prices of a series in a month and the year before it as a picture; a month without one is a gap."""
+def line_of(quotes: Mapping[int, tuple[str, int]], month: int, say: Callable[[Told], object]) -> Markup:
+    """The prices of a series in a month and the year before it as a picture, whose name is said in the page's language; a
+    month without one is a gap."""
     months = months_to(month)
     known = dict(history(quotes, month))
     if not known:
@@ -43,9 +45,15 @@ def line_of(quotes: Mapping[int, tuple[str, int]], month: int) -> Markup:
         parts[-1] += f"{'L' if parts[-1] else 'M'}{x:.1f} {y:.1f}"
         places.append(f'<circle class="dot" cx="{x:.1f}" cy="{y:.1f}" r="{2.6 if each == month else 1.4}"/>')
     path = "".join(parts)
-    told = f"{len(known)} prices in {MONTHS} months, from {low} to {high}"
+    spans = {"months": whole(MONTHS), "low": Figure(low), "high": Figure(high)}
+    name = told_of(
+        "One price in {months} months, {low}",
+        "{count} prices in {months} months, from {low} to {high}",
+        len(known),
+        **spans,
+    )
     return Markup(
-        f'<svg class="history" viewBox="0 0 {WIDE} {HIGH}" role="img" aria-label="{told}">'
+        f'<svg class="history" viewBox="0 0 {WIDE} {HIGH}" role="img" aria-label="{escape(say(name))}">'
         f'<path class="line" d="{path}"/>'
         f'{"".join(places)}</svg>'
     )

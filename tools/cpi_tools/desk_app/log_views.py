@@ -9,12 +9,19 @@ import flask
 from werkzeug.wrappers import Response
 
 from ..csv_files import Writer, formulas_told, line_of
-from ..terminal import time_text
+from ..report_language import ENGLISH, Teller
+from ..told import moment_of
+from ..told import told as _
 from .asked import csv_file, desk, page, session
-from .desk_log import ANSWERED, LOOKED_UP, NOT_SENT, SENT, Entry
+from .desk_log import ANSWERED, CUT_OFF, LOOKED_UP, NOT_SENT, SAID, SENT, Entry
 from .told import told
 
 views = flask.Blueprint("log", __name__)
+
+# t: a line of the log: what a person did here
+STEP = _("a step at the desk")
+STEPS = {SAID: STEP, CUT_OFF: _("a line that isn't whole")}
+"""What the page says of lines that no record is in."""
 
 SHOWN = 100
 """Lines of a page."""
@@ -24,10 +31,15 @@ class Line(NamedTuple):
     """A line of the log as it is read: its number and moment, who, the record or the step, and what came of it."""
 
     number: int
-    at: str
+    at: int
     by: str
     said: str
     answer: str
+
+    @property
+    def cells(self) -> list[object]:
+        """The line of a file."""
+        return [self.number, moment_of(self.at), *self[2:]]
 
 
 def lines_of(entries: list[Entry]) -> list[Line]:
@@ -42,16 +54,20 @@ def lines_of(entries: list[Entry]) -> list[Line]:
                     answer = end.text
                 else:
                     answer = told(fields, end.replies[place] if end else None).answer
-                found.append(Line(it.number, time_text(it.at), it.by, line_of(fields), answer))
+                found.append(Line(it.number, it.at, it.by, line_of(fields), answer))
         elif it.what not in (ANSWERED, LOOKED_UP, NOT_SENT):
-            found.append(Line(it.number, time_text(it.at), it.by, it.text, it.what))
+            found.append(Line(it.number, it.at, it.by, it.text, STEPS.get(it.what, it.what)))
     return found
 
 
-def searched(lines: list[Line], query: str) -> list[Line]:
-    """The lines that have each word of a query somewhere."""
+def searched(lines: list[Line], query: str, teller: Teller = ENGLISH) -> list[Line]:
+    """The lines that have each word of a query somewhere, in English or as the page says it."""
     words = query.casefold().split()
-    return [it for it in lines if all(word in " ".join(map(str, it)).casefold() for word in words)]
+
+    def text_of(it: Line) -> str:
+        return " ".join(map(str, [*it.cells, teller.moment(it.at), teller.say(it.answer)])).casefold()
+
+    return [it for it in lines if all(word in text_of(it) for word in words)]
 
 
 @views.get("/log")
@@ -59,7 +75,7 @@ def show() -> Response:
     """The log, the latest lines first."""
     query = flask.request.args.get("query", "")
     start = flask.request.args.get("from", "0")
-    lines = searched(lines_of([*desk().log.entries]), query)[::-1]
+    lines = searched(lines_of([*desk().log.entries]), query, desk().teller)[::-1]
     first = int(start) if start.isdecimal() and len(start) < 9 else 0
     named = {"query": query, "count": len(lines), "first": first, "step": SHOWN}
     return page("log.html", lines=lines[first : first + SHOWN], **named)
@@ -72,7 +88,9 @@ def file() -> Response:
     with formulas_told("", True):
         out = Writer(text)
         out.writerow(["number", "moment", "who", "record or step", "answer"])
-        out.writerows(searched(lines_of([*desk().log.entries]), flask.request.args.get("query", "")))
+        query = flask.request.args.get("query", "")
+        lines = searched(lines_of([*desk().log.entries]), query, desk().teller)
+        out.writerows(it.cells for it in lines)
     return csv_file("desk-log.csv", text.getvalue())
 
 

@@ -15,17 +15,20 @@ from ..desk.unusual import CONFIRMED, Usual, why_unusual
 from ..exact import decimal
 from ..stored import Assignment, Series
 from ..terminal import slot_text
+from ..told import Told, row, sentences, told
 
-ALONE = "the only price that is compared in its aggregate"
-OTHER = "a replacement of another quality"
+ALONE = told("the only price that is compared in its aggregate")
+OTHER = told("a replacement of another quality")
 
 ASK = {
-    CONFIRMED: "The price was confirmed though it is far from the last one: what is the price on the shelf, and of"
-    " which quantity?",
-    OTHER: "Another product was priced: which one, how much is in it, and why is the former one gone?",
-    ALONE: "Nothing else of its kind could be compared, so look at this one twice.",
+    CONFIRMED: told(
+        "The price was confirmed though it is far from the last one: what is the price on the shelf, and of which"
+        " quantity?"
+    ),
+    OTHER: told("Another product was priced: which one, how much is in it, and why is the former one gone?"),
+    ALONE: told("Nothing else of its kind could be compared, so look at this one twice."),
 }
-ASK_ELSE = "The price changed far more than the others of its kind: is it the same product, quantity and unit?"
+ASK_ELSE = told("The price changed far more than the others of its kind: is it the same product, quantity and unit?")
 
 
 class Look(NamedTuple):
@@ -41,8 +44,8 @@ class Look(NamedTuple):
     last: Optional[int]
     price: int
     percent: str
-    why: list[str]
-    ask: list[str]
+    why: list[Told]
+    ask: list[Told]
     weight: int
 
     @property
@@ -51,10 +54,9 @@ class Look(NamedTuple):
         return slot_text(self.slot)
 
     @property
-    def says(self) -> str:
+    def says(self) -> Told:
         """Why it is to be looked at, and what to ask, in sentences."""
-        why = "; ".join(self.why)
-        return " ".join([f"{why[:1].upper()}{why[1:]}.", *self.ask])
+        return sentences(told("Why: {reasons}.", reasons=row(self.why)), *self.ask)
 
 
 def looks_of(facts: Facts, width: int) -> list[Look]:
@@ -75,7 +77,7 @@ def _unusual(facts: Facts, width: int, moves: dict[Series, int]) -> Iterator[Loo
     usual = Usual(facts, width)
     alone = {facts.matched(code)[0] for code in facts.samples if len(facts.matched(code)) == 1}
     for it in facts.ratios:
-        why: list[str] = [*why_unusual(facts, usual, it)]
+        why: list[Told] = [*why_unusual(facts, usual, it)]
         why += [ALONE] if it.slot.series in alone and len(facts.samples[facts.code(it.slot.item)]) > 1 else []
         if why:
             yield _look(facts, it.slot, it, why, moves)
@@ -90,7 +92,7 @@ def _others(facts: Facts, moves: dict[Series, int]) -> Iterator[Look]:
             yield _look(facts, slot, Ratio(slot, last or 0, quote.value), [OTHER], moves)
 
 
-def _look(facts: Facts, slot: Assignment, it: Ratio, why: list[str], moves: dict[Series, int]) -> Look:
+def _look(facts: Facts, slot: Assignment, it: Ratio, why: list[Told], moves: dict[Series, int]) -> Look:
     place = facts.place_cells(slot)
     percent = decimal(100 * (it.price - it.last), it.last, 1) if it.last else ""
     ask = [*dict.fromkeys(ASK.get(each, ASK_ELSE) for each in why)]

@@ -8,9 +8,11 @@ import flask
 from markupsafe import Markup
 from werkzeug.wrappers import Response
 
-from ..others import isolated
+from ..others import isolated, of_others
 from ..stored import read_copy
-from ..terminal import Fault, counted
+from ..terminal import Fault
+from ..told import Figure, Told, month_of as month_words, told_of
+from ..told import told as _
 from .asked import desk, month_of, page, session
 from .field_notes import FieldNote
 from .field_of_month import by_slot
@@ -65,7 +67,7 @@ def rows_of(month: int, found: Tried, looks: list[Look]) -> list[Row]:
     with read_copy(found.copy) as office:
         for it in looks:
             price = price_of(month, it)
-            picture = line_of(office.quotes_of_series(it.series), month)
+            picture = line_of(office.quotes_of_series(it.series), month, desk().teller.say)
             rows.append(Row(it, picture, notes.get(price, []), price in seen, field.get(it.slot, [])))
     return rows
 
@@ -81,7 +83,7 @@ def mark(month: str) -> Response:
     text = " ".join(form.get("text", "").split())
     what = form.get("what", SEEN)
     if what not in (SEEN, UNSEEN, NOTE) or (what == NOTE and not text):
-        raise Fault("the note is empty, so nothing was noted: go back, and write what is known of the price")
+        raise Fault(_("The note is empty, so nothing was noted: go back, and write what is known of the price."))
     desk().marks.add(session().person, price, what, text if what == NOTE else "")
     query: dict[str, Any] = {name: form[name] for name in ("from", "all") if form.get(name)}
     return flask.redirect(flask.url_for("looks.show", month=month, **query), 303)
@@ -95,13 +97,40 @@ def to_send(month: str, collector: int) -> Response:
     if not looks:
         flask.abort(404)
     notes = desk().marks.notes_of(month_of(month))
-    text = [f"{month}, collector {collector}: {counted(len(looks), 'price')} to look at again\n"]
+    text = [f"{said(head_of(month_of(month), collector, len(looks)))}\n"]
     for it in looks:
-        last = "no last price" if it.last is None else f"last price {it.last}"
-        text.append(f"\nSlot {it.slot[1]}: {isolated(it.item)}; {isolated(it.outlet)}\n")
-        text.append(f"  {last}, now {it.price}{f', {it.percent} percent' if it.percent else ''}\n")
-        text += [f"  {each}\n" for each in it.ask]
+        places = {"item": of_others(it.item), "outlet": of_others(it.outlet)}
+        text.append(f"\n{said(_('Slot {slot}: {item}; {outlet}', slot=it.slot[1], **places))}\n")
+        text.append(f"  {said(prices_of(it))}\n")
+        text += [f"  {said(each)}\n" for each in it.ask]
         text += [f"  {isolated(each.text)}\n" for each in notes.get(price_of(month_of(month), it), [])]
     answer = flask.Response("".join(text), mimetype="text/plain; charset=utf-8")
     answer.headers["Content-Disposition"] = f'attachment; filename="{month}-collector-{collector}.txt"'
     return answer
+
+
+def said(text: Told) -> str:
+    """A text in the office's language, for a file: texts of others are isolated in it."""
+    return isolated(desk().teller.say(text))
+
+
+def head_of(month: int, collector: int, count: int) -> Told:
+    """The first line of a list to send."""
+    return told_of(
+        "{month}, collector {collector}: one price to look at again",
+        "{month}, collector {collector}: {count} prices to look at again",
+        count,
+        month=month_words(month),
+        collector=collector,
+    )
+
+
+def prices_of(it: Look) -> Told:
+    """The last price and this one."""
+    price = Figure(it.price)
+    if it.last is None:
+        return _("no last price, now {price}", price=price)
+    if not it.percent:
+        return _("last price {last}, now {price}", last=Figure(it.last), price=price)
+    places = {"last": Figure(it.last), "price": price, "change": Figure(it.percent)}
+    return _("last price {last}, now {price}, {change} percent", **places)

@@ -13,7 +13,10 @@ import time
 from pathlib import Path
 from typing import NamedTuple
 
+from ..others import of_others
 from ..terminal import Fault, because_of, naming
+from ..told import told as _
+from ..told import whole
 
 SEEN, UNSEEN, NOTE = "seen", "unseen", "note"
 
@@ -65,7 +68,8 @@ class Marks:
     def add(self, by: str, of: Price, what: str, text: str = "") -> None:
         """Notes something; it is on the disk afterwards. Raises Fault."""
         if len(text) > MOST_LETTERS:
-            raise Fault(f"a note has {MOST_LETTERS:,} letters at most, and this one has {len(text):,}")
+            places = {"most": whole(MOST_LETTERS), "count": whole(len(text))}
+            raise Fault(_("A note has {most} letters at most, and this one has {count}.", **places))
         made = Mark(int(time.time()), by, of, what, text)
         with self._lock:
             self._append(json.dumps(made).encode() + b"\n")
@@ -79,7 +83,7 @@ class Marks:
                     file.write(line)
                     os.fsync(file.fileno())
         except OSError as fault:
-            raise Fault(f"{because_of(fault)}, so nothing was noted") from fault
+            raise Fault(_("Nothing was noted: {fault}", fault=of_others(because_of(fault)))) from fault
 
     def seen_by(self, person: str, month: int) -> set[Price]:
         """The prices of a month that a person has seen."""

@@ -8,6 +8,8 @@ import flask
 from werkzeug.wrappers import Response
 
 from ..terminal import month_text
+from ..told import Told, sentences, told_of
+from ..told import told as _
 from .asked import desk, month_of, page, section_file
 from .glance import Glance, months_of
 from ..stored import read_copy
@@ -39,7 +41,6 @@ def glance(month: str) -> Response:
         "is_still": is_still,
         "refresh": REFRESH,
         "now": now,
-        "clock": desk().given.clock,
     }
     return page("glance.html", month=found.month, left=time_left(found, now), expected=expected, **named)
 
@@ -54,14 +55,16 @@ def glance_file(month: str, key: str) -> Response:
     flask.abort(404)
 
 
-def time_left(found: Glance, now: int) -> str:
+def time_left(found: Glance, now: int) -> Told:
     """How long the window is open yet, or when it opens, in days and hours: `3 days and 4 hours`."""
     window = found.state.window
     seconds = (window.opens if now < window.opens else window.closes) - now
     if seconds <= 0:
-        return ""
-    days, hours = seconds // 86_400, seconds % 86_400 // 3_600
+        return sentences()
+    days, hours, minutes = seconds // 86_400, seconds % 86_400 // 3_600, seconds % 3_600 // 60
+    in_hours = told_of("{count} hour", "{count} hours", hours)
     if days:
-        return f"{days} {'day' if days == 1 else 'days'} and {hours} {'hour' if hours == 1 else 'hours'}"
-    minutes = seconds % 3_600 // 60
-    return f"{hours} {'hour' if hours == 1 else 'hours'} and {minutes} {'minute' if minutes == 1 else 'minutes'}"
+        # t: a time that is left: 3 days and 4 hours
+        return _("{days} and {hours}", days=told_of("{count} day", "{count} days", days), hours=in_hours)
+    # t: a time that is left: 4 hours and 5 minutes
+    return _("{hours} and {minutes}", hours=in_hours, minutes=told_of("{count} minute", "{count} minutes", minutes))

@@ -13,7 +13,10 @@ from typing import Any, Optional
 
 from ..csv_files import line_of
 from ..program import Reply
+from ..others import of_others
 from ..terminal import Fault
+from ..told import told as _
+from ..told import whole
 
 SECONDS = 300.0
 """For which a reply is waited: a freeze takes long, and so do all messages before it."""
@@ -65,7 +68,7 @@ class Office:
         reply = self._asked("POST", "/import", key, body_of(records), self._seconds)
         replies: Any = reply.get("rows", [reply] * len(records) if "refused" in reply else None)
         if not isinstance(replies, list) or len(replies) != len(records):
-            raise NoReply(f"{self.url} answers otherwise than an office does")
+            raise NoReply(_("{office} answers otherwise than an office does.", office=of_others(self.url)))
         return replies
 
     def _asked(self, method: str, path: str, key: Optional[str], body: Optional[bytes], seconds: float) -> Reply:
@@ -73,7 +76,8 @@ class Office:
         try:
             line.connect()
         except OSError as fault:
-            raise NotSent(f"the office at {self.url} can't be reached: {fault.strerror or fault}") from fault
+            places = {"office": of_others(self.url), "fault": of_others(str(fault.strerror or fault))}
+            raise NotSent(_("The office at {office} can't be reached: {fault}", **places)) from fault
         fields = {"Authorization": f"CPI-Key {key}"} if key else {}
         try:
             line.request(method, self._at.path.rstrip("/") + path, body, fields)
@@ -81,11 +85,19 @@ class Office:
             text = answer.read()
             reply = json.loads(text)
         except (OSError, http.client.HTTPException, ValueError) as fault:
-            raise NoReply(f"no reply came from the office at {self.url}: {type(fault).__name__}") from fault
+            places = {"office": of_others(self.url), "fault": of_others(type(fault).__name__)}
+            raise NoReply(_("No reply came from the office at {office}: {fault}", **places)) from fault
         finally:
             line.close()
         if answer.status not in ANSWERED or not isinstance(reply, dict):
-            raise NoReply(f"the office at {self.url} answered with the status {answer.status}")
+            status = whole(answer.status)
+            raise NoReply(
+                _(
+                    "The office at {office} answered with the status {status}.",
+                    office=of_others(self.url),
+                    status=status,
+                )
+            )
         return reply
 
     def _line(self, seconds: float) -> http.client.HTTPConnection:
@@ -108,9 +120,8 @@ def messages_of(records: Sequence[Sequence[str]]) -> list[list[list[str]]]:
     for fields in records:
         size = len(body_of([fields]))
         if size > MOST_BYTES:
-            raise Fault(
-                f"the record {' '.join(fields)[:40]}.. has {size:,} bytes: a message has {MOST_BYTES:,} at most"
-            )
+            places = {"record": of_others(" ".join(fields)[:40]), "bytes": whole(size), "most": whole(MOST_BYTES)}
+            raise Fault(_("The record {record}.. has {bytes} bytes: a message has {most} at most.", **places))
         if size > room:
             found.append([])
             room = MOST_BYTES

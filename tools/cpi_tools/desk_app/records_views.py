@@ -11,7 +11,9 @@ from werkzeug.wrappers import Response
 from ..csv_files import line_of
 from ..program import Reply
 from ..terminal import Fault
+from ..told import told as _
 from .asked import desk, page, session
+from .faults import says
 from .judging import judged, records_of
 from .told import NOT_SENT, Told, told
 
@@ -33,7 +35,7 @@ def judge() -> Response:
         with desk().copies_now() as copy:
             replies = judged(desk().cpi, copy.path, records)
     except Fault as fault:
-        return page("records.html", 400, text=text, fault=str(fault), rows=[], offer="")
+        return page("records.html", 400, text=text, fault=says(fault), rows=[], offer="")
     rows = [told(fields, reply) for fields, reply in zip(records, replies)]
     good = [fields for fields, row in zip(records, rows) if row.is_done]
     left = "".join(f"{row.record}\n" for row in rows if not row.is_done)
@@ -53,13 +55,14 @@ def send() -> Response:
     form = flask.request.form
     records, left = session().judged.pop(form.get("offer", ""), None), form.get("left", "")
     if records is None:
-        fault = "These records were sent already, or the session is another one: the log says what became of them."
+        fault = _("These records were sent already, or the session is another one: the log says what became of them.")
         return page("records.html", 409, text=left, fault=fault, rows=[], offer="")
     try:
         replies = desk().send(session(), records)
     except Fault as fault:
         text = left + "".join(f"{line_of(fields)}\n" for fields in records)
-        return page("records.html", 503, text=text, fault=f"Nothing was sent: {fault}", rows=[], offer="")
+        told_so = _("Nothing was sent: {fault}", fault=says(fault))
+        return page("records.html", 503, text=text, fault=told_so, rows=[], offer="")
     rows = answered(records, replies)
     text = left + "".join(
         f"{row.record}\n" for row in rows if row.answer == NOT_SENT or row.answer.startswith("refused")

@@ -16,6 +16,8 @@ from collections.abc import Callable
 from typing import Optional
 
 from ..terminal import Fault
+from ..told import told as _
+from ..told import told_of, whole
 
 KEY = re.compile("[0-9a-f]{32}")
 
@@ -63,9 +65,9 @@ def name_of(text: str) -> str:
     """A person's name as it is kept. Raises NotSignedIn."""
     name = " ".join(unicodedata.normalize("NFC", text).split())
     if not name:
-        raise NotSignedIn("Give your name: the desk's log has it next to what you do.")
+        raise NotSignedIn(_("Give your name: the desk's log has it next to what you do."))
     if len(name) > MOST_LETTERS or any(unicodedata.category(it)[0] == "C" for it in name):
-        raise NotSignedIn(f"A name has {MOST_LETTERS} letters at most, and no invisible ones.")
+        raise NotSignedIn(_("A name has {most} letters at most, and no invisible ones.", most=whole(MOST_LETTERS)))
     return name
 
 
@@ -90,7 +92,13 @@ class Sessions:
         with self._door:
             wait = self._locked_until - self._clock()
             if wait > 0:
-                raise NotSignedIn(f"Too many wrong keys. Wait {int(wait) + 1} seconds, then try again.")
+                raise NotSignedIn(
+                    told_of(
+                        "Too many wrong keys. Wait a second, then try again.",
+                        "Too many wrong keys. Wait {count} seconds, then try again.",
+                        int(wait) + 1,
+                    )
+                )
             if not KEY.fullmatch(key) or not self._is_desk(key):
                 raise self._wrong_key()
             self._wrong = 0
@@ -105,7 +113,7 @@ class Sessions:
         over = self._wrong - FREE_TRIES
         if over >= 0:
             self._locked_until = self._clock() + min(LONGEST_LOCK, FIRST_LOCK * 2 ** min(over, 10))
-        return NotSignedIn("This isn't the desk's key: 32 characters 0-9 and a-f, as in the office's desk-key file.")
+        return NotSignedIn(_("This isn't the desk's key: 32 characters 0-9 and a-f, as in the office's desk-key file."))
 
     def of(self, secret: Optional[str]) -> Optional[Session]:
         """The session of a secret, if it hasn't ended."""

@@ -6,6 +6,7 @@ import flask
 from werkzeug.wrappers import Response
 
 from .asked import desk, page
+from .faults import says
 from .office import NoReply, NotSent
 from .sessions import NotSignedIn
 
@@ -35,7 +36,7 @@ def enter() -> Response:
         secret = desk().sessions.sign_in(name, form.get("key", "").strip())
     except (NotSignedIn, NotSent, NoReply) as fault:
         status = 403 if isinstance(fault, NotSignedIn) else 503
-        return page("sign-in.html", status, to=to, name=name, told=str(fault))
+        return page("sign-in.html", status, to=to, name=name, told=says(fault))
     answer = flask.redirect(place_after(to), 303)
     is_secure = flask.current_app.extensions["reached"].is_secure
     path = flask.request.script_root or "/"

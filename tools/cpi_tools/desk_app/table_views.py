@@ -11,19 +11,26 @@ import flask
 from werkzeug.wrappers import Response
 
 from .. import charts
-from ..desk.trying import HEADS, Tried as Asked, differences, differing, what_if
+from ..desk.trying import Tried as Asked, differences, differing, what_if
 from ..desk.words import a_code, a_price
 from ..explain.lines import Explanation
 from ..explain.money import Money
 from ..explain.sources import Sources
 from ..explain.whole import explained
-from ..sections import Section, columns
+from ..sections import CODE, NUMBER, TEXT, Column, Section
 from ..stored import REASONS, read_copy
+from ..others import Worded, of_others
 from ..terminal import Fault, a_slot
+from ..told import told as _
+from ..told import whole
 from .asked import csv_file, desk, file_name, month_of, page, section_file
+from .faults import says
 from .trials import Tried
 
 views = flask.Blueprint("table", __name__)
+
+EXAMPLE = "7/2=210\n8/1=missing\n01.1.1.2-01"
+"""What the field of prices to try has as long as it is empty."""
 
 LINES_SHOWN = 12
 """A part of an explanation with more lines is folded."""
@@ -57,10 +64,14 @@ def since_before(month: int, found: Tried) -> Optional[Section]:
     earlier = desk().tables.before(month, found.at)
     if earlier is None or not found.report.table:
         return None
-    names = ["=code", *(f"#{day}: {what}" for day in (earlier.day, "now") for what in ("index", "month %", "year %"))]
+    day = of_others(earlier.day)
+    # t: the heading of a column: of an earlier day, such as 2026-02-17
+    then = [_("{day}: index", day=day), _("{day}: month %", day=day), _("{day}: year %", day=day)]
+    now = [_("now: index"), _("now: month %"), _("now: year %")]
+    heads = (Column(_("code"), CODE), *(Column(it, NUMBER) for it in [*then, *now]), Column(_("title"), TEXT))
     rows = differing(earlier.table, found.report.table)
-    title = f"What changed since {earlier.day}"
-    return Section("since", title, "", columns(*names, "title"), rows, "Nothing: the tables are the same.")
+    title = _("What changed since {day}", day=day)
+    return Section("since", title, "", heads, rows, _("Nothing: the tables are the same."))
 
 
 @views.get("/month/<month>/table/<key>.csv")
@@ -91,7 +102,7 @@ def explain(month: str, code: str) -> Response:
 @views.route("/month/<month>/what-if", methods=["GET", "POST"])
 def try_prices(month: str) -> Response:
     """What a handful of prices would change."""
-    number, text, fault = month_of(month), flask.request.form.get("text", ""), ""
+    number, text, fault = month_of(month), flask.request.form.get("text", ""), Worded("")
     result: Optional[Section] = None
     if flask.request.method == "POST":
         try:
@@ -99,8 +110,10 @@ def try_prices(month: str) -> Response:
             with desk().copies_now() as copy:
                 result = differences(what_if(desk().cpi, copy.path, number, int(time.time()), tried))
         except Fault as told:
-            fault = str(told)
-    return page("what-if.html", 400 if fault else 200, month=month, text=text, fault=fault, result=result, heads=HEADS)
+            fault = says(told)
+    return page(
+        "what-if.html", 400 if fault else 200, month=month, text=text, fault=fault, result=result, example=EXAMPLE
+    )
 
 
 def tried_of(text: str) -> Asked:
@@ -109,7 +122,7 @@ def tried_of(text: str) -> Asked:
     missing, prices, carry = list[tuple[int, int]](), list[tuple[tuple[int, int], int]](), list[str]()
     for place, line in enumerate(text.split("\n"), 1):
         word = re.sub(r"\s", "", line)
-        slot, _, value = word.partition("=")
+        slot, value = (word.split("=", 1) + [""])[:2]
         try:
             if value in ("missing", *REASONS):
                 missing.append(a_slot(slot))
@@ -118,7 +131,9 @@ def tried_of(text: str) -> Asked:
             elif word:
                 carry.append(a_code(word))
         except Exception as fault:
-            raise Fault(f"line {place}: {fault}; or 7/2=missing") from fault
+            places = {"line": whole(place), "fault": of_others(str(fault)), "example": of_others("7/2=missing")}
+            raise Fault(_("Line {line}: {fault}; or {example}", **places)) from fault
     if not (missing or prices or carry):
-        raise Fault("write what to try, one a line: a price like 7/2=210, or 7/2=missing")
+        places = {"price": of_others("7/2=210"), "missing": of_others("7/2=missing")}
+        raise Fault(_("Write what to try, one a line: a price like {price}, or {missing}.", **places))
     return Asked(missing, REASONS[0], prices, carry)

@@ -2,44 +2,61 @@
 
 from __future__ import annotations
 
-from collections.abc import Sequence
+from collections.abc import Iterator, Sequence
 from typing import NamedTuple, Optional
 
 from ..csv_files import line_of
+from ..others import of_others
 from ..program import Reply
-from ..words import DESK, refusal_words
+from ..told import Told as Text
+from ..told import said_as, whole
+from ..told import told as _
+from ..words import DESK, refusal_words, sentence
 from .standing import ABSENT, STANDS
 
-NO_REPLY = "no reply yet: it is looked up before anything else is sent"
-NOT_SENT = "not sent"
+NO_REPLY = _("no reply yet: it is looked up before anything else is sent")
+NOT_SENT = _("not sent")
+LOST_AND_ABSENT = _("not carried out: its reply was lost, and the office's file doesn't have it")
+LOST_AND_DONE = _("done: its reply was lost, and the office's file has it")
 
 
 class Told(NamedTuple):
     """A record as a line, what the office answered, and whether it was carried out."""
 
     record: str
-    answer: str
+    answer: Text
     is_done: bool
 
 
-def told(fields: Sequence[str], reply: Optional[Reply], without: str = NO_REPLY) -> Told:
+def told(fields: Sequence[str], reply: Optional[Reply], without: Text = NO_REPLY) -> Told:
     """A record and its reply; `without` is what is told if there is none."""
     if reply is None:
         return Told(line_of(fields), without, False)
     if "refused" in reply:
-        begun = "not carried out; it would be " if ABSENT in reply else ""
-        return Told(line_of(fields), begun + refused(reply, fields[0]), False)
+        return Told(line_of(fields), refused(reply, fields[0]), False)
     if ABSENT in reply:
-        return Told(
-            line_of(fields), "not carried out: its reply was lost, and the office's file doesn't have it", False
-        )
-    if STANDS in reply:
-        return Told(line_of(fields), "done: its reply was lost, and the office's file has it", True)
-    return Told(line_of(fields), "done", True)
+        return Told(line_of(fields), LOST_AND_ABSENT, False)
+    return Told(line_of(fields), LOST_AND_DONE if STANDS in reply else _("done"), True)
 
 
-def refused(reply: Reply, word: str) -> str:
-    """A refusal with what to do."""
+def refused(reply: Reply, word: str) -> Text:
+    """A refusal with what to do; of a record whose reply was lost it is what the office would say now."""
     words = refusal_words(reply, DESK, word)
     at = "".join(f", {name} {reply[name]}" for name in ("fault", "found", "code") if name in reply)
-    return f"refused by {reply['refused']}{at}: {words.because}; {words.do}"
+    english = f"refused by {reply['refused']}{at}: {words.because}; {words.do}"
+    parts = [_("Refused by {number}.", number=whole(reply["refused"])), _(sentence(words.because)), *more_of(reply)]
+    if ABSENT in reply:
+        return said_as(
+            f"not carried out; it would be {english}", _("It wasn't carried out."), *parts, _(sentence(words.do))
+        )
+    return said_as(english, *parts, _(sentence(words.do)))
+
+
+def more_of(reply: Reply) -> Iterator[Text]:
+    """What a refusal says of where the fault is."""
+    if "fault" in reply:
+        yield _("Fault {number}.", number=whole(reply["fault"]))
+    if "found" in reply:
+        yield _("The value found is {found}.", found=of_others(str(reply["found"])))
+    if "code" in reply:
+        yield _("It is {code}.", code=of_others(str(reply["code"])))

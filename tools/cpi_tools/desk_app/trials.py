@@ -17,9 +17,12 @@ from ..desk.report import Asked, Report, report_with, tried_on
 from ..desk.unusual import PERCENT_OF_WIDTH
 from ..program import Cpi
 from ..stored import read_copy
+from ..others import Worded
 from ..terminal import Fault
+from ..told import told as _
 from ..trial import State
 from .copies import Copies
+from .faults import met, says
 from .looks import Look, looks_of
 from .tables_kept import TablesKept
 
@@ -59,7 +62,7 @@ class Trials:
         self._left_out = left_out
         self._lock = threading.Lock()
         self._found: dict[int, tuple[Tried, tempfile.TemporaryDirectory[str]]] = {}
-        self._faults: dict[int, str] = {}
+        self._faults: dict[int, Worded] = {}
         self.running: Optional[Running] = None
 
     def latest(self, month: int) -> Optional[Tried]:
@@ -67,16 +70,16 @@ class Trials:
         found = self._found.get(month)
         return found[0] if found else None
 
-    def fault(self, month: int) -> str:
+    def fault(self, month: int) -> Worded:
         """Why the last trial of a month came to nothing, or nothing."""
-        return self._faults.get(month, "")
+        return self._faults.get(month, Worded(""))
 
     def begin(self, month: int) -> bool:
         """Begins a trial of a month; whether it did: one at a time runs."""
         with self._lock:
             if self.running:
                 return False
-            self.running = Running(month, int(time.time()), "copying the office")
+            self.running = Running(month, int(time.time()), _("copying the office"))
         threading.Thread(target=self._run, args=(month,), daemon=True, name="trial").start()
         return True
 
@@ -88,10 +91,10 @@ class Trials:
         try:
             self.run(month)
         except Fault as fault:
-            self._faults[month] = str(fault)
+            self._faults[month] = says(fault)
         except Exception as fault:
             # (a fault of ours: it is on the page too, and the journal has all of it)
-            self._faults[month] = f"the application met an error: {type(fault).__name__}: {fault}"
+            self._faults[month] = met(fault)
             raise
         finally:
             self.running = None
@@ -114,8 +117,8 @@ class Trials:
             self._found[month] = (found, folder)
             while len(self._found) > KEPT:
                 old.append(self._found.pop(next(iter(self._found))))
-        for _, each in old:
-            each.cleanup()
+        for each in old:
+            each[1].cleanup()
         return found
 
     def _tried(self, office_copy: Path, at: int, copy: Path, month: int) -> Tried:
@@ -124,7 +127,7 @@ class Trials:
         with read_copy(copy) as office:
             facts = Facts(office, month, tried.frozen)
             report = report_with(self._cpi, office_copy, tried, facts, asked, self._now)
-            self._now("looking at prices")
+            self._now(_("looking at prices"))
             looks = looks_of(facts, PERCENT_OF_WIDTH)
             is_to_freeze = tried.frozen is not None and not tried.state.is_frozen
             closes = tried.state.window.closes
@@ -133,6 +136,6 @@ class Trials:
 
     def close(self) -> None:
         """Removes what is at hand."""
-        for _, folder in self._found.values():
-            folder.cleanup()
+        for each in self._found.values():
+            each[1].cleanup()
         self._found.clear()

@@ -8,8 +8,11 @@ import traceback
 from typing import Optional
 
 from ..stored import read_copy
+from ..others import Worded
 from ..terminal import Fault
+from ..told import told as _
 from .copies import Copies
+from .faults import met, says
 from .glance import Glance, glance_at, month_at
 from .observed import Expected, Observed, Seen
 
@@ -29,7 +32,7 @@ class Watch:
         self._wake, self._is_over = threading.Event(), False
         self._asked_at = self._renewed_at = -float(IDLE)
         self._glances: dict[int, Glance] = {}
-        self.fault, self.seconds = "", 0.0
+        self.fault, self.seconds = Worded(""), 0.0
         self._is_stale = False
         self._looking = threading.Lock()
         self._thread = threading.Thread(target=self._follow, daemon=True, name="watch")
@@ -60,7 +63,7 @@ class Watch:
         with self._looking, self._copies.latest() as copy, read_copy(copy.path) as office:
             wanted = month or month_at(office, int(time.time()))
             if wanted is None:
-                raise Fault("the office has no calendar yet: send the window of a month first")
+                raise Fault(_("The office has no calendar yet: send the window of a month first."))
             known = self._glances.get(wanted)
             if known is None or known.at != copy.at:
                 known = self._glances[wanted] = glance_at(office, wanted, copy.at, self._observed.heard)
@@ -104,10 +107,10 @@ class Watch:
         """Renews, and keeps why it couldn't, whatever that is: the thread goes on."""
         try:
             self.renew()
-            self.fault = ""
+            self.fault = Worded("")
         except Fault as fault:
-            self.fault = str(fault)
+            self.fault = says(fault)
         except Exception as fault:
-            self.fault = f"the application met an error: {type(fault).__name__}: {fault}"
+            self.fault = met(fault)
             traceback.print_exc()
         self._renewed_at = time.monotonic()

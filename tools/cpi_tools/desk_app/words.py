@@ -9,8 +9,8 @@ import urllib.parse
 from pathlib import Path
 
 from ..keys.words import an_origin
-from ..pack.clocks import clock_of
 from ..program import add_program
+from ..report_language import add_language, chosen_teller
 from ..terminal import Fault, ToolWords, at_least, needs
 
 LISTEN, URL = "127.0.0.1:8090", "http://127.0.0.1:8080"
@@ -34,6 +34,7 @@ def run(chosen: argparse.Namespace) -> int:
         )
     if not chosen.file.is_file():
         raise Fault(f"{chosen.file} is no file: name the office's, which cpi serve has open")
+    teller = chosen_teller(chosen)
     copies = chosen.copies or Path(tempfile.gettempdir())
     given = Given(
         chosen.office,
@@ -41,11 +42,12 @@ def run(chosen: argparse.Namespace) -> int:
         chosen.room,
         chosen.program,
         chosen.minutes * 60,
-        clock_of(chosen.zone),
+        teller.clock,
         copies,
         chosen.left_out,
         chosen.field_notes,
         chosen.phones or "",
+        teller.speech,
     )
     serve(given, chosen.listen, chosen.front or "")
     return 0
@@ -115,7 +117,7 @@ def add_serve(jobs: argparse._SubParsersAction[ToolWords]) -> None:
         help="a session ends after so many (%(default)s)",
     )
     add("--phones", type=an_origin, metavar="URL", help="the front that collectors reach, for sheets with their keys")
-    add("--zone", default="", metavar="ZONE", help="the office's clock: a place, or a rule as POSIX has it (else UTC)")
+    add_language(words, "the pages")
     add(
         "--left-out",
         type=at_least(0),

@@ -1,0 +1,115 @@
+"""The application of the desk in other languages: nothing is left in English, and its figures are the same."""
+
+from __future__ import annotations
+
+import re
+import time
+from pathlib import Path
+
+import pytest
+
+import surveys
+from cpi_tools.program import Cpi
+from cpi_tools.speech import speech_of
+from desk_apps import ADA, BEN, Application, Person, applied
+from nobodys import NAMES, greek, left_in_english, nobodys_in, seen_of
+
+MONTH, CODE = "2026-02", "01.1.1.2-01"
+WHY = {f"why-{CODE}": "the shop is closed for a week"}
+PAGES = (
+    *("/", f"/month/{MONTH}/", f"/month/{MONTH}/looks?all=1", f"/month/{MONTH}/table", f"/month/{MONTH}/freeze"),
+    *(f"/month/{MONTH}/what-if", "/calendar", "/records", "/log"),
+)
+
+SAME = re.compile(rf"{NAMES.pattern}|\b(?:CET|CEST|CSV|cpi|COLLECTOR/SLOT)\b")
+"""What each language has: names of files and zones, and of the program."""
+
+
+def left_on(answer: str) -> list[str]:
+    """What of a page is in English: what people and the office called something is in elements of its own, and so is a
+    record."""
+    return left_in_english(seen_of(re.sub(r"<(code|textarea)\b.*?</\1>", "", answer, flags=re.S)), SAME)
+
+
+def steps(application: Application, ada: Person) -> None:
+    """A month that was tried, a price that somebody noted, a record that was refused, and one without a reply."""
+    application.tried(ada, MONTH)
+    ada.post(f"/month/{MONTH}/looks", collector="8", slot="1", price="290", what="note", text="γ")
+    offered = ada.post("/records/judge", text="outlet,12,Γ\n").text
+    ada.post("/records/send", offer=re.findall('name="offer" value="([^"]+)"', offered)[0])
+
+
+def test_no_word_of_a_page_is_left_in_english(cpi: Cpi, tmp_path: Path, monkeypatch: pytest.MonkeyPatch) -> None:
+    speech = speech_of(nobodys_in(tmp_path, monkeypatch))
+    with applied(cpi, surveys.small(cpi, tmp_path), tmp_path / "room", speech=speech) as application:
+        left = {"sign-in": left_on(application.person().get("/sign-in").text)}
+        wrong = application.person().signed_in(ADA, "e" * 32).text
+        assert greek("This isn't the desk's key")[:20] in seen_text(wrong) and left_on(wrong) == []
+        ada, ben = application.person(ADA), application.person(BEN)
+        steps(application, ada)
+        for path in PAGES:
+            answer = ada.get(path, follow_redirects=True)
+            assert answer.status_code == 200 and 'lang="el"' in answer.text
+            left[path] = left_on(answer.text)
+        for told in refused(ada):
+            left[told] = left_on(told)
+        ada.post(f"/month/{MONTH}/freeze/prepare", **WHY)
+        for person in (ada, ben):
+            left[f"prepared, {person}"] = left_on(person.get(f"/month/{MONTH}/freeze").text)
+        left["frozen"] = left_on(ben.post(f"/month/{MONTH}/freeze/confirm").text)
+    assert {name[:60]: texts for name, texts in left.items() if texts} == {}
+
+
+def seen_text(page: str) -> str:
+    return " ".join(seen_of(page).texts)
+
+
+def refused(ada: Person) -> list[str]:
+    """The pages of what is refused."""
+    return [
+        ada.post("/records/judge", text="outlet,10,Other\nitem,X,1,2,3,4\n").text,
+        ada.post("/records/judge", text="nothing,1\n").text,
+        ada.post("/records/judge", text=f"freeze,{MONTH}\n").text,
+        ada.post("/records/judge", text="\n").text,
+        ada.post("/records/send", offer="gone").text,
+        ada.post("/calendar", token="wrong").text,
+        ada.get("/nowhere").text,
+        ada.post(f"/month/{MONTH}/what-if", text="8/1=missing").text,
+        ada.post(f"/month/{MONTH}/looks", collector="8", slot="1", price="290", what="note", text="").text,
+        ada.post(f"/month/{MONTH}/freeze/prepare").text,
+        ada.post("/month/2026-03/freeze/confirm").text,
+    ]
+
+
+FIGURES = str.maketrans({**dict.fromkeys("\u2066\u2069\u200e\u061c", ""), "\u2212": "-", "\u066b": ".", "\u066c": ","})
+EASTERN = str.maketrans("٠١٢٣٤٥٦٧٨٩", "0123456789")
+
+
+def test_the_figures_are_the_same_in_arabic_with_its_own_digits(cpi: Cpi, tmp_path: Path) -> None:
+    """Those of the response and of the provisional table; the page runs from right to left."""
+    file, found = surveys.small(cpi, tmp_path), dict[str, list[list[str]]]()
+    for code in ("en", "ar"):
+        with applied(cpi, file, tmp_path / code, speech=speech_of(code, "arab")) as application:
+            ada = application.person(ADA)
+            application.tried(ada, MONTH)
+            pages = [ada.get(f"/month/{MONTH}/{page}").text for page in ("", "table")]
+            found[code] = [[it.translate(FIGURES).translate(EASTERN) for it in seen_of(page).figures] for page in pages]
+            assert ('<html lang="ar" dir="rtl">' in pages[0]) == (code == "ar")
+            assert bool(re.search("[٠-٩]", seen_text(pages[0]))) == (code == "ar")
+    assert found["en"] == found["ar"] and min(map(len, found["en"])) > 10
+
+
+def test_moments_are_those_of_the_office_s_clock(cpi: Cpi, tmp_path: Path) -> None:
+    """The window of April opens at noon in Prague, where it is summer: in words of the language, with the zone's name."""
+    with applied(cpi, surveys.small(cpi, tmp_path), tmp_path / "room", speech=speech_of("fr")) as application:
+        ada = application.person(ADA)
+        fields = ["2026-04", "2026-07-01T12:00", "2026-07-02T12:00", "2026-07-03T12:00"]
+        offered = ada.client.post(
+            "/records/judge",
+            data={"token": ada.token, "word": "calendar", "field": fields},
+            base_url="http://127.0.0.1:8090",
+        ).text
+        ada.post("/records/send", offer=re.findall('name="offer" value="([^"]+)"', offered)[0])
+        words = ada.words("/calendar")
+        assert "avril 2026 1 juillet 2026 à 12:00 CEST 2 juillet 2026 à 12:00 CEST" in words
+        assert time.strftime("%Y") not in re.findall(r"\b(\d{4})-\d\d-\d\d", words)
