@@ -8,6 +8,7 @@ so none can cross an axis. A month is a text like `2026-01`; colours and letters
 from __future__ import annotations
 
 from collections.abc import Collection, Iterable, Iterator, Sequence
+from functools import lru_cache
 from math import floor
 from typing import NamedTuple, Optional
 
@@ -90,7 +91,7 @@ class Frame(NamedTuple):
 
     def x(self, at: float) -> float:
         """Where the middle of a month is; `at` counts months."""
-        return LEFT + (WIDTH - LEFT - RIGHT) * (at + 0.5) / len(self.months)
+        return _x(at, len(self.months))
 
     def y(self, value: float) -> float:
         """Where a value is."""
@@ -103,26 +104,38 @@ class Frame(NamedTuple):
         for mark in self.marks:
             lines["zero" if abs(mark) < 1e-9 else "grid"] += f"M{LEFT} {self.y(mark):.1f}H{WIDTH - RIGHT}"
             yield f'<text class="end" x="{LEFT - 6}" y="{self.y(mark) + 4:.1f}">{self.speech.figure(ticked(mark))}</text>'
-        named = [*self._named()]
-        lines["grid"] += "".join(f"M{self.x(at):.1f} {HEIGHT - FOOT}v4" for at in named)
+        strokes, texts = _below(tuple(self.months), self.speech)
+        lines["grid"] += strokes
         yield from (f'<path class="{kind}" d="{path}"/>' for kind, path in lines.items() if path)
-        yield from self._months(named)
+        yield texts
 
-    def _named(self) -> Iterator[int]:
-        """Which months are named below."""
-        count = len(self.months)
-        every = 1 if count <= 3 else 3 if count <= 14 else 6 if count <= 36 else 12
-        return (at for at, month in enumerate(self.months) if (int(month[5:]) - 1) % every == 0)
 
-    def _months(self, named: Sequence[int]) -> Iterator[str]:
-        is_first = True
-        for at in named:
-            month, x = self.months[at], f"{self.x(at):.1f}"
-            yield f'<text class="middle" x="{x}" y="{HEIGHT - FOOT + 17}">{self.speech.month_mark(month)}</text>'
+# (thousands of pictures have the same months, so what is below them is written once)
+
+
+def _x(at: float, count: int) -> float:
+    return LEFT + (WIDTH - LEFT - RIGHT) * (at + 0.5) / count
+
+
+@lru_cache(maxsize=64)
+def _xs(count: int) -> Sequence[str]:
+    """Where the middle of each of so many months is, as it is written."""
+    return [f"{_x(at, count):.1f}" for at in range(count)]
+
+
+@lru_cache(maxsize=64)
+def _below(months: tuple[str, ...], speech: Speech) -> tuple[str, str]:
+    """The strokes at the months that are named below, and their names."""
+    count, strokes, texts = len(months), "", ""
+    every = 1 if count <= 3 else 3 if count <= 14 else 6 if count <= 36 else 12
+    for x, month in zip(_xs(count), months):
+        if (int(month[5:]) - 1) % every == 0:
+            is_first, strokes = not strokes, f"{strokes}M{x} {HEIGHT - FOOT}v4"
+            texts += f'<text class="middle" x="{x}" y="{HEIGHT - FOOT + 17}">{speech.month_mark(month)}</text>'
             if is_first or month.endswith("-01"):
-                year = self.speech.year(month[:4])
-                yield f'<text class="middle year" x="{x}" y="{HEIGHT - FOOT + 34}">{year}</text>'
-            is_first = False
+                year = speech.year(month[:4])
+                texts += f'<text class="middle year" x="{x}" y="{HEIGHT - FOOT + 34}">{year}</text>'
+    return strokes, texts
 
 
 def svg(picture: Picture, parts: Iterable[str]) -> Markup:
@@ -207,7 +220,8 @@ def _part(frame: Frame, part: Sequence[tuple[int, float]]) -> str:
     if len(part) == 1:
         at, value = part[0]
         return f"M{frame.x(at) - 3:.1f} {frame.y(value):.1f}h6"
-    return "M" + "L".join(f"{frame.x(at):.1f} {frame.y(value):.1f}" for at, value in part)
+    xs, y = _xs(len(frame.months)), frame.y
+    return "M" + "L".join(f"{xs[at]} {y(value):.1f}" for at, value in part)
 
 
 def columns(picture: Picture, months: Sequence[str], values: Sequence[Optional[float]]) -> Markup:
@@ -221,14 +235,24 @@ def columns(picture: Picture, months: Sequence[str], values: Sequence[Optional[f
     last = max(at for at, value in enumerate(values) if value is not None)
     wide = min((WIDTH - LEFT - RIGHT) / len(months) * 0.66, WIDEST)
     drawn: dict[str, str] = {}
-    for at, value in enumerate(values):
-        if value is None:
-            continue
-        top, foot = sorted((frame.y(value), frame.y(0)))
-        kind = "bar" + (" down" if value < 0 else "") + (" last" if at == last else "")
-        place = f"M{frame.x(at) - wide / 2:.1f} {top:.1f}h{wide:.1f}v{max(foot - top, 0.6):.1f}h-{wide:.1f}z"
-        drawn[kind] = drawn.get(kind, "") + place
+    sizes = {value: _size(frame, value, wide) for value in {*known}}
+    for at, (left, value) in enumerate(zip(_lefts(len(months), wide), values)):
+        if value is not None:
+            kind = ("bar down" if value < 0 else "bar") + (" last" if at == last else "")
+            drawn[kind] = drawn.get(kind, "") + left + sizes[value]
     return svg(picture, [*frame.axes(), *(f'<path class="{kind}" d="{path}"/>' for kind, path in drawn.items())])
+
+
+@lru_cache(maxsize=64)
+def _lefts(count: int, wide: float) -> Sequence[str]:
+    """Where each of so many columns begins."""
+    return [f"M{_x(at, count) - wide / 2:.1f} " for at in range(count)]
+
+
+def _size(frame: Frame, value: float, wide: float) -> str:
+    """A column, from the place at which it begins."""
+    top, foot = sorted((frame.y(value), frame.y(0)))
+    return f"{top:.1f}h{wide:.1f}v{max(foot - top, 0.6):.1f}h-{wide:.1f}z"
 
 
 # ---- bars in the rows of a table

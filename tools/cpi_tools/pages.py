@@ -95,8 +95,3 @@ def write_page(pages: jinja2.Environment, template: str, to: Path, **named: obje
     beside = to.with_name(f".{to.name}.part")
     with in_place_of(to, beside):
         beside.write_bytes(text.encode())
-
-
-def write_new(pages: jinja2.Environment, template: str, to: Path, **named: object) -> None:
-    """Writes one of thousands of pages into a folder that takes its place as a whole later."""
-    to.write_bytes(pages.get_template(template).render(named).encode())

@@ -34,6 +34,7 @@ from .pack.manifest import (
     write_sums,
 )
 from .pack.measures import Contributions
+from .pack.new_files import NewFiles
 from .pack.notes import Notes
 from .pack.part import Now, known_of, write_part
 from .pack.public import Published
@@ -94,10 +95,11 @@ def write_pack(pack: Pack, folder: Path, now: Now, before: Before) -> None:
     recent = known_of(series.part(first, series.every[-1]), contributions.unexplained, shown)
     write_part(recent, config, data, now)
     known = Known(series, contributions, shown, recent)
-    items = ItemFiles(known, Notes(shown, config.provisional), before, archives.same_to)
-    write_sites(known, recent, config, folder, Shared(items, signature, pack.cards), now)
+    files = NewFiles(folder)
+    items = ItemFiles(known, Notes(shown, config.provisional), before, archives.same_to, files)
+    write_sites(known, recent, config, Shared(items, signature, pack.cards, files), now)
     now("sums")
-    write_sums(folder, {**sums, **before.taken})
+    write_sums(folder, {**sums, **before.taken, **files.sums})
 
 
 def _write_tables(series: Series, folder: Path, before: Before) -> dict[str, str]:

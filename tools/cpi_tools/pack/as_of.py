@@ -41,7 +41,7 @@ class AsOf(Series):
         self._rows = {month: table.rows for month, table in self.latest.items()}
         self.months = self.every = [month for month, table in self.latest.items() if table.rows]
         self.vintages = [it for it in self.whole.vintages if it.month <= of.month and it.moment <= of.moment]
-        self.specials = {}
+        self.specials, self._twelve = {}, {}
         self.other_titles = self.whole.other_titles
         self.titles = {code: of.rows[code].title for code in whole.codes if code in of.rows}
 
@@ -52,9 +52,13 @@ class AsOf(Series):
 
     def twelve(self, month: str) -> dict[str, int]:
         """Of the nodes of the release only, since a year's sums of thousands would be made for each release."""
-        months = [before(month, by) for by in range(12)]
-        levels = {code: [self.level(it, code) for it in months] for code in self.titles}
-        return {code: sum(filter(None, found)) for code, found in levels.items() if None not in found}
+        found = self._twelve.get(month)
+        if found is None:
+            months = [before(month, by) for by in range(12)]
+            levels = {code: [self.level(it, code) for it in months] for code in self.titles}
+            found = {code: sum(filter(None, each)) for code, each in levels.items() if None not in each}
+            self._twelve[month] = found
+        return found
 
     def title(self, code: str) -> str:
         """The title of a node in the release, or of one that left in the table of the link month."""

@@ -140,8 +140,11 @@ def _changes(name: str, is_annual: bool) -> Callable[[Known, str], Iterable[Opti
 def _given(is_annual: bool) -> Callable[[Known, str], Iterable[Optional[int]]]:
     def of_month(known: Known, month: str) -> Iterable[Optional[int]]:
         contributions = known.contributions
-        given = contributions.to_year if is_annual else contributions.to_month
-        return (None if code == ALL_ITEMS else _millionths(given(month, code, ALL_ITEMS)) for code in known.codes)
+        if (month, is_annual) in contributions.unexplained:
+            return (None for _ in known.codes)
+        whole = contributions.whole(month, ALL_ITEMS)
+        given = whole.to_year if is_annual else whole.to_month
+        return (None if code == ALL_ITEMS else _millionths(given(code)) for code in known.codes)
 
     return of_month
 

@@ -9,13 +9,13 @@ say that a month is provisional.
 from __future__ import annotations
 
 from itertools import groupby
-from pathlib import Path
 from typing import Optional
 
 from .. import csv_files
 from .before import Before
 from .chooser import ITEM_HEAD, item_ends, item_rows
 from .figures import Known
+from .new_files import NewFiles
 from .notes import PROVISIONAL, Notes
 from .tidy import Lines, write_rows
 
@@ -25,9 +25,9 @@ HEAD_LINE = f"{csv_files.line_of(ITEM_HEAD)}\n".encode()
 class ItemFiles:
     """Writes the file of each item and of each special aggregate."""
 
-    def __init__(self, known: Known, notes: Notes, before: Before, same_to: str):
+    def __init__(self, known: Known, notes: Notes, before: Before, same_to: str, files: NewFiles):
         """`same_to` is the last month up to which the pack before was made of the same tables in the same way."""
-        self._known, self._notes, self._before = known, notes, before
+        self._known, self._notes, self._before, self._files = known, notes, before, files
         series = known.series
         self._specials = Known(series, known.contributions, known.shown, nodes=False)
         self._lines, self._tables = Lines(series), [series.latest[month] for month in series.months]
@@ -39,17 +39,18 @@ class ItemFiles:
             code for named, _ in self._named for code, title in zip(named.codes, named.titles) if "\n" in title
         }
 
-    def write(self, code: str, folder: Path) -> None:
-        """Writes the file of an item into the folder `node`."""
-        to, series = folder / f"{code}.csv", self._known.series
+    def write(self, code: str) -> None:
+        """Writes the file of an item into the folder `node`, which is there."""
+        name, series = f"node/{code}.csv", self._known.series
         if code in series.specials:
+            to = self._files.folder / name
             write_rows(to, ITEM_HEAD, item_rows(self._specials, self._notes.by_month(code), code))
             return
         earlier = self._earlier(code) if self._same else None
         first = self._same if earlier else 0
         notes = self._notes.by_month(code, series.months[first:])
         lines = self._lines.of_node(self._tables[first:], code, item_ends(self._known, notes, code, first))
-        to.write_bytes((earlier or HEAD_LINE) + lines.encode())
+        self._files.write(name, (earlier or HEAD_LINE) + lines.encode())
 
     def _earlier(self, code: str) -> Optional[bytes]:
         """The head and the lines of the months that are the same; None if the pack before hasn't got them so."""

@@ -16,11 +16,11 @@ millionths of a point.
 
 from __future__ import annotations
 
-from collections.abc import Iterable
+from collections.abc import Iterable, Sequence
 from typing import NamedTuple, Optional
 
 from ..exact import HUNDRED, Ratio
-from .tables import Series, before, link_of
+from .tables import Series, Weighed, before, link_of
 
 
 class Whole:
@@ -30,23 +30,22 @@ class Whole:
     special aggregate to all items.
     """
 
-    def __init__(self, series: Series, month: str, of: str):
-        self._series, self._month = series, month
-        self._earlier, self._link, self._year = before(month), link_of(month), before(month, 12)
+    def __init__(self, series: Series, month: str, of: str, weighed: Sequence[Weighed]):
+        """`weighed` are those of the month, of the month before, of the link month and of the year before."""
+        self._of_now, self._of_earlier, self._of_link, self._of_year = weighed
         self._is_january, self._is_december = month.endswith("-01"), month.endswith("-12")
-        self._now, self._then = series.weighed(month, of), series.weighed(self._earlier, of)
-        self._at_link, self._a_year_ago = series.weighed(self._link, of), series.weighed(self._year, of)
+        self._now, self._then, self._at_link, self._a_year_ago = (each(of) for each in weighed)
         row = series.row(month, of)
         self._has_annual = row is not None and row.year_change is not None
 
     def to_month(self, code: str) -> Optional[Ratio]:
         """Percentage points that a node gives to the change on the month before; None if there is none."""
-        now, whole = self._series.weighed(self._month, code), self._now
+        now, whole = self._of_now(code), self._now
         if now is None or whole is None:
             return None
         if self._is_january:
             return Ratio(100 * now[0] * (now[1] - HUNDRED), whole[0] * HUNDRED)
-        then, whole_then = self._series.weighed(self._earlier, code), self._then
+        then, whole_then = self._of_earlier(code), self._then
         if then is None or whole_then is None:
             return None
         return Ratio(100 * now[0] * (now[1] - then[1]), whole[0] * whole_then[1])
@@ -56,7 +55,7 @@ class Whole:
         whole = self._now
         if whole is None or not self._has_annual:
             return None
-        now = self._series.weighed(self._month, code)
+        now = self._of_now(code)
         if self._is_december:
             return Ratio(now[0] * (now[1] - HUNDRED), whole[0] * 10**6) if now else None
         whole_link, whole_then = self._at_link, self._a_year_ago
@@ -70,7 +69,7 @@ class Whole:
 
     def _old_year(self, code: str, whole_then: tuple[int, int]) -> Optional[Ratio]:
         """The part of an annual contribution up to December."""
-        link, then = self._series.weighed(self._link, code), self._series.weighed(self._year, code)
+        link, then = self._of_link(code), self._of_year(code)
         if link is None or then is None:
             return None
         return Ratio(100 * then[0] * (link[1] - then[1]), whole_then[0] * whole_then[1])
@@ -93,14 +92,17 @@ class Contributions:
         self.series = series
         self.unexplained = frozenset(series.unexplained() if unexplained is None else unexplained)
         self._month, self._wholes = "", dict[str, Whole]()
+        self._weighed: Sequence[Weighed] = ()
 
     def whole(self, month: str, to: str) -> Whole:
         """What the contributions to a node in a month have in common; those of one month are kept."""
         if month != self._month:
             self._month, self._wholes = month, {}
+            months = (month, before(month), link_of(month), before(month, 12))
+            self._weighed = [self.series.weighed_in(each) for each in months]
         found = self._wholes.get(to)
         if found is None:
-            found = self._wholes[to] = Whole(self.series, month, to)
+            found = self._wholes[to] = Whole(self.series, month, to, self._weighed)
         return found
 
     def to_month(self, month: str, code: str, to: str) -> Optional[Ratio]:

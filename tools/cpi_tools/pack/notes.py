@@ -65,16 +65,17 @@ class Notes:
     def by_month(self, code: str, months: Optional[Iterable[str]] = None) -> dict[str, str]:
         """By month, the letters of an item's figures, such as `ir`; a month without a note isn't there. If no months are
         named they are all."""
-        series, marks = self.shown.series, frozenset(self.shown.series.marks(code))
-        looked_at = ((month, series.row(month, code)) for month in (series.months if months is None else months))
-        rows = ((month, row) for month, row in looked_at if row)
-        found = ((month, self._letters(month, row, month in marks)) for month, row in rows)
-        return {month: letters for month, letters in found if letters}
+        series, found = self.shown.series, dict[str, str]()
+        marks, months = frozenset(series.marks(code)), [*(series.months if months is None else months)]
+        for month, is_imputed in zip(months, series.column(months, code, "is_imputed")):
+            if is_imputed is not None and (letters := self._letters(month, code, is_imputed == 1, month in marks)):
+                found[month] = letters
+        return found
 
-    def _letters(self, month: str, row: Row, is_break: bool) -> str:
+    def _letters(self, month: str, code: str, is_imputed: bool, is_break: bool) -> str:
         """The letters of a row."""
-        found = IMPUTED if row.is_imputed else ""
-        if month in self._first and self.first(month, row.code):
+        found = IMPUTED if is_imputed else ""
+        if month in self._first and self.first(month, code):
             found += REVISED
         found += BREAK if is_break else ""
         return found + PROVISIONAL if month in self.last else found

@@ -14,7 +14,7 @@ from ..exact import ALL_ITEMS, HUNDRED, decimal, depth_of
 from ..others import Worded, isolated, of_others, others, worded
 from ..speech import SPEAKS_ENGLISH, Speech, marked
 from .shown import Shown
-from .tables import Row, Series, before
+from .tables import Series, before, link_of
 
 LEVEL, YEAR, MONTH, IMPUTED = "level", "year", "month", "imputed"
 """The kinds of pictures, by which their files are named."""
@@ -43,12 +43,6 @@ class Chart(NamedTuple):
         return told + Markup(" {}").format(self.marks) if self.marks else told
 
 
-def _of(row: Optional[Row], name: str, scale: int) -> Optional[float]:
-    """A figure of a row as a number for a picture."""
-    value = getattr(row, name) if row else None
-    return None if value is None else value / scale
-
-
 def _ends(values: Sequence[Optional[float]], months: Sequence[str]) -> list[tuple[str, float]]:
     """The months with a value."""
     return [(month, value) for month, value in zip(months, values) if value is not None]
@@ -59,14 +53,13 @@ def of_node(shown: Shown, code: str) -> list[Chart]:
     series, title, speech = shown.series, isolated(shown.series.title(code)), shown.speech
     end = next(at for at in range(len(series.months), 0, -1) if series.level(series.months[at - 1], code) is not None)
     months = series.months[max(0, end - charts.MOST_MONTHS) : end]
-    rows = [shown.row(month, code) for month in months]
     found = [_level(shown, code, months)]
     names = (
-        ("year_change", YEAR, speech.t("Change on the year before"), marked("{title}: change on the year before")),
-        ("month_change", MONTH, speech.t("Change on the month before"), marked("{title}: change on the month before")),
+        (True, YEAR, speech.t("Change on the year before"), marked("{title}: change on the year before")),
+        (False, MONTH, speech.t("Change on the month before"), marked("{title}: change on the month before")),
     )
-    for name, kind, told, of_title in names:
-        values = [_of(row, name, 10) for row in rows]
+    for is_annual, kind, told, of_title in names:
+        values = [None if it is None else it / 10 for it in shown.changes(months, code, is_annual)]
         known = _ends(values, months)
         if known:
             # (what isn't known yet isn't drawn: the annual change begins with the second year)
@@ -110,16 +103,16 @@ def _level(shown: Shown, code: str, months: Sequence[str]) -> Chart:
     series, title, speech = shown.series, shown.series.title(code), shown.speech
     # (a first month alone is no line: it is drawn from the December before it, which it is linked to)
     months = [before(months[0]), *months] if len(months) == 1 else months
-    texts = [_text(shown, month, code) for month in months]
-    levels = [_number(shown, month, code) for month in months]
+    levels = _numbers(shown, months, code)
+    there = [month for month, level in zip(months, levels) if level is not None]
     breaks, marks = (
         [month for month in found if months[0] < month <= months[-1]]
         for found in (series.starts(code)[1:], series.marks(code))
     )
-    lines = [Line(OWN, levels, speech.figure(next(filter(None, reversed(texts)))))]
+    lines = [Line(OWN, levels, speech.figure(_text(shown, there[-1], code)))]
     if code != ALL_ITEMS:
-        lines.append(Line(OTHER, [_beside(shown, code, month) for month in months]))
-    named, says = speech.t("{title}: index", title=isolated(title)), _said(speech, [*zip(months, texts)], breaks)
+        lines.append(Line(OTHER, _beside(shown, code, tuple(months))))
+    named, says = speech.t("{title}: index", title=isolated(title)), _said(shown, code, there, breaks)
     picture = Picture(LEVEL, named, " ".join(says), speech)
     drawn = charts.lines(picture, months, lines, breaks=breaks, marks=marks)
     chart = Chart(LEVEL, speech.t("Index"), base_text(shown, code), drawn, speech=speech)
@@ -136,19 +129,21 @@ def _chained(shown: Shown, month: str, code: str) -> Optional[int]:
     return HUNDRED if chained is None and month < shown.series.months[0] else chained
 
 
-def _number(shown: Shown, month: str, code: str) -> Optional[float]:
-    """A level as a number for a picture."""
-    chained = _chained(shown, month, code)
-    if chained is None:
-        return None
-    level = shown.of_level(chained, month, code)
-    return level.over / level.under
+def _numbers(shown: Shown, months: Sequence[str], code: str) -> list[Optional[float]]:
+    """Levels as numbers for a picture."""
+    found, first = list[Optional[float]](), shown.series.months[0]
+    for month, chained in zip(months, shown.series.column(months, code, "chained")):
+        if chained is None and month < first:
+            chained = HUNDRED
+        level = None if chained is None else shown.of_level(chained, month, code)
+        found.append(None if level is None else level.over / level.under)
+    return found
 
 
-@functools.lru_cache(maxsize=1000)
-def _of_all(shown: Shown, month: str) -> Optional[float]:
+@functools.lru_cache(maxsize=64)
+def _of_all(shown: Shown, months: tuple[str, ...]) -> Sequence[Optional[float]]:
     """The level of all items, which is in the picture of each of thousands of items."""
-    return _number(shown, month, ALL_ITEMS)
+    return _numbers(shown, months, ALL_ITEMS)
 
 
 def _text(shown: Shown, month: str, code: str) -> str:
@@ -157,13 +152,19 @@ def _text(shown: Shown, month: str, code: str) -> str:
     return "" if chained is None else decimal(*shown.of_level(chained, month, code), 1)
 
 
-def _beside(shown: Shown, code: str, month: str) -> Optional[float]:
-    """The level of all items in a month, if they are 100 in the period in which a node's level is."""
+def _beside(shown: Shown, code: str, months: tuple[str, ...]) -> Sequence[Optional[float]]:
+    """The levels of all items in some months, if they are 100 in the period in which a node's level is."""
+    base, of_all = shown.bases.get(code), _of_all(shown, months)
+    if base and link_of(base[0]) <= months[0] and months[-1] <= base[1]:
+        return of_all
+    return [_beside_in(shown, code, month, level) for month, level in zip(months, of_all)]
+
+
+def _beside_in(shown: Shown, code: str, month: str, of_all: Optional[float]) -> Optional[float]:
+    """The same in a month; `of_all` is the level of all items as it is shown for themselves."""
     chained = _chained(shown, month, ALL_ITEMS)
-    if chained is None:
-        return None
-    if shown.is_rereferenced(month, code):
-        return _of_all(shown, month)
+    if chained is None or shown.is_rereferenced(month, code):
+        return of_all
     return 100 * chained / shown.series.level_in(shown.series.base_of(month, code), ALL_ITEMS)
 
 
@@ -195,15 +196,19 @@ def _marked(shown: Shown, code: str, breaks: Sequence[str], marks: Sequence[str]
     return speech.t("Mark: a break, {breaks}.", breaks="; ".join(told)) if told else ""
 
 
-def _said(speech: Speech, levels: Sequence[tuple[str, str]], breaks: Sequence[str]) -> Iterator[str]:
-    """The first level and the last one, of each part between two breaks."""
-    limits = ["", *breaks, "9999-12"]
+def _said(shown: Shown, code: str, months: Sequence[str], breaks: Sequence[str]) -> Iterator[str]:
+    """The first level and the last one, of each part between two breaks; a node has a level in all these months."""
+    speech, limits = shown.speech, ["", *breaks, "9999-12"]
     for begin, end in zip(limits, limits[1:]):
-        part = [(speech.month(month), speech.figure(text)) for month, text in levels if text and begin <= month < end]
-        if len(part) == 1:
-            yield speech.t("{level} in {month}.", level=part[0][1], month=part[0][0])
-        elif part:
-            (first, then), (last, now) = part[0], part[-1]
+        part = [month for month in months if begin <= month < end]
+        if not part:
+            continue
+        ends = part[:1] if len(part) == 1 else (part[0], part[-1])
+        told = [(speech.month(month), speech.figure(_text(shown, month, code))) for month in ends]
+        (first, then), (last, now) = told[0], told[-1]
+        if len(told) == 1:
+            yield speech.t("{level} in {month}.", level=then, month=first)
+        else:
             yield speech.t("From {then} in {first} to {now} in {last}.", then=then, first=first, now=now, last=last)
 
 

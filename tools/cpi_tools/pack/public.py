@@ -101,11 +101,11 @@ class Sources:
     def __init__(self) -> None:
         self._file: IO[bytes] = tempfile.SpooledTemporaryFile(IN_MEMORY)
 
-    def add(self, published: Published) -> Source:
-        """Keeps those of one."""
+    def add(self, published: Published, its_sum: str) -> Source:
+        """Keeps those of one, which have a sum."""
         begin = self._file.seek(0, os.SEEK_END)
         self._file.write(published.table)
-        return Source(published.listed, published.sha256, self._file, begin, len(published.table))
+        return Source(published.listed, its_sum, self._file, begin, len(published.table))
 
 
 def listed_in(reply: Any) -> list[Listed]:

@@ -8,7 +8,7 @@ the office says `rates = published`, they come from the printed index, which has
 from __future__ import annotations
 
 import copy
-from collections.abc import Mapping
+from collections.abc import Iterable, Mapping, Sequence
 from typing import Optional
 
 from ..exact import HUNDRED, Ratio, decimal, points, rounded
@@ -113,12 +113,37 @@ class Shown:
             return points(chained, digits)
         return decimal(*self.of_level(chained, month, code), digits)
 
+    def texts(self, months: Iterable[str], code: str, digits: int = 6) -> list[str]:
+        """The same in some months."""
+        found, base, months = [], self._bases.get(code), [*months]
+        first, last = (link_of(base[0]), base[1]) if base else ("", "")
+        for month, chained in zip(months, self.series.column(months, code, "chained")):
+            if chained is None:
+                found.append("")
+            elif base and first <= month <= last:
+                found.append(decimal(*rereferenced(chained, base[2]), digits))
+            else:
+                found.append(points(chained, digits))
+        return found
+
     def average(self, code: str, year: int) -> Optional[Ratio]:
         """The mean of a node's twelve levels in a year, in points of what is shown."""
-        mean, base = average(self.series, code, year), self._base_in(f"{year:04}-01", code)
-        return Ratio(100 * mean.over * base.under, mean.under * base.over) if mean and base else mean
+        found = average(self.series, code, year)
+        return self.mean(found, code, year) if found else None
+
+    def mean(self, chained: Ratio, code: str, year: int) -> Ratio:
+        """The same of the average of chained levels."""
+        base = self._base_in(f"{year:04}-01", code)
+        return Ratio(100 * chained.over * base.under, chained.under * base.over) if base else chained
 
     # ---- changes
+
+    def changes(self, months: Sequence[str], code: str, is_annual: bool) -> list[Optional[int]]:
+        """The changes of a node that are shown in some months, in tenths of a percent; None where there is none."""
+        if self.rates == EXACT:
+            return self.series.column(months, code, "year_change" if is_annual else "month_change")
+        rows = [self.row(month, code) for month in months]
+        return [row and (row.year_change if is_annual else row.month_change) for row in rows]
 
     def _printed(self, chained: int, month: str, code: str) -> int:
         """A level with one decimal, in tenths of a point."""

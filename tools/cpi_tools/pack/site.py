@@ -10,7 +10,7 @@ from __future__ import annotations
 import json
 import shutil
 from collections import defaultdict
-from collections.abc import Callable, Sequence
+from collections.abc import Callable, Mapping, Sequence
 from functools import partial
 from pathlib import Path
 from typing import Optional
@@ -19,7 +19,7 @@ from markupsafe import Markup
 
 from ..exact import ALL_ITEMS, HUNDRED, decimal, depth_of, rounded
 from ..others import isolated, others
-from ..pages import TEMPLATES, environment, write_new, write_page
+from ..pages import TEMPLATES, environment, write_page
 from ..speech import Speech
 from .bases import hidden_bases, hidden_months, revised_bases
 from .cards import NO_CARDS, Cards
@@ -33,6 +33,7 @@ from .headline import headline
 from .item_files import ItemFiles
 from .measures import reference_level
 from .month_rows import MonthRows
+from .new_files import NewFiles
 from .notes import Notes, note_names, present, said
 from .pictures import Chart, base_text, of_imputed, of_node
 from .public import Source
@@ -76,7 +77,7 @@ class Site:
         self,
         known: Known,
         config: Config,
-        folder: Path,
+        files: NewFiles,
         signature: Optional[Signature] = None,
         cards: Cards = NO_CARDS,
         recent: Optional[Known] = None,
@@ -84,9 +85,10 @@ class Site:
         versions: Sequence[Version] = (),
     ):
         """`recent` are the figures of the months that pages show, else all of them. The pages are those of a version, of
-        a site that has some; `folder` is that of the pack."""
+        a site that has some; `files` writes those of the pack."""
         self.known, self.series, self.contributions, self.shown = known, known.series, known.contributions, known.shown
-        series, self.config, self.pack, self.folder = known.series, config, folder, folder / version.folder
+        series, self.config, self.files = known.series, config, files
+        self.pack, self.folder = files.folder, files.folder / version.folder
         self.version, self.versions = version, versions
         self.recent, self.speech = recent or known, known.shown.speech
         self.month_rows = MonthRows(self.shown)
@@ -146,7 +148,7 @@ class Site:
         for done, code in enumerate(codes, 1):
             self._node_page(code)
             if self.is_first:
-                items.write(code, self.folder / "node")
+                items.write(code)
             told(done, len(codes))
         self.releases.write(self.pages, self.pack)
 
@@ -200,25 +202,27 @@ class Site:
 
     def _node_page(self, code: str) -> None:
         """Writes the page of a node and its pictures."""
-        to = self.folder / "node" / page_of(code)
         stands = self.version.standing("../", page_of(code), f"node/{page_of(code)}")
         charts = of_node(self.shown, code)
-        write_new(self.pages, "node.html", to, **stands, **self._node(code), charts=charts)
+        self._write(f"node/{page_of(code)}", "node.html", {**stands, **self._node(code), "charts": charts})
         if self.config.has(PICTURES):
             of_all = [of_imputed(self.series, self.speech).chart] if code == ALL_ITEMS else []
             self._pictures(code, [*charts, *of_all])
+
+    def _write(self, name: str, template: str, words: Mapping[str, object]) -> None:
+        """Writes one of the thousands of pages, by its name in the folder of the language."""
+        text: str = self.pages.get_template(template).render(words)
+        self.files.write(self.version.folder + name, text.encode())
 
     def _pictures(self, code: str, charts: Sequence[Chart]) -> None:
         """Writes each picture of a node as a file, and the page that other sites embed, which shows the first one if
         its address names none."""
         title, source = self.series.title(code), self._source()
         for it in charts:
-            to = self.folder / "picture" / f"{code}-{it.kind}.svg"
-            to.write_bytes(drawing(it, title, source).encode())
-        to = self.folder / "embed" / page_of(code)
-        write_new(
-            self.pages, "embed.html", to, code=code, title=title, charts=[*charts][::-1], top=f"../{self.version.up}"
-        )
+            text = drawing(it, title, source)
+            self.files.write(f"{self.version.folder}picture/{code}-{it.kind}.svg", text.encode())
+        words = {"code": code, "title": title, "charts": [*charts][::-1], "top": f"../{self.version.up}"}
+        self._write(f"embed/{page_of(code)}", "embed.html", words)
 
     def _source(self) -> str:
         """The line at the foot of a picture's file."""
@@ -269,7 +273,8 @@ class Site:
         rows, zero = self._given(self.month, code, is_annual) if row else ([], "0")
         months = self._months(code)
         marks = self._marks(code)
-        history = [month for month in months if self.series.level(month, code) is not None]
+        levels = self.series.column(months, code, "chained")
+        history = [month for month, level in zip(months, levels) if level is not None]
         given = self.contributions.of(self.month, code, ALL_ITEMS)
         notes = self.notes.by_month(code, history)
         shown_notes = present(self.speech, notes)

@@ -3,7 +3,6 @@
 from __future__ import annotations
 
 from collections.abc import Mapping
-from pathlib import Path
 from typing import NamedTuple, Optional
 
 from ..speech import SPEAKS_ENGLISH, Speech, speech_of
@@ -12,6 +11,7 @@ from .cards import Cards
 from .config import Config
 from .figures import Known
 from .item_files import ItemFiles
+from .new_files import NewFiles
 from .office_languages import Own
 from .part import Now
 from .signature import Signature
@@ -21,14 +21,15 @@ from .versions import ALONE, versions_of
 
 class Shared(NamedTuple):
     """What the pages of all languages have in common: the files of items, which have the titles of the tables, the
-    signature of the manifest, and the cards."""
+    signature of the manifest, the cards, and what writes the thousands of files of the pack."""
 
     items: ItemFiles
     signature: Optional[Signature]
     cards: Cards
+    files: NewFiles
 
 
-def write_sites(known: Known, recent: Known, config: Config, folder: Path, shared: Shared, now: Now) -> None:
+def write_sites(known: Known, recent: Known, config: Config, shared: Shared, now: Now) -> None:
     """Writes the pages of all languages into the folder of a pack, whose data files are there; `recent` are the figures
     of the months that pages show."""
     languages, digits, own = config.speaks
@@ -38,10 +39,10 @@ def write_sites(known: Known, recent: Known, config: Config, folder: Path, share
         tag = speech.language.tag
         titles, spoken = own.get(tag, Own()).titles, config.spoken(tag)
         figures, shown = (_in(it, speech, titles) for it in (known, recent))
-        site = Site(figures, spoken, folder, shared.signature, shared.cards, shown, version, versions)
+        site = Site(figures, spoken, shared.files, shared.signature, shared.cards, shown, version, versions)
         site.write(shared.items, lambda done, of: now(f"pages, {done} of {of}"))
     if config.address:
-        write_sitemap(folder, config, known.series, site.releases.releases.all, versions or [ALONE])
+        write_sitemap(shared.files.folder, config, known.series, site.releases.releases.all, versions or [ALONE])
 
 
 def _in(known: Known, speech: Speech, titles: Mapping[str, str]) -> Known:

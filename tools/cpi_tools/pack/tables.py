@@ -11,7 +11,7 @@ import bisect
 import copy
 import csv
 import functools
-from collections.abc import Iterable, Iterator, Mapping, Sequence
+from collections.abc import Callable, Iterable, Iterator, Mapping, Sequence
 from datetime import datetime, timezone
 from typing import NamedTuple, Optional
 
@@ -107,6 +107,9 @@ class Aggregated(NamedTuple):
 
 NONE: Sequence[str] = ()
 
+Weighed = Callable[[str], Optional[tuple[int, int]]]
+"""Tells of a node its weight in use and its index within the year; None if it has none."""
+
 
 class Series:
     """All published tables.
@@ -120,7 +123,8 @@ class Series:
 
     def __init__(self, published: Iterable[Published]):
         kept = Sources()
-        found = sorted(((kept.add(each), table) for each, table in tables_of(published)), key=lambda it: it[0][0])
+        read = ((kept.add(each, table.sha256), table) for each, table in tables_of(published))
+        found = sorted(read, key=lambda it: it[0][0])
         self.sources, self.vintages = [source for source, _ in found], [table for _, table in found]
         self.latest = {table.month: table for table in self.vintages}
         self.months = self.every = [month for month, table in self.latest.items() if table.rows]
@@ -186,14 +190,19 @@ class Series:
             return rows.at(place)
         return self.specials[code].rows.get(month) if code in self.specials else None
 
-    def weighed(self, month: str, code: str) -> Optional[tuple[int, int]]:
-        """The weight in use of a node and its index within the year, in the latest revision of a month."""
-        rows = self._rows.get(month, NO_ROWS)
-        place = rows.place(code)
-        if place is not None:
-            return rows.weight[place], rows.within[place]
-        row = self.specials[code].rows.get(month) if code in self.specials else None
-        return (row.weight, row.within) if row else None
+    def weighed_in(self, month: str) -> Weighed:
+        """What tells of a node its weight in use and its index within the year, in the latest revision of a month."""
+        rows, specials = self._rows.get(month, NO_ROWS), self.specials
+        places, weight, within = rows.named.places, rows.weight, rows.within
+
+        def weighed(code: str) -> Optional[tuple[int, int]]:
+            place = places.get(code)
+            if place is not None:
+                return weight[place], within[place]
+            row = specials[code].rows.get(month) if code in specials else None
+            return (row.weight, row.within) if row else None
+
+        return weighed
 
     def level(self, month: str, code: str) -> Optional[int]:
         """The level of a node in the latest revision of a month, in millionths of a point."""
@@ -203,6 +212,19 @@ class Series:
             return rows.chained[place]
         row = self.specials[code].rows.get(month) if code in self.specials else None
         return row.chained if row else None
+
+    def column(self, months: Iterable[str], code: str, name: str) -> list[Optional[int]]:
+        """A figure of a node's rows in some months, such as `chained`; None in a month without a row or a change."""
+        if code in self.specials:
+            rows = self.specials[code].rows
+            return [getattr(rows[month], name) if month in rows else None for month in months]
+        found: list[Optional[int]] = []
+        for month in months:
+            of_month = self._rows.get(month, NO_ROWS)
+            place = of_month.named.places.get(code)
+            value = None if place is None else getattr(of_month, name)[place]
+            found.append(None if value == NO_CHANGE else value)
+        return found
 
     def twelve(self, month: str) -> dict[str, int]:
         """By code, the sum of the levels of the twelve months up to one, in millionths of a point; a node that has no
@@ -260,7 +282,11 @@ class Series:
 
         Each part has a base of its own, December before its first month.
         """
-        limits = [*self.starts(code), "9999-12"]
+        starts = self.starts(code)
+        if len(starts) == 1 and code in self.latest[self.every[-1]].rows:
+            # (it never left)
+            return [self.every[bisect.bisect_left(self.every, starts[0]) :]]
+        limits = [*starts, "9999-12"]
         months = [month for month in self.every if self.level(month, code) is not None]
         return [[month for month in months if first <= month < end] for first, end in zip(limits, limits[1:])]
 
@@ -335,12 +361,16 @@ class Series:
         rows, by = self._rows[month], 12 if is_annual else 1
         is_from_link = month.endswith("-12" if is_annual else "-01")
         earlier = self._rows.get(link_of(month) if is_from_link else before(month, by), NO_ROWS)
-        for change, base, level in zip(
-            rows.year_change if is_annual else rows.month_change, earlier.levels_for(rows), rows.chained
-        ):
+        changes = rows.year_change if is_annual else rows.month_change
+        # (rounded_change, written out: there are millions of rows)
+        for change, base, level in zip(changes, earlier.levels_for(rows), rows.chained):
             base = HUNDRED if base is None and is_from_link else base
-            if change != NO_CHANGE and (base is None or change != rounded_change(base, level)):
-                return False
+            if change != NO_CHANGE:
+                if base is None:
+                    return False
+                size = (2000 * abs(level - base) + base) // (2 * base)
+                if change != (size if level >= base else -size):
+                    return False
         return True
 
     def is_row_linked(self, month: str, row: Row) -> bool:
@@ -351,10 +381,10 @@ class Series:
         """Whether each level of a month is its index within the year on the published level of December before."""
         rows = self._rows[month]
         links = self._rows.get(link_of(month), NO_ROWS).levels_for(rows)
-        return all(
-            level == rounded((HUNDRED if link is None else link) * within, HUNDRED)
-            for level, link, within in zip(rows.chained, links, rows.within)
-        )
+        for level, link, within in zip(rows.chained, links, rows.within):
+            if level != (2 * (HUNDRED if link is None else link) * within + HUNDRED) // (2 * HUNDRED):
+                return False
+        return True
 
     def unexplained(self) -> Iterator[tuple[str, bool]]:
         """The months, and whether it is the annual change, whose changes aren't those of the published levels."""

@@ -132,7 +132,7 @@ def write_whole(series: Series, shown: Shown, folder: Path) -> None:
     releases = ((it.month, it.revision, iso(it.moment), len(it.rows), it.sha256) for it in series.vintages)
     write_rows(folder / "releases.csv", ("month", "revision", "published", "rows", "sha256"), releases)
     write_lines(folder / "vintages.csv", HEAD, _vintage_lines(series))
-    write_rows(folder / "averages.csv", AVERAGE_HEAD, _average_rows(shown))
+    write_lines(folder / "averages.csv", AVERAGE_HEAD, _average_lines(shown))
 
 
 def _vintage_lines(series: Series) -> Iterator[str]:
@@ -192,15 +192,17 @@ def _printed_lines(known: Known) -> Iterator[str]:
                 yield f"{month},{code},{titles[title]},{known.shown.hundred(month, code)},{index},{','.join(changes)}\n"
 
 
-def _average_rows(shown: Shown) -> Iterator[Sequence[object]]:
+def _average_lines(shown: Shown) -> Iterator[str]:
     """Averages in points with six decimals, as shown and of chained levels; their change in percent with one."""
-    series, years = shown.series, full_years(shown.series)
+    series, years, titles = shown.series, full_years(shown.series), csv_files.Cells()
     for code, title in series.all_titles.items():
+        cell = titles[title]
         for year in years:
-            mean, chained = shown.average(code, year), average(series, code, year)
-            if mean is not None:
-                changed, hundred = average_change(series, code, year), shown.hundred(f"{year:04}-01", code)
-                yield code, title, year, written(mean, 6), written(changed, 1), hundred, written(chained, 6)
+            chained = average(series, code, year)
+            if chained is not None:
+                mean, hundred = shown.mean(chained, code, year), shown.hundred(f"{year:04}-01", code)
+                changed = written(average_change(series, code, year), 1)
+                yield f"{code},{cell},{year},{written(mean, 6)},{changed},{hundred},{written(chained, 6)}\n"
 
 
 def _rate_lines(series: Series) -> Iterator[str]:

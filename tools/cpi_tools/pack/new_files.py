@@ -1,0 +1,22 @@
+"""The files of a new pack that are made whole in memory, of which there are thousands: written once, and their sums kept."""
+
+from __future__ import annotations
+
+import hashlib
+from pathlib import Path
+
+
+class NewFiles:
+    """Writes files into the folder of a pack, which takes its place as a whole later."""
+
+    def __init__(self, folder: Path):
+        self.folder = folder
+        self.sums: dict[str, str] = {}
+        """The SHA-256 of each file that was written here, in hexadecimal, by its name in the pack."""
+        self._top = f"{folder}/"
+
+    def write(self, name: str, content: bytes) -> None:
+        """Writes a file by its name in the pack, in a folder that is there. Raises OSError."""
+        with open(self._top + name, "xb") as file:
+            file.write(content)
+        self.sums[name] = hashlib.sha256(content).hexdigest()
