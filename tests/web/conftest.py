@@ -17,6 +17,7 @@ sys.path[:0] = [str(HERE), str(ROOT / "tools"), str(ROOT / "tests")]
 from browser import Browser  # noqa: E402
 from languages import ARABIC, ENGLISH, Speech, spoken  # noqa: E402
 from cpi_tools.program import Cpi  # noqa: E402
+from desk_pages import DeskPages, Person, desk_pages  # noqa: E402
 from lib.fixtures import cpi, pytest_addoption  # noqa: E402, F401
 from offices import lived  # noqa: E402
 from phone import Phone  # noqa: E402
@@ -79,6 +80,21 @@ def speech(request: pytest.FixtureRequest, stage: Stage) -> Iterator[Speech]:
     else:
         with spoken(stage, request.param):
             yield request.param
+
+
+@pytest.fixture
+def pages(stage: Stage, tmp_path: Path) -> Iterator[DeskPages]:
+    """The desk's application over a fresh office."""
+    with desk_pages(stage, tmp_path) as it:
+        yield it
+
+
+@pytest.fixture
+def ada(browser: Browser, pages: DeskPages) -> Person:
+    """A person at the desk."""
+    person = Person(browser, pages)
+    person.sign_in("Ada")
+    return person
 
 
 @pytest.fixture

@@ -8,31 +8,16 @@ import threading
 from collections.abc import Iterator
 from pathlib import Path
 
-import pytest
-
 from cpi_tools.desk_app.desk_log import DeskLog
 
 from browser import Browser
-from desk_pages import PREFIX, DeskPages, Person, desk_pages
+from desk_pages import PREFIX, Person, desk_pages
 from offices import ANNA, ARABIC, BENO, DESK, IMAGE, LEAVING, OVERRIDE, SCRIPT
 from readable import faults_for_keys, faults_of_page, faults_of_texts
 from stage import ROOT, Stage
 
 MONTH = "2011-03"
 FAR = 9_999_999_000
-
-
-@pytest.fixture
-def pages(stage: Stage, tmp_path: Path) -> Iterator[DeskPages]:
-    with desk_pages(stage, tmp_path) as it:
-        yield it
-
-
-@pytest.fixture
-def ada(browser: Browser, pages: DeskPages) -> Person:
-    person = Person(browser, pages)
-    person.sign_in("Ada")
-    return person
 
 
 def priced(stage: Stage, *rows: tuple[str, int, int]) -> None:

@@ -2,15 +2,10 @@
 
 from __future__ import annotations
 
-from collections.abc import Iterator
-from pathlib import Path
-
-import pytest
-
 from cpi_tools.csv_files import line_of
 
 from browser import Browser
-from desk_pages import DeskPages, Person, desk_pages
+from desk_pages import DeskPages, Person
 from offices import ANNA, ARABIC, IMAGE, LEAVING, NOW, OVERRIDE, SCRIPT
 from readable import faults_for_keys, faults_of_page, faults_of_texts
 from stage import Stage
@@ -18,19 +13,6 @@ from stage import Stage
 KINDS = ("items", "outlets", "collectors", "assignments", "handovers", "calendar")
 
 HOSTILE = (SCRIPT, IMAGE, ARABIC, OVERRIDE, LEAVING.replace("\u2029", ""))
-
-
-@pytest.fixture
-def pages(stage: Stage, tmp_path: Path) -> Iterator[DeskPages]:
-    with desk_pages(stage, tmp_path) as it:
-        yield it
-
-
-@pytest.fixture
-def ada(browser: Browser, pages: DeskPages) -> Person:
-    person = Person(browser, pages)
-    person.sign_in("Ada")
-    return person
 
 
 def pasted(ada: Person, kind: str, *rows: str) -> None:
