@@ -60,7 +60,7 @@ def test_what_the_units_start_is_there_and_named_in_the_guide() -> None:
     assert [path.name for path in sorted(OPS.iterdir()) if f"{path.name}" not in guide] == []
 
 
-ADDED = {"CPI_COPY", "CPI_COPY_EVERY", "CPI_DESK_FRONT", "CPI_DESK_LISTEN", "CPI_DESK_NOTES"}
+ADDED = {"CPI_COPY", "CPI_COPY_EVERY"} | {f"CPI_DESK_{it}" for it in ("FRONT", "LISTEN", "NOTES", "PHONES", "SITE")}
 """What an office with a second machine, or with the pages of the desk, adds to its office.conf. (If the package's own
 file changed, an upgrade of an office that has set something in it would ask which file to take.)"""
 
@@ -180,7 +180,7 @@ def test_a_program_that_is_not_there_is_told(cpi: Cpi, tmp_path: Path) -> None:
     assert started.told.startswith("cpi-serve: there is no program /nowhere/cpi")
 
 
-def test_the_desk_s_pages_take_notes_of_the_field_if_the_setting_says_for_how_long(tmp_path: Path) -> None:
+def test_the_desk_s_pages_take_notes_publish_and_print_keys_if_the_settings_say_so(tmp_path: Path) -> None:
     script(tmp_path / "cpi-tools", 'echo "$@"\n')
     settings = {"PATH": f"{tmp_path}:{os.environ['PATH']}", "CPI_OFFICE": str(tmp_path)}
 
@@ -190,6 +190,9 @@ def test_the_desk_s_pages_take_notes_of_the_field_if_the_setting_says_for_how_lo
 
     assert "--field-notes" not in started().stdout + started(CPI_DESK_NOTES="0").stdout
     assert " --field-notes 13 " in started(CPI_DESK_NOTES="13").stdout
+    told = started(CPI_DESK_SITE="/etc/cpi/office.ini", CPI_DESK_PHONES="https://prices.example").stdout
+    assert " --site /var/lib/cpi-site/published --site-config /etc/cpi/office.ini " in told
+    assert " --phones https://prices.example " in told and "--site" not in started().stdout
     wrong = started(CPI_DESK_NOTES="13 months")
     assert (wrong.returncode, wrong.stdout, wrong.stderr.count("\n")) == (WRONG, "", 1)
     assert "office.conf: CPI_DESK_NOTES is 13 months: wanted is a number of months, such as 13" in wrong.stderr

@@ -24,6 +24,7 @@ from . import (
     log_views,
     looks_views,
     month_views,
+    publish_views,
     records_views,
     sample_views,
     sign_in_views,
@@ -126,6 +127,7 @@ def make_app(desk: Desk, reached: Reached) -> flask.Flask:
         calendar_views,
         sample_views,
         key_views,
+        publish_views,
         records_views,
         log_views,
     ):

@@ -18,6 +18,7 @@ from .freezes import PreparedFreeze
 from .marks import Marks
 from .observed import Observed
 from .office import Office
+from .publishing import Publisher, Site
 from .sending import Sender
 from .sessions import Session, Sessions
 from .standing import looked_up
@@ -35,7 +36,8 @@ class Given(NamedTuple):
     """What the words of the command line say: the office's URL and file, the application's folder, the program, after
     how many idle seconds a session ends, the office's clock, where copies lie, how many quotes a trial leaves out in
     turn, for how many months notes of the field are kept, 0 if none are taken, the address of the front that collectors
-    reach, if sheets with their keys are printed here, and how the pages speak.
+    reach, if sheets with their keys are printed here, how the pages speak, and where the website goes, if it is written
+    here.
     """
 
     url: str
@@ -49,6 +51,7 @@ class Given(NamedTuple):
     field_months: int = 0
     phones: str = ""
     speech: Speech = SPEAKS_ENGLISH
+    site: Optional[Site] = None
 
 
 class Desk:
@@ -71,6 +74,16 @@ class Desk:
         months = given.field_months
         self.field: Optional[FieldNotes] = FieldNotes(given.room / FIELD_NOTES, months) if months else None
         self.tray = Tray(given.room / "rows.json")
+        self.publisher = self._publisher(given.site) if given.site else None
+
+    def _publisher(self, site: Site) -> Publisher:
+        return Publisher(site, self.given.file, self.cpi.path, self.given.room / "to-publish.json", self.log)
+
+    def start(self) -> None:
+        """Begins to follow the office, and to publish what is planned."""
+        self.watch.start()
+        if self.publisher:
+            self.publisher.start()
 
     def send(self, by: Session, records: Sequence[Sequence[str]]) -> list[Optional[Reply]]:
         """Sends records of a person, as `Sender.send` does. Raises Fault if nothing was sent."""
@@ -94,6 +107,8 @@ class Desk:
     def close(self) -> None:
         """Ends it; the copies go."""
         self.watch.stop()
+        if self.publisher:
+            self.publisher.stop()
         self.trials.close()
         self.copies.close()
         self.log.close()

@@ -55,7 +55,7 @@ def listening(desk: Desk, reached: Reached) -> None:
         )
     except (OSError, ValueError) as fault:
         raise Fault(f"{reached.listen} can't be listened at: {fault}") from fault
-    desk.watch.start()
+    desk.start()
     print(f"cpi-tools desk serve: {reached.front or f'http://{reached.listen}/'}", flush=True)
     if reached.front:
         print(f"cpi-tools desk serve: listening on {reached.listen}, behind that front", flush=True)

@@ -7,11 +7,15 @@ import ipaddress
 import tempfile
 import urllib.parse
 from pathlib import Path
+from typing import TYPE_CHECKING, Optional
 
 from ..keys.words import an_origin
 from ..program import add_program
 from ..report_language import add_language, chosen_teller
 from ..terminal import Fault, ToolWords, at_least, needs
+
+if TYPE_CHECKING:
+    from .publishing import Site
 
 LISTEN, URL = "127.0.0.1:8090", "http://127.0.0.1:8080"
 
@@ -48,9 +52,23 @@ def run(chosen: argparse.Namespace) -> int:
         chosen.field_notes,
         chosen.phones or "",
         teller.speech,
+        site_of(chosen),
     )
     serve(given, chosen.listen, chosen.front or "")
     return 0
+
+
+def site_of(chosen: argparse.Namespace) -> Optional[Site]:
+    """Where the website goes, if the words say so. Refuses words that don't go together."""
+    from .publishing import Site  # (its packages are this job's alone)
+
+    if (chosen.site is None) != (chosen.site_config is None) or (chosen.sign and chosen.site is None):
+        chosen.words.error("--site and --site-config go together, and --sign goes with them")
+    if chosen.site is None:
+        return None
+    if not chosen.site_config.is_file():
+        raise Fault(f"{chosen.site_config} is no file: --site-config names what cpi-tools publish reads as --config")
+    return Site(chosen.site, chosen.site_config, chosen.sign)
 
 
 # ---- values
@@ -118,6 +136,9 @@ def add_serve(jobs: argparse._SubParsersAction[ToolWords]) -> None:
     )
     add("--phones", type=an_origin, metavar="URL", help="the front that collectors reach, for sheets with their keys")
     add_language(words, "the pages")
+    add("--site", type=Path, metavar="FOLDER", help="where the website is written, as cpi-tools publish does")
+    add("--site-config", type=Path, metavar="FILE", help="who publishes, under which names")
+    add("--sign", type=Path, metavar="KEY", help="sign the website's manifest with this key, by ssh-keygen")
     add(
         "--left-out",
         type=at_least(0),
