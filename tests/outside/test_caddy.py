@@ -107,7 +107,8 @@ def filled(folder: Path, front: Front) -> str:
     words.update(CONFIG=f"{folder}/set.js", SITE=f"{folder}/site", CALENDAR=f"{folder}/calendar.json")
     for word, value in words.items():
         text = text.replace(f"@{word}@", value)
-    return text
+    # (the desk's application is played by the same office)
+    return text.replace("127.0.0.1:8090", f"127.0.0.1:{front.office.port}")
 
 
 @contextlib.contextmanager
@@ -456,3 +457,22 @@ def test_a_message_that_was_sent_is_not_sent_again(front: Front) -> None:
     for method, path in (("PUT", "/api/quote/1/2026-01"), ("POST", "/api/import")):
         assert front.asked(method, path, body=b"x", headers=keyed())[0] == 502
     assert len(front.office.messages) == 2
+
+
+def test_notes_of_the_field_go_to_the_desk_s_application_with_a_key_and_nothing_else(front: Front) -> None:
+    def asked(method: str, path: str, body: bytes = b"", **fields: str) -> tuple[int, bytes]:
+        return front.asked(method, path, body=body or None, headers={"Authorization": f"CPI-Key {KEY}", **fields})
+
+    assert asked("POST", "/notes/2026-01/7", b"x" * 300_000, Cookie="cpi_desk=secret") == (200, REPLY)
+    (message,) = front.office.messages
+    assert message.startswith(b"POST /notes/2026-01/7 HTTP/1.1\r\n") and message.endswith(b"x" * 300_000)
+    assert KEY.encode() in message and b"secret" not in message
+    assert asked("GET", "/notes/2026-01")[0] == asked("GET", "/notes/2026-01/photo/12")[0] == 200
+    assert asked("POST", "/notes/2026-01/7", b"x" * 330_000)[0] == 413
+    count = len(front.office.messages)
+    for method, path in (("PUT", "/notes/2026-01"), ("GET", "/notes/2026-01/photo/x"), ("GET", "/notes/")):
+        assert asked(method, path)[0] == 404, path
+    for key in ("", "CPI-Key", f"CPI-Key {KEY[1:]}", f"Basic {KEY}"):
+        assert front.asked("GET", "/notes/2026-01", headers={"Authorization": key})[0] == 404, key
+    assert len(front.office.messages) == count
+    assert KEY not in front.log.read_text(encoding="utf-8")

@@ -29,12 +29,14 @@ SOURCE = catalogues.template(ROOT)
 
 
 def kept_scripts() -> list[Path]:
-    """The scripts that a phone keeps, without those that `tools/pages` makes of other files."""
+    """The scripts that a phone keeps, those of notes too, without those that `tools/pages` makes of other files."""
     text = (ROOT / "web/collect/sw.js").read_text(encoding="utf-8")
     names = re.findall(r'"((?:\.\./shared/)?[a-z-]+\.js)"', text.partition("];")[0])
     assert len(names) > 20
     made = ("refused.js", "../shared/languages.js")
-    return [ROOT / "web/collect" / name for name in names if name not in made]
+    notes = sorted((ROOT / "web/collect").glob("note*.js"))
+    assert len(notes) > 5
+    return [ROOT / "web/collect" / name for name in names if name not in made] + notes
 
 
 def scripts_of_desk() -> list[Path]:
@@ -47,7 +49,8 @@ def scripts_of_desk() -> list[Path]:
 TEXT = re.compile(r"[A-Za-z\u2019]{2,} [A-Za-z{]|^[A-Z][a-z]")
 """A string that looks like a text: two words, or one with a capital letter."""
 
-NO_TEXTS = {"Enter", "QuotaExceededError", "Content-Type", "Retry-After", "why good", "actions gone"}
+NO_TEXTS = {"Enter", "QuotaExceededError", "Content-Type", "Retry-After", "why good", "why bad", "actions gone"}
+NO_TEXTS |= {"note-about note-fault"}
 """Names of keys, errors and fields of HTTP, and classes, which no reader sees."""
 
 

@@ -6,6 +6,7 @@ import csv
 import html
 import io
 import random
+import re
 import sqlite3
 from collections.abc import Iterator
 from pathlib import Path
@@ -15,7 +16,7 @@ import pytest
 from PIL import Image
 
 import surveys
-from cpi_tools.desk_app import field_notes
+from cpi_tools.desk_app import field_limits, field_notes
 from cpi_tools.desk_app.field_limits import (
     MOST_BRAND_LETTERS,
     MOST_LETTERS,
@@ -34,6 +35,8 @@ from lib.hostile import HOSTILE
 from lib.served import heard, message, peer_of
 from loads import DESK_KEY
 from surveys import key_of
+
+ROOT = Path(__file__).resolve().parents[2]
 
 MONTH, AGES = "2026-02", 12_000
 """A month of the office of these tests, and so many months that it is kept whatever the machine's clock says."""
@@ -279,6 +282,33 @@ def test_a_collector_has_so_many_notes_of_a_month(
     assert [anna.send(1, 5, text=f"Look {it}").json.get("fault") for it in range(3)] == [None, None, "many"]
     assert anna.send(1, 5, text="Look 1").json == {"note": 2}
     assert Phone(application, BENO).send(1, 3, text="Look").json == {"note": 3}
+
+
+def test_phone_front_and_guide_have_the_same_limits() -> None:
+    phone = (ROOT / "web/collect/note-limits.js").read_text(encoding="utf-8")
+    told = {
+        name: int(value.replace("_", ""))
+        for name, value in re.findall(r"^export const (\w+) = ([0-9_]+);", phone, re.M)
+    }
+    assert len(told) == 5 and told == {name: getattr(field_limits, name) for name in told}
+    nginx = (
+        (ROOT / "ops/nginx.conf").read_text(encoding="utf-8").partition('location ~ "^/notes/')[2].partition("}\n\n")[0]
+    )
+    assert set(re.findall(r"client_\w+_size +(\w+);", nginx)) == {str(MOST_MESSAGE_BYTES)}
+    caddy = (
+        (ROOT / "ops/Caddyfile")
+        .read_text(encoding="utf-8")
+        .partition("handle @noted")[2]
+        .partition("handle /notes/")[0]
+    )
+    assert set(re.findall(r"max_\w+ (\w+)\n", caddy)) == {f"{MOST_MESSAGE_BYTES // 1000}KB"}
+    assert f" > {MOST_MESSAGE_BYTES}`" in caddy
+    guide = (ROOT / "docs/RUNNING.md").read_text(encoding="utf-8")
+    assert (
+        f"| text, brand, quantity | {MOST_LETTERS}, {MOST_BRAND_LETTERS} and {MOST_QUANTITY_LETTERS} letters |" in guide
+    )
+    assert f"| photograph | {MOST_PHOTO_BYTES:,} bytes, and {MOST_PHOTO_SIDE:,} pixels on its longer side |" in guide
+    assert f"| notes of a collector and month | {field_limits.MOST_NOTES} |" in guide
 
 
 # ---- the desk

@@ -22,10 +22,11 @@ PREFIX = "/desk-app"
 
 
 class DeskPages:
-    """The process; it can be killed, and another one takes its place over the same folder."""
+    """The process, with more words on its command line; it can be killed, and another one takes its place over the same
+    folder."""
 
-    def __init__(self, stage: Stage, folder: Path, front: str = ""):
-        self.stage, self.folder, self.front, self.port = stage, folder, front, free_port()
+    def __init__(self, stage: Stage, folder: Path, front: str = "", *more: str):
+        self.stage, self.folder, self.front, self.port, self.more = stage, folder, front, free_port(), more
         self.process: Optional[subprocess.Popen[str]] = None
         self.start()
 
@@ -43,7 +44,7 @@ class DeskPages:
             str(self.stage.db),
         ]
         words += ["--room", str(self.folder / "room"), "--listen", f"127.0.0.1:{self.port}"]
-        words += ["--program", str(self.stage.cpi.path), *(["--front", self.front] if self.front else [])]
+        words += ["--program", str(self.stage.cpi.path), *(["--front", self.front] if self.front else []), *self.more]
         told = {**os.environ, "PYTHONPATH": str(ROOT / "tools"), "PYTHONDONTWRITEBYTECODE": "1"}
         command = [sys.executable, "-m", "cpi_tools", *words]
         self.process = subprocess.Popen(command, stdout=subprocess.PIPE, text=True, env=told)
@@ -58,9 +59,9 @@ class DeskPages:
 
 
 @contextlib.contextmanager
-def desk_pages(stage: Stage, folder: Path, front: str = "") -> Iterator[DeskPages]:
+def desk_pages(stage: Stage, folder: Path, front: str = "", *more: str) -> Iterator[DeskPages]:
     """The application, until the end."""
-    pages = DeskPages(stage, folder, front)
+    pages = DeskPages(stage, folder, front, *more)
     try:
         yield pages
     finally:

@@ -1,14 +1,16 @@
 // The page of a collector. An entry goes to the phone first, then to the office.
+import { office } from "../config.js";
 import { find, isolated } from "../shared/dom.js";
 import { begin } from "../shared/language.js";
 import { t } from "../shared/texts.js";
 import { showDeadline } from "./deadline.js";
 import * as entry from "./entry.js";
 import * as exported from "./export.js";
-import { notice, showHead } from "./head.js";
+import { notice, noticeUntilRead, showHead } from "./head.js";
 import * as languages from "./languages.js";
 import * as line from "./line.js";
 import { choose, jump, render } from "./list.js";
+import { notes } from "./optional.js";
 import * as search from "./search.js";
 import * as session from "./session.js";
 import * as shownMonth from "./shown-month.js";
@@ -78,6 +80,14 @@ async function passed() {
   await shownMonth.follow();
 }
 
+/** Loads what an office needs that takes notes of the field; nothing, if it takes none. */
+async function loadNotes() {
+  const { notes: areTaken } = /** @type {{ notes?: boolean }} */ (office);
+  if (areTaken !== true) return;
+  await import("./notes.js").then((it) => it.listen(), () =>
+    noticeUntilRead(() => t("The part of this page for notes isn’t on this phone yet. Open the page again with a line.")));
+}
+
 /** An error that nothing else has reported: of a browser that keeps nothing, or of the page itself. */
 function told(fault) {
   return fault instanceof DOMException ? pageKeepsNothing(fault)
@@ -88,15 +98,17 @@ line.on.gone = session.followOthers;
 line.on.settled = (answered) => {
   entry.settled(answered);
   unsent.settled(answered);
+  notes.settled();
 };
 languages.on.spoken = () => {
   find("key-fault").textContent = "";
   notice("");
   render();
+  notes.render();
 };
 unsent.on.open = entry.edit;
 unsent.on.dropped = entry.dropped;
 for (const part of [entry, exported, languages, search, session, unsent]) part.listen();
 listen();
 keepFiles();
-begin().then(languages.spoken).then(session.start);
+begin().then(languages.spoken).then(loadNotes).then(session.start);

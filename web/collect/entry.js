@@ -8,6 +8,7 @@ import { noticeUntilRead } from "./head.js";
 import { refresh, send } from "./line.js";
 import { focusOn, nextToDo, touch } from "./list.js";
 import { farFrom } from "./look.js";
+import { notes } from "./optional.js";
 import { entryAt, isToDo, rowOf, state, storedOf, takeEntries, takeEntry } from "./state.js";
 import * as store from "./store.js";
 import * as tabs from "./tabs.js";
@@ -38,7 +39,7 @@ export function edit(slot, month = state.month, isUnsent = false) {
     form.forgetTaps();
     find("entry").showModal();
   }
-  if (drafts.draftOf(editing)) form.putDraft(drafts.draftOf(editing), row);
+  if (drafts.draftOf(editing)) form.putDraft(drafts.draftOf(editing), editing);
   if (entry?.state === "moved") form.showQuestion(entry); // (what was written before it answers nothing)
   editing.came = form.content(); // with what was written before
   if (form.markOf() !== "missing") form.focusPrice();
@@ -77,6 +78,7 @@ async function keep(choice) {
   const price = form.awaitTyping();
   isSaving = true;
   try {
+    await notes.keep(edited, choice); // (first: its price is sent at once, and a note waits for it)
     const kept = await store.keepEntry(state, { month, slot, row, seen, ...choice, state: "waiting" });
     if (kept) goOn(kept, edited, form.typedSince());
   } catch (fault) {

@@ -4,6 +4,7 @@ import { changeOf, figures, percent, shown, typed } from "../shared/money.js";
 import { inWords } from "../shared/months.js";
 import { parts, t, whole } from "../shared/texts.js";
 import { boundsOf, isOutside } from "./look.js";
+import { notes } from "./optional.js";
 import { keyOfEntry, state } from "./state.js";
 import { article, inMarks, whyNotStored } from "./wording.js";
 
@@ -33,6 +34,7 @@ export function fill({ month, slot, row, entry, stored }) {
   find("price").value = mark === "missing" || value === "" ? "" : figures(value);
   find("entry-drop").hidden = !entry;
   find("entry-withdraw").hidden = !stored || stored[2] === "missing";
+  notes.fill({ month, slot }, null);
   showFault("");
   showQuestion(entry && entry.state !== "waiting" ? entry : null);
   showFields(row);
@@ -45,18 +47,19 @@ function storedInWords([, , mark, value, receipt]) {
   return t("The office has: {entered}, receipt {receipt}.", { entered: inMarks(mark, value), receipt: whole(receipt) });
 }
 
-/** What the form has: mark, reason, and price as it is written; null if nothing is written in it. */
+/** What the form has: mark, reason, price as it is written, and a note; null if nothing is written in it. */
 export function content() {
-  const mark = markOf(), reason = reasonOf(), price = find("price").value.trim();
-  return (mark === "missing" ? reason : price) ? JSON.stringify([mark, reason, price]) : null;
+  const mark = markOf(), reason = reasonOf(), price = find("price").value.trim(), note = notes.written();
+  return note || (mark === "missing" ? reason : price) ? JSON.stringify([mark, reason, price, note]) : null;
 }
 
-/** Puts what was written before into the form of a row. */
-export function putDraft(written, row) {
-  const [mark, reason, price] = JSON.parse(written);
+/** Puts what was written before into the form of an entry. */
+export function putDraft(written, edited) {
+  const [mark, reason, price, note] = JSON.parse(written), { row } = edited;
   form().mark.value = mark;
   form().reason.value = reason;
   find("price").value = price;
+  if (note) notes.fill(edited, note);
   showQuestion(null);
   showFields(row);
   showChange(row);

@@ -9,6 +9,7 @@ import { nameIn, readKey, takeLink } from "./key.js";
 import * as line from "./line.js";
 import { choose, render, show } from "./list.js";
 import { takeShared } from "./lists.js";
+import { notes } from "./optional.js";
 import { showSentAgain } from "./restored.js";
 import * as search from "./search.js";
 import * as shownMonth from "./shown-month.js";
@@ -98,6 +99,7 @@ async function enter(key, name) {
   find("work").hidden = find("leave").hidden = false;
   await show();
   choose();
+  await notes.begin();
   await showSentAgain(state);
 }
 
@@ -117,10 +119,11 @@ async function showStorage() {
 
 function askToLeave() {
   const count = state.entries.length, written = drafts.count();
-  find("leaving-text").textContent = [whatIsLeft(count), written && whatIsWritten(written)].filter(Boolean).join(" ");
+  const lost = [whatIsLeft(count), notes.whatIsLeft(), written && whatIsWritten(written)];
+  find("leaving-text").textContent = lost.filter(Boolean).join(" ");
   find("leaving-taken").hidden = count === 0;
   // t: a button of the question of "Sign out"
-  find("leaving-go").textContent = count ? t("Throw away and sign out") : t("Sign out");
+  find("leaving-go").textContent = count + notes.count() ? t("Throw away and sign out") : t("Sign out");
   find("leaving").returnValue = "stay";
   find("leaving").showModal();
 }
@@ -137,6 +140,7 @@ const whatIsWritten = (count) => tn("What you wrote into {count} form and didnâ€
 async function left() {
   if (find("leaving").returnValue !== "leave") return;
   line.rest();
+  await notes.forget(state.who);
   await store.forget(state.who); // (if the browser refuses that, the page says so, and all stays)
   cleared();
   tabs.tell("key");
@@ -149,6 +153,7 @@ function cleared() {
   entry.forget();
   unsent.forget();
   search.forget();
+  notes.clear();
   Object.assign(state, signedOut());
   takeKept(null, []);
   noticeUntilRead(() => "");

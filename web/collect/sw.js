@@ -1,13 +1,14 @@
-// Keeps the files of the collectors' page, so that it opens without a line. It never touches the office's interface.
-// VERSION is the hash of FILES and of the catalogues of all languages: tools/pages writes it. What an office sets itself
-// (SET) is kept too, and read anew behind each start, so that the next one has it; and so are the catalogues of languages
-// that this phone has spoken, which the page names.
-const VERSION = "1017576f5f8e09fc";
+// Keeps the files of the collectors' page, so that it opens without a line. It never touches the interfaces of the office
+// and of the desk's machine.
+// VERSION is the hash of FILES, of the files of notes, and of the catalogues of all languages: tools/pages writes it. What
+// an office sets itself (SET) is kept too, and read anew behind each start, so that the next one has it; and so are the
+// catalogues of languages that this phone has spoken, and the files of notes if the office takes them: the page names these.
+const VERSION = "268c70088d8a2913";
 const FILES = [
   "./", "app.js", "collect.css", "deadline.js", "drafts.js", "entry.js", "export.js", "form.js", "head.js",
   "icon.svg", "kept-lists.js", "key.js", "languages.js", "line.js", "list.js", "lists.js", "look.js", "manifest.webmanifest",
-  "quotes.js", "refused.js", "restored.js", "search.js", "send.js", "session.js", "shown-month.js", "state.js", "store.js",
-  "tabs.js", "unsent.js", "wording.js",
+  "optional.js", "quotes.js", "refused.js", "restored.js", "search.js", "send.js", "session.js", "shown-month.js", "state.js",
+  "store.js", "tabs.js", "unsent.js", "wording.js",
   "../shared/api.js", "../shared/base.css", "../shared/csv.js", "../shared/dom.js", "../shared/money.js",
   "../shared/language.js", "../shared/languages.js", "../shared/months.js", "../shared/texts.js", "../shared/windows.js",
 ];
@@ -21,31 +22,31 @@ self.addEventListener("install", (event) => {
     const cache = await caches.open(NAME);
     await cache.addAll([...FILES.map(fresh), fresh(SET)]);
     // (a language that is gone in this version is no reason to stay with the one before)
-    await Promise.all((await ofLanguages()).map((url) => cache.add(fresh(url)).catch(() => {})));
+    await Promise.all((await named()).map((url) => cache.add(fresh(url)).catch(() => {})));
   })());
 });
 
-const CATALOGUE = new RegExp(`^${new URL("languages/", self.location.href).href}[A-Za-z-]+\\.json$`);
+const NAMED = new RegExp(`^${new URL("./", self.location.href).href}(languages/[A-Za-z-]+\\.json|notes?[a-z-]*\\.(js|css))$`);
 
-/** The addresses of the catalogues that the versions before have kept. */
-async function ofLanguages() {
+/** The addresses of catalogues and of files of notes that the versions before have kept. */
+async function named() {
   const found = new Set();
   for (const name of await caches.keys()) {
     if (!name.startsWith("cpi-collect-")) continue;
-    for (const { url } of await (await caches.open(name)).keys()) if (CATALOGUE.test(url)) found.add(url);
+    for (const { url } of await (await caches.open(name)).keys()) if (NAMED.test(url)) found.add(url);
   }
   return [...found];
 }
 
-/** Keeps a catalogue, unless it is kept already: the one that the browser has loaded, if it is the front's still. */
+/** Keeps such a file, unless it is kept already: the one that the browser has loaded, if it is the front's still. */
 async function keep(url) {
   const cache = await caches.open(NAME);
-  if (CATALOGUE.test(url) && !(await cache.match(url))) {
+  if (NAMED.test(url) && !(await cache.match(url))) {
     await cache.add(new Request(url, { cache: "no-cache" })).catch(() => {}); // (the next start tries again)
   }
 }
 
-// A page says "go" once it has loaded all of its files: none has files of two versions. It names a catalogue to keep.
+// A page says "go" once it has loaded all of its files: none has files of two versions. It names a file to keep.
 self.addEventListener("message", (event) => {
   const { data } = /** @type {MessageEvent} */ (event);
   if (data === "go") self.skipWaiting();
@@ -63,7 +64,7 @@ self.addEventListener("activate", (event) => {
 self.addEventListener("fetch", (event) => {
   const { request } = event;
   const url = new URL(request.url);
-  if (request.method !== "GET" || url.origin !== self.location.origin || url.pathname.startsWith("/api/")) return;
+  if (request.method !== "GET" || url.origin !== self.location.origin || /^\/(api|notes)\//.test(url.pathname)) return;
   if (url.pathname === SET.pathname) {
     event.waitUntil(caches.open(NAME).then((cache) => cache.add(fresh(SET))).catch(() => {}));
   }

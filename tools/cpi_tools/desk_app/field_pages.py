@@ -44,6 +44,16 @@ def kept() -> FieldNotes:
     return found
 
 
+def rows_now(month: int, notes: list[FieldNote]) -> list[Row]:
+    """Notes with what the office has of their prices, by a new copy if the latest one is older than one of them."""
+    with desk().copies.latest() as copy, read_copy(copy.path) as office:
+        found = rows_of(office, month, notes)
+    if not any(row.receipt < row.note.receipt for row in found):
+        return found
+    with desk().copies_now() as copy, read_copy(copy.path) as office:
+        return rows_of(office, month, notes)
+
+
 def rows_of(office: StoredOffice, month: int, notes: list[FieldNote]) -> list[Row]:
     """Notes with what the office has of their prices."""
     slots = {(it.collector, it.slot): it for it in office.assignments()}
@@ -65,8 +75,7 @@ def show(month: str) -> Response:
     notes = kept().of_month(number)[::-1]
     start = flask.request.args.get("from", "0")
     first = int(start) if start.isdecimal() and len(start) < 9 else 0
-    with desk().copies.latest() as copy, read_copy(copy.path) as office:
-        rows = rows_of(office, number, notes[first : first + SHOWN])
+    rows = rows_now(number, notes[first : first + SHOWN])
     named = {"count": len(notes), "first": first, "step": SHOWN, "months": kept().months}
     return page("field-notes.html", month=month, rows=rows, **named)
 
@@ -75,8 +84,7 @@ def show(month: str) -> Response:
 def file(month: str) -> Response:
     """The notes of a month as a file, without photographs: the last column is the name of each."""
     number = month_of(month)
-    with desk().copies.latest() as copy, read_copy(copy.path) as office:
-        rows = rows_of(office, number, kept().of_month(number))
+    rows = rows_now(number, kept().of_month(number))
     text = io.StringIO()
     with formulas_told("", True):
         out = Writer(text)

@@ -1,0 +1,29 @@
+// What the page has more, if the office has set it up: notes of the field. notes.js is loaded then, and puts functions of
+// its own in the place of these.
+
+export const notes = {
+  /** A collector has signed in: { who, key }. */
+  begin: async (collector) => {},
+  /** Fills the form in for an entry: { month, slot }, and what was written of it before, as `written` gave it. */
+  fill: (edited, draft) => {},
+  /** What is written in the form, as a text, or null. */
+  written: () => null,
+  /** Puts what is written in the form on the phone's disk, for an entry and its choice. Throws the browser's error. */
+  keep: async (edited, choice) => {},
+  /** Entries were answered. */
+  settled: () => {},
+  /** How many notes of the collector aren't sent. */
+  count: () => 0,
+  /** What the head says of them, and its red button: no text for nothing. */
+  told: () => "",
+  alarm: () => "",
+  /** What is lost of them by signing out: a sentence, or no text. */
+  whatIsLeft: () => "",
+  /** Brings those that aren't sent into sight; whether there are any. */
+  showAll: () => false,
+  /** Shows all of it anew: the language has changed. */
+  render: () => {},
+  /** Forgets what was kept for a collector, and leaves nothing of one in the page. */
+  forget: async (who) => {},
+  clear: () => {},
+};
