@@ -94,10 +94,14 @@ MOST_WORDS, MOST_OF_ALL = 5000, 66000
 LONG = {f"docs/{it}.md" for it in ("DESK", "PUBLISHING", "RUNNING")}
 """Documents that may be longer."""
 
+SHORT = {"docs/THEOREM.md": 1500}
+"""Documents with a bound of their own: two pages of paper."""
+
 
 def length_faults(name: str, text: str) -> Iterator[str]:
-    if name.startswith("docs/") and name not in LONG and len(text.split()) > MOST_WORDS:
-        yield f"{len(text.split())} words, over {MOST_WORDS}"
+    most, count = SHORT.get(name, MOST_WORDS), len(text.split())
+    if name.startswith("docs/") and name not in LONG and count > most:
+        yield f"{count} words, over {most}"
 
 
 def all_words() -> str | None:
