@@ -132,12 +132,39 @@ def drawn(markup: str) -> list[str]:
     return re.findall(r'<path [^>]*\bd="([^"]*)"', markup)
 
 
+def bar_faults(picture: str, then: Then, codes: Sequence[str], is_sorted: bool) -> Wanted:
+    """The bars of what some items give to the change of all items, with their labels and values."""
+    found = [(value, code) for code in codes if (value := then.given(code)) is not None]
+    found = sorted(found, key=lambda it: (-it[0], it[1])) if is_sorted else found
+    titles = [then.known.titles[code] for _, code in found]
+    texts = [Texts(it).of("text")[0] for it in re.findall(r'<text [^>]*font-size="12"[^>]*>.*?</text>', picture)]
+    values = [it for it in texts if re.fullmatch("[+\u2212]?[0-9.]+", it)]
+    yield "values of bars", values, [signed(value, 2) for value, _ in found]
+    yield "labels of bars", " ".join(it for it in texts if it not in values), " ".join(titles)
+    yield "says of bars", Texts(picture).of("desc"), [
+        ", ".join(f"{title} {signed(value, 2)}" for title, (value, _) in zip(titles, found)) + "."
+    ]
+    low, high = min([Fraction(0), *(it for it, _ in found)]), max([Fraction(0), *(it for it, _ in found)])
+    form = r'<path (fill="#[0-9a-f]{6}") d="M([0-9.]+) [0-9]+h([0-9.]+)v9h-\3z"/>'
+    bars = re.findall(form, picture)
+    wrong, wide = [], 400 / ((high - low) or Fraction(1))
+    for (fill, begin, size), (value, code) in zip(bars, found):
+        at, long = wide * (min(value, Fraction(0)) - low), max(wide * abs(value), 0.6)
+        is_right = abs(float(begin) - at) <= NEAR and abs(float(size) - long) <= NEAR
+        if not is_right or fill != f'fill="{("#0a5c7d", "#b1521d")[value < 0]}"':
+            wrong.append(code)
+    yield "bars", (len(bars), wrong), (len(found), [])
+
+
 def of_release(site: Path, then: Then) -> Wanted:
     """The pictures of a release: in its page, as files, and in its page for frames."""
     pictures = pictures_in(Texts.of_page(site / f"release/{then.name}.html"))
     yield "pictures", [*pictures], ["year" if then.is_annual else "month", "level"]
     yield from of_page(pictures, then.known, then.month)
+    bars = (site / f"picture/{then.name}-contributions.svg").read_text(encoding="utf-8")
+    yield from bar_faults(bars, then, then.known.below(ALL), True)
     framed = pictures_in(Texts.of_page(site / f"embed/{then.name}.html"))
+    yield "framed bars", drawn(framed.pop("contributions", "")), drawn(bars)
     yield "framed", framed, pictures
     for kind, picture in pictures.items():
         file = (site / f"picture/{then.name}-{kind}.svg").read_text(encoding="utf-8")
@@ -215,6 +242,10 @@ def drawn_faults(site: Path, known: Figures, all_of_them: Sequence[Then], kept: 
     first = pictures_in(Texts.of_page(site / "index.html"))
     looked_at = [("index.html", *it) for it in of_page(first, known, known.months[-1])]
     looked_at.append(("index.html", "pictures", sorted(first), ["imputed", "level", "month", "year"]))
+    then = all_of_them[-1]._replace(known=known)
+    for kind, codes in (("contributions", known.below(ALL)), ("sets", [*known.sets])):
+        bars = (site / f"picture/00-{kind}.svg").read_text(encoding="utf-8")
+        looked_at += [("index.html", *it) for it in bar_faults(bars, then, codes, kind == "contributions")]
     for then in all_of_them:
         looked_at += [(f"release {then.name}", *it) for it in of_release(site, then)]
         looked_at += [(f"release {then.name}", *it) for it in of_card(site, svgs, then)]

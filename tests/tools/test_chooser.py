@@ -16,7 +16,7 @@ from typing import Any
 
 import pytest
 
-from cpi_tools.pack.chooser import ITEM_HEAD, SEARCH, SOURCES, script
+from cpi_tools.pack.chooser import ITEM_HEAD, OF_FRAMES, SEARCH, SOURCES, script
 from cpi_tools.pack.config import Config
 from cpi_tools.pack.public import Published
 from cpi_tools.publish import publish
@@ -128,10 +128,12 @@ def test_earlier_revisions_are_those_that_are_not_the_latest(pack: Path) -> None
 
 
 def test_the_script_is_one_file_without_imports(pack: Path) -> None:
-    text = (pack / "assets/choose.js").read_text(encoding="utf-8")
-    assert text == script() and not [line for line in text.splitlines() if line.startswith(("import ", "export "))]
-    (pack / "assets/choose.mjs").write_text(text, encoding="utf-8")
-    subprocess.run(["node", "--check", str(pack / "assets/choose.mjs")], check=True)
+    """So is that of the small page to embed."""
+    for name, wanted in (("choose", script()), ("frame", script(OF_FRAMES, {}))):
+        text = (pack / f"assets/{name}.js").read_text(encoding="utf-8")
+        assert text == wanted and not [line for line in text.splitlines() if line.startswith(("import ", "export "))]
+        (pack / f"assets/{name}.mjs").write_text(text, encoding="utf-8")
+        subprocess.run(["node", "--check", str(pack / f"assets/{name}.mjs")], check=True)
 
 
 def test_all_items_can_be_sought(pack: Path, modules: Path) -> None:

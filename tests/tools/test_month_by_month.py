@@ -115,7 +115,7 @@ def test_a_release_stays_as_it_is(runs: list[Run]) -> None:
             assert [it for it in new if it != line] == old and f'<a href="{REVISED}-r2.html">Revision 2 of' in line
     each = {name: len([it for it in runs[-1].of(name) if "-r1" in it]) for name in folders}
     # (the first December has a table, and no page)
-    assert each == {"release": 58, "picture": 58, "embed": 29, "data/tables": 30}
+    assert each == {"release": 58, "picture": 87, "embed": 29, "data/tables": 30}
 
 
 def test_an_archive_stays_but_for_a_revision(runs: list[Run]) -> None:

@@ -8,14 +8,19 @@ from pathlib import Path
 
 import pytest
 
+from cpi_tools.charts import Bar
+from cpi_tools.exact import Ratio
+from cpi_tools.pack.bar_pictures import Change
 from cpi_tools.pack.config import PICTURES, Config
 from cpi_tools.pack.drawings import LOOKS, drawing
+from cpi_tools.pack.given import Given
 from cpi_tools.pack.pictures import of_imputed, of_node
 from cpi_tools.pack.public import Listed, Published
 from cpi_tools.pack.shown import Shown
 from cpi_tools.pack.tables import Series
 from cpi_tools.pages import TEMPLATES
 from cpi_tools.publish import publish
+from cpi_tools.speech import SPEAKS_ENGLISH, speech_of
 from test_measures import tea_again, two_years
 from test_site import words
 
@@ -110,7 +115,12 @@ def test_each_picture_of_a_page_is_a_file(pack: Path) -> None:
     found = set()
     for page in pages:
         text = page.read_text(encoding="utf-8")
-        files = re.findall(r'<a href="([^"]*\.svg)" download', text)
+        all_files = re.findall(r'<a href="([^"]*\.svg)" download', text)
+        # (the bars of a table are a file too, and in the page they are a table)
+        bars = {(page.parent / it).resolve() for it in all_files if it.endswith("-contributions.svg")}
+        assert len(bars) == (1 if page.name in ("index.html", "00.html") else 0), page
+        files = [it for it in all_files if (page.parent / it).resolve() not in bars]
+        found |= bars
         assert len(files) == text.count("<svg ") > 0
         for figure, name in zip(re.findall("<figure>.*?</figure>", text, re.S), files):
             path = (page.parent / name).resolve()
@@ -121,7 +131,7 @@ def test_each_picture_of_a_page_is_a_file(pack: Path) -> None:
             found.add(path)
     # (those of releases, such as 2026-01-r1-level.svg, are below the pages of these)
     of_items = {it for it in (pack / "picture").resolve().iterdir() if not re.match(r"\d{4}-\d\d-r\d-", it.name)}
-    assert found == of_items and len(found) == 4 * 3 + 1
+    assert found == of_items and len(found) == 4 * 3 + 1 + 1
 
 
 def test_a_file_says_whose_it_is(pack: Path) -> None:
@@ -178,6 +188,44 @@ def test_a_long_title_is_broken_into_lines(title: str) -> None:
     assert all(0 < float(it.get("y", "")) < height for it in root.findall(f"{SVG}text"))
 
 
+def test_a_file_has_the_words_of_its_language() -> None:
+    """Also those of its key; in a language that is read from the right, bars begin there."""
+    whole = Shown(Series(two_years()))
+    french, arabic = (whole.spoken(speech_of(tag)) for tag in ("fr", "ar"))
+    texts = " ".join(re.findall(r">([^<>]+)</text>", drawing(of_node(french, "02")[0], "T", "Source")))
+    assert "Trait plein\u00a0: \u2068Title of 02\u2069 Trait interrompu\u00a0: \u2068Title of 00\u2069" in texts
+    assert not re.search("line|Index", texts)
+    rows = [
+        Given("01", "A", None, Ratio(3, 1), Bar("25", "75", False)),
+        Given("02", "B", None, Ratio(-1, 1), Bar("0", "25", True)),
+    ]
+    places = []
+    for shown in (french, arabic):
+        (chart,) = Change("T", "2026-12", True, shown.speech).of_items(rows)
+        places.append(
+            [
+                (float(x), float(wide))
+                for x, wide in re.findall(r'"bar[a-z ]*" d="M([0-9.]+) [0-9]+h([0-9.]+)', chart.picture)
+            ]
+        )
+    assert places == [[(100.0, 300.0), (0.0, 100.0)], [(0.0, 300.0), (300.0, 100.0)]]
+
+
+def test_the_label_of_a_bar_is_whole(pack: Path) -> None:
+    """In lines that end before the value begins; texts of others are no markup and turn nothing."""
+    title = "Bread <b>and</b> \u202e cereals, " * 6
+    row = Given("01", title, None, Ratio(-1, 3), Bar("0", "100", True))
+    (chart,) = Change("T", "2026-12", False, SPEAKS_ENGLISH).of_items([row])
+    root = ET.fromstring(drawing(chart, "T", "Source: here"))
+    texts = ["".join(it.itertext()) for it in root.iter(f"{SVG}text") if it.get("font-size") == "12"]
+    *lines, value = texts
+    assert value == "\u22120.33" and len(lines) > 3 and max(map(len, lines)) <= 48
+    assert " ".join(it.strip("\u2068\u2069") for it in lines) == " ".join(title.split())
+    assert all(it.startswith("\u2068") and it.endswith("\u2069") for it in lines)
+    assert chart.unit == "Percentage points of the change on the month before, December 2026"
+    assert float(root.get("height", "")) > chart.height
+
+
 # ---- pages to embed
 
 
@@ -186,7 +234,7 @@ def test_a_page_to_embed_has_each_picture_with_its_source(pack: Path) -> None:
         text = (pack / f"embed/{code}.html").read_text(encoding="utf-8")
         kinds = re.findall('<figure id="([a-z]*)">', text)
         # (the last one is shown if the address names none)
-        assert kinds == [*(["imputed"] if code == "00" else []), "month", "year", "level"]
+        assert kinds == [*(["contributions", "imputed"] if code == "00" else []), "month", "year", "level"]
         assert "Source: Office <of> prices , Prices & more . Tables up to December 2027" in words(text)
         link = "../index.html" if code == "00" else f"../node/{code}.html"
         assert f'<a href="{link}" target="_blank" rel="noopener">' in text and "<script" not in text

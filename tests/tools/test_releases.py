@@ -76,10 +76,11 @@ def test_a_january_says_what_came_and_left(by_hand: Path) -> None:
 
 
 def told_then(page: Path) -> dict[str, object]:
-    """What the first page and the page of a release both say: headline, lead, figures, and the table of contributions.
-    Both are in folders of their own, and lead to items by another way. Only the first page has the letters of notes."""
+    """What the first page and the page of a release both say: headline, lead, figures with the letters of their notes, and
+    the table of contributions. Both are in folders of their own, lead to items by another way, and have files of pictures
+    of their own."""
     text = page.read_text(encoding="utf-8").replace('href="../', 'href="')
-    text = re.sub(r'<sup class="marks">.*?</sup>', "", text)
+    text = re.sub(r'<p class="take">.*?</p>', "", text, flags=re.S)
     patterns = {"h1": r"<h1>.*?</h1>", "lead": r'<p class="lead">.*?</p>', "cards": r'<dl class="cards">.*?</dl>'}
     found: dict[str, object] = {name: re.findall(form, text, flags=re.S)[0] for name, form in patterns.items()}
     found["given"] = re.findall(r"<h2>What contributed</h2>(.*?)<h2", text, flags=re.S)[0].strip()

@@ -7,6 +7,7 @@ import functools
 import http.server
 import itertools
 import threading
+from decimal import Decimal
 from pathlib import Path
 from typing import Any
 
@@ -90,6 +91,9 @@ def test_each_figure_is_the_offices(shown: Browser, website: Path) -> None:
     opened(shown, f"?items={'+'.join(codes)}&show={'+'.join(words)}&decimals=all")
     given = {(it["month"], it["code"]): it for it in rows_of(website / "data/contributions.csv") if it["of"] == "00"}
     figures = {(it["month"], it["code"]): it for it in rows_of(website / "data/cpi.csv")}
+    # (all items give their own change: of the first two months of a year, by their indices within it)
+    first, second = (Decimal(figures[month, "00"]["index"]) for month in ("2011-01", "2011-02"))
+    of_all = {"2011-01": f"{first - 100}", "2011-02": f"{round(100 * (second - first) / first, 6)}"}
     columns = {"index": "chained", "year": "year_change", "month": "month_change", "weight": "weight"}
     wanted: list[list[str]] = []
     for word in words:
@@ -99,6 +103,8 @@ def test_each_figure_is_the_offices(shown: Browser, website: Path) -> None:
                     given.get((month, code), {}).get(word.replace("-", "_"), "") if "-" in word
                     else figures[month, code][columns[word]] for code in codes[at : at + 6]
                 ]  # fmt: skip
+                if word == "contribution-month" and at == 0:
+                    cells[0] = of_all[month]
                 wanted.append([name, *cells])
     read = [
         [row[0], *(it.replace("−", "-").replace("+", "").replace("–", "") for it in row[1:])]
@@ -257,7 +263,7 @@ def test_the_figures_are_taken_home(shown: Browser, website: Path) -> None:
         if it["month"] == "2011-01" and it["of"] == "00"
     }
     rows = [",".join((f"2011-01,1,{whole['00']['published']}", code, title, whole[code]["chained"], "2010-12", points, "0,0"))
-            for code, title, points in (("00", "All items", ""), ("01.1.1.2-01", '"Flour, wheat"', given["01.1.1.2-01"]["contribution_month"]))]  # fmt: skip
+            for code, title, points in (("00", "All items", f"{Decimal(whole['00']['index']) - 100}"), ("01.1.1.2-01", '"Flour, wheat"', given["01.1.1.2-01"]["contribution_month"]))]  # fmt: skip
     head = "month,revision,published,code,title,index,reference,contribution_month,imputed,break"
     assert downloaded(shown, website.parent) == "\n".join([head, *rows, ""])
 

@@ -20,7 +20,8 @@ PLACE = "/published"
 """Where the front has the website."""
 
 READABLE = ("data/cpi.csv", "data/printed.csv", "picture/00-level.svg", "node/01.csv", "manifest.json", "SHA256SUMS")
-OWN = ("index.html", "node/01.html", "contract.html", "assets/style.css", "assets/levels.js", "embed/00.html")
+OWN = ("index.html", "node/01.html", "contract.html", "assets/style.css", "assets/levels.js", "embed/00.html",
+       "embed/chosen.html")  # fmt: skip
 
 
 @pytest.fixture
@@ -46,7 +47,7 @@ def test_public_files_can_be_read_by_other_sites_and_no_page_can(front: Stage) -
 
 def test_pages_to_embed_can_be_framed_and_no_other(front: Stage) -> None:
     ancestors = {name: ancestors_of(front, f"{PLACE}/{name}") for name in (*OWN, *READABLE)}
-    assert {name for name, them in ancestors.items() if them == "*"} == {"embed/00.html"}
+    assert {name for name, them in ancestors.items() if them == "*"} == {"embed/00.html", "embed/chosen.html"}
     assert {*ancestors.values()} == {"*", "'none'"}
     assert ancestors_of(front, "/collect/") == "'none'"
 
@@ -123,7 +124,8 @@ def test_a_picture_is_taken_as_a_png(front: Stage, browser: Browser, tmp_path: P
     browser.shown_as("dark")
     browser.cdp("Browser.setDownloadBehavior", behavior="allow", downloadPath=str(tmp_path))
     browser.open(f"{PLACE}/node/00.html")
-    assert len(browser.all(".take button")) == len(browser.all("figure")) > 1
+    # (the bars of a table are a file too)
+    assert len(browser.all(".take button")) == len(browser.all("figure")) + 1 > 2
     browser.click(".take button")
     made = tmp_path / "00-level.png"
     browser.wait(lambda: made.exists() and made.stat().st_size, "a PNG")

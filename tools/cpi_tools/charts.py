@@ -138,11 +138,11 @@ def _below(months: tuple[str, ...], speech: Speech) -> tuple[str, str]:
     return strokes, texts
 
 
-def svg(picture: Picture, parts: Iterable[str]) -> Markup:
+def svg(picture: Picture, parts: Iterable[str], height: float = HEIGHT) -> Markup:
     """A picture of its parts, with its title and its description."""
     key = escape(picture.key)
     return Markup(
-        f'<svg viewBox="0 0 {WIDTH} {HEIGHT}" role="img" aria-labelledby="{key}-title {key}-says">'
+        f'<svg viewBox="0 0 {WIDTH} {height:g}" role="img" aria-labelledby="{key}-title {key}-says">'
         f'<title id="{key}-title">{escape(picture.title)}</title>'
         f'<desc id="{key}-says">{escape(picture.says)}</desc>{"".join(parts)}</svg>'
     )
@@ -283,3 +283,48 @@ def track(values: Sequence[float]) -> Track:
 
     bars = [Bar(place(min(value, 0.0) - low), place(abs(value)), value < 0) for value in values]
     return Track(place(abs(low)), bars)
+
+
+# ---- the same bars as a picture
+
+BARS_TOP, LABEL_LINE, BAR_HIGH, BAR_ROOM = 4, 16, 9, 12
+"""What is left free above all bars, how high a line of a label is, a bar, and what is left free below it."""
+
+VALUE_ROOM = 60
+"""What is kept free for the value next to a label."""
+
+
+class Labelled(NamedTuple):
+    """A bar with the lines of its label, its value as a text, and the value."""
+
+    label: Sequence[str]
+    text: str
+    value: float
+
+
+def bars_high(rows: Sequence[Labelled]) -> int:
+    """How high a picture of bars is."""
+    return BARS_TOP + sum(LABEL_LINE * len(it.label) + BAR_HIGH + BAR_ROOM for it in rows)
+
+
+def bars(picture: Picture, rows: Sequence[Labelled]) -> Markup:
+    """Bars on one scale, each below its label and its value, so that no word crosses a bar. A picture in a language that
+    is read from the right is the other way round."""
+    scale, top, parts = track([it.value for it in rows]), BARS_TOP, list[str]()
+    is_turned = picture.speech.language.dir == "rtl"
+    begin, end = (WIDTH, 0) if is_turned else (0, WIDTH)
+    of_label, of_value = ("label end", "label value") if is_turned else ("label", "label value end")
+    for row, bar in zip(rows, scale.bars):
+        for line in row.label:
+            top += LABEL_LINE
+            parts.append(f'<text class="{of_label}" x="{begin}" y="{top - 4}">{escape(line)}</text>')
+        parts.append(f'<text class="{of_value}" x="{end}" y="{top - 4}">{escape(row.text)}</text>')
+        x, wide, zero = (float(it) * WIDTH / 100 for it in (bar.start, bar.width, scale.zero))
+        x, zero = (WIDTH - x - wide, WIDTH - zero) if is_turned else (x, zero)
+        kind = "bar down last" if bar.is_down else "bar last"
+        parts.append(
+            f'<path class="{kind}" d="M{x:.1f} {top}h{max(wide, 0.6):.1f}v{BAR_HIGH}h-{max(wide, 0.6):.1f}z"/>'
+        )
+        parts.append(f'<path class="zero" d="M{zero:.1f} {top}v{BAR_HIGH + 3}"/>')
+        top += BAR_HIGH + BAR_ROOM
+    return svg(picture, parts, bars_high(rows))

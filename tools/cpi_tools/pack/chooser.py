@@ -14,19 +14,26 @@ from pathlib import Path
 
 from ..exact import ALL_ITEMS
 from ..others import closed
-from .config import Config
+from .config import PICTURES, Config
 from .figures import GIVEN_MONTH, GIVEN_YEAR, MONTH_CHANGE, YEAR_CHANGE, Known
 from .tables import Series, iso
 from .tidy import HEAD, figure_row, write_rows, written
 
 SOURCES = Path(__file__).resolve().parent / "choose"
 
-MODULES = ("elements", "choice", "lines", "files", "measured", "figures", "picker", "picture", "page")
+OF_BOTH = ("elements", "choice", "lines", "files", "measured", "picture", "shown")
+MODULES = (*OF_BOTH, "figures", "picker", "drawing", "page")
 """The modules of the page's script, each after those that it imports."""
 
-SEARCH = Path(__file__).resolve().parent / "assets" / "search.js"
-OF_ITS_PAGE = "// ---- the page of all items\n"
-"""Where the script of the page of all items ends to say what a text finds, and begins to show it."""
+OF_FRAMES = (*OF_BOTH, "frame")
+"""Those of the small page that other sites show in a frame."""
+
+SEARCH, TAKE = (Path(__file__).resolve().parent / "assets" / name for name in ("search.js", "take.js"))
+OTHERS = {SEARCH: "// ---- the page of all items\n", TAKE: "// ---- the pictures of a page\n"}
+"""Scripts of other pages, and where each begins to show something: what is before that is taken."""
+
+EMBED = "embed/chosen.html"
+"""The small page."""
 
 IMPORT = re.compile(r'^import \{[^}]*\} from "\.[a-z./]+\.js";\n', re.M)
 EXPORT = re.compile(r"^export ", re.M)
@@ -36,12 +43,16 @@ ITEM_HEAD = (*HEAD, "shown_month_change", "shown_year_change", "contribution_mon
 the changes of all items, in percentage points, and the letters of its notes."""
 
 
-def script() -> str:
-    """All modules as one, so that the page costs one request for them; the first is how the site finds items."""
-    search, is_split, _ = SEARCH.read_text(encoding="utf-8").partition(OF_ITS_PAGE)
-    assert is_split
-    texts = ((SOURCES / f"{name}.js").read_text(encoding="utf-8") for name in MODULES)
-    return "\n".join([search, *(EXPORT.sub("", IMPORT.sub("", text)) for text in texts)])
+def script(modules: Sequence[str] = MODULES, others: Mapping[Path, str] = OTHERS) -> str:
+    """All modules as one, so that the page costs one request for them; the first are how the site finds items, and how it
+    makes a PNG."""
+    found = []
+    for path, end in others.items():
+        text, is_split, _ = path.read_text(encoding="utf-8").partition(end)
+        assert is_split, path
+        found.append(text)
+    texts = ((SOURCES / f"{name}.js").read_text(encoding="utf-8") for name in modules)
+    return "\n".join([*found, *(EXPORT.sub("", IMPORT.sub("", text)) for text in texts)])
 
 
 def item_rows(known: Known, notes: Mapping[str, str], code: str) -> list[Sequence[object]]:
@@ -71,6 +82,7 @@ def write_chooser(series: Series, folder: Path) -> None:
     """Writes what the page reads in each language besides the items' files, into the folder of a site that has its other
     folders."""
     (folder / "assets" / "choose.js").write_text(script(), encoding="utf-8")
+    (folder / "assets" / "frame.js").write_text(script(OF_FRAMES, {}), encoding="utf-8")
     for code, rows in _earlier(series).items():
         write_rows(folder / "node" / f"{code}-earlier.csv", HEAD, rows)
 
@@ -92,14 +104,19 @@ def _earlier(series: Series) -> Mapping[str, list[Sequence[object]]]:
     return found
 
 
-def known_to_page(series: Series, config: Config, top: str = "", has_titles: bool = False) -> dict[str, str]:
+def known_to_page(
+    series: Series, config: Config, source: str, top: str = "", has_titles: bool = False
+) -> dict[str, str]:
     """What the page has to know before it reads a file, as attributes of its form: its first and its last month, the
-    December before the first, the office's reference period, the moment of the last publication, and how many revisions
-    a month has at most; the way to the folder of the pack, if it has another one, and whether titles of its language
-    are in the list of items only."""
+    December before the first, the office's reference period, the moment of the last publication, how many revisions a
+    month has at most, the line at the foot of a picture, and the small page that shows one in a frame, if there are files
+    of pictures; the way to the folder of the pack, if it has another one, and whether titles of its language are in the
+    list of items only."""
     return {
         **({"top": top} if top else {}),
         **({"titles": "listed"} if has_titles else {}),
+        **({"embed": EMBED} if config.has(PICTURES) else {}),
+        "source": source,
         "first": series.months[0],
         "last": series.months[-1],
         "base": series.base,

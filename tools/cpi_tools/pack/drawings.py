@@ -15,9 +15,9 @@ from typing import NamedTuple
 
 from markupsafe import escape
 
-from ..charts import HEIGHT, WIDTH
+from ..charts import WIDTH
 from ..others import isolated
-from .pictures import Chart
+from .pictures import KEY, Chart
 
 EDGE = 12
 """What is left free round the whole."""
@@ -32,6 +32,10 @@ LOOKS: Mapping[str, str] = {
     "middle": 'text-anchor="middle"',
     "middle year": 'text-anchor="middle" font-weight="600"',
     "end value": f'text-anchor="end" fill="{INK}" font-weight="650" font-size="13"',
+    "label": f'fill="{INK}" font-size="12"',
+    "label end": f'text-anchor="end" fill="{INK}" font-size="12"',
+    "label value": f'fill="{INK}" font-weight="650" font-size="12"',
+    "label value end": f'text-anchor="end" fill="{INK}" font-weight="650" font-size="12"',
     "grid": f'stroke="{RULE}" fill="none"',
     "zero": f'stroke="{SOFT}" fill="none"',
     "break": f'stroke="{SOFT}" stroke-width="1.5" stroke-dasharray="2 3" fill="none"',
@@ -46,6 +50,7 @@ LOOKS: Mapping[str, str] = {
 """What an element of each class looks like in a file."""
 
 CLASS = re.compile(r'class="([^"]*)"')
+TAG, LINE = re.compile("</?[bi]>"), re.compile("(?=<[bi]>)")
 
 LETTER = 0.55
 """The width of a letter, in sizes of its font, as it is on average; those of the East are as wide as high."""
@@ -69,7 +74,7 @@ def drawing(chart: Chart, title: str, source: str) -> str:
     head += _lines(chart.unit, 11.5)
     top = EDGE + sum(it.size * 1.3 + it.above for it in head)
     foot = [*_key(chart), *_lines(source, 10.5, above=6)]
-    height = top + HEIGHT + sum(it.size * 1.3 + it.above for it in foot) + EDGE
+    height = top + chart.height + sum(it.size * 1.3 + it.above for it in foot) + EDGE
     inner = str(chart.picture).partition(">")[2].rpartition("</svg>")[0]
     named, plot = inner.partition("</desc>")[::2]
     wide = WIDTH + 2 * EDGE
@@ -79,7 +84,7 @@ def drawing(chart: Chart, title: str, source: str) -> str:
         f" font-family=\"system-ui, 'Segoe UI', Roboto, Arial, sans-serif\">\n{named}</desc>\n"
         f'<rect width="100%" height="100%" fill="#ffffff"/>\n{"".join(_written(head, EDGE))}'
         f'<g transform="translate({EDGE} {top:.1f})">{CLASS.sub(lambda it: LOOKS[it[1]], plot)}</g>\n'
-        f'{"".join(_written(foot, top + HEIGHT))}</svg>\n'
+        f'{"".join(_written(foot, top + chart.height))}</svg>\n'
     )
 
 
@@ -87,19 +92,22 @@ def _key(chart: Chart) -> list[Words]:
     """What the lines and the marks of a picture are, if it has two lines."""
     if not chart.broken:
         return []
-    told = [f"Full line: {isolated(chart.full)}", f"Broken line: {isolated(chart.broken)}", chart.marks]
-    looks = [f'fill="{ACCENT}"', f'fill="{DOWN}"', ""]
+    form, places = chart.speech.t(KEY), {"full": isolated(chart.full), "broken": isolated(chart.broken)}
+    # (each line in its own colour, in the words of the page's key)
+    told = [TAG.sub("", it).strip(" .").format(**places) for it in LINE.split(form) if it]
+    looks = [f'fill="{ACCENT if "{full}" in it else DOWN}"' for it in LINE.split(form) if it]
+    told, looks = [*told, chart.marks], [*looks, ""]
     return [it for text, look in zip(told, looks) for it in _lines(text, 11.5, look)]
 
 
 @functools.lru_cache(maxsize=64)
 def _lines(text: str, size: float, looks: str = "", above: float = 0.0) -> Sequence[Words]:
     """A text in lines that fit, the room above the first one only. (The title and the source are those of several files.)"""
-    found = [*_broken(text, WIDTH / (LETTER * size))]
+    found = [*broken(text, WIDTH / (LETTER * size))]
     return [Words(line, size, looks, 0 if at else above) for at, line in enumerate(found)]
 
 
-def _broken(text: str, most: float) -> Iterator[str]:
+def broken(text: str, most: float) -> Iterator[str]:
     """The lines of a text, each at most so many letters long; a longer word is cut."""
     line, long = "", 0.0
     for word in re.findall(r"\S+\s*", text):

@@ -16,13 +16,17 @@ from ..speech import SPEAKS_ENGLISH, Speech, marked
 from .shown import Shown
 from .tables import Series, before, link_of
 
-LEVEL, YEAR, MONTH, IMPUTED = "level", "year", "month", "imputed"
+LEVEL, YEAR, MONTH, IMPUTED, GIVEN, SETS = "level", "year", "month", "imputed", "contributions", "sets"
 """The kinds of pictures, by which their files are named."""
 
 
+KEY = marked("<b>Full line</b>: {full}. <i>Broken line</i>: {broken}.")
+"""What the lines of a picture are; in each language with these elements."""
+
+
 class Chart(NamedTuple):
-    """A picture with its kind, its name and its unit, what its lines and its marks are, where it has any, and the
-    language of all of them."""
+    """A picture with its kind, its name and its unit, what its lines and its marks are, where it has any, the language of
+    all of them, and how high it is."""
 
     kind: str
     name: str
@@ -32,13 +36,14 @@ class Chart(NamedTuple):
     broken: Worded = of_others("")
     marks: str = ""
     speech: Speech = SPEAKS_ENGLISH
+    height: int = charts.HEIGHT
 
     @property
     def key(self) -> Markup:
         """What its lines and its marks are, as elements of a page."""
         if not self.broken:
             return Markup("")
-        form = self.speech.t("<b>Full line</b>: {full}. <i>Broken line</i>: {broken}.")
+        form = self.speech.t(KEY)
         told = Markup(form).format(full=others(self.full), broken=others(self.broken))
         return told + Markup(" {}").format(self.marks) if self.marks else told
 

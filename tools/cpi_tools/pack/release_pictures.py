@@ -1,5 +1,6 @@
-"""The pictures of a release: the change that its headline has, and the index, up to its month and by the tables of its day.
-They are on its page, as files, and in a page for frames of other sites; later tables change nothing of them."""
+"""The pictures of a release: the change that its headline has, and the index, up to its month and by the tables of its day,
+and what divisions gave to the change. They are on its page, as files, and in a page for frames of other sites; later tables
+change nothing of them."""
 
 from __future__ import annotations
 
@@ -11,8 +12,10 @@ import jinja2
 from ..exact import ALL_ITEMS
 from ..others import isolated
 from ..pages import write_page
+from .bar_pictures import Change
 from .config import PICTURES, Config
 from .drawings import drawing
+from .given import Given
 from .notes import provisional_then
 from .pictures import LEVEL, MONTH, YEAR, Chart, of_node
 from .releases import Release
@@ -21,7 +24,7 @@ from .versions import ALONE, Version
 
 def charts_then(release: Release) -> list[Chart]:
     """The pictures of a release, that of its headline first."""
-    kinds = (LEVEL, YEAR if release.whole.year_change is not None else MONTH)
+    kinds = (LEVEL, YEAR if release.is_annual else MONTH)
     return [it for it in of_node(release.shown, ALL_ITEMS) if it.kind in kinds][::-1]
 
 
@@ -31,13 +34,16 @@ class ReleasePictures:
     def __init__(self, pages: jinja2.Environment, config: Config, folder: Path, version: Version = ALONE):
         self._pages, self._config, self._folder, self._version = pages, config, folder, version
 
-    def write(self, release: Release) -> list[Chart]:
-        """The pictures of a release; the files are written if the office has any."""
-        charts = charts_then(release)
+    def write(self, release: Release, rows: Sequence[Given]) -> dict[str, list[Chart]]:
+        """The pictures of a release for its template, those over months and that of the rows which say what divisions
+        gave; the files are written if the office has any."""
+        title, speech = release.shown.series.title(ALL_ITEMS), release.shown.speech
+        over_months = charts_then(release)
+        bars = Change(title, release.table.month, release.is_annual, speech).of_items(rows)
         if self._config.has(PICTURES):
-            self._write_files(release, charts)
-            self._write_page(release, charts)
-        return charts
+            self._write_files(release, [*over_months, *bars])
+            self._write_page(release, [*over_months, *bars])
+        return {"charts": over_months, "bars": bars}
 
     def _write_files(self, release: Release, charts: Sequence[Chart]) -> None:
         source = self._source(release)

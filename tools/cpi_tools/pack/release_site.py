@@ -17,6 +17,7 @@ from .cards import NO_CARDS, Cards
 from .config import Config
 from .feed import write_feed
 from .figures import Known
+from .given import Given
 from .notes import provisional_then
 from .release_pictures import ReleasePictures
 from .releases import Release, ReleasePages, hundreds_of
@@ -71,10 +72,12 @@ class ReleaseSite:
             write_cards(self.cards, self.config, self.releases.all, pack, version)
             write_feed(folder, own, self.series, self.releases.all, self.speech)
 
-    def _of_release(self, pack: Path, pictures: ReleasePictures, release: Release) -> dict[str, object]:
+    def _of_release(
+        self, pack: Path, pictures: ReleasePictures, release: Release, rows: Sequence[Given]
+    ) -> dict[str, object]:
         """Where the page of a release is, its pictures, and what it says to other programs."""
         found = self.version.standing("../", f"{release.name}.html", release.page)
-        found["charts"] = pictures.write(release)
+        found.update(pictures.write(release, rows))
         if not self.config.address:
             return found
         size = (pack / "data" / "tables" / f"{release.name}.csv").stat().st_size

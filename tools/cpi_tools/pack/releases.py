@@ -58,6 +58,11 @@ class Release(NamedTuple):
         return found
 
     @property
+    def is_annual(self) -> bool:
+        """Whether its headline has the change on the year before, else it has that on the month before."""
+        return self.whole.year_change is not None
+
+    @property
     def headline(self) -> str:
         """Its sentence."""
         return headline(self.table.month, self.whole, self.shown.speech)
@@ -147,13 +152,17 @@ def hundreds_of(releases: Sequence[Release]) -> str:
 # ---- what the page of a release says
 
 
-def page_words(release: Release, contributions: Contributions) -> dict[str, object]:
-    """What the template of a release's page is handed."""
+def given_in(release: Release, contributions: Contributions) -> tuple[list[Given], str]:
+    """What divisions give to the change of a release's headline, and where zero is on the track of their bars."""
+    found = given_then(release.as_of, contributions).below(release.table.month, ALL_ITEMS)
+    return with_bars(release.shown, release.table.month, sorted_values(found, release.is_annual))
+
+
+def page_words(release: Release, rows: list[Given], zero: str) -> dict[str, object]:
+    """What the template of a release's page is handed; the rows are those of `given_in`."""
     as_of, shown, whole = release.as_of, release.shown, release.whole
-    month, is_annual = as_of.of.month, whole.year_change is not None
+    month = as_of.of.month
     change = whole.month_change if whole.year_change is None else whole.year_change
-    given = given_then(as_of, contributions)
-    rows, zero = with_bars(shown, month, sorted_values(given.below(month, ALL_ITEMS), is_annual))
     return {
         "release": release,
         "series": as_of,
@@ -163,7 +172,7 @@ def page_words(release: Release, contributions: Contributions) -> dict[str, obje
         "whole": whole,
         "rates_text": shown.speech.t(RATES_TEXTS[shown.rates]),
         "level_of": lambda chained, of, code: shown.speech.figure(decimal(*shown.of_level(chained, of, code), 1)),
-        "is_annual": is_annual,
+        "is_annual": release.is_annual,
         "change": change,
         "notes": notes_then(shown, ALL_ITEMS, release.provisional),
         "rows": rows,
@@ -226,6 +235,10 @@ def _greatest(one: Table, other: Table) -> list[tuple[str, str]]:
 # ---- writing
 
 
+More = Callable[[Release, Sequence[Given]], dict[str, object]]
+"""What else the template of a release is handed: by the release and what divisions give to its change."""
+
+
 class ReleasePages:
     """All releases, whose pages it writes."""
 
@@ -256,9 +269,10 @@ class ReleasePages:
             years.setdefault(it.table.month[:4], []).append(it)
         return [*years.items()]
 
-    def write(self, pages: jinja2.Environment, folder: Path, more: Callable[[Release], dict[str, object]]) -> None:
+    def write(self, pages: jinja2.Environment, folder: Path, more: More) -> None:
         """Writes the page of each into the folder of a site; `more` is what its template is handed too."""
         (folder / FOLDER).mkdir()
         for it in self.all:
-            words = {**page_words(it, self.contributions), **more(it)}
+            rows, zero = given_in(it, self.contributions)
+            words = {**page_words(it, rows, zero), **more(it, rows)}
             write_page(pages, "release.html", folder / it.page, **words)

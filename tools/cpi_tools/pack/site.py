@@ -21,9 +21,10 @@ from ..exact import ALL_ITEMS, HUNDRED, decimal, depth_of, rounded
 from ..others import isolated, others
 from ..pages import TEMPLATES, environment, write_page
 from ..speech import Speech
+from .bar_pictures import Change
 from .bases import hidden_bases, hidden_months, revised_bases
 from .cards import NO_CARDS, Cards
-from .chooser import known_to_page, write_chooser, write_items
+from .chooser import EMBED, known_to_page, write_chooser, write_items
 from .config import PICTURES, Config
 from .drawings import drawing
 from .example import change, given
@@ -58,6 +59,9 @@ MOST_CODES = 5
 """Elementary aggregates that a page names one by one where others belong to a special aggregate."""
 
 Told = Callable[[int, int], None]
+
+GivenIn = Callable[[str, str, bool], tuple[list[Given], str]]
+"""What is given in a month to the change of a node, on the year or on the month before, and where zero is."""
 
 
 # ---- what pages show
@@ -189,8 +193,12 @@ class Site:
         changes = [change(self.shown, self.month, is_annual) for is_annual in (True, False)]
         part = given(Known(self.series, self.contributions, self.shown), self.month)
         self._page("how-to-read.html", changes=[*filter(None, changes)], part=part)
-        known = known_to_page(self.series, self.config, self.version.up, bool(self.series.other_titles))
+        has_titles = bool(self.series.other_titles)
+        known = known_to_page(self.series, self.config, self._source(), self.version.up, has_titles)
         self._page("choose.html", known=known, says=said(self.speech))
+        if self.config.has(PICTURES):
+            stands = self.version.standing("../", EMBED, EMBED)
+            write_page(self.pages, "chosen.html", self.folder / EMBED, **stands, known=known)
         if self.pages.globals["signature"]:
             self._page("check.html")
 
@@ -203,11 +211,34 @@ class Site:
     def _node_page(self, code: str) -> None:
         """Writes the page of a node and its pictures."""
         stands = self.version.standing("../", page_of(code), f"node/{page_of(code)}")
-        charts = of_node(self.shown, code)
-        self._write(f"node/{page_of(code)}", "node.html", {**stands, **self._node(code), "charts": charts})
+        charts, parts, bars = of_node(self.shown, code), self._parts(code), self._bars(code)
+        words: dict[str, object] = {**stands, **self._node(code, *parts), "charts": charts, "bars": bars}
+        self._write(f"node/{page_of(code)}", "node.html", words)
         if self.config.has(PICTURES):
-            of_all = [of_imputed(self.series, self.speech).chart] if code == ALL_ITEMS else []
-            self._pictures(code, [*charts, *of_all])
+            of_all = [of_imputed(self.series, self.speech).chart, *self._set_bars()] if code == ALL_ITEMS else []
+            self._pictures(code, [*charts, *of_all, *bars])
+
+    def _bars(self, code: str) -> list[Chart]:
+        """The picture of what the parts of a node give to its change, in the last month of which that is known: so the
+        picture of a node that left stays."""
+        return self._last_bars(code, self._given, Change.of_items) if self.series.children(code) else []
+
+    def _set_bars(self) -> list[Chart]:
+        """The same of special aggregates and all items."""
+        return self._last_bars(ALL_ITEMS, self._given_by_sets, Change.of_sets) if self.series.specials else []
+
+    def _last_bars(
+        self, code: str, given: GivenIn, drawn: Callable[[Change, Sequence[Given]], list[Chart]]
+    ) -> list[Chart]:
+        """The picture of the last month in which something is given to a node."""
+        for month in reversed(self.series.months):
+            row = self.shown.row(month, code)
+            if row:
+                is_annual = row.year_change is not None
+                rows, _ = given(month, code, is_annual)
+                if rows:
+                    return drawn(Change(self.series.title(code), month, is_annual, self.speech), rows)
+        return []
 
     def _write(self, name: str, template: str, words: Mapping[str, object]) -> None:
         """Writes one of the thousands of pages, by its name in the folder of the language."""
@@ -244,14 +275,20 @@ class Site:
         """What the nodes next below one give to its change, the greatest first, and where zero is on the track."""
         return with_bars(self.shown, month, sorted_values(self.contributions.below(month, to), is_annual))
 
+    def _given_by_sets(self, month: str, to: str, is_annual: bool) -> tuple[list[Given], str]:
+        """What special aggregates give to the change of all items, and where zero is on the track."""
+        found = (self.contributions.of(month, name, to) for name in self.series.specials)
+        return with_bars(self.shown, month, values_of(found, is_annual))
+
     def _home(self) -> dict[str, object]:
         whole = self._row(self.month, ALL_ITEMS)
         is_annual = whole.year_change is not None
         change = whole.month_change if whole.year_change is None else whole.year_change
         rows, zero = self._given(self.month, ALL_ITEMS, is_annual)
-        of_specials = (self.contributions.of(self.month, name, ALL_ITEMS) for name in self.series.specials)
-        specials, special_zero = with_bars(self.shown, self.month, values_of(of_specials, is_annual))
+        specials, special_zero = self._given_by_sets(self.month, ALL_ITEMS, is_annual)
         return {
+            "bars": self._bars(ALL_ITEMS),
+            "special_bars": self._set_bars(),
             "specials": specials,
             "special_zero": special_zero,
             "is_annual": is_annual,
@@ -267,10 +304,15 @@ class Site:
             "imputed": of_imputed(self.series, self.speech),
         }
 
-    def _node(self, code: str) -> dict[str, object]:
+    def _parts(self, code: str) -> tuple[list[Given], str]:
+        """What the parts of a node give to its change in the last month; none if it isn't there."""
+        row = self.shown.row(self.month, code)
+        return self._given(self.month, code, row.year_change is not None) if row else ([], "0")
+
+    def _node(self, code: str, rows: list[Given], zero: str) -> dict[str, object]:
+        """What the page of a node says; the rows are those of `_parts`."""
         row = self.shown.row(self.month, code)
         is_annual = row is not None and row.year_change is not None
-        rows, zero = self._given(self.month, code, is_annual) if row else ([], "0")
         months = self._months(code)
         marks = self._marks(code)
         levels = self.series.column(months, code, "chained")
@@ -344,10 +386,10 @@ class Site:
             it = self.series.specials[code]
             for month in it.changes:
                 now, then = ({*it.members[year]} for year in (month[:4], link_of(month)[:4]))
-                found[month] = self._change(month, now - then, then - now)
+                found[month] = self._moved(month, now - then, then - now)
         return found
 
-    def _change(self, month: str, came: set[str], left: set[str]) -> str:
+    def _moved(self, month: str, came: set[str], left: set[str]) -> str:
         """What is said of a month in which other elementary aggregates belong to a special aggregate."""
         speech, parts = self.speech, list[str]()
         if came:

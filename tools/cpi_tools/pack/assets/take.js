@@ -1,11 +1,10 @@
 // A PNG of each picture that a page offers as SVG: drawn by the browser from that file, three times its size.
+// A page that is opened from a disk can't load modules, so this is a plain script; the page for choosing takes its first
+// part.
 "use strict";
 
 /** How many times as large as the SVG a PNG is. */
 const TIMES = 3;
-
-/** What is said if there is none. */
-const NOT_MADE = document.currentScript?.dataset.fault ?? "";
 
 /** The picture of an SVG as PNG. Rejects if the browser doesn't read it, or doesn't give out what it has drawn. */
 async function png(address) {
@@ -27,6 +26,13 @@ function save(blob, name) {
   link.click();
   setTimeout(() => URL.revokeObjectURL(link.href), 60_000);
 }
+
+if (typeof module !== "undefined") module.exports = { png, save };
+
+// ---- the pictures of a page
+
+/** What is said if there is none. */
+const NOT_MADE = document.currentScript?.dataset.fault ?? "";
 
 for (const link of document.querySelectorAll(".take a[download]")) {
   const button = document.createElement("button");

@@ -3,9 +3,9 @@
 import { t } from "../assets/spoken.js";
 import { rowsOf } from "./lines.js";
 
-/** The way from the page to the folder of the pack, and whether titles are those of the list of items, not of files: the
- * page sets both. */
-export const site = { top: "", isListed: false };
+/** The way from the page to the folder of its language, and to that of the pack, and whether titles are those of the list
+ * of items, not of files: the page sets them. */
+export const site = { root: "", top: "", isListed: false };
 
 /** A file that can't be had: its name, and the status of the server, 0 if there was no answer. */
 export class NoFile extends Error {
@@ -48,4 +48,16 @@ function noneOf404(fault) {
 }
 
 /** All items as pairs of code and title. */
-export const allItems = async () => JSON.parse(await textOf("assets/items.json"));
+export const allItems = async () => JSON.parse(await textOf(`${site.root}assets/items.json`));
+
+/** All items of a choice, and the faults of those that can't be had. */
+export async function itemsOf({ items, revision }) {
+  const answers = await Promise.all(items.map((code) => itemOf(code, revision !== "latest")
+    .then((item) => ({ item, fault: null }), (reason) => ({ item: null, fault: { read: code, fault: faultOf(reason) } }))));
+  return { found: answers.flatMap(({ item }) => item ?? []), faults: answers.flatMap(({ fault }) => fault ?? []) };
+}
+
+/** Why an item isn't shown. */
+const faultOf = ({ status, message }) => (status === 404
+  ? t("no item and no special aggregate of this site has this code")
+  : t("{fault}. Load the page again in a moment", { fault: message }));

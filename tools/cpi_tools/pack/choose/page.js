@@ -1,20 +1,19 @@
 // The page: what its form and its address choose, as pictures, tables and a file. The address comes first: a change of
 // the form is written there, and shown from there, so back and forward work.
 import { figureText, monthText, t } from "../assets/spoken.js";
-import { addressOf, choiceOf, DEFAULTS, fixed, fullYears, MEASURES, monthsBetween, monthsOf } from "./choice.js";
-import { byId, made, others } from "./elements.js";
+import { png, save } from "../assets/take.js";
+import { addressOf, choiceOf, DEFAULTS, fixed, fullYears, MEASURES, monthsBetween } from "./choice.js";
+import { fileOf } from "./drawing.js";
+import { byId, made } from "./elements.js";
 import { csvOf, tablesOf } from "./figures.js";
-import { itemOf, site } from "./files.js";
-import { chosenRows, hundredOf } from "./lines.js";
-import { measureOf } from "./measured.js";
+import { itemsOf, site } from "./files.js";
 import { listenToPicker, picker, showChosen } from "./picker.js";
-import { pictureOf } from "./picture.js";
+import { drawPictures, partsOf, shownOf, tellIn } from "./shown.js";
 
-const MOST_LINES = 6; // lines that a picture shows
 const NARROW = 640; // pixels of a page, as in style.css
 const FIELDS = ["from", "to", "hundred", "revision", "decimals"]; // their ids are the words of an address
 
-const known = byId("choice").dataset; // first, last, base, reference, moment, revisions: see choose.html
+const known = byId("choice").dataset; // first, last, base, reference, moment, revisions, source, embed: see choose.html
 site.top = known.top ?? "";
 site.isListed = known.titles === "listed";
 
@@ -78,10 +77,7 @@ function follow() {
 
 // ---- showing a choice
 
-function tell(faults) {
-  byId("fault").hidden = !faults.length;
-  byId("fault").replaceChildren(...faults.map(({ read, fault }) => made("p", {}, others(read), t(": {fault}.", { fault }))));
-}
+const tell = (faults) => tellIn(byId("fault"), faults);
 
 const guarded = (work) => (...words) => Promise.resolve().then(() => work(...words)).catch(failed);
 const failed = (fault) => tell([{ read: t("This page"), fault: t("it met a fault, {fault}", { fault: fault.message }) }]);
@@ -92,70 +88,55 @@ async function show(faults) {
   setForm();
   tell(faults);
   byId("said").textContent = t("The figures are on their way.");
-  const answers = await Promise.all(choice.items.map((code) => itemOf(code, choice.revision !== "latest")
-    .then((item) => [item, null], (reason) => [{ code, title: "" }, { read: code, fault: faultOf(reason) }])));
+  const answers = await itemsOf(choice);
   if (mine !== asked) return;
-  tell([...faults, ...answers.flatMap(([, fault]) => fault ?? [])]);
-  showChosen(answers.map(([item]) => item));
-  draw(answers.flatMap(([item, fault]) => (fault ? [] : item)));
+  tell([...faults, ...answers.faults]);
+  showChosen(choice.items.map((code) => answers.found.find((item) => item.code === code) ?? { code, title: "" }));
+  draw(answers.found);
 }
 
-/** Why an item isn't shown. */
-const faultOf = ({ status, message }) => (status === 404
-  ? t("no item and no special aggregate of this site has this code")
-  : t("{fault}. Load the page again in a moment", { fault: message }));
-
 function draw(found) {
-  const items = found.map((item) => ({ ...item, rows: chosenRows(item.latest, item.earlier, choice.revision) }));
-  const months = monthsOf(choice, known), all = items.map(({ rows }) => rows);
-  const wanted = hundredOf(all, months, choice.hundred, known.reference) ?? known.reference;
-  const measures = choice.show.map((word) => measureOf(word, items, months, wanted, choice.decimals));
-  shown = { items, months, measures };
+  shown = shownOf(choice, found, known);
+  const { items, months, measures } = shown;
   byId("said").textContent = items.length
     ? t("{first} to {last}", { first: monthText(months[0]), last: monthText(months.at(-1)) }) : "";
   byId("parts").replaceChildren(...(items.length ? measures.map(partOf) : []));
-  drawPictures();
+  width = drawPictures(shown);
   offer();
 }
 
-/** The place of a measure: its picture, the key to the picture, and its tables. */
-function partOf(measure, n) {
-  const { name, unit, lines } = measure, first = lines.slice(0, MOST_LINES);
-  const values = { shown: figureText(String(MOST_LINES)), all: figureText(String(lines.length)) };
-  const few = lines.length > MOST_LINES ? [made("p", { class: "note" },
-    t("The picture shows the first {shown} of {all} items.", values))] : [];
-  return made("section", { "aria-labelledby": `part-${n}` }, made("h2", { id: `part-${n}` }, name),
-    made("figure", { class: "lines" }, made("figcaption", {}, made("small", {}, unit)),
-      made("div", { class: "picture" })),
-    made("p", { class: "note readout", "aria-live": "polite" }),
-    made("ul", { class: "lines-key" }, ...first.map(keyOf)),
-    ...few, ...tablesOf(measure, shown.months));
+/** The place of a measure: its picture, the key to the picture, the ways to take it, and its tables. */
+const partOf = (measure, n) => made("section", { "aria-labelledby": `part-${n}` },
+  made("h2", { id: `part-${n}` }, measure.name), ...partsOf(measure, []), takeOf(measure, n), ...tablesOf(measure, shown.months));
+
+// ---- taking a picture
+
+/** The ways to take the picture of a measure: as SVG, as PNG, and as a page to embed, which shows the newest month if no
+ * last one is chosen. */
+function takeOf(measure, n) {
+  const said = made("span", { role: "status" }), place = `${known.embed}${addressOf({ ...choice, show: [measure.word] })}`;
+  const button = (kind, work) => made("button", { type: "button", "aria-label": `${kind}: ${measure.name}`,
+    onclick: () => work().then(() => { said.textContent = ""; }, () => { said.textContent = NOT_TAKEN; }) }, kind);
+  const named = (kind) => `cpi-${measure.word}-${shown.months[0]}-${shown.months.at(-1)}.${kind}`;
+  const svg = () => fileOf(shown.measures[n], shown.months, sourceOf());
+  const asSvg = async () => save(new Blob([svg()], { type: "image/svg+xml" }), named("svg"));
+  // (an address that begins with data: is the one that the policy of the front lets a picture have)
+  const asPng = async () => save(await png(`data:image/svg+xml;charset=utf-8,${encodeURIComponent(svg())}`), named("png"));
+  const embed = known.embed ? [made("a", { href: place, "aria-label": t("Page to embed: {name}", { name: measure.name }) },
+    t("Page to embed"))] : [];
+  return made("p", { class: "take" }, t("Take this picture:"), " ", button("SVG", asSvg), " ", button("PNG", asPng), " ",
+    ...embed, " ", said);
 }
 
-/** The sign of a line, its title, and the period in which it is 100 if the picture has several. */
-const keyOf = ({ title, hundred }, n) => made("li", {}, made("svg:svg", { viewBox: "0 0 34 12", "aria-hidden": "true" },
-  made("svg:path", { class: `curve curve-${n}`, d: "M2 6H32" })), made("span", {}, others(title),
-  ...(hundred ? [made("small", {}, hundred)] : [])));
+const NOT_TAKEN = t("The picture can’t be made here.");
 
-/** Draws the pictures, as wide as there is room. */
-function drawPictures() {
-  for (const [n, holder] of document.querySelectorAll(".picture").entries()) {
-    const { name, unit, isLevel, word, lines } = shown.measures[n], few = lines.slice(0, MOST_LINES);
-    if (!few.some(({ values }) => values.some((value) => value !== null))) {
-      holder.replaceChildren(made("p", { class: "note" }, t("These items have no such figures in these months.")));
-      continue;
-    }
-    width = Math.max(280, Math.floor(holder.clientWidth));
-    const hasZero = !isLevel && word !== "weight", { months } = shown;
-    const readout = holder.closest("section").querySelector(".readout");
-    const told = (at) => readout.replaceChildren(...(at === null ? [] : read(few, months, at)));
-    holder.replaceChildren(pictureOf({ name: t("{name} ({unit})", { name, unit }), months, lines: few, hasZero, width }, told));
-  }
+/** The lines at the foot of a picture: the office, the revision if one is chosen, and the address of these figures. */
+function sourceOf() {
+  const revision = choice.revision === "latest" ? [] : [byId("revision").selectedOptions[0].textContent];
+  return [[known.source, ...revision].join("; "), ...(hasAddress() ? [byId("cite").textContent] : [])];
 }
 
-/** The figures of a month in words. */
-const read = (lines, months, at) => [`${monthText(months[at])}: `, ...lines.flatMap(({ title, texts, hundreds }, n) =>
-  [n ? ", " : "", others(title), ` ${texts[at]}${hundreds[at] ? ` (${hundreds[at]})` : ""}`])];
+const hasAddress = () => document.querySelector("link[rel=canonical]") !== null;
 
 /** Offers the file, and the address under which these figures stay. */
 function offer() {
@@ -182,7 +163,7 @@ byId("choice").addEventListener("submit", (event) => event.preventDefault());
 addEventListener("popstate", follow);
 new ResizeObserver(() => {
   const holder = document.querySelector(".picture");
-  if (holder && Math.abs(holder.clientWidth - width) >= 8) drawPictures();
+  if (holder && Math.abs(holder.clientWidth - width) >= 8) width = drawPictures(shown);
 }).observe(byId("parts"));
 listenToPicker();
 fillForm();
