@@ -17,6 +17,7 @@ import pytest
 
 from cpi_tools.program import Cpi
 from cpi_tools.second_copies import NAMES, OFFICE, state_of
+from conftest import ROOT
 from ran import run
 from second_machines import Kill, Machine, kill_and_promote, machine, surveyed
 from systems import LINKS, NETWORK_NAMES, SECOND, two_networks
@@ -57,7 +58,8 @@ def networks(needed: Callable[[str], str], tmp_path: Path) -> Iterator[Networks]
     dest = tmp_path / "dest"
     dest.mkdir()
     key, host = ((tmp_path / f"{name}.pub").read_text() for name in ("key", "host"))
-    (tmp_path / "authorized").write_text(f'restrict,command="{needed("rrsync")} {dest}" {key}')
+    command = f"PATH={ROOT}:$PATH {ROOT}/ops/cpi-receive {dest}"
+    (tmp_path / "authorized").write_text(f'restrict,command="{command}" {key}')
     (tmp_path / "known").write_text(f"[{SECOND}]:{PORT} {host}")
     (tmp_path / "sshd_config").write_text(SETTINGS.format(folder=tmp_path))
     Path("/run/sshd").mkdir(mode=0o755, exist_ok=True)

@@ -29,6 +29,14 @@ from lib.served import free_port
 
 TOOL, CLIENTS = str(ROOT / "cpi-tools"), str(Path(clients.__file__))
 KEY = "d" * 32
+RECEIVER = """\
+#!/bin/sh
+# Stands for ssh, and for the command of a key on the other machine.
+shift
+{more}
+PATH={programs}{root}:$PATH
+SSH_ORIGINAL_COMMAND="$*" exec {root}/ops/cpi-receive {dest}
+"""
 LEAST = 100
 """So many prices are answered before a kill."""
 
@@ -85,6 +93,14 @@ def machine(folder: Path, enter: Sequence[str] = ()) -> Machine:
     """A machine with a folder that is made."""
     folder.mkdir(mode=0o700)
     return Machine(folder, tuple(enter), free_port())
+
+
+def receiver(path: Path, dest: Path, more: str = "", programs: str = "") -> str:
+    """Writes what stands for ssh to the machine of a place, where cpi-receive is the command of the key; `more` is what
+    it does first, and `programs` a folder of programs. The words that run it."""
+    path.write_text(RECEIVER.format(root=ROOT, dest=dest, more=more, programs=programs and f"{programs}:"))
+    path.chmod(0o755)
+    return str(path)
 
 
 def surveyed(cpi: Cpi, path: Path) -> Path:

@@ -40,6 +40,7 @@ from conftest import ROOT
 from loads import Quotes, faults_of
 from offices import TABLES
 from ran import run
+from second_machines import receiver
 from test_second_machine import SHELL
 
 TOOL = ROOT / "cpi-tools"
@@ -136,12 +137,14 @@ Follower(Path(sys.argv[2]), place_of(sys.argv[3], Path(sys.argv[4]), sys.argv[5]
 """A follower that begins a round as soon as the one before it is done, so a kill comes within a round."""
 
 
-@pytest.mark.parametrize("is_elsewhere", [False, True])
+@pytest.mark.parametrize("way", ["folder", "rsync", "receiver"])
 def test_whatever_stops_a_follower_a_whole_copy_is_there(
-    is_elsewhere: bool, cpi: Cpi, office: Path, dest: Path, tmp_path: Path, ssh: Path
+    way: str, cpi: Cpi, office: Path, dest: Path, tmp_path: Path, ssh: Path
 ) -> None:
     """Killed at random moments of its rounds, with all that it started, while quotes are answered."""
-    drawn, place = random.Random(11), f"second:{dest}" if is_elsewhere else str(dest)
+    drawn, place = random.Random(11), {"folder": str(dest), "rsync": f"second:{dest}", "receiver": "second:."}[way]
+    if way == "receiver":
+        receiver(ssh, dest)
     words = [str(ROOT / "tools"), str(office), place, str(tmp_path / "room"), str(ssh)]
     rounds = []
     with Quotes(cpi, office):

@@ -149,7 +149,7 @@ def test_each_file_of_ops_has_its_place(members: dict[str, tarfile.TarInfo]) -> 
     units, programs, others = {"usr/lib/systemd/system"}, {"usr/lib/cpi"}, {"usr/share/cpi/ops"}
     assert places == {
         "cpi.service": units, "cpi-backup.service": units, "cpi-backup.timer": units, "cpi-serve": programs,
-        "cpi-follow.service": units, "cpi-promoted.service": units, "cpi-follow": programs,
+        "cpi-follow.service": units, "cpi-promoted.service": units, "cpi-follow": programs, "cpi-receive": programs,
         "cpi-desk.service": units, "cpi-desk": programs,
         "cpi-backup": programs, "cpi-stopped": programs, "nginx.conf": others, "Caddyfile": others, "logrotate-cpi": others,
         "try": others, "try.py": others, "office.conf": {"etc/cpi"},

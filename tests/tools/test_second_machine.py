@@ -10,7 +10,7 @@ import pytest
 
 from cpi_tools.gaps import MISSING
 from cpi_tools.program import Cpi
-from second_machines import LEAST, Answered, gaps_of, kill_and_promote, machine, surveyed
+from second_machines import LEAST, Answered, gaps_of, kill_and_promote, machine, receiver, surveyed
 
 SHELL = '#!/bin/sh\nshift\nexec sh -c "$*"\n'
 """A stand-in for ssh, which runs the command on this machine."""
@@ -22,12 +22,12 @@ def survey(cpi: Cpi, tmp_path_factory: pytest.TempPathFactory) -> Path:
     return surveyed(cpi, tmp_path_factory.mktemp("survey") / "office.db")
 
 
-@pytest.mark.parametrize("way, seed", [("folder", 1), ("rsync", 2), ("folder", 3)])
+@pytest.mark.parametrize("way, seed", [("folder", 1), ("rsync", 2), ("receiver", 3)])
 def test_a_killed_machine_is_followed_by_a_second_one(
     way: str, seed: int, cpi: Cpi, survey: Path, tmp_path: Path
 ) -> None:
     """Twenty collectors send as fast as they are answered; tests/outside does it many times, over a network."""
-    if way == "rsync" and not shutil.which("rsync"):
+    if way != "folder" and not (shutil.which("rsync") and shutil.which("rrsync")):
         pytest.skip("there is no rsync")
     first, second, dest = machine(tmp_path / "first"), machine(tmp_path / "second"), tmp_path / "copy"
     dest.mkdir()
@@ -35,7 +35,11 @@ def test_a_killed_machine_is_followed_by_a_second_one(
     shell = tmp_path / "shell"
     shell.write_text(SHELL)
     shell.chmod(0o755)
-    follow = [str(dest)] if way == "folder" else [f"second:{dest}", "--ssh", str(shell)]
+    follow = {
+        "folder": lambda: [str(dest)],
+        "rsync": lambda: [f"second:{dest}", "--ssh", str(shell)],
+        "receiver": lambda: ["second:.", "--ssh", receiver(shell, dest)],
+    }[way]()
     kill = kill_and_promote(cpi, first, second, follow, dest, random.Random(seed))
     assert kill.answered > LEAST and kill.missing_after == 0 and kill.age >= 0
 

@@ -15,7 +15,7 @@ from typing import Optional, Protocol
 
 from .copying import log_beside
 from .mirrors import PAGE
-from .second_copies import MARK, NAMES, NOTE, OFFICE
+from .second_copies import MARK, NAMES, NOTE, OFFICE, RECEIVED
 from .terminal import Fault, because_of
 
 SILENCE = 30
@@ -28,6 +28,10 @@ SSH = "ssh -o BatchMode=yes -o ConnectTimeout=10 -o ServerAliveInterval=10 -o Se
 """The program that reaches the other machine. It asks nobody, and ends when the other side is silent."""
 
 
+MODES = ("--perms", "--chmod=D700,F600")
+"""What is carried is as secret as the office."""
+
+
 class Carrier(Protocol):
     """What carries to a place on another machine."""
 
@@ -36,8 +40,13 @@ class Carrier(Protocol):
     def fetch(self, to: Path) -> None:
         """Brings the notes of the place and the mark of its promotion to a folder. Raises Fault."""
 
-    def carry(self, copy: Path, to: str) -> None:
-        """Brings a copy with its note to one of the two folders there. Raises Fault."""
+    def carry(self, copy: Path, to: str, is_whole: bool) -> None:
+        """Brings a copy with its note to one of the two folders there; `is_whole` compares all of it, whatever its time
+        is. Raises Fault."""
+
+    def carry_changes(self, changes: Path) -> str:
+        """Brings a file of changed pages there, where a program puts them into their copy; the lines that it told.
+        Raises Fault."""
 
 
 class Rsync:
@@ -52,15 +61,20 @@ class Rsync:
     def fetch(self, to: Path) -> None:
         """Files that are gone there go here too."""
         notes = [f"--include=/{name}/{NOTE}" for name in NAMES]
-        chosen = [*(f"--include=/{name}/" for name in NAMES), *notes, f"--include=/{MARK}", "--exclude=*"]
+        chosen = [*(f"--include=/{name}/" for name in NAMES), *notes, f"--include=/{MARK}", f"--include=/{RECEIVED}"]
+        chosen.append("--exclude=*")
         _run([*self._words, "--recursive", "--delete", *chosen, self._at, f"{to}/"], self.name)
 
-    def carry(self, copy: Path, to: str) -> None:
+    def carry(self, copy: Path, to: str, is_whole: bool) -> None:
         """In place, each file on the disk there before the next one begins. A file of the same size and of the time of
         before is passed over: `taken_and_stamped` gives each change a second of its own."""
-        how = ["--inplace", "--no-whole-file", f"--block-size={PAGE}", "--fsync"]
-        how += ["--perms", "--chmod=D700,F600"]
+        how = ["--inplace", "--no-whole-file", f"--block-size={PAGE}", "--fsync", *MODES]
+        how += ["--ignore-times"] if is_whole else []
         _run([*self._words, *how, *_files_of(copy), f"{self._at}{to}/"], self.name)
+
+    def carry_changes(self, changes: Path) -> str:
+        """In place too: a part of it that a killed rsync leaves goes before the next one comes."""
+        return _run([*self._words, "--inplace", "--whole-file", *MODES, str(changes), self._at], self.name)
 
 
 class Rclone:
@@ -76,10 +90,14 @@ class Rclone:
         chosen = [f"--include=/{name}/{NOTE}" for name in NAMES] + [f"--include=/{MARK}"]
         _run([*self._words, "sync", *chosen, self._at, str(to)], self.name)
 
-    def carry(self, copy: Path, to: str) -> None:
+    def carry(self, copy: Path, to: str, is_whole: bool) -> None:
         """File by file, so that the note is the last one."""
         for path in map(Path, _files_of(copy)):
             _run([*self._words, "copyto", str(path), f"{self._at}{to}/{path.name}"], self.name)
+
+    def carry_changes(self, changes: Path) -> str:
+        """No program is there."""
+        raise Fault(f"{self.name} can't be brought changed pages")
 
 
 def _files_of(copy: Path) -> list[str]:
@@ -98,8 +116,8 @@ def carrier_of(dest: str, ssh: Optional[str] = None) -> Optional[Carrier]:
     return Rsync(machine, folder, ssh)
 
 
-def _run(words: Sequence[str], name: str) -> None:
-    """Runs what carries. Raises Fault with the first line that it told."""
+def _run(words: Sequence[str], name: str) -> str:
+    """Runs what carries; what was told on the way. Raises Fault with the first line of that."""
     if not shutil.which(words[0]):
         raise Fault(f"there is no {words[0]}, which carries to {name}: Debian's package {words[0]} has it")
     try:
@@ -118,6 +136,7 @@ def _run(words: Sequence[str], name: str) -> None:
         raise Fault(f"{words[0]} couldn't be started: {because_of(fault)}") from fault
     if ran.returncode:
         raise Fault(f"{name}: {_cause(ran.stderr) or f'{words[0]} ended with status {ran.returncode}'}")
+    return ran.stderr
 
 
 def _cause(told: str) -> str:

@@ -23,6 +23,7 @@ from . import (
     probe,
     promote,
     publish,
+    receive,
     take_in,
     take_out,
 )
@@ -32,7 +33,7 @@ from .terminal import Fault, ToolWords, ends_by_signals, is_line
 from .version import ShowVersion
 
 TOOLS = (
-    backup, drill, follow, promote, gaps, probe, doctor, keys, calendar_file, desk, explain, publish, take_in, take_out, next_year,
+    backup, drill, follow, receive, promote, gaps, probe, doctor, keys, calendar_file, desk, explain, publish, take_in, take_out, next_year,
     moved_weights,
 )  # fmt: skip
 

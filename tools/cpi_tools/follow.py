@@ -106,7 +106,8 @@ moment, and the receipts of the last new quotes.
 DEST is one of these:
 
     FOLDER                   a folder of this machine that is there, as on another disk
-    [USER@]MACHINE:FOLDER    a folder of another machine, by rsync over ssh
+    [USER@]MACHINE:FOLDER    a folder of another machine, by rsync over ssh; if cpi-receive is the
+                             command of its key there, a round carries the changed pages as one file
     rclone:REMOTE:FOLDER     a folder of a store that rclone knows; it carries whole files
 
 A round that fails is one line, and the next round tries again. If the copy at DEST was promoted

@@ -50,6 +50,8 @@ class Mirror:
         self.path = path
         self._sums = list[bytes]()
         self._size = 0
+        self.pages = set[int]()
+        """The numbers of the pages that were written, until somebody takes them away."""
         opened = os.open(path, os.O_RDWR | os.O_CREAT | os.O_CLOEXEC, 0o600)
         with naming(path), os.fdopen(opened, "rb", buffering=0) as file:
             for block in _blocks(file):
@@ -91,8 +93,19 @@ class Mirror:
         for begin in range(0, len(block), SUMMED):
             part, old = block[begin : begin + SUMMED], there[begin : begin + SUMMED]
             if part != old:
-                written += _write_pages(number, at + begin, part, old)
+                written += self._write_pages(number, at + begin, part, old)
                 self._note(at + begin, part)
+        return written
+
+    def _write_pages(self, number: int, at: int, part: bytes, old: bytes) -> int:
+        """Writes the pages of a part of the file that differ from the old ones, at a place; how many bytes."""
+        written = 0
+        for begin in range(0, len(part), PAGE):
+            page = part[begin : begin + PAGE]
+            if page != old[begin : begin + PAGE]:
+                self.pages.add((at + begin) // PAGE)
+                _write(number, at + begin, page)
+                written += len(page)
         return written
 
     def _note(self, at: int, part: bytes) -> None:
@@ -222,15 +235,9 @@ def _sum(sums: list[bytes]) -> str:
     return hashlib.sha256(b"".join(sums)).hexdigest()
 
 
-def _write_pages(number: int, at: int, part: bytes, old: bytes) -> int:
-    """Writes the pages of a part of a file that differ from the old ones, at a place; how many bytes."""
-    written = 0
-    for begin in range(0, len(part), PAGE):
-        page = part[begin : begin + PAGE]
-        if page != old[begin : begin + PAGE]:
-            left, to = memoryview(page), at + begin
-            while left:
-                done = os.pwrite(number, left, to)
-                left, to = left[done:], to + done
-            written += len(page)
-    return written
+def _write(number: int, at: int, page: bytes) -> None:
+    """Writes a page at a place of a file."""
+    left = memoryview(page)
+    while left:
+        done = os.pwrite(number, left, at)
+        left, at = left[done:], at + done

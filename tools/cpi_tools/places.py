@@ -9,18 +9,23 @@ from __future__ import annotations
 import contextlib
 import fcntl
 import sqlite3
+import time
 from collections.abc import Iterator
 from pathlib import Path
-from typing import Any, Optional, Protocol
+from typing import Any, NamedTuple, Optional, Protocol
 
 from .carriers import Carrier, carrier_of
 from .mirrors import MirroredOffice, Taken, second_of, stamp, sync
-from .second_copies import NAMES, NOTE, OFFICE, CopyNote, State, note_of, state_of, write_note
+from .page_changes import CHANGES, Changes, of_mirror, received_text, write_changes
+from .second_copies import NAMES, NOTE, OFFICE, RECEIVED, CopyNote, State, note_of, state_of, write_note
 from .stored import unchanged_office
 from .terminal import Fault
 
 LOCK = "follow.lock"
 """The file by which one follower at a time writes to a folder."""
+
+COMPARED_EACH = 3600.0
+"""Seconds after which a copy elsewhere is compared as a whole, so that a page that its disk lost is carried again."""
 
 LAST_QUOTES = 20
 """So many of the last quotes are in a note."""
@@ -66,11 +71,17 @@ class Folder:
 
 class Elsewhere:
     """A place that a carrier reaches, with a room on this machine: the mirror that is carried, and what is known of the
-    place."""
+    place.
+
+    The first round of each copy compares it with the mirror as a whole. From then on it is known which pages changed since
+    its last round, and only these are read and carried, if a program is there that puts them in.
+    """
 
     def __init__(self, carrier: Carrier, room: Path):
         self.name, self._carrier, self._room = carrier.name, carrier, room
-        self._mirrors = Mirrors()
+        self._mirrors, self._lags = Mirrors(), dict[str, Lag]()
+        self._mirror: Optional[MirroredOffice] = None
+        self._is_unheard = False
 
     def state(self) -> State:
         """What is there, as it was fetched now."""
@@ -85,15 +96,67 @@ class Elsewhere:
         folder = self._room / "mirror"
         folder.mkdir(mode=0o700, exist_ok=True)
         mirror, taken = self._mirrors.taken(folder, office, patience)
+        self._note_pages(mirror)
         note = note_of(office, number, taken, mirror, _last_quotes(folder / OFFICE))
-        before = second_of(folder / NOTE)
-        write_note(folder, note)
-        stamp(folder / NOTE, before)
-        self._carrier.carry(folder, name)
+        # (after a fault the copy isn't known any more)
+        lag = self._lags.pop(name, None)
+        if lag and lag.note != state.notes.get(name):
+            lag = None
+        if not (lag and lag.is_recent() and self._is_received() and self._carry_changes(name, lag, note, mirror)):
+            self._carry(name, note, is_whole=lag is not None)
+        self._lags[name] = Lag(note, set(), set(), lag.compared if lag and lag.is_recent() else time.monotonic())
         last = self._room / NAMES[0]
         last.mkdir(mode=0o700, exist_ok=True)
         write_note(last, note)
         return note, taken
+
+    def _note_pages(self, mirror: MirroredOffice) -> None:
+        """Notes for each copy that these pages were written now. Of another mirror nothing is known."""
+        if mirror is not self._mirror:
+            self._mirror, self._lags = mirror, {}
+        for lag in self._lags.values():
+            lag.file.update(mirror.file.pages)
+            lag.log.update(mirror.log.pages)
+        mirror.file.pages.clear()
+        mirror.log.pages.clear()
+
+    def _is_received(self) -> bool:
+        """Whether a program is there that puts changed pages into a copy, as far as is known."""
+        return not self._is_unheard and (self._room / "there" / RECEIVED).exists()
+
+    def _carry(self, name: str, note: CopyNote, is_whole: bool) -> None:
+        """Carries the mirror and its note."""
+        folder = self._room / "mirror"
+        before = second_of(folder / NOTE)
+        write_note(folder, note)
+        stamp(folder / NOTE, before)
+        self._carrier.carry(folder, name, is_whole)
+
+    def _carry_changes(self, name: str, lag: Lag, note: CopyNote, mirror: MirroredOffice) -> bool:
+        """Carries the pages that changed since the last round of a copy; whether it has them now."""
+        file, log = mirror.file, mirror.log
+        of_file, of_log = of_mirror(file.path, lag.file, file.size), of_mirror(log.path, lag.log, log.size)
+        changes = self._room / CHANGES
+        write_changes(changes, Changes(name, lag.note, note, of_file, of_log), file.path)
+        told = self._carrier.carry_changes(changes)
+        changes.unlink()
+        # (what was there once can be gone: then the key runs rsync only)
+        self._is_unheard = received_text(name, note) not in told.splitlines()
+        return not self._is_unheard
+
+
+class Lag(NamedTuple):
+    """What is known of a copy elsewhere: its note, the pages of its file and of its log that changed in the mirror since
+    then, and when all of it was compared last (by the clock that never jumps)."""
+
+    note: CopyNote
+    file: set[int]
+    log: set[int]
+    compared: float
+
+    def is_recent(self) -> bool:
+        """Whether it needn't be compared as a whole."""
+        return time.monotonic() - self.compared < COMPARED_EACH
 
 
 class Mirrors:

@@ -37,6 +37,9 @@ NOTE = "office.db.json"
 MARK = "promoted.json"
 """The mark of a place whose copy was promoted: nothing is carried there any more."""
 
+RECEIVED = "received.lock"
+"""Is at a place on another machine where a program puts changed pages into a copy: one carrying at a time has it."""
+
 MOST_BYTES = 1 << 16
 """Bytes of a note that are read."""
 
@@ -111,10 +114,14 @@ def note_of(office: Path, number: int, taken: Taken, mirrored: MirroredOffice, r
     return CopyNote(str(office.absolute()), socket.gethostname(), number, taken.moment, file, log, told)
 
 
+def note_text(note: CopyNote) -> str:
+    """A note as it is written, which `note_in` reads."""
+    return json.dumps({**note._asdict(), "file": note.file._asdict(), "log": note.log._asdict()})
+
+
 def write_note(folder: Path, note: CopyNote) -> None:
     """Writes the note next to a copy, whole or not at all. Raises OSError."""
-    told = {**note._asdict(), "file": note.file._asdict(), "log": note.log._asdict()}
-    write_whole(folder / NOTE, (json.dumps(told) + "\n").encode(), 0o600)
+    write_whole(folder / NOTE, f"{note_text(note)}\n".encode(), 0o600)
 
 
 def write_promotion(folder: Path, copied: int) -> Promotion:

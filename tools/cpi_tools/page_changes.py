@@ -1,0 +1,164 @@
+"""The pages that a copy of an office hasn't got of a newer one, as one file: it is carried to the place of the copy, and put
+into it there.
+
+    the first line: which copy, its note before, its note then, and of each file the time and the numbers of its pages
+    the pages, one after the other, in the order of their numbers; the last one of a file may be shorter
+
+The note goes before the first page is written, and the new one comes last, as in each round. So whatever stops it, the
+copy is none until a whole one is carried, and the other copy counts.
+"""
+
+from __future__ import annotations
+
+import json
+import os
+from collections.abc import Collection
+from pathlib import Path
+from typing import IO, Any, NamedTuple
+
+from .copying import log_beside
+from .mirrors import PAGE, sync
+from .second_copies import NAMES, NOTE, OFFICE, CopyNote, Sum, note_in, note_text, promotion_of, state_of, write_note
+from .terminal import Fault, because_of, naming
+
+CHANGES = "changes"
+"""The file at a place."""
+
+LONGEST_LINE = 1 << 26
+"""Bytes of the first line at most."""
+
+
+class NotFitting(Fault):
+    """Changes that can't be put into a copy; one line. Nothing was written."""
+
+
+class OfFile(NamedTuple):
+    """What is written of a file: its time in nanoseconds since 1970 UTC, and the numbers of its pages, rising from 0."""
+
+    time: int
+    pages: list[int]
+
+
+class Changes(NamedTuple):
+    """Which copy is changed, its note before and then, and what is written of its file and of its log."""
+
+    name: str
+    before: CopyNote
+    note: CopyNote
+    file: OfFile
+    log: OfFile
+
+    @property
+    def size(self) -> int:
+        """Bytes of all pages. Raises NotFitting where one is past the end of its file."""
+        return sum(_sizes(self.file, self.note.file)) + sum(_sizes(self.log, self.note.log))
+
+
+def _sizes(of: OfFile, whole: Sum) -> list[int]:
+    """The bytes of each page of a file."""
+    if any(page < 0 or page * PAGE >= whole.size for page in of.pages):
+        raise NotFitting("it has a page past the end of its file")
+    return [min(PAGE, whole.size - page * PAGE) for page in of.pages]
+
+
+# ---- where the office is
+
+
+def of_mirror(path: Path, pages: Collection[int], size: int) -> OfFile:
+    """What is to be written of a file that is mirrored: pages past its end are gone. Raises OSError."""
+    return OfFile(path.stat().st_mtime_ns, sorted(page for page in pages if page * PAGE < size))
+
+
+def write_changes(to: Path, changes: Changes, mirrored: Path) -> None:
+    """Writes a file of changes; `mirrored` is the mirror of the office's file. Raises OSError."""
+    head = {
+        "name": changes.name,
+        "before": note_text(changes.before),
+        "note": note_text(changes.note),
+        "file": changes.file,
+        "log": changes.log,
+    }
+    opened = os.open(to, os.O_WRONLY | os.O_CREAT | os.O_TRUNC | os.O_CLOEXEC, 0o600)
+    with naming(to), os.fdopen(opened, "wb") as file:
+        file.write(json.dumps(head).encode() + b"\n")
+        sources = ((mirrored, changes.file, changes.note.file), (log_beside(mirrored), changes.log, changes.note.log))
+        for path, of, whole in sources:
+            with path.open("rb", buffering=0) as source:
+                for page, size in zip(of.pages, _sizes(of, whole)):
+                    file.write(os.pread(source.fileno(), size, page * PAGE))
+
+
+# ---- where the copy is
+
+
+def received_text(name: str, note: CopyNote) -> str:
+    """What is told once the changes are in their copy."""
+    return f"cpi-tools receive: {name} is round {note.round}"
+
+
+def read_head(file: IO[bytes]) -> Changes:
+    """What the first line of a file of changes says; the file is at its first page then. Raises NotFitting."""
+    try:
+        told = json.loads(file.readline(LONGEST_LINE))
+        before, note = (note_in(told[name]) for name in ("before", "note"))
+        if before is None or note is None or told["name"] not in NAMES:
+            raise ValueError
+        return Changes(told["name"], before, note, *(_of_file(told[name]) for name in ("file", "log")))
+    except (ValueError, LookupError, TypeError) as fault:
+        raise NotFitting("its first line isn't one that cpi-tools follow wrote") from fault
+
+
+def _of_file(told: Any) -> OfFile:
+    time, pages = told
+    if type(time) is not int or any(type(page) is not int for page in pages):
+        raise ValueError
+    return OfFile(time, pages)
+
+
+def put_in(place: Path) -> Changes:
+    """Puts the changes that lie at a place into the copy that they belong to, and removes them. Raises Fault: nothing
+    was written if they don't belong to that copy as its note says it, or if a copy was promoted."""
+    path = place / CHANGES
+    try:
+        with path.open("rb") as file:
+            changes = read_head(file)
+            _refuse(place, changes, path.stat().st_size - file.tell())
+            _put(file, changes, place / changes.name)
+        path.unlink()
+    except NotFitting as fault:
+        raise NotFitting(f"{path}: {fault}") from fault
+    except OSError as fault:
+        raise Fault(because_of(fault)) from fault
+    return changes
+
+
+def _refuse(place: Path, changes: Changes, size: int) -> None:
+    """Raises NotFitting unless the changes can be put into their copy."""
+    if promotion_of(place):
+        raise NotFitting("a copy was promoted here")
+    if state_of(place).notes.get(changes.name) != changes.before:
+        raise NotFitting(f"{changes.name} isn't the copy that it changes")
+    if size != changes.size:
+        raise NotFitting(f"it has {size:,} bytes of pages, and {changes.size:,} by its first line")
+
+
+def _put(file: IO[bytes], changes: Changes, copy: Path) -> None:
+    """Writes the pages, and the note last."""
+    (copy / NOTE).unlink()
+    sync(copy)
+    office = copy / OFFICE
+    for path, of, whole in (
+        (office, changes.file, changes.note.file),
+        (log_beside(office), changes.log, changes.note.log),
+    ):
+        number = os.open(path, os.O_RDWR | os.O_CREAT | os.O_CLOEXEC, 0o600)
+        with naming(path), os.fdopen(number, "r+b") as to:
+            for page, size in zip(of.pages, _sizes(of, whole)):
+                to.seek(page * PAGE)
+                to.write(file.read(size))
+            to.truncate(whole.size)
+            to.flush()
+            os.utime(number, ns=(of.time, of.time))
+            os.fsync(number)
+    write_note(copy, changes.note)
+    sync(copy)

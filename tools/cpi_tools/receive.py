@@ -1,0 +1,42 @@
+"""`cpi-tools receive FOLDER`: puts the changed pages that a follower carried to a place into their copy there.
+
+`cpi-receive` runs it, the command of the key by which the follower of another machine carries.
+"""
+
+from __future__ import annotations
+
+import argparse
+import sys
+from pathlib import Path
+
+from .page_changes import put_in, received_text
+from .terminal import ToolWords
+
+DESCRIPTION = """\
+Puts the changed pages that a follower of another machine carried to FOLDER into the copy there that
+they belong to. cpi-receive runs this after each carrying; nobody else has to. What doesn't belong to
+that copy is refused, and changes nothing. If it is stopped, that copy is none until the follower
+carries a whole one, and the other copy counts.
+"""
+
+EPILOG = """\
+example: cpi-tools receive /var/lib/cpi-copy/office
+
+exit status: 0 if the copy has them; 1 with one line why not; 2 if the words are refused
+"""
+
+
+def add_words(tools: argparse._SubParsersAction[ToolWords]) -> None:
+    """The tool `receive`."""
+    words = tools.add_parser(
+        "receive", help="puts the pages that a follower carried into a copy", description=DESCRIPTION, epilog=EPILOG
+    )
+    words.add_argument("folder", type=Path, metavar="FOLDER", help="the folder with the two copies")
+    words.set_defaults(run=run, tool="receive", words=words)
+
+
+def run(chosen: argparse.Namespace) -> int:
+    """Runs the tool by its words; its exit status. The line goes to standard error, since rsync has the other one."""
+    changes = put_in(chosen.folder)
+    print(received_text(changes.name, changes.note), file=sys.stderr)
+    return 0
