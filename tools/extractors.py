@@ -142,6 +142,18 @@ def of_headings(file: IO[bytes], *_: object, options: object) -> Iterator[Found]
                     yield each.lineno, None, each.value.lstrip("#="), ["the heading of a column"]
 
 
+def of_wording(file: IO[bytes], *_: object, options: object) -> Iterator[Found]:
+    """The texts of a module of sentences: the strings that it gives names, by themselves or in a table, which have two words
+    or a place."""
+    for node in ast.walk(ast.parse(file.read())):
+        if isinstance(node, (ast.Assign, ast.AnnAssign)):
+            in_table = node.value.values if isinstance(node.value, ast.Dict) else ()
+            texts = [it for it in ast.walk(node) if isinstance(it, ast.Constant) and isinstance(it.value, str)]
+            for each in texts:
+                if each in in_table or re.search("[a-z] [a-z]|{", each.value):
+                    yield each.lineno, None, each.value, []
+
+
 def of_report(file: IO[bytes], keywords: Any, comments: Any, options: Any) -> Iterator[Found]:
     """The texts of a module that makes a report: those of its calls, and the headings of its tables."""
     yield from extract_python(file, keywords, comments, options)  # type: ignore[no-untyped-call]

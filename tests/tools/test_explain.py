@@ -22,6 +22,7 @@ from cpi_tools.explain.expressions import NoExpression, value_of
 from cpi_tools.explain.lines import Explanation, Line, change_expression
 from cpi_tools.explain.sources import Sources
 from cpi_tools.program import Cpi
+from cpi_tools.terminal import month_name
 from ran import run
 from surveys import Life, bytes_of, key_of, number_of
 
@@ -356,9 +357,9 @@ def test_the_life_of_a_series_has_a_page(whole: Whole, tmp_path: Path) -> None:
     assert (told.status, told.out) == (0, run(None, *words).out)
     text = page.read_text(encoding="utf-8")
     cells = re.findall(r"<td[^>]*>(?:<bdi>)?([^<]*)(?:</bdi>)?</td>", text)
-    assert cells[::9] == surveys.MONTHS[:8]
+    assert cells[::9] == [month_name(month) for month in surveys.MONTHS[:8]]
     title, fact = re.sub("</?bdi>", "", text), told.out.splitlines()[1]
-    assert f"<h1>{told.out.splitlines()[0]}</h1>" in title and f"<p>{fact}</p>" in text
+    assert f"<h1>{told.out.splitlines()[0]}</h1>" in title and "2026-06" in fact and f"<p>{fact.replace('2026-06', 'June 2026')}</p>" in text
     assert page.stat().st_mode & 0o777 == 0o600
 
 

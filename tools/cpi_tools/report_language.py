@@ -14,13 +14,16 @@ from .others import Worded, worded
 from .pack.clocks import UTC, Clock, clock_of
 from .speech import DIGITS, LATIN, SPEAKS_ENGLISH, Speech, speech_of
 from .terminal import Fault
-from .told import Figure, Moment, Month, Told
+from .told import Code, Figure, Moment, Month, MonthName, Told
 
 VARIABLE, DIGITS_VARIABLE, ZONE_VARIABLE = "CPI_LANGUAGE", "CPI_DIGITS", "CPI_ZONE"
 """The variables of the environment that an office sets for its reports: their language, the digits of all languages but
 English, and the clock."""
 
-FIGURE = re.compile(r"[+\u2212-]?[0-9][0-9,]*(\.[0-9]+)?(\u202f?%)?")
+KINDS = (Code, Figure, Moment, Month, MonthName)
+"""What a place or a cell holds besides texts."""
+
+FIGURE = re.compile(r"[+\u2212-]?[0-9][0-9,]*(\.[0-9]+)?([ \u202f]?%)?")
 
 LEFT_TO_RIGHT, ENDS = "\u2066", "\u2069"
 """LEFT-TO-RIGHT ISOLATE and POP DIRECTIONAL ISOLATE: round a figure or a code, whose signs stay where they are."""
@@ -63,13 +66,13 @@ class Teller:
             if value.is_english and self.speech.language.tag == SOURCE:
                 return value
             return worded(self._form(value), **{name: self._placed(it) for name, it in value.places.items()})
-        if isinstance(value, (Figure, Month, Moment)):
+        if isinstance(value, KINDS):
             return self._placed(value)
         return value if isinstance(value, Worded) or not isinstance(value, str) else self.speech.t(value)
 
     def cell(self, value: object) -> object:
         """A cell of a column of texts, which is of others if it isn't told."""
-        return self.say(value) if isinstance(value, (Told, Month, Moment)) else value
+        return self.say(value) if isinstance(value, (Told, *KINDS)) else value
 
     def _form(self, text: Told) -> str:
         if text.number is None:
@@ -81,8 +84,12 @@ class Teller:
             return self.say(value)
         if isinstance(value, Moment):
             return self.moment(value.at)
+        if isinstance(value, MonthName):
+            return self.month(value.month)
         if isinstance(value, Month):
             return self.month(value)
+        if isinstance(value, Code):
+            return self.code(value)
         return self.figure(value) if isinstance(value, (Figure, int)) else value
 
     def figure(self, value: object) -> object:
@@ -91,8 +98,8 @@ class Teller:
         text = str(value) if isinstance(value, int) else value
         if not isinstance(text, str) or not FIGURE.fullmatch(text):
             return value
-        if text.endswith("%"):
-            return self.in_percent(text.rstrip("%\u202f"))
+        if text.endswith("%") and self.speech.language.tag != SOURCE:
+            return self.in_percent(text.rstrip("% \u202f"))
         return self.code(self.speech.figure(text))
 
     def whole(self, number: int) -> object:

@@ -10,15 +10,25 @@ from collections.abc import Mapping, Sequence
 from typing import Optional
 
 from .others import Worded, worded
-from .terminal import month_text, time_text
+from .terminal import month_name, month_text, time_text
 
 
 class Figure(str):
     """A figure in ASCII, such as `1,626` or `-0.3`."""
 
 
+class Code(str):
+    """The code of a node, a slot such as `7/2`, or anything else between whose signs nothing turns."""
+
+
 class Month(str):
     """A month, `2026-01`."""
+
+
+class MonthName(str):
+    """A month by its name, `January 2026`; `month` is `2026-01`."""
+
+    month: str
 
 
 class Moment(str):
@@ -30,6 +40,13 @@ class Moment(str):
 def month_of(month: int) -> Month:
     """`2026-01` of 202601."""
     return Month(month_text(month))
+
+
+def month_name_of(month: int) -> MonthName:
+    """`January 2026` of 202601."""
+    made = MonthName(month_name(month_text(month)))
+    made.month = month_text(month)
+    return made
 
 
 def moment_of(at: int) -> Moment:
@@ -81,14 +98,26 @@ def sentences(*parts: Told) -> Told:
     return Told.made(worded(source, **places), (source,), None, places)
 
 
-def row(parts: Sequence[Told]) -> Told:
+def placed(part: str) -> Told:
+    """A text, a figure or a code as a text of ours."""
+    return part if isinstance(part, Told) else Told.made(worded("{it}", it=part), ("{it}",), None, {"it": part})
+
+
+def row(parts: Sequence[str]) -> Told:
     """Texts with commas between them; no text, if there are none."""
-    if not parts:
-        return sentences()
-    found = parts[0]
+    found = placed(parts[0]) if parts else sentences()
     for part in parts[1:]:
         # t: a list: one text, and another one
         found = told("{before}, {after}", before=found, after=part)
+    return found
+
+
+def parted(parts: Sequence[str]) -> Told:
+    """Some texts with semicolons between them, since a name may have a comma in it; no text, if there are none."""
+    found = placed(parts[0]) if parts else sentences()
+    for part in parts[1:]:
+        # t: a list, of texts that may have commas: one text, and another one
+        found = told("{before}; {after}", before=found, after=part)
     return found
 
 

@@ -7,41 +7,52 @@ from fractions import Fraction
 from typing import Optional
 
 from ..exact import HUNDRED, decimal
-from ..others import Worded
+from ..desk.marks import mark_words
+from ..others import Worded, of_others
 from ..sections import Cell, Section, columns
 from ..stored import OBSERVED, Frozen, Series
-from ..terminal import link_month, month_before, month_text, slot_text
-from .lines import Line, Part, summed
+from ..terminal import link_month, month_before, slot_text
+from ..told import Code, Told, month_of, told
+from .lines import WITHIN, Line, Part, summed
 from .sources import WHOLE_SCALE, Sources
 
 
-def mark_text(quote: Optional[Frozen], has_ended: bool = False) -> str:
+def mark_text(quote: Optional[Frozen], has_ended: bool = False) -> Told:
     """`price 210`, `missing, stock`, or `nothing was sent`; `no longer priced` if the series has ended."""
     if quote is None:
-        return "no longer priced" if has_ended else "nothing was sent"
-    return f"{quote.mark} {quote.value}" if quote.mark in OBSERVED else f"missing, {quote.mark}"
+        return told("no longer priced") if has_ended else told("nothing was sent")
+    if quote.mark in OBSERVED:
+        # t: a mark and its price in minor units: price 210
+        return told("{mark} {price}", mark=mark_words(quote.mark), price=quote.value)
+    # t: there is no price, and why: missing, stock
+    return told("missing, {reason}", reason=mark_words(quote.mark))
 
 
 # ---- in words
 
 
-def who_sent(sources: Sources, series: Series, month: int, quote: Frozen) -> str:
+def who_sent(sources: Sources, series: Series, month: int, quote: Frozen) -> Told:
     """Who sent a frozen quote, with its receipt where the quote still stands."""
     found = sources.sent.get((series, month))
     if found is None:
         holder = sources.holder(series, month)
-        return f"by collector {holder.collector}, slot {holder.slot}"
-    by = f"by collector {found.slot.collector}, slot {found.slot.slot}"
+        return told("by collector {collector}, slot {slot}", collector=holder.collector, slot=holder.slot)
+    by: dict[str, object] = {"collector": found.slot.collector, "slot": found.slot.slot, "receipt": found.receipt}
     if found.quote == (quote.mark, quote.value):
-        return f"{by}, receipt {found.receipt}"
-    return f"{by}; since the freeze {mark_text(Frozen('', 0, *found.quote))} stands, receipt {found.receipt}"
+        return told("by collector {collector}, slot {slot}, receipt {receipt}", **by)
+    stands = mark_text(Frozen("", 0, *found.quote))
+    # t: found is what the collector has sent since: price 210
+    return told(
+        "by collector {collector}, slot {slot}; since the freeze {found} stands, receipt {receipt}", found=stands, **by
+    )
 
 
-def about(sources: Sources, series: Series) -> str:
+def about(sources: Sources, series: Series) -> Told:
     """What a series prices, and where."""
     it = sources.holder(series, sources.month)
     item = sources.items[it.item]
-    return Worded(f"{item.code} {{}}, {{}}; {{}}", item.text, item.unit, sources.outlets[it.outlet])
+    places = {"item": of_others(item.text), "unit": of_others(item.unit), "outlet": of_others(sources.outlets[it.outlet])}
+    return told("{code} {item}, {unit}; {outlet}", code=Code(item.code), **places)
 
 
 # ---- lines of a series
@@ -49,47 +60,64 @@ def about(sources: Sources, series: Series) -> str:
 
 def base_line(sources: Sources, series: Series) -> Line:
     """The base of a series."""
-    link, name, ticks = link_month(sources.month), f"base of {slot_text(series)}", sources.base(series)[0]
+    link, ticks = link_month(sources.month), sources.base(series)[0]
+    name = told("base of {series}", series=Code(slot_text(series)))
+    places = {"about": about(sources, series), "month": month_of(link)}
     if sources.link.is_observed(series):
         quote = sources.link.frozen[series]
-        told = f"{quote.mark} in {month_text(link)} {who_sent(sources, series, link, quote)}"
-        return Line(name, f"10000 * {quote.value}", ticks, Worded(f"{{}}; {told}", about(sources, series)))
-    told = f"not observed in {month_text(link)}: its carried price of that month"
-    return Line(name, "", ticks, Worded(f"{{}}; {told}", about(sources, series)))
+        sent = who_sent(sources, series, link, quote)
+        # t: what a series prices, its mark in a month, and who sent it: RICE Rice, 1 kg; price in 2025-12 by collector 7
+        says = told("{about}; {mark} in {month} {sent}", mark=mark_words(quote.mark), sent=sent, **places)
+        return Line(name, f"10000 * {quote.value}", ticks, says)
+    return Line(name, "", ticks, told("{about}; not observed in {month}: its carried price of that month", **places))
 
 
 def quote_line(sources: Sources, series: Series) -> Line:
     """What was found of a series in the month."""
-    quote, name = sources.own.frozen.get(series), f"price of {slot_text(series)}"
+    quote, name = sources.own.frozen.get(series), told("price of {series}", series=Code(slot_text(series)))
     if quote is None:
         holder = sources.holder(series, sources.month)
+        who: dict[str, object] = {"collector": holder.collector, "slot": holder.slot}
         if holder.has_ended(sources.month):
-            last = f"slot {holder.slot} was {month_text(holder.last_month)}"
-            return Line(name, "", None, f"no longer priced: the last month of collector {holder.collector}, {last}")
-        return Line(name, "", None, f"nothing was sent by collector {holder.collector}, slot {holder.slot}")
+            last = month_of(holder.last_month)
+            says = told("no longer priced: the last month of collector {collector}, slot {slot} was {month}", month=last, **who)
+            return Line(name, "", None, says)
+        return Line(name, "", None, told("nothing was sent by collector {collector}, slot {slot}", **who))
     by = who_sent(sources, series, sources.month, quote)
     if quote.mark in OBSERVED:
-        return Line(name, "", quote.value, f"{quote.mark}, {by}")
-    return Line(name, "", None, f"missing, {quote.mark}, {by}")
+        # t: a mark, and who sent it: price, by collector 7, slot 2
+        return Line(name, "", quote.value, told("{mark}, {sent}", mark=mark_words(quote.mark), sent=by))
+    return Line(name, "", None, told("missing, {reason}, {sent}", reason=mark_words(quote.mark), sent=by))
 
 
 def then_line(sources: Sources, series: Series) -> Line:
     """What a series counted as in the month before."""
     ticks, (over, under) = sources.then(series)
-    source = "its base" if sources.is_january else f"carried in {month_text(month_before(sources.month))}"
-    was = "observed" if sources.before.is_observed(series) else "not observed"
-    scale = "" if (over, under) == WHOLE_SCALE else f"; a minor unit counts as {over}/{under} ticks"
-    return Line(f"earlier carried price of {slot_text(series)}", "", ticks, f"{source}; {was} that month{scale}")
+    before = month_of(month_before(sources.month))
+    origin = told("its base") if sources.is_january else told("carried in {month}", month=before)
+    # t: origin is where the price is from: its base, or carried in 2026-01
+    says = told("{origin}; observed that month", origin=origin)
+    if not sources.before.is_observed(series):
+        says = told("{origin}; not observed that month", origin=origin)
+    if (over, under) != WHOLE_SCALE:
+        # t: says is a text such as: its base; observed that month
+        says = told("{says}; a minor unit counts as {ratio} ticks", says=says, ratio=Code(f"{over}/{under}"))
+    return Line(told("earlier carried price of {series}", series=Code(slot_text(series))), "", ticks, says)
 
 
 def observed_line(sources: Sources, series: Series) -> Line:
     """The carried price of a series with a comparable price."""
     over, under = sources.then(series)[1]
     is_matched = sources.is_matched(series)
-    says = "matched" if is_matched else "comparable; not observed in the month before, so not matched"
+    says = told("matched") if is_matched else told("comparable; not observed in the month before, so not matched")
     row = sources.row("carried_2", f"{series[0]}, {series[1]}")
     expression = f"round({sources.own.frozen[series].value} * {over} / {under})"
-    return Line(f"carried price of {slot_text(series)}", expression, sources.own.carried[series].ticks, says, row)
+    return Line(carried_price_of(series), expression, sources.own.carried[series].ticks, says, row)
+
+
+def carried_price_of(series: Series) -> Told:
+    """What a series counts as, by name."""
+    return told("carried price of {series}", series=Code(slot_text(series)))
 
 
 def imputed_lines(sources: Sources, series: Series, up: int, down: int) -> Iterator[Line]:
@@ -97,13 +125,14 @@ def imputed_lines(sources: Sources, series: Series, up: int, down: int) -> Itera
     it, quote = sources.own.carried[series], sources.own.frozen.get(series)
     row = sources.row("carried_2", f"{series[0]}, {series[1]}")
     is_other = quote is not None and quote.mark == "other"
-    says = "imputed: an 'other' replacement enters without moving the index" if is_other else "imputed by the movement"
+    entered = told("imputed: an 'other' replacement enters without moving the index")
+    says = entered if is_other else told("imputed by the movement")
     expression = f"round({sources.then(series)[0]} * {up} / {down})"
-    yield Line(f"carried price of {slot_text(series)}", expression, it.ticks, says, row)
+    yield Line(carried_price_of(series), expression, it.ticks, says, row)
     if quote is not None and is_other:
-        says = "ticks that a minor unit of its price counts as from now on"
+        says = told("ticks that a minor unit of its price counts as from now on")
         scale = Fraction(it.knum, it.kden)
-        yield Line(f"scale of {slot_text(series)}", f"{it.ticks} / {quote.value}", scale, says, row)
+        yield Line(told("scale of {series}", series=Code(slot_text(series))), f"{it.ticks} / {quote.value}", scale, says, row)
 
 
 # ---- lines of the aggregate
@@ -115,11 +144,13 @@ def movement(sources: Sources, code: str, sample: Sequence[Series]) -> tuple[int
     if not matched:
         return 1, 1, unmatched_lines(sources, code, sample)
     now, then = [sources.own.carried[it].ticks for it in matched], [sources.then(it)[0] for it in matched]
-    what, up, down = f"carried prices of the {len(matched)} matched series", sum(now), sum(then)
+    up, down, count = sum(now), sum(then), len(matched)
+    months = month_of(sources.month), month_of(month_before(sources.month))
+    what = [told("carried prices of the {count} matched series in {month}", count=count, month=month) for month in months]
     lines = [
-        Line("moved to", summed(now), up, f"{what} in {month_text(sources.month)}"),
-        Line("moved from", summed(then), down, f"{what} in {month_text(month_before(sources.month))}"),
-        Line("movement", f"{up} / {down}", Fraction(up, down), "what is imputed moves by this"),
+        Line(told("moved to"), summed(now), up, what[0]),
+        Line(told("moved from"), summed(then), down, what[1]),
+        Line(told("movement"), f"{up} / {down}", Fraction(up, down), told("what is imputed moves by this")),
     ]
     return up, down, lines
 
@@ -129,20 +160,22 @@ def unmatched_lines(sources: Sources, code: str, sample: Sequence[Series]) -> li
     if all(sources.is_comparable(it) for it in sample):
         return []
     if code in sources.own.release.carry:
-        return [Line("movement", "1 / 1", 1, "nothing is matched; the freeze's carry list has the aggregate")]
-    row, wrong = f"release_2 ({sources.month}, {sources.own.release.revision})", f"hasn't {code} on its carry list"
-    return [Line("movement", "1 / 1", 1, "nothing is matched, and a movement is needed", row, wrong=wrong)]
+        says = told("nothing is matched; the freeze's carry list has the aggregate")
+        return [Line(told("movement"), "1 / 1", 1, says)]
+    says = told("nothing is matched, and a movement is needed")
+    row = f"release_2 ({sources.month}, {sources.own.release.revision})"
+    return [Line(told("movement"), "1 / 1", 1, says, row, uncarried=code)]
 
 
 def index_lines(sources: Sources, code: str, sample: Sequence[Series]) -> list[Line]:
     """The index of an aggregate, of its sums."""
     now, bases = [sources.own.carried[it].ticks for it in sample], [sources.base(it)[0] for it in sample]
     expression = f"round({HUNDRED} * {sum(now)} / {sum(bases)})"
-    says, row = "within the year; the link month is 100", sources.row("level_2", code)
+    row = sources.row("level_2", code)
     return [
-        Line("sum of carried prices", summed(now), sum(now), "of the sample"),
-        Line("sum of bases", summed(bases), sum(bases), "of the sample"),
-        Line("index", expression, sources.own.levels[code].within, says, row, True),
+        Line(told("sum of carried prices"), summed(now), sum(now), told("of the sample")),
+        Line(told("sum of bases"), summed(bases), sum(bases), told("of the sample")),
+        Line(told("index"), expression, sources.own.levels[code].within, WITHIN, row, True),
     ]
 
 
@@ -152,21 +185,21 @@ def aggregate_parts(sources: Sources, code: str) -> list[Part]:
     seen = [it for it in sample if sources.is_comparable(it)]
     up, down, moved = movement(sources, code, sample)
     imputed = [line for it in sample if it not in seen for line in imputed_lines(sources, it, up, down)]
-    link, month = month_text(link_month(sources.month)), month_text(sources.month)
+    link, month = month_of(link_month(sources.month)), month_of(sources.month)
     parts = [
-        Part("Elementary index", "The sum of the carried prices over the sum of the bases, of the same series (Dutot).",
+        Part(told("Elementary index"), told("The sum of the carried prices over the sum of the bases, of the same series (Dutot)."),
              index_lines(sources, code, sample)),
-        Part("Movement", "Of the matched series: a comparable price now, and observed in the month before.", moved),
-        Part("Imputed prices", "What can't be compared moves with the matched series, in ticks.", imputed),
-        Part("Observed prices", "What they count as, in ticks: price times scale.",
+        Part(told("Movement"), told("Of the matched series: a comparable price now, and observed in the month before."), moved),
+        Part(told("Imputed prices"), told("What can't be compared moves with the matched series, in ticks."), imputed),
+        Part(told("Observed prices"), told("What they count as, in ticks: price times scale."),
              [observed_line(sources, it) for it in seen]),
-        Part("What was found", f"The quotes that {month} was frozen with, in minor units of money.",
+        Part(told("What was found"), told("The quotes that {month} was frozen with, in minor units of money.", month=month),
              [quote_line(sources, it) for it in sample]),
-        Part("The month before", "What each series counted as then, in ticks.",
+        Part(told("The month before"), told("What each series counted as then, in ticks."),
              [then_line(sources, it) for it in sample]),
-        Part("Bases", f"In ticks, 10,000 a minor unit of money; the link month is {link}.",
+        Part(told("Bases"), told("In ticks, 10,000 a minor unit of money; the link month is {month}.", month=link),
              [base_line(sources, it) for it in sample]),
-    ]  # fmt: skip
+    ]
     return [part for part in parts if part.lines]
 
 
@@ -181,8 +214,8 @@ def sample_glance(sources: Sources, code: str) -> Section:
         *("series", "priced by", "item", "outlet", "found", "#receipt", "#counted before", "#counts as", "#percent"),
         "how",
     )
-    note = "Greatest changes first; what a series counts as is in ticks."
-    return Section("glance", "The sample at a glance", note, heads, rows, "No series.")
+    note = told("Greatest changes first; what a series counts as is in ticks.")
+    return Section("glance", told("The sample at a glance"), note, heads, rows, told("No series."))
 
 
 def glance_row(sources: Sources, series: Series, now: int, then: int) -> list[Cell]:
@@ -190,10 +223,10 @@ def glance_row(sources: Sources, series: Series, now: int, then: int) -> list[Ce
     holder, quote = sources.holder(series, sources.month), sources.own.frozen.get(series)
     item, sent = sources.items[holder.item], sources.sent.get((series, sources.month))
     stands = sent is not None and quote is not None and sent.quote == (quote.mark, quote.value)
-    how = "imputed" if sources.own.carried[series].imputed else "observed"
+    how = told("imputed") if sources.own.carried[series].imputed else told("observed")
     return [
-        slot_text(series),
-        slot_text(holder[:2]),
+        Code(slot_text(series)),
+        Code(slot_text(holder[:2])),
         Worded("{}, {}", item.text, item.unit),
         sources.outlets[holder.outlet],
         mark_text(quote, holder.has_ended(sources.month)),
@@ -201,5 +234,5 @@ def glance_row(sources: Sources, series: Series, now: int, then: int) -> list[Ce
         then,
         now,
         decimal(100 * (now - then), then, 1),
-        "matched" if sources.is_matched(series) else how,
+        told("matched") if sources.is_matched(series) else how,
     ]

@@ -6,9 +6,9 @@ from collections.abc import Iterator, Sequence
 from fractions import Fraction
 from typing import NamedTuple
 
-from ..others import Worded, worded
 from ..stored import Series
 from ..terminal import month_before
+from ..told import Told, told
 from . import wording
 from .sources import WHOLE_SCALE, Sources
 from .spoken import (
@@ -33,7 +33,7 @@ class Sample(NamedTuple):
     imputed: Sequence[Series]
 
 
-def sentences_of_prices(sources: Sources, code: str) -> Iterator[Worded]:
+def sentences_of_prices(sources: Sources, code: str) -> Iterator[Told]:
     """From the prices that were compared to the level."""
     every = sources.samples[code]
     matched = [it for it in every if sources.is_matched(it)]
@@ -46,7 +46,7 @@ def sentences_of_prices(sources: Sources, code: str) -> Iterator[Worded]:
         yield of_carried(sources, sample.imputed)
     else:
         months = {"before": month_words(month_before(sources.month)), "month": month_words(sources.month)}
-        yield worded(wording.NONE_COMPARED, **months)
+        yield told(wording.NONE_COMPARED, **months)
     yield of_level(sources, code, sample)
 
 
@@ -59,19 +59,19 @@ def change_of(sources: Sources, series: Series) -> Fraction:
     return Fraction(sources.own.carried[series].ticks - then, then)
 
 
-def span(sources: Sources, series: Series) -> dict[str, Worded]:
+def span(sources: Sources, series: Series) -> dict[str, Told]:
     """The places `then` and `now` of a series, as it counts."""
     then, now = sources.then(series)[0], sources.own.carried[series].ticks
     return {"then": sources.money.of_ticks(then), "now": sources.money.of_ticks(now)}
 
 
-def of_compared(sources: Sources, matched: Sequence[Series]) -> Worded:
+def of_compared(sources: Sources, matched: Sequence[Series]) -> Told:
     """How many prices were compared, in which shops, and which of them changed most."""
     most = min(matched, key=lambda it: (-abs(change_of(sources, it)), it))
     changes = [change_of(sources, it) for it in matched]
     rose, fell = sum(it > 0 for it in changes), sum(it < 0 for it in changes)
     outlets = [*dict.fromkeys(outlet_words(sources, it) for it in matched)]
-    return worded(
+    return told(
         compared_form(sources, matched, most),
         count=count_words(len(matched)),
         shops=count_words(len(outlets_of(sources, matched))),
@@ -101,7 +101,7 @@ def compared_form(sources: Sources, matched: Sequence[Series], most: Series) -> 
 # ---- what wasn't
 
 
-def of_imputed(sources: Sources, sample: Sample) -> Worded:
+def of_imputed(sources: Sources, sample: Sample) -> Told:
     """Why prices are imputed, and what they move with."""
     moved = {
         "earlier": sources.money.of_ticks(sum(sources.then(it)[0] for it in sample.matched)),
@@ -109,20 +109,20 @@ def of_imputed(sources: Sources, sample: Sample) -> Worded:
     }
     if len(sample.imputed) > 1:
         reasons = reasons_by_name(sources, sample.imputed)
-        return worded(wording.IMPUTED, count=count_words(len(sample.imputed)), reasons=reasons, **moved)
+        return told(wording.IMPUTED, count=count_words(len(sample.imputed)), reasons=reasons, **moved)
     (only,) = sample.imputed
     named = {"item": item_words(sources, only), "outlet": outlet_words(sources, only)}
-    return worded(wording.ONE_IMPUTED[reason_of(sources, only)], **named, **moved, **span(sources, only))
+    return told(wording.ONE_IMPUTED[reason_of(sources, only)], **named, **moved, **span(sources, only))
 
 
-def of_carried(sources: Sources, imputed: Sequence[Series]) -> Worded:
+def of_carried(sources: Sources, imputed: Sequence[Series]) -> Told:
     """What the desk decided to carry."""
     before, reasons = month_words(month_before(sources.month)), reasons_by_name(sources, imputed)
     if len(imputed) > 1:
-        return worded(wording.CARRIED, count=count_words(len(imputed)), reasons=reasons, before=before)
+        return told(wording.CARRIED, count=count_words(len(imputed)), reasons=reasons, before=before)
     named = {"item": item_words(sources, imputed[0]), "outlet": outlet_words(sources, imputed[0])}
     now = span(sources, imputed[0])["now"]
-    return worded(wording.ONE_CARRIED, reasons=reasons, before=before, now=now, **named)
+    return told(wording.ONE_CARRIED, reasons=reasons, before=before, now=now, **named)
 
 
 # ---- what it adds up to
@@ -134,12 +134,12 @@ def returned_of(sources: Sources, sample: Sample) -> list[Series]:
     return sorted(found, key=lambda it: (-abs(change_of(sources, it)), it))
 
 
-def of_level(sources: Sources, code: str, sample: Sample) -> Worded:
+def of_level(sources: Sources, code: str, sample: Sample) -> Told:
     """How the prices make the level, and which of them was found again, since no sentence before this one names it."""
     returned = returned_of(sources, sample)
     sums = sum(sources.base(it)[0] for it in sample.all), sum(sources.own.carried[it].ticks for it in sample.all)
     base, now = map(sources.money.of_ticks, sums)
-    return worded(
+    return told(
         level_form(sources, len(sample.all), returned),
         count=count_words(len(sample.all)),
         base=base,

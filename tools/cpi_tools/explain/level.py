@@ -5,9 +5,18 @@ from __future__ import annotations
 from typing import Optional
 
 from ..exact import HUNDRED
-from ..terminal import link_month, month_before, month_text
+from ..terminal import link_month, month_before
+from ..told import Month, Told, month_of, told
 from .lines import Line, Part, change_expression
 from .sources import Sources
+
+
+TENTHS = told("tenths of a percent")
+
+
+def chained_level_of(month: Month, revision: int) -> Told:
+    """Where a level is from."""
+    return told("chained level of {month}, revision {revision}", month=month, revision=revision)
 
 
 def link_level(sources: Sources, code: str) -> int:
@@ -31,37 +40,40 @@ def level_year_before(sources: Sources, code: str) -> Optional[int]:
 def level_part(sources: Sources, code: str) -> Part:
     """Link level, chained level and both changes of a node."""
     own, row, links = sources.own.levels[code], sources.row("level_2", code), sources.link.levels
-    december, before = month_text(link_month(sources.month)), month_text(month_before(sources.month))
+    december, before = month_of(link_month(sources.month)), month_of(month_before(sources.month))
     link, then = link_level(sources, code), level_before(sources, code)
-    from_link = f"chained level of {december}, revision {sources.link.release.revision}"
-    says = from_link if code in links else f"100: the table of {december} has no row of it"
-    from_before = f"chained level of {before}, revision {sources.before.release.revision}"
+    from_link = chained_level_of(december, sources.link.release.revision)
+    says = from_link if code in links else told("100: the table of {month} has no row of it", month=december)
+    from_before = chained_level_of(before, sources.before.release.revision)
     lines = [
-        Line("link level", "", link, says),
-        Line("chained level", f"round({link} * {own.within} / {HUNDRED})", own.chained, "", row, True),
-        Line("level before", "", then, "the link level" if sources.is_january else from_before),
+        Line(told("link level"), "", link, says),
+        Line(told("chained level"), f"round({link} * {own.within} / {HUNDRED})", own.chained, "", row, True),
+        Line(told("level before"), "", then, told("the link level") if sources.is_january else from_before),
         Line(
-            "monthly change", change_expression(then, own.chained), own.month_change, "tenths of a percent", row, True
+            told("monthly change"), change_expression(then, own.chained), own.month_change, TENTHS, row, True
         ),
         *year_lines(sources, code),
         *revision_lines(sources, code),
     ]
-    return Part("Chained level and changes", "Levels in millionths of a point, changes in tenths of a percent.", lines)
+    return Part(told("Chained level and changes"), told("Levels in millionths of a point, changes in tenths of a percent."), lines)
 
 
 def year_lines(sources: Sources, code: str) -> list[Line]:
     """The annual change, if there is one."""
     own, row = sources.own.levels[code], sources.row("level_2", code)
-    then, year_before = level_year_before(sources, code), month_text(sources.month - 100)
+    then, year_before = level_year_before(sources, code), month_of(sources.month - 100)
     if then is None:
         if own.year_change is not None:
-            return [Line("annual change", "0", own.year_change, f"{year_before} has no row of it", row, True)]
-        return [Line("annual change", "", None, f"none: the table of {year_before} has no row of it")]
-    source = "the link level" if sources.month % 100 == 12 else f"chained level of {year_before}"
+            says = told("{month} has no row of it", month=year_before)
+            return [Line(told("annual change"), "0", own.year_change, says, row, True)]
+        says = told("none: the table of {month} has no row of it", month=year_before)
+        return [Line(told("annual change"), "", None, says)]
+    is_december = sources.month % 100 == 12
+    source = told("the link level") if is_december else told("chained level of {month}", month=year_before)
     expression = change_expression(then, own.chained)
     return [
-        Line("level a year before", "", then, source),
-        Line("annual change", expression, own.year_change, "tenths of a percent", row, True),
+        Line(told("level a year before"), "", then, source),
+        Line(told("annual change"), expression, own.year_change, TENTHS, row, True),
     ]
 
 
@@ -71,5 +83,6 @@ def revision_lines(sources: Sources, code: str) -> list[Line]:
     for release in sources.releases:
         rows = sources.office.levels(release) if release.month == own.month and release != own else {}
         if code in rows:
-            found.append(Line(f"level in revision {release.revision}", "", rows[code].chained, "as it was frozen"))
+            name = told("level in revision {revision}", revision=release.revision)
+            found.append(Line(name, "", rows[code].chained, told("as it was frozen")))
     return found

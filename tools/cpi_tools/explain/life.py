@@ -5,10 +5,12 @@ from __future__ import annotations
 from collections.abc import Iterator, Sequence
 from typing import NamedTuple, Optional
 
-from ..others import Worded
+from ..desk.marks import mark_words
+from ..others import of_others
 from ..sections import Cell, Section, columns
 from ..stored import Assignment, Carried, Frozen, Release, Series, StoredOffice
-from ..terminal import counted, month_text, slot_text
+from ..terminal import slot_text
+from ..told import Code, Told, month_of, row as row_of, told, told_of
 from .aggregate import mark_text
 from .sources import NotExplained
 
@@ -25,8 +27,8 @@ class MonthOfSeries(NamedTuple):
 class Life(NamedTuple):
     """A series up to a month: what it is, what happened to it, and its months."""
 
-    title: str
-    facts: list[str]
+    title: Told
+    facts: list[Told]
     months: Section
 
 
@@ -36,7 +38,8 @@ def series_in(office: StoredOffice, place: tuple[int, int]) -> tuple[Series, lis
     for it in assignments:
         if it[:2] == place:
             return it.series, [each for each in assignments if each.series == it.series]
-    raise NotExplained(f"{slot_text(place)} is no slot of the office: give COLLECTOR/SLOT")
+    name = Code(slot_text(place))
+    raise NotExplained(told("{slot} is no slot of the office: give COLLECTOR/SLOT", slot=name))
 
 
 def life_of(office: StoredOffice, place: tuple[int, int], until: int) -> Life:
@@ -52,24 +55,33 @@ def life_of(office: StoredOffice, place: tuple[int, int], until: int) -> Life:
             months.append(MonthOfSeries(release, own[-1], *found))
     item = next(it for it in office.items() if it.code == held[0].item)
     outlet = office.outlets()[held[0].outlet]
-    title = Worded(f"Series {slot_text(series)}: {item.code} {{}}, {{}}; {{}}", item.text, item.unit, outlet)
+    places = {"item": of_others(item.text), "unit": of_others(item.unit), "outlet": of_others(outlet)}
+    name, code = Code(slot_text(series)), Code(item.code)
+    title = told("Series {series}: {code} {item}, {unit}; {outlet}", series=name, code=code, **places)
     return Life(title, [*facts_of(office, held, months)], section_of(office, months))
 
 
 # ---- in words
 
 
-def facts_of(office: StoredOffice, held: Sequence[Assignment], months: Sequence[MonthOfSeries]) -> Iterator[str]:
+def facts_of(office: StoredOffice, held: Sequence[Assignment], months: Sequence[MonthOfSeries]) -> Iterator[Told]:
     """Hand-overs, replacements, and the months in which it was imputed."""
     copied = office.copied_prices()
     for former, it in zip(held, held[1:]):
         yield handed_over(former, it, copied.get(it[:2]))
-    replaced = [f"{month_text(it.release.month)} ({it.found.mark})" for it in months if it.found and is_new(it.found)]
+    new = [(month_of(it.release.month), it.found.mark) for it in months if it.found and is_new(it.found)]
+    # t: the month of a replacement, and its mark: comparable or other
+    replaced = [told("{month} ({mark})", month=month, mark=mark_words(mark)) for month, mark in new]
     if replaced:
-        yield f"Replaced in {', '.join(replaced)}."
-    imputed = [month_text(it.release.month) for it in months if it.carried and it.carried.imputed]
+        yield told("Replaced in {months}.", months=row_of(replaced))
+    imputed = [month_of(it.release.month) for it in months if it.carried and it.carried.imputed]
     if imputed:
-        yield f"Imputed in {counted(len(imputed), 'month')}: {', '.join(imputed)}."
+        yield told_of(
+            "Imputed in {count} month: {months}.",
+            "Imputed in {count} months: {months}.",
+            len(imputed),
+            months=row_of(imputed),
+        )
 
 
 def is_new(quote: Frozen) -> bool:
@@ -77,12 +89,21 @@ def is_new(quote: Frozen) -> bool:
     return quote.mark in ("comparable", "other")
 
 
-def handed_over(former: Assignment, it: Assignment, price: Optional[int]) -> str:
+def handed_over(former: Assignment, it: Assignment, price: Optional[int]) -> Told:
     """A hand-over in words."""
-    with_price = "without a price" if price is None else f"with the last price {price}"
-    return (
-        f"Handed over from collector {former.collector}, slot {former.slot} to collector {it.collector}, slot"
-        f" {it.slot} from {month_text(it.first_month)} on, {with_price}."
+    places: dict[str, object] = {"former": former.collector, "former_slot": former.slot, "month": month_of(it.first_month)}
+    places.update(collector=it.collector, slot=it.slot)
+    if price is None:
+        return told(
+            "Handed over from collector {former}, slot {former_slot} to collector {collector}, slot {slot} from {month} on,"
+            " without a price.",
+            **places,
+        )
+    return told(
+        "Handed over from collector {former}, slot {former_slot} to collector {collector}, slot {slot} from {month} on, with"
+        " the last price {price}.",
+        **places,
+        price=price,
     )
 
 
@@ -95,17 +116,17 @@ def section_of(office: StoredOffice, months: Sequence[MonthOfSeries]) -> Section
         stands = quote is not None and it.found is not None and quote[:2] == (it.found.mark, it.found.value)
         receipt = quote[2] if quote and stands else None
         code = places.get(it.release.month // 100, {}).get(it.holder.item, "") if it.carried else ""
-        row: list[Cell] = [month_text(it.release.month), it.release.revision, slot_text(it.holder[:2])]
+        row: list[Cell] = [month_of(it.release.month), it.release.revision, Code(slot_text(it.holder[:2]))]
         found = mark_text(it.found, it.holder.has_ended(it.release.month))
         rows.append([*row, found, receipt, *carried_cells(it.carried), code])
     heads = columns(
         *("month", "#revision", "priced by", "found", "#receipt", "#counts as, ticks", "#scale", "how", "=aggregate")
     )
-    return Section("life", "Month by month", "", heads, rows, "No month is frozen.", shown=len(rows))
+    return Section("life", told("Month by month"), "", heads, rows, told("No month is frozen."), shown=len(rows))
 
 
 def carried_cells(it: Optional[Carried]) -> list[Cell]:
     """Ticks, scale, and how they came."""
     if it is None:
-        return [None, "", "in no sample"]
-    return [it.ticks, f"{it.knum}/{it.kden}", "imputed" if it.imputed else "observed"]
+        return [None, "", told("in no sample")]
+    return [it.ticks, f"{it.knum}/{it.kden}", told("imputed") if it.imputed else told("observed")]

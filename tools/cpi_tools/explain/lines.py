@@ -11,17 +11,21 @@ from fractions import Fraction
 from functools import cached_property
 from typing import NamedTuple, Union
 
-from ..others import Worded
+from ..others import Worded, of_others
 from ..sections import Section
+from ..told import Code, Told, told
 from .expressions import value_of
 
 Value = Union[int, Fraction, None]
 
+WITHIN = told("within the year; the link month is 100")
+"""What an index is."""
+
 
 class Line:
     """A figure: its name, the expression that gives it (none where it is given), and its value (None where there is
-    none); what it is in words, the row of the file that holds the value, whether it is what is published, and what is
-    wrong with it where that is no matter of a value."""
+    none); what it is in words, the row of the file that holds the value, whether it is what is published, and which
+    aggregate should be on the row's carry list and isn't."""
 
     def __init__(
         self,
@@ -31,16 +35,16 @@ class Line:
         says: str = "",
         row: str = "",
         is_result: bool = False,
-        wrong: str = "",
+        uncarried: str = "",
     ):
         self.name, self.expression, self.value, self.says = name, expression, value, says
-        self.row, self.is_result, self.wrong = row, is_result, wrong
+        self.row, self.is_result, self.uncarried = row, is_result, uncarried
 
     @cached_property
     def is_true(self) -> bool:
         """Whether the value is that of the expression."""
-        if self.wrong or not self.expression:
-            return not self.wrong
+        if self.uncarried or not self.expression:
+            return not self.uncarried
         return self.value is None or value_of(self.expression) == self.value
 
     @property
@@ -49,12 +53,15 @@ class Line:
         return "" if self.value is None else str(self.value)
 
     @property
-    def fault(self) -> str:
+    def fault(self) -> Told:
         """What isn't true about the line, and which row of the file says otherwise."""
-        if self.wrong:
-            return f"{self.name}: {self.row} {self.wrong}"
-        given = value_of(self.expression)
-        return f"{self.name}: {self.row or 'the file'} says {self.value}, the rows that it comes from give {given}"
+        row, name = of_others(self.row), self.name
+        if self.uncarried:
+            return told("{name}: {row} hasn't {code} on its carry list", name=name, row=row, code=Code(self.uncarried))
+        places = {"name": name, "value": Code(str(self.value)), "given": Code(str(value_of(self.expression)))}
+        if not self.row:
+            return told("{name}: the file says {value}, the rows that it comes from give {given}", **places)
+        return told("{name}: {row} says {value}, the rows that it comes from give {given}", row=row, **places)
 
     @property
     def text(self) -> str:
@@ -90,9 +97,9 @@ class Explanation(NamedTuple):
     title: str
     month: str
     revision: int
-    sentences: list[Worded]
+    sentences: list[Told]
     figures: list[Figure]
-    facts: list[str]
+    facts: list[Told]
     glance: Section
     parts: list[Part]
 

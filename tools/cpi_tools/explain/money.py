@@ -5,7 +5,8 @@ from __future__ import annotations
 from typing import NamedTuple
 
 from ..exact import decimal
-from ..others import Worded, of_others, worded
+from ..others import of_others, worded
+from ..told import Figure, Told
 
 TICKS = 10_000
 """Ticks in a minor unit of money."""
@@ -19,7 +20,9 @@ class Money(NamedTuple):
     minor: int = 100
     currency: str = ""
 
-    def of_ticks(self, ticks: int) -> Worded:
+    def of_ticks(self, ticks: int) -> Told:
         """`2.15 EUR` of 2,151,220 ticks: to the nearest minor unit, halves away from zero."""
         amount = decimal(ticks, TICKS * self.minor, len(str(self.minor - 1)) if self.minor > 1 else 0)
-        return worded(AMOUNT, amount=amount, currency=of_others(self.currency)) if self.currency else Worded(amount)
+        form = AMOUNT if self.currency else "{amount}"
+        places: dict[str, object] = {"amount": Figure(amount), "currency": of_others(self.currency)}
+        return Told.made(worded(form, **places), (form,), None, places)

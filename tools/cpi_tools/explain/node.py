@@ -5,11 +5,12 @@ from __future__ import annotations
 from fractions import Fraction
 
 from ..exact import HUNDRED, at_and_above, decimal, points, tenths
-from ..others import Worded
+from ..others import of_others
 from ..sections import Cell, Section, columns
-from ..terminal import link_month, month_text
+from ..terminal import link_month
+from ..told import Code, month_of, told
 from .expressions import value_of
-from .lines import Line, Part, summed
+from .lines import WITHIN, Line, Part, summed
 from .sources import Sources
 
 MOST_CONTRIBUTIONS = 5
@@ -23,16 +24,18 @@ def below(sources: Sources, node: str) -> list[str]:
 def weight_line(sources: Sources, code: str) -> Line:
     """The weight in use of an aggregate: as the plan has it, or moved by prices from the plan's reference month."""
     sent, now, row = sources.plan.weights[code], sources.own.levels[code].weight, sources.row("level_2", code)
-    name, title, reference = f"weight of {code}", sources.plan.titles[code], sources.plan.reference
+    name, title = told("weight of {code}", code=Code(code)), of_others(sources.plan.titles[code])
+    reference = sources.plan.reference
     if reference is None:
-        return Line(name, f"{sent}", now, Worded("{}; as the plan has it", title), row)
+        return Line(name, f"{sent}", now, told("{title}; as the plan has it", title=title), row)
     then = sources.latest(reference)
     levels = then.levels if then else {}
-    span = f"from {month_text(reference)} to {month_text(link_month(sources.month))}"
+    places = {"title": title, "first": month_of(reference), "last": month_of(link_month(sources.month))}
     if code not in levels or code not in sources.link.levels:
-        return Line(name, "0", now, Worded(f"{{}}; one of the tables {span} has no row of it", title), row)
+        says = told("{title}; one of the tables from {first} to {last} has no row of it", **places)
+        return Line(name, "0", now, says, row)
     expression = f"round({sent} * {sources.link.levels[code].chained} / {levels[code].chained})"
-    return Line(name, expression, now, Worded(f"{{}}; moved by its prices {span}", title), row)
+    return Line(name, expression, now, told("{title}; moved by its prices from {first} to {last}", **places), row)
 
 
 def index_before(sources: Sources, code: str) -> int:
@@ -47,7 +50,8 @@ def adds_line(sources: Sources, node: str, code: str) -> Line:
     change = f"({own.within} - {then})" if own.within >= then else f"({then} - {own.within})"
     expression = f"round({HUNDRED} * {own.weight} * {change} / ({whole.weight} * {whole_then}))"
     expression = expression if own.within >= then else f"-{expression}"
-    return Line(f"contribution of {code}", expression, value_of(expression), Worded("{}", sources.plan.titles[code]))
+    name = told("contribution of {code}", code=Code(code))
+    return Line(name, expression, value_of(expression), of_others(sources.plan.titles[code]))
 
 
 def contributions(sources: Sources, node: str) -> list[tuple[Fraction, str, Line]]:
@@ -65,18 +69,21 @@ def node_parts(sources: Sources, node: str) -> list[Part]:
     products = " + ".join(f"{it.weight} * {it.within}" for it in rows)
     own, row = sources.own.levels[node], sources.row("level_2", node)
     mean = [
-        Line("sum of weights", summed(it.weight for it in rows), own.weight, "weights in use", row),
-        Line("sum of weight * index", products, total, "each aggregate's weight in use times its index"),
-        Line("index", f"round({total} / {weight})", own.within, "within the year; the link month is 100", row, True),
+        Line(told("sum of weights"), summed(it.weight for it in rows), own.weight, told("weights in use"), row),
+        Line(told("sum of weight * index"), products, total, told("each aggregate's weight in use times its index")),
+        Line(told("index"), f"round({total} / {weight})", own.within, WITHIN, row, True),
     ]
     titles = sources.plan.titles
-    indices = [Line(f"index of {code}", "", it.within, Worded("{}", titles[code])) for code, it in zip(codes, rows)]
+    indices = [
+        Line(told("index of {code}", code=Code(code)), "", it.within, of_others(titles[code]))
+        for code, it in zip(codes, rows)
+    ]
     adds = [line for _, _, line in contributions(sources, node)[:MOST_CONTRIBUTIONS]]
     return [
-        Part("Mean", "Always of the elementary indices, by their weights in use, and rounded once.", mean),
-        Part("The greatest contributions", "In millionths of a percentage point of the index's monthly change.", adds),
-        Part("Elementary indices", "Each goes on down to its receipts, where it is asked for by its code.", indices),
-        Part("Weights in use", "Of the aggregates below.", [weight_line(sources, code) for code in codes]),
+        Part(told("Mean"), told("Always of the elementary indices, by their weights in use, and rounded once."), mean),
+        Part(told("The greatest contributions"), told("In millionths of a percentage point of the index's monthly change."), adds),
+        Part(told("Elementary indices"), told("Each goes on down to its receipts, where it is asked for by its code."), indices),
+        Part(told("Weights in use"), told("Of the aggregates below."), [weight_line(sources, code) for code in codes]),
     ]
 
 
@@ -88,5 +95,5 @@ def node_glance(sources: Sources, node: str) -> Section:
         figures: list[Cell] = [it.weight, points(it.within, 2), tenths(it.month_change)]
         rows.append([code, sources.plan.titles[code], *figures, decimal(added.numerator, 10**6, 4)])
     heads = columns("=aggregate", "title", "#weight in use", "#index", "#month %", "#adds")
-    note = "Those first that add most to the index's monthly change, in percentage points."
-    return Section("glance", "The aggregates below at a glance", note, heads, rows, "None.", shown=30)
+    note = told("Those first that add most to the index's monthly change, in percentage points.")
+    return Section("glance", told("The aggregates below at a glance"), note, heads, rows, shown=30)

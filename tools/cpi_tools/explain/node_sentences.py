@@ -5,8 +5,9 @@ from __future__ import annotations
 from collections.abc import Iterator, Sequence
 
 from ..exact import decimal, with_sign
-from ..others import Worded, listed, of_others, worded
+from ..others import of_others
 from ..stored import Series
+from ..told import Figure, Told, parted, told
 from . import wording
 from .lines import Line, Part, summed
 from .node import below, contributions, index_before
@@ -23,12 +24,12 @@ from .spoken import (
 )
 
 
-def sentences_of_aggregates(sources: Sources, node: str) -> Iterator[Worded]:
+def sentences_of_aggregates(sources: Sources, node: str) -> Iterator[Told]:
     """From what adds most to the level."""
     yield of_contributions(sources, node)
     yield of_prices(sources, node)
     codes = below(sources, node)
-    yield worded(
+    yield told(
         wording.AGGREGATES_MAKE if len(codes) > 1 else wording.ONE_AGGREGATE_MAKES,
         count=count_words(len(codes)),
         index=level_words(sources.own.levels[node].within),
@@ -42,18 +43,18 @@ def has_moved(sources: Sources, code: str) -> bool:
     return own.weight > 0 and own.within != index_before(sources, code)
 
 
-def of_contributions(sources: Sources, node: str) -> Worded:
+def of_contributions(sources: Sources, node: str) -> Told:
     """What adds most to the change of the month, or takes most away; no contribution that is 0.00 when it is rounded."""
     moved = sum(has_moved(sources, code) for code in below(sources, node))
     found = ((code, decimal(added.numerator, 10**6, 2)) for added, code, _ in contributions(sources, node))
-    parts = [(of_others(sources.plan.titles[code]), with_sign(text)) for code, text in found if text != "0.00"]
+    parts = [(of_others(sources.plan.titles[code]), Figure(with_sign(text))) for code, text in found if text != "0.00"]
     if not parts:
-        return worded(wording.SMALL_CONTRIBUTIONS if moved else wording.NO_CONTRIBUTION)
+        return told(wording.SMALL_CONTRIBUTIONS if moved else wording.NO_CONTRIBUTION)
     if len(parts) == 1:
         form = wording.ONE_CONTRIBUTION if moved == 1 else wording.MOST_CONTRIBUTION
-        return worded(form, title=parts[0][0], points=parts[0][1])
-    told = [worded(wording.CONTRIBUTION, title=title, points=points) for title, points in parts[:MOST_NAMES]]
-    return worded(wording.CONTRIBUTIONS, contributions=listed(told))
+        return told(form, title=parts[0][0], points=parts[0][1])
+    most = [told(wording.CONTRIBUTION, title=title, points=points) for title, points in parts[:MOST_NAMES]]
+    return told(wording.CONTRIBUTIONS, contributions=parted(most))
 
 
 # ---- what it rests on
@@ -70,18 +71,18 @@ def samples_part(sources: Sources, node: str) -> Part:
     counts, imputed = [len(it) for it in samples], [len(imputed_of(sources, it)) for it in samples]
     outlets = len(outlets_of(sources, (series for sample in samples for series in sample)))
     lines = [
-        Line("prices below", summed(counts), sum(counts), "the samples of the aggregates below, as their codes come"),
-        Line("imputed below", summed(imputed), sum(imputed), "of these"),
-        Line("outlets below", "", outlets, "each counted once"),
+        Line(told("prices below"), summed(counts), sum(counts), told("the samples of the aggregates below, as their codes come")),
+        Line(told("imputed below"), summed(imputed), sum(imputed), told("of these")),
+        Line(told("outlets below"), "", outlets, told("each counted once")),
     ]
-    return Part("What it rests on", "Of each aggregate below, in the order of their codes.", lines)
+    return Part(told("What it rests on"), told("Of each aggregate below, in the order of their codes."), lines)
 
 
-def of_prices(sources: Sources, node: str) -> Worded:
+def of_prices(sources: Sources, node: str) -> Told:
     """How many prices there are, in how many shops, and why some of them are imputed."""
     sample = [series for code in below(sources, node) for series in sources.samples[code]]
     imputed, shops = imputed_of(sources, sample), len(outlets_of(sources, sample))
-    return worded(
+    return told(
         prices_form(len(sample), shops, len(imputed)),
         prices=count_words(len(sample)),
         shops=count_words(shops),
@@ -102,11 +103,11 @@ def prices_form(prices: int, shops: int, imputed: int) -> str:
     return wording.PRICES_IMPUTED_IN_ONE_SHOP if shops == 1 else wording.PRICES_IMPUTED
 
 
-def reasons_below(sources: Sources, node: str, imputed: Sequence[Series]) -> Worded:
+def reasons_below(sources: Sources, node: str, imputed: Sequence[Series]) -> Told:
     """Why prices are imputed, and which aggregates the desk carried."""
     reasons = counted_reasons(sources, imputed)
     carried = [of_others(sources.plan.titles[code]) for code in below(sources, node) if is_carried(sources, code)]
-    return listed([reasons, worded(wording.CARRIED_BELOW, titles=names(carried))]) if carried else reasons
+    return parted([reasons, told(wording.CARRIED_BELOW, titles=names(carried))]) if carried else reasons
 
 
 def is_carried(sources: Sources, code: str) -> bool:

@@ -11,6 +11,7 @@ import jinja2
 
 from .. import pages, section_pages
 from ..exact import at_and_above, depth_of, parent_of
+from ..report_language import ENGLISH, Teller
 from .life import Life
 from .lines import Explanation
 from .sources import AGGREGATE, Sources
@@ -34,21 +35,21 @@ def on_page(sources: Sources, node: str) -> list[str]:
     return [code for code in sources.own.levels if page_of(code) == node]
 
 
-def write_one(sources: Sources, code: str, to: Path) -> list[Explanation]:
+def write_one(sources: Sources, code: str, to: Path, teller: Teller = ENGLISH) -> list[Explanation]:
     """Writes the page that a node is on, which links to no other; what is on it."""
     found = [explained(sources, each) for each in on_page(sources, page_of(code))]
-    _write(section_pages.environment(TEMPLATES), found, to, None)
+    _write(section_pages.environment(TEMPLATES, teller), found, to, None)
     return found
 
 
-def write_life(life: Life, to: Path) -> None:
+def write_life(life: Life, to: Path, teller: Teller = ENGLISH) -> None:
     """Writes the page of a series."""
-    pages.write_page(section_pages.environment(TEMPLATES), "life.html", to, life=life)
+    pages.write_page(section_pages.environment(TEMPLATES, teller), "life.html", to, life=life)
 
 
-def write_all(sources: Sources, folder: Path) -> Iterator[Explanation]:
+def write_all(sources: Sources, folder: Path, teller: Teller = ENGLISH) -> Iterator[Explanation]:
     """Writes all pages into a folder; the explanations as they are made."""
-    environment = section_pages.environment(TEMPLATES)
+    environment = section_pages.environment(TEMPLATES, teller)
     for node in sources.own.levels:
         if page_of(node) == node:
             found = [explained(sources, each) for each in on_page(sources, node)]

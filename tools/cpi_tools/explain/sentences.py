@@ -6,9 +6,10 @@ from collections.abc import Iterator
 from typing import Optional
 
 from ..exact import depth_of, tenths
-from ..others import Worded, of_others, worded
+from ..others import of_others
 from ..stored import Assignment, Release
 from ..terminal import month_before
+from ..told import Figure, Told, told
 from . import wording
 from .aggregate_sentences import sentences_of_prices
 from .level import level_before, level_year_before
@@ -17,7 +18,7 @@ from .sources import AGGREGATE, Sources
 from .spoken import count_words, level_words, month_words
 
 
-def sentences_of(sources: Sources, code: str) -> list[Worded]:
+def sentences_of(sources: Sources, code: str) -> list[Told]:
     """The sentences of a node whose lines are true."""
     parts = sentences_of_prices if depth_of(code) == AGGREGATE else sentences_of_aggregates
     return [of_changes(sources, code), *parts(sources, code), *of_events(sources, code)]
@@ -32,16 +33,16 @@ def way(change: Optional[int], then: Optional[int], now: int) -> str:
     return wording.ROSE if change > 0 else wording.FELL
 
 
-def of_changes(sources: Sources, code: str) -> Worded:
+def of_changes(sources: Sources, code: str) -> Told:
     """What prices did on the month, and on the year."""
     own = sources.own.levels[code]
     on_month = way(own.month_change, level_before(sources, code), own.chained)
     on_year = way(own.year_change, level_year_before(sources, code), own.chained)
-    return worded(
+    return told(
         wording.CHANGES[on_month, on_year],
         title=of_others(sources.plan.titles[code]),
-        change=tenths(abs(own.month_change)),
-        year_change=tenths(abs(own.year_change or 0)),
+        change=Figure(tenths(abs(own.month_change))),
+        year_change=Figure(tenths(abs(own.year_change or 0))),
         before=month_words(month_before(sources.month)),
         month=month_words(sources.month),
         year_before=month_words(sources.month - 100),
@@ -69,7 +70,7 @@ def given_away(sources: Sources, code: str) -> list[tuple[Assignment, Assignment
     return found
 
 
-def of_events(sources: Sources, code: str) -> Iterator[Worded]:
+def of_events(sources: Sources, code: str) -> Iterator[Told]:
     """At most one sentence: the revision, and series that other collectors price from now on."""
     other, away = other_revision(sources, code), given_away(sources, code)
     form = event_form(sources.own.release, other, len(away))
@@ -81,10 +82,10 @@ def of_events(sources: Sources, code: str) -> Iterator[Worded]:
     if away:
         former, now = away[0]
         item = sources.items[now.item]
-        places["item"] = worded(wording.ITEM, text=of_others(item.text), unit=of_others(item.unit))
+        places["item"] = told(wording.ITEM, text=of_others(item.text), unit=of_others(item.unit))
         places["outlet"] = of_others(sources.outlets[now.outlet])
         places.update(count=count_words(len(away)), collector=now.collector, former=former.collector)
-    yield worded(form, **places)
+    yield told(form, **places)
 
 
 def event_form(own: Release, other: Optional[Release], away: int) -> str:

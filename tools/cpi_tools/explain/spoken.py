@@ -6,9 +6,10 @@ from collections import Counter
 from collections.abc import Iterable, Sequence
 
 from ..exact import points
-from ..others import Worded, listed, of_others, worded
+from ..others import Worded, of_others
 from ..stored import COMPARABLE, Series
-from ..terminal import link_month, month_name, month_text
+from ..terminal import link_month
+from ..told import Figure, MonthName, Told, month_name_of, parted, told, whole
 from . import wording
 from .level import link_level
 from .sources import Sources
@@ -17,25 +18,25 @@ MOST_NAMES = 3
 """More names than this aren't listed in a sentence."""
 
 
-def month_words(month: int) -> str:
+def month_words(month: int) -> MonthName:
     """`January 2026` of 202601."""
-    return month_name(month_text(month))
+    return month_name_of(month)
 
 
-def count_words(count: int) -> str:
+def count_words(count: int) -> Figure:
     """`5,892`."""
-    return f"{count:,}"
+    return whole(count)
 
 
-def level_words(millionths: int) -> str:
+def level_words(millionths: int) -> Figure:
     """A level or an index as it is published, `103.6`."""
-    return points(millionths, 1)
+    return Figure(points(millionths, 1))
 
 
-def item_words(sources: Sources, series: Series) -> Worded:
+def item_words(sources: Sources, series: Series) -> Told:
     """What a series prices, `Rice, 1 kg`."""
     it = sources.items[sources.holder(series, sources.month).item]
-    return worded(wording.ITEM, text=of_others(it.text), unit=of_others(it.unit))
+    return told(wording.ITEM, text=of_others(it.text), unit=of_others(it.unit))
 
 
 def outlet_words(sources: Sources, series: Series) -> Worded:
@@ -48,10 +49,10 @@ def outlets_of(sources: Sources, sample: Iterable[Series]) -> set[int]:
     return {sources.holder(series, sources.month).outlet for series in sample}
 
 
-def names(of: Sequence[Worded]) -> Worded:
+def names(of: Sequence[Worded]) -> Told:
     """At most three names, and a sign if there are more."""
-    told = listed(of[:MOST_NAMES])
-    return worded(wording.AND_MORE, names=told) if len(of) > MOST_NAMES else told
+    few = parted(of[:MOST_NAMES])
+    return told(wording.AND_MORE, names=few) if len(of) > MOST_NAMES else few
 
 
 def reason_of(sources: Sources, series: Series) -> str:
@@ -62,20 +63,20 @@ def reason_of(sources: Sources, series: Series) -> str:
     return "ended" if sources.holder(series, sources.month).has_ended(sources.month) else ""
 
 
-def reasons_by_name(sources: Sources, imputed: Sequence[Series]) -> Worded:
+def reasons_by_name(sources: Sources, imputed: Sequence[Series]) -> Told:
     """Why some series are imputed: outlet by outlet if they are few, and counted else."""
     if len(imputed) > MOST_NAMES:
         return counted_reasons(sources, imputed)
     parts = [(outlet_words(sources, it), wording.REASONS[reason_of(sources, it)]) for it in imputed]
-    return listed([worded(wording.NAMED_REASON, outlet=outlet, reason=reason) for outlet, reason in parts])
+    return parted([told(wording.NAMED_REASON, outlet=outlet, reason=told(reason)) for outlet, reason in parts])
 
 
-def counted_reasons(sources: Sources, imputed: Iterable[Series]) -> Worded:
+def counted_reasons(sources: Sources, imputed: Iterable[Series]) -> Told:
     """Why some series are imputed, the most frequent reason first."""
     counts = Counter(wording.REASONS[reason_of(sources, it)] for it in imputed)
     ordered = sorted(counts.items(), key=lambda it: (-it[1], it[0]))
-    return listed(
-        [worded(wording.COUNTED_REASON, reason=reason, count=count_words(count)) for reason, count in ordered]
+    return parted(
+        [told(wording.COUNTED_REASON, reason=told(reason), count=count_words(count)) for reason, count in ordered]
     )
 
 

@@ -5,8 +5,9 @@ from __future__ import annotations
 from collections.abc import Iterator
 
 from ..exact import at_and_above, depth_of, points, tenths
-from ..others import worded
-from ..terminal import month_text, slot_text, time_text
+from ..others import Worded
+from ..terminal import month_text, slot_text
+from ..told import Code, Figure as FigureText, Told, moment_of, month_of, row, told, whole
 from . import wording
 from .aggregate import aggregate_parts, sample_glance
 from .level import level_part
@@ -24,9 +25,8 @@ def explained(sources: Sources, code: str) -> Explanation:
     Raises NotExplained where the table has no such node, or where a row that it comes from isn't stored.
     """
     if code not in sources.own.levels:
-        raise NotExplained(
-            f"{code} is no node of {month_text(sources.month)}, whose table has {len(sources.own.levels)} rows"
-        )
+        places: dict[str, object] = {"month": month_of(sources.month), "rows": whole(len(sources.own.levels))}
+        raise NotExplained(told("{code} is no node of {month}, whose table has {rows} rows", code=Code(code), **places))
     try:
         return _explained(sources, code)
     except (LookupError, ArithmeticError) as fault:
@@ -46,7 +46,7 @@ def _explained(sources: Sources, code: str) -> Explanation:
         sources.plan.titles[code],
         month_text(sources.month),
         sources.own.release.revision,
-        sentences_of(sources, code) if are_true else [worded(wording.UNTRUE)],
+        sentences_of(sources, code) if are_true else [told(wording.UNTRUE)],
         figures_of(sources, code),
         [*facts_of(sources, code)],
         (sample_glance if is_aggregate else node_glance)(sources, code),
@@ -57,29 +57,34 @@ def _explained(sources: Sources, code: str) -> Explanation:
 def figures_of(sources: Sources, code: str) -> list[Figure]:
     """The figures of a row as a table prints them."""
     it = sources.own.levels[code]
-    year = "\u2013" if it.year_change is None else f"{tenths(it.year_change)} %"
+    year = "\u2013" if it.year_change is None else FigureText(f"{tenths(it.year_change)} %")
     return [
-        Figure("chained level", points(it.chained)),
-        Figure("index", points(it.within)),
-        Figure("monthly change", f"{tenths(it.month_change)} %"),
-        Figure("annual change", year),
-        Figure("weight in use", f"{it.weight:,}"),
-        Figure("imputed prices", "some" if it.imputed else "none"),
+        Figure(told("chained level"), FigureText(points(it.chained))),
+        Figure(told("index"), FigureText(points(it.within))),
+        Figure(told("monthly change"), FigureText(f"{tenths(it.month_change)} %")),
+        Figure(told("annual change"), year),
+        Figure(told("weight in use"), whole(it.weight)),
+        # t: whether there are imputed prices
+        Figure(told("imputed prices"), told("some") if it.imputed else told("none")),
     ]
 
 
-def facts_of(sources: Sources, code: str) -> Iterator[str]:
+def facts_of(sources: Sources, code: str) -> Iterator[Told]:
     """What was decided about the month: its revisions, its carry list, and hand-overs."""
     own = sources.own.release
     frozen_at, publishes = sources.office.frozen_moments()[own[:2]]
-    yield f"Revision {own.revision}, frozen {time_text(frozen_at)}, published from {time_text(publishes)} on."
-    others = [str(it.revision) for it in sources.releases if it.month == own.month and it != own]
+    moments = {"frozen": moment_of(frozen_at), "moment": moment_of(publishes)}
+    yield told("Revision {revision}, frozen {frozen}, published from {moment} on.", revision=own.revision, **moments)
+    others = [FigureText(it.revision) for it in sources.releases if it.month == own.month and it != own]
     if others:
-        yield f"The month has other revisions: {', '.join(others)}. Later months are computed from the latest."
-    listed = [each for each in own.carry if code in at_and_above(each)]
+        text = row(others)
+        yield told("The month has other revisions: {revisions}. Later months are computed from the latest.", revisions=text)
+    listed = [Code(each) for each in own.carry if code in at_and_above(each)]
     if listed:
-        yield f"On the carry list: {', '.join(listed)}."
+        yield told("On the carry list: {codes}.", codes=row(listed))
     for series in sources.samples.get(code, []):
         held = [it for it in sources.held[series] if it.first_month <= sources.month]
         for former, it in zip(held, held[1:]):
-            yield f"Series {slot_text(series)}: {handed_over(former, it, sources.copied.get(it[:2]))}"
+            handed = handed_over(former, it, sources.copied.get(it[:2]))
+            # t: handed is a whole sentence: that the series was handed over
+            yield told("Series {series}: {handed}", series=Code(slot_text(series)), handed=handed)

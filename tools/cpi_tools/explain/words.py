@@ -13,6 +13,7 @@ from typing import NamedTuple, Optional
 
 from ..copying import private_copy
 from ..folders import refuse_shared, written_folder
+from ..report_language import ENGLISH, Teller, add_language, chosen_teller
 from ..sections import text_of
 from ..stored import read_copy
 from ..terminal import Fault, Progress, ToolWords, a_month, a_slot, at_least, because_of, counted, month_text, needs
@@ -32,47 +33,49 @@ def run(chosen: argparse.Namespace) -> int:
         chosen.words.error("give CODE or --series")
     if chosen.series and chosen.revision:
         chosen.words.error("--series tells of the latest revision of each month: leave --revision away")
+    teller = ENGLISH
     if chosen.html:
         needs("jinja2", "python3-jinja2")
+        teller = chosen_teller(chosen)
     with Progress("cpi-tools explain") as progress:
         progress.now("copying the office")
         with private_copy(chosen.file) as copy, read_copy(copy) as office:
             progress.now("explaining")
             if chosen.series:
-                return told_life(life_of(office, chosen.series, chosen.month), chosen.html)
+                return told_life(life_of(office, chosen.series, chosen.month), chosen.html, teller)
             money = Money(chosen.minor, chosen.currency)
             sources = Sources(office, chosen.month, chosen.revision, money)
-            return (told_all if chosen.code == ALL else told_one)(sources, chosen)
+            return (told_all if chosen.code == ALL else told_one)(sources, chosen, teller)
 
 
-def told_life(life: Life, html: Optional[Path]) -> int:
+def told_life(life: Life, html: Optional[Path], teller: Teller) -> int:
     """Prints the life of a series, and writes its page where that is asked."""
     if html:
         with page_at(html) as pages:
-            pages.write_life(life, html)
+            pages.write_life(life, html, teller)
     print("\n".join([life.title, *life.facts]))
     print(text_of(life.months, len(life.months.rows)))
     return 0
 
 
-def told_one(sources: Sources, chosen: argparse.Namespace) -> int:
+def told_one(sources: Sources, chosen: argparse.Namespace, teller: Teller) -> int:
     """Prints the lines of a node, and writes its page where that is asked."""
     found = explained(sources, chosen.code)
     if chosen.html:
         with page_at(chosen.html) as pages:
-            pages.write_one(sources, chosen.code, chosen.html)
+            pages.write_one(sources, chosen.code, chosen.html, teller)
     print(found.text)
     return 1 if told_faults(found) else 0
 
 
-def told_all(sources: Sources, chosen: argparse.Namespace) -> int:
+def told_all(sources: Sources, chosen: argparse.Namespace, teller: Teller) -> int:
     """Looks at each line of each node, one node after the other, and writes all pages where that is asked."""
     if chosen.html:
         from .pages import FIRST_PAGE, write_all
 
         refuse_shared(chosen.html, "its pages")
         with written_folder(chosen.html, FIRST_PAGE) as folder:
-            count = counted_lines(write_all(sources, folder))
+            count = counted_lines(write_all(sources, folder, teller))
     else:
         count = counted_lines(explained(sources, code) for code in sources.own.levels)
     print(
@@ -175,4 +178,5 @@ def add_words(tools: argparse._SubParsersAction[ToolWords]) -> None:
         help="writes a page OUT, of an aggregate that of its subclass; of all nodes a folder OUT, a page a subclass;"
         " of --series a page of its life",
     )
+    add_language(words, "the page")
     words.set_defaults(run=run, tool="explain", words=words)
