@@ -5,20 +5,21 @@ from __future__ import annotations
 import re
 import time
 from pathlib import Path
+from typing import Any
 
 import pytest
 
 import surveys
 from cpi_tools.program import Cpi
 from cpi_tools.speech import speech_of
-from desk_apps import ADA, BEN, Application, Person, applied
+from desk_apps import ADA, BEN, LISTEN, Application, Person, applied
 from nobodys import NAMES, greek, left_in_english, nobodys_in, seen_of
 
 MONTH, CODE = "2026-02", "01.1.1.2-01"
 WHY = {f"why-{CODE}": "the shop is closed for a week"}
 PAGES = (
     *("/", f"/month/{MONTH}/", f"/month/{MONTH}/looks?all=1", f"/month/{MONTH}/table", f"/month/{MONTH}/freeze"),
-    *(f"/month/{MONTH}/what-if", "/calendar", "/records", "/log"),
+    *(f"/month/{MONTH}/what-if", f"/month/{MONTH}/field-notes", "/calendar", "/records", "/log"),
 )
 
 SAME = re.compile(rf"{NAMES.pattern}|\b(?:CET|CEST|CSV|cpi|COLLECTOR/SLOT)\b")
@@ -39,10 +40,19 @@ def steps(application: Application, ada: Person) -> None:
     ada.post("/records/send", offer=re.findall('name="offer" value="([^"]+)"', offered)[0])
 
 
+def noted(application: Application, **said: str) -> Any:
+    """What a collector's phone is answered to a note of a price."""
+    fields, form = {"Authorization": f"CPI-Key {surveys.key_of(8)}"}, {"receipt": "2", **said}
+    address = f"/notes/{MONTH}/1"
+    return application.app.test_client().post(address, data=form, headers=fields, base_url=f"http://{LISTEN}").json
+
+
 def test_no_word_of_a_page_is_left_in_english(cpi: Cpi, tmp_path: Path, monkeypatch: pytest.MonkeyPatch) -> None:
     speech = speech_of(nobodys_in(tmp_path, monkeypatch))
-    with applied(cpi, surveys.small(cpi, tmp_path), tmp_path / "room", speech=speech) as application:
+    with applied(cpi, surveys.small(cpi, tmp_path), tmp_path / "room", 12_000, speech) as application:
         left = {"sign-in": left_on(application.person().get("/sign-in").text)}
+        assert noted(application)["wanted"] == greek("Something: the note is empty.")
+        assert noted(application, text="γ", brand="γ", quantity="γ", sale="yes") == {"note": 1}
         wrong = application.person().signed_in(ADA, "e" * 32).text
         assert greek("This isn't the desk's key")[:20] in seen_text(wrong) and left_on(wrong) == []
         ada, ben = application.person(ADA), application.person(BEN)

@@ -344,7 +344,7 @@ def test_hostile_texts_run_no_script_on_the_phone_and_at_the_desk(
     ada.sign_in("Ada")
     ada.open(f"/month/{NOW}/field-notes")
     browser.wait_text("main", f"{len(HOSTILE) + 1} notes.")
-    assert faults_of_texts(browser, HOSTILE) == [] and browser.driver.title == f"{NOW}: notes of the field"
+    assert faults_of_texts(browser, HOSTILE) == [] and browser.driver.title.endswith(": notes of the field")
     assert not browser.all("main script, main img[src=x], main svg[onload]") and browser.faults() == []
 
 

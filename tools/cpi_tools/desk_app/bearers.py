@@ -7,6 +7,7 @@ from typing import NamedTuple, Optional
 
 from ..stored import read_copy
 from ..terminal import Fault, month_text
+from ..told import told as _
 from .desk import Desk
 
 FIELD = re.compile("[ \t]*CPI-Key +([0-9a-f]{32})[ \t]*", re.ASCII | re.IGNORECASE)
@@ -40,7 +41,7 @@ def bearer_of(desk: Desk, field: str, month: int) -> Bearer:
     reply = desk.office.quotes(found[1], month_text(month))
     if "refused" in reply:
         raise NotABearer(int(reply["refused"]))
-    receipts = {int(slot): int(receipt) for slot, _, _, _, receipt in reply.get("quotes", [])}
+    receipts = {int(row[0]): int(row[4]) for row in reply.get("quotes", [])}
     return Bearer(_number_of(desk, found[1]), receipts)
 
 
@@ -52,7 +53,7 @@ def _number_of(desk: Desk, key: str) -> int:
         with desk.copies_now() as copy:
             number = _in_copy(copy.path, key)
     if number is None:
-        raise Fault("a collector's key isn't in a copy of the office's file that was taken now: is it this office's?")
+        raise Fault(_("A key that the office takes isn't in a copy of its file: is the file another office's?"))
     return number
 
 

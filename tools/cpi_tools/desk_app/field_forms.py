@@ -7,6 +7,8 @@ import unicodedata
 from collections.abc import Mapping
 from typing import NamedTuple
 
+from ..told import told as _
+from ..told import whole
 from .field_limits import MOST_BRAND_LETTERS, MOST_LETTERS, MOST_PHOTO_BYTES, MOST_QUANTITY_LETTERS
 from .field_notes import Said
 
@@ -35,15 +37,15 @@ def sent_of(form: Mapping[str, str], photo: bytes) -> Sent:
     """The note of a form with a photograph, empty for none. Raises Refused."""
     receipt = form.get("receipt", "")
     if not re.fullmatch("[1-9][0-9]{0,9}", receipt, re.ASCII) or int(receipt) > MOST_RECEIPT:
-        raise Refused(400, fault="form", field="receipt", wanted="the receipt of the price: a number from 1 on")
+        raise Refused(400, fault="form", field="receipt", wanted=_("The receipt of the price: a number from 1 on."))
     sale = form.get("sale", "")
     if sale not in ("", "yes"):
-        raise Refused(400, fault="form", field="sale", wanted="`yes`, or nothing")
+        raise Refused(400, fault="form", field="sale", wanted=_("The word yes, or nothing."))
     if len(photo) > MOST_PHOTO_BYTES:
-        raise Refused(413, fault="long", field="photo", wanted=f"{MOST_PHOTO_BYTES} bytes at most")
+        raise Refused(413, fault="long", field="photo", wanted=_("At most {most} bytes.", most=whole(MOST_PHOTO_BYTES)))
     said = Said(sale == "yes", text_of(form, "brand"), text_of(form, "quantity"), text_of(form, "text"), photo)
     if not any(said):
-        raise Refused(400, fault="form", field="text", wanted="something: the note is empty")
+        raise Refused(400, fault="form", field="text", wanted=_("Something: the note is empty."))
     return Sent(int(receipt), said)
 
 
@@ -51,7 +53,12 @@ def text_of(form: Mapping[str, str], name: str) -> str:
     """A text of a form, without blanks at its ends. Raises Refused if it is too long or has invisible commands."""
     text = form.get(name, "").replace("\r\n", "\n").strip()
     if len(text) > FIELDS[name]:
-        raise Refused(400, fault="form", field=name, wanted=f"{FIELDS[name]} letters at most, and it has {len(text)}")
+        raise Refused(
+            400,
+            fault="form",
+            field=name,
+            wanted=_("At most {most} letters, and it has {count}.", most=whole(FIELDS[name]), count=whole(len(text))),
+        )
     if any(unicodedata.category(it) == "Cc" and it not in "\n\t" for it in text):
-        raise Refused(400, fault="form", field=name, wanted="letters: it has a control character")
+        raise Refused(400, fault="form", field=name, wanted=_("Letters: it has a control character."))
     return text

@@ -18,7 +18,9 @@ from collections.abc import Callable, Iterator
 from pathlib import Path
 from typing import NamedTuple, Optional
 
+from ..others import of_others
 from ..terminal import Fault, because_of
+from ..told import told as _
 from .field_limits import MOST_NOTES
 
 SCHEMA = """
@@ -90,7 +92,8 @@ class FieldNotes:
         except OSError as fault:
             raise Fault(because_of(fault)) from fault
         except sqlite3.Error as fault:
-            raise Fault(f"{path} can't be read as the notes of the field: {fault}") from fault
+            places = {"path": of_others(str(path)), "fault": of_others(str(fault))}
+            raise Fault(_("{path} can't be read as the notes of the field: {fault}", **places)) from fault
         self.forget()
 
     def close(self) -> None:

@@ -10,7 +10,7 @@ from werkzeug.wrappers import Response
 
 from ..csv_files import Writer, formulas_told
 from ..stored import Quote, StoredOffice, read_copy
-from ..terminal import time_text
+from ..terminal import slot_text, time_text
 from .asked import csv_file, desk, file_name, month_of, page
 from .field_notes import FieldNote, FieldNotes
 
@@ -30,6 +30,16 @@ class Row(NamedTuple):
     item: str
     stored: Optional[Quote]
     receipt: int
+
+    @property
+    def slot_name(self) -> str:
+        """`7/2`."""
+        return slot_text((self.note.collector, self.note.slot))
+
+    @property
+    def stored_now(self) -> str:
+        """`price 252`, or the reason why there is none."""
+        return f"{self.stored.mark} {self.stored.value or ''}".strip() if self.stored else ""
 
     @property
     def is_of_earlier(self) -> bool:

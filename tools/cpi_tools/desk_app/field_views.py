@@ -13,6 +13,8 @@ from werkzeug.exceptions import HTTPException
 from werkzeug.wrappers import Response
 
 from ..terminal import Fault, month_text
+from ..told import Told, whole
+from ..told import told as _
 from .asked import desk, month_of
 from .bearers import Bearer, NotABearer, bearer_of
 from .field_forms import Refused, sent_of
@@ -45,21 +47,27 @@ def send(month: str, slot: int) -> Response:
     notes, number = kept(), month_of(month)
     length = flask.request.content_length
     if length is None or length > MOST_MESSAGE_BYTES:
-        raise Refused(413, fault="long", field="photo", wanted=f"a message of {MOST_MESSAGE_BYTES} bytes at most")
+        raise Refused(
+            413, fault="long", field="photo", wanted=_("At most {most} bytes.", most=whole(MOST_MESSAGE_BYTES))
+        )
     who = bearer(number)
     photo = flask.request.files.get("photo")
     sent = sent_of(flask.request.form, photo.read() if photo else b"")
     if number < notes.first_month():
-        raise Refused(409, fault="past", wanted=f"a month from {month_text(notes.first_month())} on")
+        raise Refused(409, fault="past", wanted=_("A month from {month} on.", month=month_text(notes.first_month())))
     if sent.receipt > who.receipts.get(slot, 0):
-        raise Refused(409, fault="price", wanted="the receipt of a price that the office has of this slot and month")
+        raise Refused(
+            409, fault="price", wanted=_("The receipt of a price that the office has of this slot and month.")
+        )
     of = Of(who.collector, slot, number, sent.receipt)
     try:
         return flask.jsonify(note=notes.add(of, sent.said, without_traces(sent.said.photo) if photo else None))
     except NotAPicture as fault:
-        raise Refused(400, fault="picture", wanted=str(fault)) from fault
+        raise Refused(400, fault="picture", wanted=fault.args[0]) from fault
     except TooMany as fault:
-        raise Refused(409, fault="many", wanted=f"{MOST_NOTES} notes of a month at most") from fault
+        raise Refused(
+            409, fault="many", wanted=_("At most {most} notes of a month.", most=whole(MOST_NOTES))
+        ) from fault
 
 
 @views.get("/<month>")
@@ -83,7 +91,8 @@ def own_photo(month: str, number: int) -> Response:
 
 @views.errorhandler(Refused)
 def _refused(refused: Refused) -> Response:
-    answer = flask.jsonify(refused.told)
+    say = desk().teller.say
+    answer = flask.jsonify({name: str(say(it)) if isinstance(it, Told) else it for name, it in refused.told.items()})
     answer.status_code = refused.status
     return answer
 
@@ -91,7 +100,7 @@ def _refused(refused: Refused) -> Response:
 @views.errorhandler(Fault)
 def _fault(fault: Fault) -> Response:
     """(Why is the desk's: a collector learns only to come again.)"""
-    flask.current_app.logger.warning("a note of the field wasn't taken: %s", fault)
+    flask.current_app.logger.warning("field: %s", fault)
     answer = _refused(Refused(503, fault="office"))
     answer.headers["Retry-After"] = "10"
     return answer

@@ -9,6 +9,9 @@ import io
 
 from PIL import Image, ImageOps
 
+from ..terminal import Fault
+from ..told import told as _
+from ..told import whole
 from .field_limits import MOST_PHOTO_BYTES, MOST_PHOTO_SIDE, MOST_SENT_SIDE
 
 FORMATS = ("JPEG", "PNG", "WEBP")
@@ -18,7 +21,7 @@ QUALITIES = (82, 70, 55, 40)
 """Of JPEG, the best first."""
 
 
-class NotAPicture(ValueError):
+class NotAPicture(Fault):
     """The bytes aren't a picture that is taken; one line."""
 
 
@@ -28,12 +31,12 @@ def without_traces(data: bytes) -> bytes:
     try:
         with Image.open(io.BytesIO(data), formats=FORMATS) as sent:
             if max(sent.size) > MOST_SENT_SIDE:
-                raise NotAPicture(f"the picture is {sent.width} by {sent.height} pixels: {MOST_SENT_SIDE:,} are taken")
+                raise NotAPicture(_("The picture is larger than {most} pixels on a side.", most=whole(MOST_SENT_SIDE)))
             pixels = ImageOps.exif_transpose(sent).convert("RGB")
     except NotAPicture:
         raise
     except Exception as fault:  # (Pillow's readers raise what they meet: of a hostile file that is anything)
-        raise NotAPicture("the bytes are no picture: JPEG, PNG or WebP is wanted") from fault
+        raise NotAPicture(_("It is no picture: JPEG, PNG or WebP is wanted.")) from fault
     pixels.thumbnail((MOST_PHOTO_SIDE, MOST_PHOTO_SIDE))
     bare = Image.new("RGB", pixels.size)
     bare.paste(pixels)
