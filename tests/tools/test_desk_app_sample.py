@@ -6,6 +6,7 @@ from __future__ import annotations
 import re
 from collections.abc import Iterator
 from pathlib import Path
+from typing import Any
 
 import pytest
 
@@ -15,6 +16,7 @@ from cpi_tools.desk_app.judging import NotRead
 from cpi_tools.desk_app.office import NoReply, Office
 from cpi_tools.desk_app.pasted import pasted
 from cpi_tools.desk_app.sample_kinds import KINDS
+from cpi_tools.desk_app.year_calendar import moved
 from cpi_tools.program import Cpi
 from cpi_tools.stored import Assignment, read_copy
 from desk_apps import ADA, BEN, Application, Person, applied, words_of
@@ -316,3 +318,39 @@ def test_a_list_is_searched_cut_down_and_saved(application: Application, ada: Pe
         '7,2,10,Corner shop,FLOUR,"Flour, <b>wheat</b>",2025-12,2026-12,7/2',
     ]
     assert ada.get("/sample/nothing").status_code == 404 and ada.get("/sample/calendar.csv").status_code == 404
+
+
+# ---- the calendar of a year
+
+
+def test_a_year_is_set_in_one_form_by_the_office_s_clock(application: Application, ada: Person) -> None:
+    """March is moved forward from February, by its days and hours; the office's clock is in summer time from April on."""
+    judged(ada, "calendar", pasted="2026-02,2026-02-02T08:00,2026-02-24T18:00,2026-03-02T09:30")
+    sent(ada, "calendar")
+    page = ada.get("/calendar/2026").text
+    assert '<p class="note">2026-01: frozen' in page and 'id="opens-2026-01"' not in page
+    for field in ('"opens" value="2026-03-02T08:00"', '"closes" value="2026-04-24T18:00"'):
+        assert f"name={field}" in page
+    # (December would be as the year before, whose window is in 1970: its times are emptied)
+    rows = re.findall('name="(month|opens|closes|publishes)" value="([^"]*)"', page)
+    data: dict[str, Any] = {"token": ada.token}
+    for name, value in rows:
+        data.setdefault(name, []).append("" if value.startswith("197") else value)
+    answer = ada.client.post("/calendar/2026", data=data, base_url="http://127.0.0.1:8090")
+    assert answer.status_code == 303
+    words = ada.words("/sample/calendar")
+    assert "Not carried out yet 9 " in words and "2026-02 2026-02-02T08:00" not in words
+    assert "9 rows sent, and carried out." in sent(ada, "calendar")
+    with private_copy(application.file) as copy, read_copy(copy) as office:
+        windows = {it.month: it for it in office.calendar()}
+    # (08:00 CEST and 09:30 CEST, two hours before UTC)
+    assert windows[202604].opens == 1_775_109_600 and windows[202604].publishes == 1_777_707_000
+    assert 202612 not in windows
+    ada.client.post("/calendar/2026", data=data, base_url="http://127.0.0.1:8090")
+    assert "Not carried out yet" not in ada.words("/sample/calendar")
+    assert ada.get("/calendar/1999").status_code == 404
+
+
+def test_a_day_that_a_month_hasn_t_is_its_last_one() -> None:
+    assert moved("2026-01-31T08:00", 1) == "2026-02-28T08:00" and moved("2024-02-29T23:59", 12) == "2025-02-28T23:59"
+    assert moved("2026-12-15T00:00", 1) == "2027-01-15T00:00"

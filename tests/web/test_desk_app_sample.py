@@ -1,6 +1,9 @@
-"""The sample in a browser: rows pasted, judged, mended and sent by the keyboard, and pages that can be read."""
+"""The sample, the year that comes and the website in a browser: by the keyboard, and on pages that can be read."""
 
 from __future__ import annotations
+
+from collections.abc import Sequence
+from pathlib import Path
 
 from cpi_tools.csv_files import line_of
 
@@ -9,6 +12,7 @@ from desk_pages import DeskPages, Person
 from offices import ANNA, ARABIC, IMAGE, LEAVING, NOW, OVERRIDE, SCRIPT
 from readable import faults_for_keys, faults_of_page, faults_of_texts
 from stage import Stage
+from websites import CONFIG
 
 KINDS = ("items", "outlets", "collectors", "assignments", "handovers", "calendar")
 
@@ -57,16 +61,66 @@ def test_pages_can_be_read_and_no_text_is_more_than_text(ada: Person, browser: B
     pasted(ada, "outlets", *(line_of([10, text]) for text in HOSTILE))
     browser.wait_text("#waiting-rows", "refused by 40")
     pasted(ada, "assignments", "7,70,TEA,2011-03,2012-12", "7,999,TEA,2011-03,2012-12")
+    assert faults_of([f"/sample/{kind}" for kind in KINDS], ada, browser) == []
+
+
+def faults_of(paths: Sequence[str], ada: Person, browser: Browser) -> list[str]:
+    """What is wrong with some pages, wide and narrow, light and dark."""
     found = list[str]()
-    for kind in KINDS:
-        ada.open(f"/sample/{kind}")
+    for path in paths:
+        ada.open(path)
         for width in (360, 1280):
             browser.size(width, 900)
             for scheme in ("light", "dark"):
                 browser.shown_as(scheme)
-                found += [f"{kind} at {width}, {scheme}: {fault}" for fault in faults_of_page(browser)]
+                found += [f"{path} at {width}, {scheme}: {fault}" for fault in faults_of_page(browser)]
         browser.shown_as("light")
-        found += [f"{kind}: {fault}" for fault in faults_for_keys(browser)]
-        found += [f"{kind}: {fault}" for fault in faults_of_texts(browser, HOSTILE)]
+        found += [f"{path}: {fault}" for fault in faults_for_keys(browser)]
+        found += [f"{path}: {fault}" for fault in faults_of_texts(browser, HOSTILE)]
         assert browser.driver.title != "owned"
-    assert found == []
+    return found
+
+
+def test_a_draft_of_the_year_is_changed_judged_and_sent(stage: Stage, ada: Person, browser: Browser) -> None:
+    """The titles of the plan have markup, and letters that run from the right."""
+    ada.open("/year")
+    ada.press("form[action$='/make'] button")
+    browser.wait(lambda: "/year/2012/" in browser.driver.current_url, "the draft")
+    browser.wait_text("#sum", "1,000,000, which is all.")
+    ada.reach("input[name=weight]")
+    browser.run("document.querySelector('input[name=weight]').value = '590000'")
+    ada.press(".one button")
+    browser.wait_text("#sum", "990,000, and should to 1,000,000.")
+    ada.reach("#pasted")
+    browser.type("#pasted", "01.1.1.1-01;590000\n01.1.1.2-01;410000")
+    ada.press("#paste button")
+    ada.press("form[action$='/check'] button")
+    browser.wait_text("#checked", "The office would carry this out")
+    sheets = [f"/year/2012/?sheet={it}" for it in ("weights", "classification", "series", "few-series")]
+    assert faults_of(["/year", *sheets], ada, browser) == []
+    ada.open("/year/2012/")
+    ada.press("form[action$='/send'] button")
+    browser.wait_text(".told.good", "sent, and carried out.")
+    assert faults_of(["/calendar/2012", "/calendar"], ada, browser) == []
+
+
+def test_the_website_is_published_and_a_sheet_printed(
+    ada: Person, pages: DeskPages, browser: Browser, tmp_path: Path
+) -> None:
+    (tmp_path / "office.ini").write_text(CONFIG, encoding="utf-8")
+    pages.kill()
+    pages.more = ("--site", str(tmp_path / "public"), "--site-config", str(tmp_path / "office.ini"))
+    pages.more += ("--phones", "https://prices.example")
+    pages.start()
+    ada.sign_in("Ada")
+    ada.open("/publish")
+    ada.press("form[action$='/publish/now'] button")
+    browser.wait_text("#published", "2011-02, revision 2")
+    assert (tmp_path / "public/release/2011-02-r2.html").is_file()
+    assert faults_of(["/publish", "/sample/collectors"], ada, browser) == []
+    ada.open("/sample/collectors")
+    browser.type("#of", "7")
+    browser.run("document.querySelector('form[action$=\"/sheet\"]').target = ''")
+    ada.press("#sheet button")
+    browser.wait_text(".key-typed", "aaaa")
+    assert browser.all(".code svg") and faults_of_page(browser) == []

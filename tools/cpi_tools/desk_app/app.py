@@ -29,6 +29,7 @@ from . import (
     sample_views,
     sign_in_views,
     table_views,
+    year_views,
 )
 from .asked import file_name
 from .desk import Desk
@@ -127,6 +128,7 @@ def make_app(desk: Desk, reached: Reached) -> flask.Flask:
         calendar_views,
         sample_views,
         key_views,
+        year_views,
         publish_views,
         records_views,
         log_views,

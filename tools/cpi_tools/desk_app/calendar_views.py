@@ -9,10 +9,13 @@ import flask
 from werkzeug.wrappers import Response
 
 from ..stored import read_copy
-from ..terminal import month_text
+from ..terminal import Fault, month_text
 from ..told import Told, whole
 from ..told import told as _
-from .asked import desk, page
+from .asked import desk, page, session
+from .sample_kinds import KINDS
+from .sampling import judge
+from .year_calendar import Row as YearRow, changed, rows_of
 
 views = flask.Blueprint("calendar", __name__)
 
@@ -43,4 +46,46 @@ def show() -> Response:
         else:
             state = _("open") if now < it.closes else _("closed, not frozen")
         rows.append(Row(month_text(it.month), *it[1:], state))
-    return page("calendar.html", rows=rows, zone=desk().given.clock.name or "UTC")
+    year = time.gmtime(now).tm_year
+    years = sorted({*(int(it.month[:4]) for it in rows), year, year + 1})
+    return page("calendar.html", rows=rows, years=years, zone=desk().given.clock.name or "UTC")
+
+
+# ---- a year
+
+
+@views.get("/calendar/<int:year>")
+def show_year(year: int) -> Response:
+    """The windows of a year in one form, with those that are likely for months that have none."""
+    return shown_year(year)
+
+
+def shown_year(year: int, status: int = 200, fault: str = "") -> Response:
+    """The form of a year, with why it wasn't taken."""
+    named = {"year": year, "rows": year_rows(year), "zone": desk().given.clock.name or "UTC"}
+    return page("year-calendar.html", status, fault=fault, **named)
+
+
+def year_rows(year: int) -> list[YearRow]:
+    """The months of a year as they are now; there is no page of a year that an office can't have."""
+    if not 2000 <= year <= 2199:
+        flask.abort(404)
+    with desk().copies_now() as copy, read_copy(copy.path) as office:
+        return rows_of(office, year, desk().given.clock)
+
+
+@views.post("/calendar/<int:year>")
+def judge_year(year: int) -> Response:
+    """Takes the windows that differ from the office's, and judges them. The fields `month`, `opens`, `closes` and
+    `publishes` are there once for each month."""
+    kind, form = KINDS["calendar"], flask.request.form
+    given = [[*row] for row in zip(*(form.getlist(it) for it in kind.columns))]
+    rows = changed(year_rows(year), given)
+    if not rows:
+        return shown_year(year, 400, "No window differs from the office's, so there is nothing to send.")
+    try:
+        desk().tray.take(session().person, kind.name, rows)
+        judge(desk(), session().person, kind)
+    except Fault as fault:
+        return shown_year(year, 503, str(fault))
+    return flask.redirect(flask.url_for("sample.show", kind=kind.name), 303)

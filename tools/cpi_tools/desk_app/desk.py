@@ -13,6 +13,7 @@ from ..report_language import Teller
 from ..speech import SPEAKS_ENGLISH, Speech
 from .copies import Copies, Copy
 from .desk_log import DeskLog
+from .drafts import Drafts
 from .field_notes import FieldNotes
 from .freezes import PreparedFreeze
 from .marks import Marks
@@ -74,6 +75,7 @@ class Desk:
         months = given.field_months
         self.field: Optional[FieldNotes] = FieldNotes(given.room / FIELD_NOTES, months) if months else None
         self.tray = Tray(given.room / "rows.json")
+        self.drafts = Drafts(self.cpi, self.copies, given.room / "next-year")
         self.publisher = self._publisher(given.site) if given.site else None
 
     def _publisher(self, site: Site) -> Publisher:

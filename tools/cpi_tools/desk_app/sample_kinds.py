@@ -14,24 +14,20 @@ class Kind(NamedTuple):
 
     name: str
     word: str
+    columns: tuple[str, ...]
     months: tuple[str, ...] = ()
     optional: str = ""
-
-    @property
-    def columns(self) -> tuple[str, ...]:
-        """The columns, in the order of the record's fields."""
-        return FIELDS[self.word]
 
 
 KINDS: dict[str, Kind] = {
     it.name: it
     for it in (
-        Kind("items", "item"),
-        Kind("outlets", "outlet"),
-        Kind("collectors", "collector", optional="key"),
-        Kind("assignments", "assign", ("first", "last"), "slot"),
-        Kind("handovers", "handover", ("month",), "to_slot"),
-        Kind("calendar", "calendar", ("month",)),
+        Kind("items", "item", FIELDS["item"]),
+        Kind("outlets", "outlet", FIELDS["outlet"]),
+        Kind("collectors", "collector", FIELDS["collector"], optional="key"),
+        Kind("assignments", "assign", FIELDS["assign"], ("first", "last"), "slot"),
+        Kind("handovers", "handover", FIELDS["handover"], ("month",), "to_slot"),
+        Kind("calendar", "calendar", FIELDS["calendar"], ("month",)),
     )
 }
 """The kinds by their names."""
@@ -52,7 +48,10 @@ OTHER_NAMES = {
 def column_of(kind: Kind, head: str) -> str:
     """The column that a cell of a heading names, or nothing."""
     plain = " ".join(head.replace("_", " ").casefold().split())
-    found = kind.columns[0] if plain == NUMBER else OTHER_NAMES.get(plain, plain.replace(" ", "_"))
+    named = plain.replace(" ", "_")
+    if named in kind.columns:
+        return named
+    found = kind.columns[0] if plain == NUMBER else OTHER_NAMES.get(plain, "")
     return found if found in kind.columns else ""
 
 

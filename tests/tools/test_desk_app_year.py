@@ -1,0 +1,189 @@
+"""The coming year in the desk's application: a draft that is made, changed, judged on a copy, and sent."""
+
+from __future__ import annotations
+
+import re
+import time
+from collections.abc import Iterator
+from pathlib import Path
+
+import pytest
+
+import surveys
+from cpi_tools.copying import private_copy
+from cpi_tools.desk_app.draft_sheets import Draft, Settings
+from cpi_tools.desk_app.drafts import Checked
+from cpi_tools.desk_app.year_views import too_long
+from cpi_tools.program import Cpi
+from cpi_tools.stored import StoredOffice, read_copy
+from desk_apps import ADA, PATIENCE, Application, Person, applied, words_of
+
+RICE, FLOUR = "01.1.1.1-01", "01.1.1.2-01"
+PAGE = "/year/2027/"
+
+
+@pytest.fixture
+def application(cpi: Cpi, tmp_path: Path) -> Iterator[Application]:
+    """All three series of the office end in December 2026; its last frozen month is January."""
+    with applied(cpi, surveys.small(cpi, tmp_path), tmp_path / "room") as it:
+        yield it
+
+
+@pytest.fixture
+def ada(application: Application) -> Person:
+    return application.person(ADA)
+
+
+def waited(application: Application) -> None:
+    """Waits for what is done in the background."""
+    begun = time.monotonic()
+    while application.desk.drafts.running:
+        assert time.monotonic() - begun < PATIENCE
+        time.sleep(0.01)
+
+
+def made(application: Application, ada: Person) -> None:
+    assert ada.post("/year/make", year="2027").status_code == 303
+    waited(application)
+
+
+def judged(application: Application, ada: Person) -> str:
+    """The words of the page after the draft was judged."""
+    assert ada.post(f"{PAGE[:-1]}/check").status_code == 303
+    waited(application)
+    return ada.words(PAGE)
+
+
+def sent(ada: Person) -> str:
+    """The words of the page after what was judged was sent."""
+    (seen,) = re.findall('name="seen" value="([^"]+)"', ada.get(PAGE).text)
+    return words_of(ada.post(f"{PAGE[:-1]}/send", seen=seen).text)
+
+
+def weights(office: StoredOffice) -> dict[str, int]:
+    """Those of the plan of 2027."""
+    return next((it.aggregates() for it in office.plans() if it.year == 2027), {})
+
+
+def test_a_draft_is_what_next_year_makes(application: Application, ada: Person) -> None:
+    assert 'value="2027"' in ada.get("/year").text and "Make the draft" in ada.words("/year")
+    made(application, ada)
+    assert ada.get("/year").headers["Location"] == PAGE
+    words = ada.words(PAGE)
+    assert "The weights add up to 1,000,000, which is all." in words
+    assert "Leave the sample 3 " in words and "New series 3 " in words and "Few series 2 " in words
+    assert "7 1 10 Corner shop RICE Rice 01.1.1.1-01 2026-12 its last month is 2026-12" in ada.words(
+        f"{PAGE}?sheet=leaving"
+    )
+    assert "7 3 10 RICE 2026-12 2027-12" in ada.words(f"{PAGE}?sheet=series")
+    assert "FLOUR 01.1.1.2-01" in ada.words(f"{PAGE}?sheet=places")
+    assert "<b>wheat" not in ada.get(f"{PAGE}?sheet=leaving").text
+    assert ada.get(f"{PAGE[:-1]}/weights.csv").text.splitlines() == ["code,weight", f"{RICE},600000", f"{FLOUR},400000"]
+    again = ada.post("/year/make", year="2027")
+    assert again.status_code == 409 and "there is a draft of 2027 already" in words_of(again.text)
+    assert ada.post(f"{PAGE[:-1]}/drop").status_code == 303
+    assert application.desk.drafts.years() == [] and ada.get(PAGE).status_code == 404
+
+
+@pytest.mark.parametrize(
+    ("year", "told"), [("2026", "2026-01 is frozen, so 2026 has begun"), ("2029", "no plan of 2028")]
+)
+def test_a_year_that_can_t_be_drafted_says_why(application: Application, ada: Person, year: str, told: str) -> None:
+    ada.post("/year/make", year=year)
+    waited(application)
+    assert told in ada.words("/year") and application.desk.drafts.years() == []
+    refused = ada.post("/year/make", year="next")
+    assert refused.status_code == 400 and "'next' is no year like 2027" in words_of(refused.text)
+
+
+def test_weights_that_don_t_add_up_are_told_and_refused_by_cpi(application: Application, ada: Person) -> None:
+    made(application, ada)
+    ada.post(f"{PAGE[:-1]}/put", sheet="weights", code=RICE, weight="599000")
+    assert "The weights add up to 999,000, and should to 1,000,000." in ada.words(PAGE)
+    words = judged(application, ada)
+    assert "What is refused" in words and "classification.csv" in words and "999,000" in words
+    assert "Send" not in words.partition("What is refused")[0].partition("Judge it")[2]
+    ada.post(f"{PAGE[:-1]}/put", sheet="weights", code=RICE, weight="60 %")
+    assert f"Weights that are no numbers: {RICE}" in ada.words(PAGE)
+    refused = ada.post(f"{PAGE[:-1]}/put", sheet="weights", pasted=f"{RICE}\t600000\n09.1.1.1-01\t5\n")
+    assert refused.status_code == 400 and "no code '09.1.1.1-01'" in words_of(refused.text)
+    assert "09.1.1.1-01\t5" in refused.text
+
+
+def test_a_draft_is_pasted_judged_and_sent_once(application: Application, ada: Person) -> None:
+    made(application, ada)
+    ada.post(f"{PAGE[:-1]}/set", unit="percent", decimal=",", reference="2026-01")
+    ada.post(f"{PAGE[:-1]}/put", sheet="weights", pasted=f"weight;code\n55,5;{RICE}\n44,5;{FLOUR}\n")
+    assert ada.post(f"{PAGE[:-1]}/out", sheet="series", cell="8").status_code == 400
+    ada.client.post(
+        f"{PAGE[:-1]}/out",
+        data={"token": ada.token, "sheet": "series", "cell": ["8", "2", "11", "RICE", "2026-12", "2027-12"]},
+        base_url="http://127.0.0.1:8090",
+    )
+    ada.post(
+        f"{PAGE[:-1]}/put",
+        sheet="series",
+        collector="8",
+        slot="",
+        outlet="11",
+        item="FLOUR",
+        first="12/2026",
+        last="2027-12",
+    )
+    words = judged(application, ada)
+    assert "The weights add up to 100, which is all." in words and "The office would carry this out 4 " in words
+    assert "assign,7,3,10,RICE,2026-12,2027-12" in words and "plan,2027: 13 rows" in words
+    (seen,) = re.findall('name="seen" value="([^"]+)"', ada.get(PAGE).text)
+    assert "4 records sent, and carried out." in sent(ada)
+    assert ada.post(f"{PAGE[:-1]}/send", seen=seen).status_code == 409
+    with private_copy(application.file) as copy, read_copy(copy) as office:
+        assert weights(office) == {RICE: 555_000, FLOUR: 445_000} and office.references() == {2027: 202601}
+        slots = {(it.collector, it.slot): (it.outlet, it.item) for it in office.assignments()}
+    assert slots[8, 2] == (11, "FLOUR") and slots[7, 4] == (10, "FLOUR") and len(slots) == 6
+    application.again()
+    ada = application.person(ADA)
+    words = judged(application, ada)
+    assert "The office has all of it already." in words and "The office has 4 rows already." in words
+
+
+def test_what_isn_t_carried_out_is_told_and_the_draft_stays(
+    application: Application, ada: Person, monkeypatch: pytest.MonkeyPatch
+) -> None:
+    made(application, ada)
+    judged(application, ada)
+    send = application.desk.sender.send
+    monkeypatch.setattr(
+        application.desk.sender,
+        "send",
+        lambda by, key, records: [*send(by, key, records[:1]), {"refused": 90}, None, None],
+    )
+    words = sent(ada)
+    assert "1 record" not in words and "1 of 4 records carried out; the others are below." in words
+    assert "refused by 90" in words and "not sent" in words
+    monkeypatch.undo()
+    assert "The office would carry this out 3 " in judged(application, ada)
+    assert "3 records sent, and carried out." in sent(ada)
+
+
+def test_a_draft_keeps_what_it_is_told(tmp_path: Path) -> None:
+    folder = tmp_path / "2027"
+    (folder / "draft").mkdir(parents=True)
+    draft = Draft(folder)
+    assert draft.settings() == Settings() and draft.reference() == "" and draft.rows("gone") == []
+    draft.put("classification", [["00", "All, of it", ""], [RICE, "Rice", "1000000"]])
+    draft.put("classification", [[RICE, "Rice, packed", "1"]])
+    assert draft.rows("classification") == [["00", "All, of it", ""], [RICE, "Rice, packed", "1"]]
+    draft.put("weights", [], is_whole=True)
+    assert draft.rows("weights") == [[RICE, ""]] and draft.sum().found == 0
+    draft.take_out("classification", ["00", "", ""])
+    assert draft.rows("classification") == [[RICE, "Rice, packed", ""]]
+    draft.put("series", [["7", "", "1", "RICE", "2026-12", "2027-12"], ["7", "", "2", "RICE", "2026-12", "2027-12"]])
+    assert len(draft.rows("series")) == 2
+    assert (folder / "draft/series.csv").stat().st_mode & 0o077 == 0
+
+
+def test_a_plan_that_is_longer_than_a_message_is_told() -> None:
+    checked = Checked(0, [], [], [], [["plan", "2027", "T,00,All\n" * 9_000]], {}, 0)  # type: ignore[arg-type]
+    assert re.match(
+        "plan,2027: 9,000 rows has 81,0[0-9]{2} bytes, and a message to the office 65,536 at most", too_long(checked)
+    )

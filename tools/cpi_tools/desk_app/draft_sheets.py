@@ -1,0 +1,193 @@
+"""The draft of a coming year, as `cpi-tools next-year` makes it and `take-in` reads it: a folder with the sheets of the
+plan and of the new series, which a person changes row by row or by pasting, and the lists of what leaves the sample."""
+
+from __future__ import annotations
+
+import csv
+import io
+import json
+from collections.abc import Callable, Sequence
+from fractions import Fraction
+from pathlib import Path
+from typing import NamedTuple, Optional
+
+from ..csv_files import Writer
+from ..next_year import HEADS
+from ..numbers_of_texts import Numbers
+from ..plan_rows import WHOLE
+from ..sent import FIELDS
+from ..terminal import Fault, because_of
+from ..whole_files import write_whole
+from .sample_kinds import Kind
+
+CLASSIFICATION, WEIGHTS, PLACES, SERIES = "classification", "weights", "places", "series"
+
+SHEETS: dict[str, Kind] = {
+    CLASSIFICATION: Kind(CLASSIFICATION, "T", ("code", "title", "weight"), optional="weight"),
+    WEIGHTS: Kind(WEIGHTS, "W", ("code", "weight")),
+    PLACES: Kind(PLACES, "I", ("item", "code")),
+    SERIES: Kind(SERIES, "assign", FIELDS["assign"], ("first", "last"), "slot"),
+}
+"""What is changed, by its name; weights are those of the classification."""
+
+KEYS = {CLASSIFICATION: 1, PLACES: 1, SERIES: 2}
+"""How many columns name a row of a sheet; a series without a slot is named by all of them."""
+
+LISTS: dict[str, tuple[str, ...]] = {name: tuple(heads) for name, heads in HEADS.items()}
+"""What is only shown, by its name."""
+
+UNITS = {"ppm": Fraction(1_000_000), **WHOLE, "money": None}
+"""What weights may be given in, with what they add up to; money has no such sum."""
+
+SETTINGS = "settings.json"
+
+
+class Settings(NamedTuple):
+    """What the weights are given in, and their decimal sign."""
+
+    unit: str = "ppm"
+    decimal: str = "."
+
+
+class Sum(NamedTuple):
+    """What the weights add up to, what is wanted (None of money), and the codes whose weights are no number."""
+
+    found: Fraction
+    wanted: Optional[Fraction]
+    unread: list[str]
+
+    @property
+    def is_whole(self) -> bool:
+        """Whether nothing is left to put right."""
+        return not self.unread and self.wanted in (None, self.found)
+
+
+Cells = list[str]
+
+
+class Draft:
+    """The draft of a year in its folder."""
+
+    def __init__(self, folder: Path):
+        self.folder, self.year = folder, int(folder.name)
+
+    @property
+    def sheets(self) -> Path:
+        """The folder that `take-in` reads."""
+        return self.folder / "draft"
+
+    # ---- rows
+
+    def rows(self, name: str) -> list[Cells]:
+        """The rows of a sheet, without the year, or of a list. Raises Fault."""
+        if name in LISTS:
+            return read_rows(self.folder / f"{name}.csv", LISTS[name])
+        if name == WEIGHTS:
+            return [[code, weight] for code, _, weight in self.rows(CLASSIFICATION) if weight or "-" in code]
+        return read_rows(self.sheets / f"{name}.csv", SHEETS[name].columns)
+
+    def put(self, name: str, rows: Sequence[Sequence[str]], is_whole: bool = False) -> None:
+        """Puts rows into a sheet, in the place of those that they name; `is_whole` says that these are all. Raises
+        Fault."""
+        if name == WEIGHTS:
+            self._put_weights(rows, is_whole)
+            return
+        key = _key_of(name)
+        found = {} if is_whole else {key(row): row for row in self.rows(name)}
+        found.update((key(row), [*row]) for row in rows)
+        self._write(name, [*found.values()])
+
+    def _put_weights(self, rows: Sequence[Sequence[str]], is_whole: bool) -> None:
+        given = {code: weight for code, weight in rows}
+        before = self.rows(CLASSIFICATION)
+        if unknown := sorted({*given} - {row[0] for row in before}):
+            raise Fault(f"the draft has no code {unknown[0]!r}: give it a title first, or leave its weight out")
+        left = "" if is_whole else None
+        self._write(
+            CLASSIFICATION,
+            [[code, title, given.get(code, weight if left is None else left)] for code, title, weight in before],
+        )
+
+    def take_out(self, name: str, cells: Sequence[str]) -> None:
+        """Takes the row out that some cells name. Raises Fault."""
+        key = _key_of(name)
+        self._write(name, [row for row in self.rows(name) if key(row) != key(cells)])
+
+    def _write(self, name: str, rows: Sequence[Sequence[str]]) -> None:
+        kind = SHEETS[name]
+        year = [] if name == SERIES else [str(self.year)]
+        heads = [*(["year"] if year else []), *kind.columns]
+        write_rows(self.sheets / f"{name}.csv", heads, [[*year, *row] for row in rows])
+
+    # ---- the reference month, and what the weights are in
+
+    def reference(self) -> str:
+        """The month at whose prices the weights are, or nothing if that is December before the year. Raises Fault."""
+        rows = read_rows(self.sheets / "plans.csv", ("reference",))
+        return rows[0][0] if rows else ""
+
+    def settings(self) -> Settings:
+        """What the weights are in. Raises Fault."""
+        try:
+            return Settings(*json.loads((self.folder / SETTINGS).read_text(encoding="utf-8")))
+        except FileNotFoundError:
+            return Settings()
+        except (OSError, ValueError, TypeError) as fault:
+            raise Fault(f"{self.folder / SETTINGS} isn't as it was written: {fault}") from fault
+
+    def set(self, settings: Settings, reference: str) -> None:
+        """Sets all three. Raises Fault."""
+        write(self.folder / SETTINGS, json.dumps([*settings]))
+        write_rows(self.sheets / "plans.csv", ["year", "reference"], [[str(self.year), reference]])
+
+    def sum(self) -> Sum:
+        """What the weights add up to. Raises Fault."""
+        unit, decimal = self.settings()
+        numbers, found, unread = Numbers(decimal), Fraction(0), list[str]()
+        for code, weight in self.rows(WEIGHTS):
+            plain = weight[:-1] if unit == "percent" and weight.endswith("%") else weight
+            number = numbers.of(plain) if weight else Fraction(0)
+            if number is None:
+                unread.append(code)
+            found += number or 0
+        return Sum(found, UNITS[unit], unread)
+
+
+def _key_of(name: str) -> Callable[[Sequence[str]], tuple[str, ...]]:
+    """What names a row of a sheet."""
+    count = KEYS[name]
+    return lambda cells: tuple(cells[:count]) if all(cells[:count]) else tuple(cells)
+
+
+# ---- files
+
+
+def read_rows(path: Path, columns: Sequence[str]) -> list[Cells]:
+    """These columns of a file of the draft; none if it isn't there. Raises Fault."""
+    try:
+        with path.open(encoding="utf-8", newline="") as file:
+            rows = csv.DictReader(file, strict=True)
+            return [[row.get(column) or "" for column in columns] for row in rows]
+    except FileNotFoundError:
+        return []
+    except OSError as fault:
+        raise Fault(because_of(fault)) from fault
+    except (csv.Error, UnicodeError) as fault:
+        raise Fault(f"{path} isn't as it was written: {fault}") from fault
+
+
+def write_rows(path: Path, heads: Sequence[str], rows: Sequence[Sequence[str]]) -> None:
+    """Writes a file of the draft whole. Raises Fault."""
+    text = io.StringIO()
+    out = Writer(text)
+    out.writerow(heads)
+    out.writerows(rows)
+    write(path, text.getvalue())
+
+
+def write(path: Path, text: str) -> None:
+    """Writes a file that only its owner reads. Raises Fault."""
+    try:
+        write_whole(path, text.encode(), 0o600)
+    except OSError as fault:
+        raise Fault(because_of(fault)) from fault

@@ -1,0 +1,154 @@
+"""Drafts of coming years: made by `next-year`, judged by `take-in` over a copy of the office, each in a thread of its own,
+one after the other."""
+
+from __future__ import annotations
+
+import hashlib
+import shutil
+import sqlite3
+import threading
+import time
+from collections import Counter
+from collections.abc import Callable, Iterable, Iterator
+from pathlib import Path
+from typing import NamedTuple, Optional
+
+from ..cells import SheetFault
+from ..next_year import next_year
+from ..office_files import Options
+from ..plan_rows import Weighed
+from ..program import Cpi
+from ..sent import Bundle, Problem, body_of
+from ..take_in import taken_in
+from ..terminal import Fault, because_of
+from .copies import Copies
+from .draft_sheets import Draft
+from .told import Told
+
+UTC = "UTC0"
+"""The clock of civil times; a draft has none."""
+
+
+class Checked(NamedTuple):
+    """What `take-in` says of a draft on a copy of the moment `at`: what is refused, what a reader should look at, the
+    weights that were scaled, the records that would be carried out, by their words how many, and how many rows the
+    office has already."""
+
+    at: int
+    problems: list[Problem]
+    warnings: list[SheetFault]
+    weighed: list[Weighed]
+    records: list[list[str]]
+    counts: Counter[str]
+    passed_over: int
+
+    @property
+    def seen(self) -> str:
+        """A sum of the records, so that nothing is sent but what was seen."""
+        return hashlib.sha256(repr(self.records).encode()).hexdigest()
+
+
+class Running(NamedTuple):
+    """What is being done for a year, and since when."""
+
+    year: int
+    what: str
+    begun: int
+
+
+class Drafts:
+    """The drafts in a folder."""
+
+    def __init__(self, cpi: Cpi, copies: Copies, folder: Path):
+        self._cpi, self._copies, self._folder = cpi, copies, folder
+        self._lock = threading.Lock()
+        self._checked: dict[int, Checked] = {}
+        self.sent: dict[int, list[Told]] = {}
+        """What the office answered to records of a year's draft that it didn't carry out, since the last change."""
+        self.running: Optional[Running] = None
+        self.fault = ""
+
+    def years(self) -> list[int]:
+        """The years that have a draft, the latest first."""
+        found = [int(path.name) for path in self._folder.glob("[0-9]*") if path.name.isdecimal()]
+        return sorted(found, reverse=True)
+
+    def draft(self, year: int) -> Optional[Draft]:
+        """The draft of a year, if there is one."""
+        return Draft(self._folder / str(year)) if (self._folder / str(year)).is_dir() else None
+
+    def checked(self, year: int) -> Optional[Checked]:
+        """What was said of a draft since it was changed the last time, if anything was."""
+        return self._checked.get(year)
+
+    def changed(self, year: int) -> None:
+        """A draft was changed, or sent, so what was said of it is old."""
+        self._checked.pop(year, None)
+        self.sent.pop(year, None)
+
+    def drop(self, year: int) -> None:
+        """Removes a draft. Raises Fault."""
+        self.changed(year)
+        try:
+            shutil.rmtree(self._folder / str(year))
+        except OSError as fault:
+            raise Fault(because_of(fault)) from fault
+
+    # ---- in the background
+
+    def make(self, year: int) -> bool:
+        """Begins to make the draft of a year; whether it did."""
+        return self._begin(year, "asking cpi on a copy who is in the sample", self._make)
+
+    def check(self, year: int) -> bool:
+        """Begins to judge the draft of a year; whether it did."""
+        return self._begin(year, "judging the draft on a copy", self._check)
+
+    def _begin(self, year: int, what: str, job: Callable[[int], None]) -> bool:
+        with self._lock:
+            if self.running:
+                return False
+            self.running, self.fault = Running(year, what, int(time.time())), ""
+        threading.Thread(target=self._run, args=(year, job), daemon=True, name="draft").start()
+        return True
+
+    def _run(self, year: int, job: Callable[[int], None]) -> None:
+        try:
+            job(year)
+        except Fault as fault:
+            self.fault = str(fault)
+        except (OSError, sqlite3.Error) as fault:
+            self.fault = because_of(fault) if isinstance(fault, OSError) else f"the copy can't be read: {fault}"
+        except Exception as fault:
+            # (a fault of ours: it is on the page too, and the journal has all of it)
+            self.fault = f"the application met an error: {type(fault).__name__}: {fault}"
+            raise
+        finally:
+            self.running = None
+
+    def _make(self, year: int) -> None:
+        self._copies.renew()
+        with self._copies.latest() as copy:
+            next_year(self._cpi, copy.path, year, self._folder / str(year))
+
+    def _check(self, year: int) -> None:
+        self._copies.renew()
+        draft = Draft(self._folder / str(year))
+        unit, decimal = draft.settings()
+        options = Options(decimal=decimal, weights=unit)
+        with self._copies.latest() as copy, taken_in(self._cpi, draft.sheets, options, UTC, copy.path) as found:
+            taken, judged = found
+            records = [] if judged.problems else [*records_of(taken.bundles)]
+            passed_over = sum(taken.passed_over.values())
+            said = judged.problems, taken.warnings, taken.weighed, records, judged.taken, passed_over
+        self.sent.pop(year, None)
+        self._checked[year] = Checked(int(time.time()), *said)
+
+
+def records_of(bundles: Iterable[Bundle]) -> Iterator[list[str]]:
+    """The records of what was taken: each row of an import is one, and so is a plan."""
+    for it in bundles:
+        if it.year:
+            yield ["plan", it.year, body_of(it.rows)]
+        else:
+            yield from (row.fields for row in it.rows)

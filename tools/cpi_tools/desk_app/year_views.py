@@ -1,0 +1,242 @@
+"""The coming year: who leaves the sample, and a draft of its plan with weights, places and new series, which is changed
+here, judged on a copy, and sent.
+
+`/year/make` takes `year`. The forms of `/year/YEAR/` are `put` (`sheet`: classification, weights, places or series; the
+columns of a row by their names, or `pasted`; `whole` if these rows are all), `out` (`sheet`, and `cell`, the code, the
+item, or all cells of a series), `set` (`unit`: ppm, permille, percent or money; `decimal`; `reference`), `check`, `send` (`seen`) and `drop`.
+"""
+
+from __future__ import annotations
+
+import time
+from fractions import Fraction
+from typing import Any
+
+import flask
+from werkzeug.wrappers import Response
+
+from ..csv_files import line_of
+from ..numbers_of_texts import decimal
+from ..stored import read_copy
+from ..terminal import Fault, counted
+from .asked import csv_file, desk, page, session
+from .desk_log import shown as hidden
+from .draft_sheets import CLASSIFICATION, KEYS, LISTS, SHEETS, UNITS, WEIGHTS, Draft, Settings
+from .drafts import Checked
+from .office import MOST_BYTES, body_of
+from .pasted import pasted
+from .records_views import answered
+from .sample_views import SHOWN, number_in
+
+views = flask.Blueprint("year", __name__)
+
+
+@views.get("/year")
+def first() -> Response:
+    """To the latest draft, or to the form that makes one."""
+    years = desk().drafts.years()
+    if years and not desk().drafts.running:
+        return flask.redirect(flask.url_for("year.show", year=years[0]))
+    return shown_form()
+
+
+def shown_form(status: int = 200, fault: str = "") -> Response:
+    """The form that makes a draft."""
+    with desk().copies_now() as copy, read_copy(copy.path) as office:
+        releases = office.releases()
+    year = releases[-1].month // 100 + 1 if releases else time.gmtime().tm_year + 1
+    drafts = desk().drafts
+    named = {"years": drafts.years(), "running": drafts.running}
+    return page("year-begin.html", status, fault=fault or drafts.fault, next=year, **named)
+
+
+@views.post("/year/make")
+def make() -> Response:
+    """Begins to make a draft."""
+    text = flask.request.form.get("year", "").strip()
+    if not (text.isdecimal() and len(text) == 4):
+        return shown_form(400, f"{text!r} is no year like 2027")
+    if desk().drafts.draft(int(text)):
+        return shown_form(409, f"there is a draft of {text} already: drop it first, if it is to be made anew")
+    desk().drafts.make(int(text))
+    return flask.redirect(flask.url_for("year.first"), 303)
+
+
+# ---- a draft
+
+
+def draft_of(year: int) -> Draft:
+    """The draft of an address; without one there is no page."""
+    found = desk().drafts.draft(year)
+    if found is None:
+        flask.abort(404)
+    return found
+
+
+@views.get("/year/<int:year>/")
+def show(year: int) -> Response:
+    """A draft: its sheets, the sum of its weights, and what was said of it."""
+    return shown(draft_of(year))
+
+
+def shown(draft: Draft, status: int = 200, fault: str = "", answer: str = "", text: str = "") -> Response:
+    """The page of a draft, with what came of a step."""
+    name = flask.request.values.get("sheet", WEIGHTS)
+    name = name if name in SHEETS or name in LISTS else WEIGHTS
+    drafts, query = desk().drafts, flask.request.args.get("query", "")
+    rows = searched(draft.rows(name), query)
+    start = min(number_in("from"), max(0, (len(rows) - 1) // SHOWN * SHOWN))
+    total = draft.sum()
+    titles = {row[0]: row[1] for row in draft.rows(CLASSIFICATION)} if name == WEIGHTS else {}
+    checked = drafts.checked(draft.year)
+    named: dict[str, Any] = {
+        "draft": draft,
+        "years": drafts.years(),
+        "sheet": name,
+        "kind": SHEETS.get(name),
+        "columns": SHEETS[name].columns if name in SHEETS else LISTS[name],
+        "counts": {it: len(draft.rows(it)) for it in (*SHEETS, *LISTS)},
+        "rows": rows[start : start + SHOWN],
+        "titles": titles,
+        "total": len(rows),
+        "first": start,
+        "step": SHOWN,
+        "query": query,
+        "sum": total,
+        "sum_text": number_text(total.found),
+        "wanted_text": number_text(total.wanted) if total.wanted else "",
+        "settings": draft.settings(),
+        "reference": draft.reference(),
+        "running": drafts.running,
+        "checked": checked,
+        "too_long": too_long(checked) if checked else "",
+        "lines": [line(it) for it in checked.records[:SHOWN]] if checked else [],
+        "sent": drafts.sent.get(draft.year, []),
+        "text": text,
+    }
+    return page("year.html", status, fault=fault or drafts.fault, answer=answer, **named)
+
+
+def number_text(number: Fraction) -> str:
+    """A number, with three decimals if it isn't whole."""
+    return f"{number.numerator:,}" if number.denominator == 1 else decimal(number)
+
+
+def searched(rows: list[list[str]], query: str) -> list[list[str]]:
+    """The rows that have each word of a query somewhere."""
+    words = query.casefold().split()
+    return [row for row in rows if all(word in " ".join(row).casefold() for word in words)]
+
+
+def line(record: list[str]) -> str:
+    """A record as it is shown: a plan by its rows, a collector without the key."""
+    if record[0] == "plan":
+        return f"plan,{record[1]}: {counted(record[2].count(chr(10)), 'row')}"
+    return line_of(hidden(record))
+
+
+def too_long(checked: Checked) -> str:
+    """Why the office can't take a record over its interface, or nothing."""
+    for record in checked.records:
+        if (size := len(body_of([record]))) > MOST_BYTES:
+            return f"{line(record)} has {size:,} bytes, and a message to the office {MOST_BYTES:,} at most"
+    return ""
+
+
+@views.get("/year/<int:year>/<name>.csv")
+def file(year: int, name: str) -> Response:
+    """A sheet or a list, as it is taken in."""
+    if name not in SHEETS and name not in LISTS:
+        flask.abort(404)
+    columns = SHEETS[name].columns if name in SHEETS else LISTS[name]
+    rows = draft_of(year).rows(name)
+    return csv_file(f"{year}-{name}.csv", "".join(f"{line_of(cells)}\n" for cells in [columns, *rows]))
+
+
+# ---- changes
+
+
+def to_sheet(draft: Draft, name: str) -> Response:
+    """Back to a sheet."""
+    return flask.redirect(flask.url_for("year.show", year=draft.year, sheet=name), 303)
+
+
+@views.post("/year/<int:year>/put")
+def put(year: int) -> Response:
+    """Puts rows into a sheet."""
+    draft, form = draft_of(year), flask.request.form
+    name, text = form.get("sheet", ""), form.get("pasted", "")
+    if name not in SHEETS:
+        flask.abort(400)
+    kind = SHEETS[name]
+    try:
+        rows = pasted(text, kind).rows if text.strip() else [[form.get(it, "").strip() for it in kind.columns]]
+        if lacks := [it for it, cell in zip(kind.columns, rows[0]) if not cell and it not in (kind.optional, "weight")]:
+            raise Fault(f"the row has no {lacks[0]}")
+        draft.put(name, rows, bool(form.get("whole")))
+    except Fault as fault:
+        return shown(draft, 400, str(fault), text=text)
+    desk().drafts.changed(year)
+    return to_sheet(draft, name)
+
+
+@views.post("/year/<int:year>/out")
+def out(year: int) -> Response:
+    """Takes a row out of a sheet."""
+    draft, name = draft_of(year), flask.request.form.get("sheet", "")
+    cells = flask.request.form.getlist("cell")
+    if name not in KEYS or len(cells) < KEYS[name]:
+        flask.abort(400)
+    draft.take_out(name, cells)
+    desk().drafts.changed(year)
+    return to_sheet(draft, name)
+
+
+@views.post("/year/<int:year>/set")
+def set_all(year: int) -> Response:
+    """Sets what the weights are in, and the reference month."""
+    draft, form = draft_of(year), flask.request.form
+    unit, sign = form.get("unit", ""), form.get("decimal", "")
+    if unit not in UNITS or sign not in (".", ","):
+        flask.abort(400)
+    draft.set(Settings(unit, sign), form.get("reference", "").strip())
+    desk().drafts.changed(year)
+    return to_sheet(draft, WEIGHTS)
+
+
+@views.post("/year/<int:year>/drop")
+def drop(year: int) -> Response:
+    """Removes the draft."""
+    draft_of(year)
+    desk().drafts.drop(year)
+    return flask.redirect(flask.url_for("year.first"), 303)
+
+
+# ---- judged, and sent
+
+
+@views.post("/year/<int:year>/check")
+def check(year: int) -> Response:
+    """Begins to judge the draft."""
+    desk().drafts.check(draft_of(year).year)
+    return flask.redirect(flask.url_for("year.show", year=year), 303)
+
+
+@views.post("/year/<int:year>/send")
+def send(year: int) -> Response:
+    """Sends what was judged, once."""
+    draft, checked = draft_of(year), desk().drafts.checked(year)
+    if checked is None or not checked.records or checked.seen != flask.request.form.get("seen"):
+        return shown(draft, 409, "The draft was sent already, or changed since this was shown: judge it again.")
+    desk().drafts.changed(year)
+    try:
+        replies = desk().send(session(), checked.records)
+    except Fault as fault:
+        return shown(draft, 503, f"Nothing was sent: {fault}")
+    rows = answered([hidden(it) for it in checked.records], replies)
+    left = [it._replace(record=line(of)) for it, of in zip(rows, checked.records) if not it.is_done]
+    desk().drafts.sent[year] = left
+    done = len(rows) - len(left)
+    if left:
+        return shown(draft, 409, f"{done:,} of {counted(len(rows), 'record')} carried out; the others are below.")
+    return shown(draft, answer=f"{counted(done, 'record')} sent, and carried out.")
