@@ -1,20 +1,23 @@
 """Starts an office behind the front, to be tried by hand with a phone or a browser, and stops all of it at Ctrl-C.
 
-    ops/try [--address ADDRESS] [--port PORT] [--db FILE] [--zone RULE] [--folder FOLDER] [--program FILE]
+    ops/try [--address ADDRESS] [--port PORT] [--db FILE] [--zone RULE] [--language LANG] [--folder FOLDER]
+            [--program FILE]
 
 The office is the made-up country of examples/national: two to three years of published tables up to last month, and
 this month's window is open. It is made by the first call in a month, which takes a minute or more, and stays in FOLDER
 with what is sent to it: out/try in the repository, and ~/.cache/sabrethog/out/try where this is installed. With --db it
-is a copy of the office in FILE instead. Each start publishes its website. Nothing else on the machine is changed.
+is a copy of the office in FILE instead. Each start publishes its website, and the desk's pages are served beside the
+office; their log and notes are beside the office's file. Nothing else on the machine is changed.
 
 It listens at this machine alone, or at the ADDRESS of it that is named, for a phone in the same network: who can reach
 that address can read and send what its pages can, so let it be a network that you trust. The certificate is drawn for
 this address by an authority that can speak for no other, whose key is thrown away; it stays for 90 days.
 
-It needs nginx, openssl and jinja2 (Debian: nginx-light, openssl, python3-jinja2), and Python 3.9 or later. Exit status: 0 after Ctrl-C, 1 where
-something fails, in one line, 2 where the words are refused.
+It needs nginx, openssl, jinja2, flask and waitress (Debian: nginx-light, openssl, python3-jinja2, python3-flask,
+python3-waitress), Python 3.9 or later, and for another language than English Babel (python3-babel). Exit status: 0 after
+Ctrl-C, 1 where something fails, in one line, 2 where the words are refused.
 
-example: ops/try --address 192.168.1.5
+example: ops/try --address 192.168.1.5 --language fr
 """
 
 # ruff: noqa: E402
@@ -44,7 +47,7 @@ import time
 from collections.abc import Iterator
 from functools import partial
 from pathlib import Path
-from typing import NoReturn, Optional
+from typing import NoReturn, Optional, Union
 
 from cpi_tools.calendar_file import write_calendar
 from cpi_tools.copying import right_copy
@@ -59,6 +62,7 @@ from cpi_tools.front import (
     standing,
     system_program,
 )
+from cpi_tools.languages import SOURCE, a_language
 from cpi_tools.pack.config import Config, read_config
 from cpi_tools.pack.public import Published, from_file
 from cpi_tools.program import Cpi, CpiFailed, add_program, told as told_end
@@ -66,6 +70,8 @@ from cpi_tools.publish import publish
 from cpi_tools.sign_in import address_of_page, link_of
 from cpi_tools.terminal import Fault, ToolWords, because_of, ends_by_signals, needs
 from cpi_tools.trials import folder_of_trial
+from cpi_tools.tried_desk import Tried, TriedDesk, desk_needs
+from cpi_tools.tried_language import site_config, write_config
 
 ROOT = Path(__file__).resolve().parents[1]
 
@@ -114,14 +120,16 @@ def copy_of(office: Path, folder: Path) -> Path:
     return right_copy(office, copies)
 
 
-def write_website(cpi: Cpi, file: Path, folder: Path, is_country: bool) -> None:
+def write_website(cpi: Cpi, file: Path, folder: Path, is_country: bool, language: str) -> None:
     """The website of what an office has published until now, in `published`; none if that is no table yet."""
     site = folder / "published"
     # (each made-up country is another one, whose tables take the place of those before)
     shutil.rmtree(site, ignore_errors=True)
     published = from_file(cpi, file, int(time.time()))
     if any(each.table for each in published):
-        publish(published, of_country(published) if is_country else ANOTHER, site, None, lambda _: None)
+        config = of_country(published) if is_country else ANOTHER
+        spoken = config if language == SOURCE else site_config(config, language)
+        publish(published, spoken, site, None, lambda _: None)
 
 
 def of_country(published: list[Published]) -> Config:
@@ -207,7 +215,7 @@ def place_of(address: str, port: int, folder: Path) -> Place:
     if is_listening(at, port):
         raise Fault(f"port {port} of {address} is taken: name another by --port")
     own = {"published": folder / "published", "calendar": folder / CALENDAR}
-    return Place(host, at, port, f"unix:{folder}/plain.sock", free_port(), ROOT / "web", **own)
+    return Place(host, at, port, f"unix:{folder}/plain.sock", free_port(), ROOT / "web", **own, desk_port=free_port())
 
 
 def of_a_trial(folder: Path, text: str) -> str:
@@ -230,21 +238,26 @@ def held(folder: Path) -> Iterator[None]:
         yield
 
 
+Process = Union[Office, TriedDesk]
+
+
 @contextlib.contextmanager
-def started(office: Office) -> Iterator[Office]:
-    """An office that runs meanwhile."""
+def started(process: Process) -> Iterator[Process]:
+    """An office, or the desk's application, that runs meanwhile."""
     try:
-        office.start()
-        yield office
+        process.start()
+        yield process
     finally:
-        office.stop()
+        process.stop()
 
 
 def looked_at(chosen: argparse.Namespace) -> Cpi:
     """The program, once all is there that is needed and the words can be right: before minutes of work."""
     for needed in ("nginx", "openssl"):
         system_program(needed)
-    needs("jinja2", "python3-jinja2")
+    desk_needs()
+    if chosen.language != SOURCE:
+        needs("babel", "python3-babel")
     cpi = Cpi(chosen.program)
     try:
         cpi.replay([], zone=chosen.zone)
@@ -267,6 +280,8 @@ def serve(chosen: argparse.Namespace, cpi: Cpi, folder: Path) -> int:
     month = datetime.date.today().strftime("%Y-%m")
     file = copy_of(Path(chosen.db), folder) if chosen.db else made_up_country(folder, cpi, month)
     keep_certificate(folder, place.host)
+    if chosen.language != SOURCE:
+        place = place._replace(config=write_config(ROOT / "web/config.js", folder / "config.js", chosen.language))
     office = Office(cpi, file, place.office_port, chosen.zone)
     print("The office reads its file, which takes some seconds.", flush=True)
     front = Front(ROOT / "ops/nginx.conf", folder, place)
@@ -274,17 +289,25 @@ def serve(chosen: argparse.Namespace, cpi: Cpi, folder: Path) -> int:
         # (the program has opened the file, so it is an office, and of the tables that are read here)
         write_calendar(file, folder / CALENDAR)
         print("Its website is written, which takes some seconds, too.", flush=True)
-        write_website(cpi, file, folder, not chosen.db)
-        with standing(front, partial(of_a_trial, folder)):
+        write_website(cpi, file, folder, not chosen.db, chosen.language)
+        with started(desk_of(chosen, cpi, file, place)) as desk, standing(front, partial(of_a_trial, folder)):
             print(told(place, office, not chosen.db, folder), flush=True)
-            watch(office, front)
+            watch(office, desk, front)
 
 
-def watch(office: Office, front: Front) -> NoReturn:
-    """Starts the office again whenever it ended after its connections. Raises Fault if one of the two fails."""
+def desk_of(chosen: argparse.Namespace, cpi: Cpi, file: Path, place: Place) -> TriedDesk:
+    """The desk's application of a trial."""
+    room, spoken = file.with_name(f"{file.stem}-desk"), chosen.language if chosen.language != SOURCE else None
+    front = f"{place.url}/desk/"
+    return TriedDesk(cpi, Tried(place.office_port, file, chosen.zone, room, place.desk_port, front, spoken))
+
+
+def watch(office: Office, desk: Process, front: Front) -> NoReturn:
+    """Starts the office again whenever it ended after its connections. Raises Fault if one of the three fails."""
     while True:
         time.sleep(LOOK_SECONDS)
         office.look()
+        desk.look()
         if front.process and front.process.poll() is not None:
             raise Fault(f"nginx ended: {front.folder}/error.log says why")
 
@@ -302,6 +325,9 @@ def parser() -> ToolWords:
     words.add_argument("--port", type=a_port, default=8443, help="the port of the front (8443)")
     words.add_argument("--db", metavar="FILE", help="try a copy of this office instead of the made-up country")
     words.add_argument("--zone", metavar="RULE", default=ZONE, help=f"the clock of the office ({ZONE})")
+    words.add_argument(
+        "--language", type=a_language, default=SOURCE, metavar="LANG", help="the language of its pages, such as fr (en)"
+    )
     words.add_argument("--folder", default=str(folder_of_trial("out/try")), help="where all of it is (%(default)s)")
     add_program(words)
     return words

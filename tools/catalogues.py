@@ -24,7 +24,7 @@ from babel.messages.plurals import PLURALS
 from babel.messages.pofile import read_po, write_po
 from babel.plural import to_gettext
 
-from extractors import COMMENT, refused, to_desk
+from extractors import COMMENT, refused
 
 SOURCE = "en"
 WIDTH = 120
@@ -87,10 +87,7 @@ class Page(NamedTuple):
         return message.id in self.refusals or any(place.startswith(tuple(self.sources)) for place in places)
 
 
-PAGES = (
-    Page("web/collect", ("web/collect/", "web/shared/"), {*refused().values()}),
-    Page("web/desk", ("web/desk/", "web/shared/"), {*to_desk()}),
-)
+PAGES = (Page("web/collect", ("web/collect/", "web/shared/"), {*refused().values()}),)
 
 
 class Bad(Exception):
@@ -341,11 +338,14 @@ def manifest(text: str, catalog: Catalog) -> str:
     )
 
 
-NOSCRIPT = re.compile(r"(<noscript>)(<p class=\"([^\"]*)\" data-t>([^<]*)</p>).*?(</noscript>)", re.S)
+IN_ALL = re.compile(
+    r"(<noscript>|<section [^>]*data-all>.*?)(<p class=\"([^\"]*)\" data-t>([^<]*)</p>)[^\n]*?(</noscript>|\n)", re.S
+)
 
 
-def without_scripts(text: str, catalogs: Iterable[Catalog]) -> str:
-    """A page whose words for a browser without scripts are in all languages, since nothing can choose one there."""
+def in_all_languages(text: str, catalogs: Iterable[Catalog]) -> str:
+    """A page whose words for a browser without scripts, and in a section `data-all`, are in all languages, since nothing
+    can choose one there."""
 
     def in_all(found: re.Match[str]) -> str:
         begin, source, kind, words, end = found.groups()
@@ -358,4 +358,4 @@ def without_scripts(text: str, catalogs: Iterable[Catalog]) -> str:
                 lines.append(f'<p class="{kind}" lang="{tag_of(locale)}" dir="{way}">{told}</p>')
         return begin + "".join(lines) + end
 
-    return NOSCRIPT.sub(in_all, text)
+    return IN_ALL.sub(in_all, text)

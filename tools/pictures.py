@@ -80,23 +80,23 @@ def of_refused(phone: Phone, price: str) -> None:
 
 
 def of_others(browser: Browser, width: int, desk_key: str, folder: Path) -> None:
-    """The website's first page, its page for choosing, and the desk's page with something refused."""
+    """The website's first page, its page for choosing, and the desk's pages: the month, and something refused."""
     browser.open("/")
     browser.picture(folder / f"first-{width}.png")
     browser.open("/published/choose.html?items=00+01+04&show=index+year")
     browser.wait_text("#parts", "Food")
     browser.picture(folder / f"choose-{width}.png", is_whole=True)
     browser.open("/desk/")
+    browser.type("#name", "Ada")
     browser.type("#key", desk_key)
-    browser.click("#key-form button.main")
-    browser.wait_text("#who", "Signed in")
-    browser.type("#records-text", "outlet,101,Other shop\noutlet,9001,New shop\nhandover,7,999,8,999,2030-11\n")
-    browser.click("#records button.main")
-    browser.wait_text("#records-told", "refused of 3")
-    browser.type("#freeze-month", "2030-01")
-    browser.click("#freeze button.main")
-    browser.wait_text("#freeze-told", "Refused")
+    browser.click("main button.main")
+    browser.wait_text(".who", "Ada")
     browser.picture(folder / f"desk-{width}.png", is_whole=True)
+    browser.open("/desk/records")
+    browser.type("#text", "outlet,101,Other shop\noutlet,9001,New shop\nhandover,7,999,8,999,2030-11\n")
+    browser.click("form[action$='/records/judge'] button")
+    browser.wait_text("main", "would be carried out")
+    browser.picture(folder / f"records-{width}.png", is_whole=True)
 
 
 def main() -> int:

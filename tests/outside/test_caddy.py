@@ -33,6 +33,7 @@ class Office:
         self.messages: list[bytes] = []
         self.import_seconds = 0.0
         self.is_silent = False
+        self.fields = ""
         self.comes()
 
     def comes(self) -> None:
@@ -55,7 +56,7 @@ class Office:
             message = whole(peer)
             self.messages.append(message)
             time.sleep(self.import_seconds if message.startswith(b"POST /import ") else 0)
-            head = f"HTTP/1.1 200 OK\r\nContent-Type: application/json\r\nContent-Length: {len(REPLY)}\r\n"
+            head = f"HTTP/1.1 200 OK\r\nContent-Type: application/json\r\nContent-Length: {len(REPLY)}\r\n{self.fields}"
             if not self.is_silent:
                 peer.sendall(f"{head}Connection: close\r\n\r\n".encode() + REPLY)
 
@@ -73,11 +74,13 @@ def whole(peer: socket.socket) -> bytes:
 
 
 class Front(NamedTuple):
-    """Caddy with the file of `ops/`, the office behind it, and its log."""
+    """Caddy with the file of `ops/`, the office behind it, its log, and what is in the place of the desk's
+    application."""
 
     port: int
     office: Office
     log: Path
+    desk: Office
 
     def line(self) -> http.client.HTTPSConnection:
         """A connection to it."""
@@ -104,7 +107,12 @@ def filled(folder: Path, front: Front) -> str:
     assert text.count("{\n\tservers {") == 1
     text = text.replace("{\n\tservers {", own)
     words = {"HOST": "localhost", "PORT": str(front.office.port), "LOG": str(front.log), "WEB": f"{folder}/web"}
-    words.update(CONFIG=f"{folder}/set.js", SITE=f"{folder}/site", CALENDAR=f"{folder}/calendar.json")
+    words.update(
+        DESKPORT=str(front.desk.port),
+        CONFIG=f"{folder}/set.js",
+        SITE=f"{folder}/site",
+        CALENDAR=f"{folder}/calendar.json",
+    )
     for word, value in words.items():
         text = text.replace(f"@{word}@", value)
     # (the desk's application is played by the same office)
@@ -127,12 +135,12 @@ def running(caddy: str, folder: Path) -> Iterator[subprocess.Popen[bytes]]:
 @pytest.fixture
 def front(needed: Callable[[str], str], tmp_path: Path) -> Iterator[Front]:
     """Caddy before an office, with a certificate of its own."""
-    caddy, office = needed("caddy"), Office()
+    caddy, office, desk = needed("caddy"), Office(), Office()
     shutil.copytree(ROOT / "web", tmp_path / "web")
     (tmp_path / "set.js").write_text("export const office = {};\n")
     (tmp_path / "site").mkdir()
     for _ in range(TRIES):
-        found = Front(free_port(), office, tmp_path / "log")
+        found = Front(free_port(), office, tmp_path / "log", desk)
         (tmp_path / "Caddyfile").write_text(filled(tmp_path, found))
         with running(caddy, tmp_path) as process:
             if answers(found, process):
@@ -464,15 +472,58 @@ def test_notes_of_the_field_go_to_the_desk_s_application_with_a_key_and_nothing_
         return front.asked(method, path, body=body or None, headers={"Authorization": f"CPI-Key {KEY}", **fields})
 
     assert asked("POST", "/notes/2026-01/7", b"x" * 300_000, Cookie="cpi_desk=secret") == (200, REPLY)
-    (message,) = front.office.messages
+    (message,) = front.desk.messages
     assert message.startswith(b"POST /notes/2026-01/7 HTTP/1.1\r\n") and message.endswith(b"x" * 300_000)
     assert KEY.encode() in message and b"secret" not in message
     assert asked("GET", "/notes/2026-01")[0] == asked("GET", "/notes/2026-01/photo/12")[0] == 200
     assert asked("POST", "/notes/2026-01/7", b"x" * 330_000)[0] == 413
-    count = len(front.office.messages)
+    count = len(front.desk.messages)
     for method, path in (("PUT", "/notes/2026-01"), ("GET", "/notes/2026-01/photo/x"), ("GET", "/notes/")):
         assert asked(method, path)[0] == 404, path
     for key in ("", "CPI-Key", f"CPI-Key {KEY[1:]}", f"Basic {KEY}"):
         assert front.asked("GET", "/notes/2026-01", headers={"Authorization": key})[0] == 404, key
-    assert len(front.office.messages) == count
+    assert len(front.desk.messages) == count
     assert KEY not in front.log.read_text(encoding="utf-8")
+
+
+OF_THE_DESK = {
+    "Content-Security-Policy": "default-src 'none'; form-action 'self'",
+    "Cache-Control": "no-store",
+    "X-Content-Type-Options": "nosniff",
+    "Cross-Origin-Resource-Policy": "same-origin",
+    "Referrer-Policy": "same-origin",
+}
+"""Fields that the desk's application sends: with a second policy, that of the other pages, its forms would do nothing."""
+
+
+def test_the_desks_application_is_asked_by_the_peers_address_and_its_fields_are_its_own(front: Front) -> None:
+    front.desk.fields = "".join(f"{name}: {value}\r\n" for name, value in OF_THE_DESK.items())
+    said = {"Cookie": "cpi_desk=x", "X-Forwarded-For": "203.0.113.9", "Forwarded": "for=203.0.113.9", **keyed()}
+    with contextlib.closing(front.line()) as line:
+        line.request("POST", "/desk/records/judge", body="text=x", headers=said)
+        answer = line.getresponse()
+        assert (answer.status, answer.read()) == (200, REPLY)
+    found = answer.getheaders()
+    for wanted, value in OF_THE_DESK.items():
+        assert [it for name, it in found if name == wanted] == [value]
+    assert dict(found)["Strict-Transport-Security"] == "max-age=31536000"
+    (message,) = front.desk.messages
+    assert message.startswith(b"POST /desk/records/judge ") and message.endswith(b"\r\n\r\ntext=x")
+    head = message.lower()
+    assert b"cookie: cpi_desk=x" in head and b"x-forwarded-for: 127.0.0.1\r\n" in head
+    assert b"203.0.113.9" not in head and b"authorization" not in head and KEY.encode() not in head
+    assert f"host: localhost:{front.port}".encode() in head
+    assert front.asked("PUT", "/desk/records", body=b"x")[0] == 403
+    assert front.asked("GET", "/desk")[0] == 301
+
+
+def test_while_the_desks_application_is_away_one_sentence_says_so(front: Front) -> None:
+    front.desk.goes()
+    with contextlib.closing(front.line()) as line:
+        line.request("GET", "/desk/month/2026-01/")
+        answer = line.getresponse()
+        page = answer.read().decode()
+    assert answer.status == 503 and "desk\u2019s pages can\u2019t be reached at the moment" in page
+    assert "default-src 'none'" in str(answer.getheader("Content-Security-Policy"))
+    assert front.asked("GET", "/collect/")[0] == 200
+    assert front.asked("GET", "/api/tables") == (200, REPLY)

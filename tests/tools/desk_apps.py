@@ -10,8 +10,9 @@ from collections.abc import Iterator
 from pathlib import Path
 from typing import Any, Optional
 
-from cpi_tools.desk_app.app import Reached, make_app
+from cpi_tools.desk_app.app import make_app
 from cpi_tools.desk_app.desk import Desk, Given
+from cpi_tools.desk_app.reached import Reached
 from cpi_tools.pack.clocks import clock_of
 from cpi_tools.program import Cpi
 from cpi_tools.speech import SPEAKS_ENGLISH, Speech

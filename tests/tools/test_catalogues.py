@@ -39,13 +39,6 @@ def kept_scripts() -> list[Path]:
     return [ROOT / "web/collect" / name for name in names if name not in made] + notes
 
 
-def scripts_of_desk() -> list[Path]:
-    """The scripts of the desk's page, without the words of refusals, which `tools/pages` makes."""
-    found = [path for path in sorted((ROOT / "web/desk").glob("*.js")) if path.name != "words.js"]
-    assert len(found) > 5
-    return found
-
-
 TEXT = re.compile(r"[A-Za-z\u2019]{2,} [A-Za-z{]|^[A-Z][a-z]")
 """A string that looks like a text: two words, or one with a capital letter."""
 
@@ -82,9 +75,7 @@ def outside(script: str) -> list[str]:
     return found
 
 
-@pytest.mark.parametrize(
-    "path", [*kept_scripts(), *scripts_of_desk()], ids=lambda path: f"{path.parent.name}/{path.name}"
-)
+@pytest.mark.parametrize("path", kept_scripts(), ids=lambda path: f"{path.parent.name}/{path.name}")
 def test_each_text_of_a_script_is_in_the_catalogues(path: Path) -> None:
     assert outside(path.read_text(encoding="utf-8")) == []
 
@@ -331,8 +322,7 @@ def test_a_new_language_is_one_file_that_somebody_translates(copied: Path) -> No
     after = content(copied)
     others = {"web/shared/languages.js", "web/collect/sw.js"}  # (the list of languages, and the version of the files)
     assert {name for name in after if after[name] != before.get(name)} == {
-        "po/pt.po", "web/collect/languages/pt.json", "web/collect/manifest.pt.webmanifest",
-        "web/desk/languages/pt.json", *others
+        "po/pt.po", "web/collect/languages/pt.json", "web/collect/manifest.pt.webmanifest", *others
     }  # fmt: skip
     checked = pages(copied, "--check")
     assert checked.returncode == 1

@@ -10,6 +10,7 @@ import threading
 import time
 from collections.abc import Iterator
 from pathlib import Path
+from typing import Any
 
 import pytest
 
@@ -17,7 +18,10 @@ import surveys
 from cpi_tools.desk_app.glance import Glance, Share
 from cpi_tools.desk_app.month_views import time_left
 from cpi_tools.desk_app.observed import Observed, Seen
-from cpi_tools.desk_app.sessions import FREE_TRIES, LONGEST_SESSION, NotSignedIn, Sessions
+from cpi_tools.desk_app.app import make_app
+from cpi_tools.desk_app.reached import Reached
+from cpi_tools.desk_app.sessions import LONGEST_SESSION, NotSignedIn, Sessions
+from cpi_tools.desk_app.tries import FREE_TRIES, MOST_ADDRESSES, Tries
 from cpi_tools.program import Cpi
 from cpi_tools.stored import Window
 from cpi_tools.trial import State
@@ -116,6 +120,72 @@ def test_wrong_keys_lock_the_door_for_longer_and_longer() -> None:
         sessions.sign_in(ADA, DESK_KEY)
     clock.now += 1
     assert sessions.of(sessions.sign_in(ADA, DESK_KEY))
+
+
+def test_wrong_keys_of_one_address_lock_nobody_elsewhere_out() -> None:
+    clock = Clock()
+    sessions = Sessions(lambda key: key == DESK_KEY, 60, clock)
+    for host in ("203.0.113.9", "2001:db8::1"):
+        for _ in range(FREE_TRIES):
+            with pytest.raises(NotSignedIn, match="isn't the desk's key"):
+                sessions.sign_in(ADA, WRONG_KEY, host)
+    for host in ("203.0.113.9", "2001:db8::ffff"):  # (whoever has the one address of a network has the other too)
+        with pytest.raises(NotSignedIn, match="Wait 61 seconds"):
+            sessions.sign_in(ADA, DESK_KEY, host)
+    for host in ("203.0.113.10", "2001:db8:0:1::1", "127.0.0.1", "no address"):
+        assert sessions.of(sessions.sign_in(ADA, DESK_KEY, host))
+
+
+def test_only_so_many_addresses_are_remembered() -> None:
+    clock = Clock()
+    tries = Tries(clock)
+    for _ in range(FREE_TRIES):
+        tries.wrong("198.51.100.1")
+    assert tries.wait("198.51.100.1") == 60
+    for number in range(MOST_ADDRESSES):
+        tries.wrong(f"10.{number >> 16}.{number >> 8 & 255}.{number & 255}")
+    assert tries.wait("198.51.100.1") < 0 and tries.wait("10.0.0.0") < 0
+
+
+@pytest.mark.parametrize(
+    "typed", ["-".join([DESK_KEY[:16], DESK_KEY[16:]]), f" {DESK_KEY[:8].upper()} {DESK_KEY[8:]} "]
+)
+def test_a_key_may_be_typed_with_blanks_hyphens_and_capitals(application: Application, typed: str) -> None:
+    assert application.person().signed_in(ADA, typed).status_code == 303
+
+
+@pytest.mark.parametrize("front", ["https://prices.example/desk/", "https://Prices.example:443/desk"])
+def test_behind_a_front_a_cookie_goes_by_tls_only_and_forms_come_from_there(
+    application: Application, front: str
+) -> None:
+    """The front hands on the name by which it was asked for; other names are no page of the application's."""
+    reached = Reached("127.0.0.1:8090", front)
+    assert (reached.prefix, reached.trusted_proxy) == ("/desk", "127.0.0.1")
+    client = make_app(application.desk, reached).test_client()
+    form = {"name": ADA, "key": DESK_KEY, "to": "/"}
+
+    def sign_in(host: str, origin: str) -> Any:
+        return client.post("/sign-in", data=form, base_url=f"http://{host}", headers={"Origin": origin})
+
+    by_front = sign_in("prices.example", "https://prices.example")
+    assert by_front.status_code == 303 and "; Secure;" in by_front.headers["Set-Cookie"]
+    here = sign_in("127.0.0.1:8090", "http://127.0.0.1:8090")
+    assert here.status_code == 303 and "Secure" not in here.headers["Set-Cookie"]
+    assert sign_in("prices.example", "https://evil.example").status_code == 403
+    assert sign_in("prices.example", "http://prices.example").status_code == 403
+    assert sign_in("evil.example", "https://evil.example").status_code == 400
+
+
+def test_without_a_front_the_name_of_one_is_refused_with_what_to_set(application: Application) -> None:
+    answer = application.person().client.get("/sign-in", base_url="http://prices.example")
+    assert answer.status_code == 400 and "Set-Cookie" not in answer.headers
+    words = words_of(answer.text)
+    assert "This application isn't prices.example : it is reached as http://127.0.0.1:8090/ ." in words
+    assert "CPI_DESK_FRONT" in words
+    assert (Reached("[::1]:8090", None).trusted_proxy, Reached("[::1]:8090", "https://x/").trusted_proxy) == (
+        None,
+        "::1",
+    )
 
 
 def test_a_sign_in_that_waits_for_the_office_holds_nobody_up() -> None:

@@ -359,7 +359,11 @@ def test_the_life_of_a_series_has_a_page(whole: Whole, tmp_path: Path) -> None:
     cells = re.findall(r"<td[^>]*>(?:<bdi>)?([^<]*)(?:</bdi>)?</td>", text)
     assert cells[::9] == [month_name(month) for month in surveys.MONTHS[:8]]
     title, fact = re.sub("</?bdi>", "", text), told.out.splitlines()[1]
-    assert f"<h1>{told.out.splitlines()[0]}</h1>" in title and "2026-06" in fact and f"<p>{fact.replace('2026-06', 'June 2026')}</p>" in text
+    assert (
+        f"<h1>{told.out.splitlines()[0]}</h1>" in title
+        and "2026-06" in fact
+        and f"<p>{fact.replace('2026-06', 'June 2026')}</p>" in text
+    )
     assert page.stat().st_mode & 0o777 == 0o600
 
 

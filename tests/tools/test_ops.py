@@ -505,7 +505,7 @@ def test_a_night_after_another_one_of_the_day_and_one_that_broke_off(tmp_path: P
 FILLED = {
     "@HTTP@": "18080", "@HTTPS@": "18443", "@HOST@": "localhost", "@PORT@": "18081", "@CERT@": "cert.pem",
     "@CERTKEY@": "key.pem", "@LOG@": "front.log", "@CACHE@": "cache", "@SOCKET@": "front.sock", "@WEB@": "web",
-    "@CONFIG@": "config.js", "@SITE@": "site", "@CALENDAR@": "calendar.json",
+    "@CONFIG@": "config.js", "@SITE@": "site", "@CALENDAR@": "calendar.json", "@DESKPORT@": "18090",
 }  # fmt: skip
 
 

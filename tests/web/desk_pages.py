@@ -8,25 +8,25 @@ import subprocess
 import sys
 from collections.abc import Iterator
 from pathlib import Path
-from typing import Optional
+from typing import Any, Optional
 
+from selenium.webdriver.common.action_chains import ActionChains
 from selenium.webdriver.common.keys import Keys
-
-from cpi_tools.front import free_port
 
 from browser import Browser
 from offices import DESK
 from stage import ROOT, Stage
 
-PREFIX = "/desk-app"
+PREFIX = "/desk"
 
 
 class DeskPages:
-    """The process, with more words on its command line; it can be killed, and another one takes its place over the same
-    folder."""
+    """The process, at the port that the front leads to, with more words on its command line; it can be killed, and another
+    one takes its place over the same folder."""
 
     def __init__(self, stage: Stage, folder: Path, front: str = "", *more: str):
-        self.stage, self.folder, self.front, self.port, self.more = stage, folder, front, free_port(), more
+        self.stage, self.folder, self.front, self.more = stage, folder, front, more
+        self.port = stage.front.place.desk_port
         self.process: Optional[subprocess.Popen[str]] = None
         self.start()
 
@@ -78,7 +78,9 @@ class Person:
         self.browser.driver.get(self.pages.url + path)
 
     def type(self, *keys: str) -> None:
-        self.browser.driver.switch_to.active_element.send_keys(*keys)
+        # (to an element that takes a file, selenium sends the name of one)
+        chains: Any = ActionChains  # (selenium has no types)
+        chains(self.browser.driver).send_keys(*keys).perform()
 
     def reach(self, selector: str) -> None:
         """Goes by Tab to an element."""

@@ -28,11 +28,11 @@ def takes_notes(stage: Stage, pages: DeskPages, speech: Speech = ENGLISH) -> Ite
     """The front hands notes to an application, and the pages say that the office takes them, meanwhile."""
     file = stage.folder / "config.js"
     file.write_text(CONFIG.format(**speech._asdict()).replace("\n});", "\n  notes: true,\n});"), encoding="utf-8")
-    own, listening = f"{ROOT / 'web'}/config.js", "127.0.0.1:8090"
+    own, listening = f"{ROOT / 'web'}/config.js", f"127.0.0.1:{pages.port}"
 
     def changed(text: str) -> str:
         assert own in text and listening in text
-        return text.replace(own, str(file)).replace(listening, f"127.0.0.1:{pages.port}")
+        return text.replace(own, str(file))
 
     stage.front.stop()
     stage.front.start(changed)

@@ -48,9 +48,8 @@ class Stage:
         self.relay = Relay(relay_port, self.office_port)
         self.plain_port = plain_port
         self.calendar, self.published = folder / "calendar.json", folder / "published"
-        plain, web = f"127.0.0.1:{plain_port}", ROOT / "web"
-        own = {"calendar": self.calendar, "published": self.published}
-        place = Place("localhost", "127.0.0.1", free_port(), plain, relay_port, web, **own)
+        plain, web, own = f"127.0.0.1:{plain_port}", ROOT / "web", (None, self.published, self.calendar)
+        place = Place("localhost", "127.0.0.1", free_port(), plain, relay_port, web, *own, desk_port=free_port())
         draw_certificate(folder, place.host)
         self.front = Front(ROOT / "ops/nginx.conf", folder, place)
         self.context = ssl.create_default_context(cafile=str(folder / "ca.crt"))

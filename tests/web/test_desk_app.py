@@ -11,10 +11,10 @@ from pathlib import Path
 from cpi_tools.desk_app.desk_log import DeskLog
 
 from browser import Browser
-from desk_pages import PREFIX, Person, desk_pages
-from offices import ANNA, ARABIC, BENO, DESK, IMAGE, LEAVING, OVERRIDE, SCRIPT
+from desk_pages import Person
+from offices import ANNA, ARABIC, BENO, IMAGE, LEAVING, OVERRIDE, SCRIPT
 from readable import faults_for_keys, faults_of_page, faults_of_texts
-from stage import ROOT, Stage
+from stage import Stage
 
 MONTH = "2011-03"
 FAR = 9_999_999_000
@@ -134,38 +134,3 @@ def test_pages_can_be_read_on_a_desk_and_on_a_phone(stage: Stage, ada: Person, b
         found += [f"{path}: {fault}" for fault in faults_of_texts(browser, others)]
         assert browser.driver.title != "owned"
     assert found == []
-
-
-def test_behind_the_front_it_is_off_and_can_be_turned_on(stage: Stage, browser: Browser, tmp_path: Path) -> None:
-    assert stage.ask("GET", f"{PREFIX}/sign-in").status == 404
-    with desk_pages(stage, tmp_path, f"{stage.url}{PREFIX}/") as pages:
-        stage.front.stop()
-        stage.front.start(lambda text: turned_on(text).replace("127.0.0.1:8090", f"127.0.0.1:{pages.port}"))
-        try:
-            person = Person(browser, pages)
-            person.sign_in("Ada")
-            cookie = browser.driver.get_cookie("cpi_desk")
-            assert (cookie["secure"], cookie["httpOnly"], cookie["sameSite"]) == (True, True, "Strict")
-            assert cookie["path"] == PREFIX
-            person.send("outlet,72,Behind the front")
-            answer = stage.ask("GET", f"{PREFIX}/sign-in")
-            assert answer.fields["Content-Security-Policy"].startswith("default-src 'none'; style-src 'self';")
-            assert answer.fields["Referrer-Policy"] == "same-origin" and answer.fields["Cache-Control"] == "no-store"
-            assert "max-age" in answer.fields["Strict-Transport-Security"] and browser.faults() == []
-            assert DESK not in stage.logs()
-        finally:
-            stage.front.stop()
-            stage.front.start()
-
-
-def turned_on(text: str) -> str:
-    """The front with the location of the application, whose lines begin with `    #| `."""
-    assert text.count("#| ") > 5
-    return text.replace("    #| ", "    ").replace(
-        "deny all; # (the office's network", "# deny all; # (the office's network"
-    )
-
-
-def test_the_front_and_the_unit_name_one_port() -> None:
-    assert "127.0.0.1:8090" in (ROOT / "ops/nginx.conf").read_text(encoding="utf-8")
-    assert "127.0.0.1:8090" in (ROOT / "ops/cpi-desk").read_text(encoding="utf-8")

@@ -35,7 +35,7 @@ def test_the_first_page_is_the_websites(browser: Browser, stage: Stage, website:
     assert browser.run("return location.pathname + location.search") == "/published/choose.html?items=01"
 
 
-@pytest.mark.parametrize("name", ["shared/base.css", "first.css", "desk/desk.css"])
+@pytest.mark.parametrize("name", ["shared/base.css", "first.css"])
 def test_a_colour_has_a_name_in_the_root(name: str) -> None:
     """So that the dark scheme and a printer change all of them."""
     style = (ROOT / "web" / name).read_text(encoding="utf-8")

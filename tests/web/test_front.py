@@ -299,7 +299,7 @@ def test_the_calendar_is_asked_for_again_each_time_and_not_there_until_it_is_wri
 
 
 def test_the_policy_of_the_pages(stage: Stage) -> None:
-    for path in ("/", "/collect/", "/desk/", "/collect/sw.js", "/config.js", "/nothing", "/api"):
+    for path in ("/", "/collect/", "/collect/sw.js", "/config.js", "/nothing", "/api"):
         fields = stage.ask("GET", path).fields
         policy = fields["Content-Security-Policy"]
         assert policy.startswith("default-src 'none'; script-src 'self'; style-src 'self'; ")

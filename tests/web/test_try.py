@@ -57,6 +57,21 @@ class Trial:
             assert not answer.getheader("Strict-Transport-Security")
             return answer.status, answer.read()
 
+    def signs_in_at_the_desk(self, key: str) -> None:
+        """A person signs in with the desk's key, and sees the month."""
+        context = ssl.create_default_context(cafile=str(self.folder / "ca.crt"))
+        line = http.client.HTTPSConnection("localhost", self.port, context=context, timeout=SECONDS)
+        fields = {"Content-Type": "application/x-www-form-urlencoded", "Origin": f"https://localhost:{self.port}"}
+        with contextlib.closing(line):
+            line.request("POST", "/desk/sign-in", f"name=Ada&key={key}&to=/month/{NOW}/", fields)
+            answer = line.getresponse()
+            assert (answer.status, answer.read()) and answer.status == 303, answer.status
+            cookie = str(answer.getheader("Set-Cookie")).partition(";")[0]
+            line.request("GET", str(answer.getheader("Location")), headers={"Cookie": cookie})
+            answer = line.getresponse()
+            page = answer.read().decode()
+            assert answer.status == 200 and f"/desk/month/{NOW}/table" in page and "The window closes" in page
+
     def stop(self, how: int) -> int:
         """Its status after a signal."""
         with self.process:
@@ -97,9 +112,10 @@ def test_it_tells_where_to_point_a_phone_and_stops_at_ctrl_c(trial: Trial) -> No
     assert f"{url}/ca.crt" in trial.told and fingerprint(trial.folder / "ca.crt") in trial.told
     known = (ROOT / "examples/national/collectors.csv").read_text().splitlines()[1].split(",")[1]
     assert collector[1] == link[1] == known
-    paths = ("/published/", "/published/choose.html", "/collect/", "/desk/", "/api/tables")
+    paths = ("/published/", "/published/choose.html", "/collect/", "/desk/sign-in", "/api/tables")
     assert [trial.get(path)[0] for path in paths] == [200] * 5
-    assert [trial.get(path)[0] for path in ("/", "/tables/")] == [302, 301]
+    assert [trial.get(path)[0] for path in ("/", "/tables/", "/desk/")] == [302, 301, 302]
+    assert b"Sign in at the desk" in trial.get("/desk/sign-in")[1]
     assert "in February 2011" in trial.get("/published/")[1].decode().partition("<h1>")[2].replace("In ", "in ")
     assert trial.get("/ca.crt") == (200, (trial.folder / "ca.crt").read_bytes())
     assert trial.get(f"/api/work/{NOW}", ANNA)[0] == 200
@@ -107,7 +123,8 @@ def test_it_tells_where_to_point_a_phone_and_stops_at_ctrl_c(trial: Trial) -> No
     (window,) = json.loads(trial.get("/calendar.json")[1])["months"]
     assert window["month"] == NOW and window["closes"] > time.time()
     assert not (trial.folder / "ca.key").exists()
-    assert len(trial.children) == 2
+    assert len(trial.children) == 3
+    trial.signs_in_at_the_desk(desk[1])
     assert trial.stop(signal.SIGINT) == 0
     assert trial.left() == []
 
@@ -124,6 +141,17 @@ def test_another_office_is_copied_and_the_certificate_stays(cpi: Cpi, made: Path
         assert trial.left() == []
     assert prints[0] == prints[1]
     assert made.read_bytes() == before
+
+
+def test_its_pages_speak_a_language(cpi: Cpi, made: Path, tmp_path: Path) -> None:
+    trial = Trial(cpi, tmp_path / "try", "--db", str(made), "--language", "fr")
+    try:
+        config = trial.get("/config.js")[1].decode()
+        assert 'language: "fr",' in config and 'decimal: ",",' in config
+        assert b'<html lang="fr"' in trial.get("/published/")[1]
+        assert b'<html lang="en"' in trial.get("/published/en/")[1]
+    finally:
+        assert trial.stop(signal.SIGTERM) == 143
 
 
 def test_the_commands_of_the_guide_are_its_words() -> None:
@@ -148,6 +176,7 @@ def test_the_commands_of_the_guide_are_its_words() -> None:
         (["--program", "/nowhere/cpi"], 1, "ops/try: /nowhere/cpi, named by --program, is no program"),
         (["--zone", "CET"], 1, "ops/try: --zone CET: cpi: bad zone"),
         (["--db", str(TRY)], 1, "ops/try: /"),  # (it is no office)
+        (["--language", "xx"], 2, "ops/try: argument --language: 'xx' has no catalogue: one of en, ar, es, fr"),
         (["--port", "x"], 2, "ops/try: argument --port: x is no port: 1 to 65535"),
         (["--port", "65536"], 2, "ops/try: argument --port: 65536 is no port: 1 to 65535"),
         (["--other"], 2, "ops/try: unrecognized arguments: --other"),

@@ -11,9 +11,6 @@ export class NoAnswer extends Error {
   }
 }
 
-/** A body of more bytes than this is refused before it is read. */
-export const MOST_BYTES = 65_536;
-
 /** The reply as an object, or a table as { text }. What is asked is given up after so many seconds, or by a signal. */
 export async function ask(method, path, { key, body, seconds = 60, signal } = {}) {
   const headers = key ? { Authorization: `CPI-Key ${key}` } : {};

@@ -69,9 +69,6 @@ function plain(text, currency) {
   return signs.includes(undefined) ? "" : signs.join("");
 }
 
-/** A text whose digits are 0 to 9, whatever script they were typed in. */
-export const inPlainDigits = (text) => text.replace(/\p{Nd}/gu, valueOf);
-
 /** The value of a decimal digit: each script has its ten in a row from zero on (The Unicode Standard, section 4.6). */
 function valueOf(digit) {
   const code = digit.codePointAt(0);

@@ -5,9 +5,8 @@ No page has a script, and the policy lets none run: what a person or a collector
 
 from __future__ import annotations
 
-import urllib.parse
 from pathlib import Path
-from typing import NamedTuple, Optional
+from typing import Optional
 
 import flask
 from werkzeug.exceptions import HTTPException
@@ -16,7 +15,7 @@ from werkzeug.wrappers import Response
 from .. import pages, section_pages
 from ..others import of_others
 from ..terminal import Fault
-from ..told import Told, told as _
+from ..told import Told, sentences, told as _, whole
 from . import (
     calendar_views,
     freeze_views,
@@ -34,6 +33,7 @@ from . import (
 from .asked import file_name
 from .desk import Desk
 from .faults import says
+from .reached import Reached
 from .sessions import Session
 from .sign_in_views import COOKIE
 
@@ -43,15 +43,21 @@ TEMPLATES = Path(__file__).resolve().parent / "templates"
 FREE = ("sign_in.show", "sign_in.enter", "style")
 """What is answered without a session, by the names of the views."""
 
+SETTINGS = "CPI_DESK_FRONT, --front"
+
 FIELD, FIELD_PATHS = "field", "/notes/"
 """The views that collectors' phones ask, each time with a key of their own, and where they are."""
 ENDED = _("Your session has ended, so nothing was done. Sign in in another tab, go back here, and send it again.")
 NO_PAGE = _("There is no such page.")
-BY_STATUS = {404: NO_PAGE, 405: NO_PAGE, 413: _("The form is longer than is taken.")}
-"""What is said to a request that isn't carried out."""
+MOST_BYTES = 16_000_000
+"""Bytes of a form at most; the front takes as many."""
 
-MOST_BYTES = 4_000_000
-"""Bytes of a form at most."""
+TOO_LONG = _(
+    "A form has {most} bytes at most: send a longer file in parts, or with cpi replay. Nothing was sent.",
+    most=whole(MOST_BYTES),
+)
+BY_STATUS = {404: NO_PAGE, 405: NO_PAGE, 413: TOO_LONG}
+"""What is said to a request that isn't carried out."""
 
 POLICY = (
     "default-src 'none'; style-src 'self'; img-src 'self' data:; form-action 'self'; base-uri 'none';"
@@ -68,37 +74,11 @@ FIELDS = {
 }
 
 
-class Reached(NamedTuple):
-    """How the application is reached: host and port where it listens, and its address behind a front, if there is
-    one."""
-
-    listen: str
-    front: Optional[str]
-
-    @property
-    def hosts(self) -> set[str]:
-        """The values of the field Host that are taken: those of other names could be a page of elsewhere."""
-        port = self.listen.rpartition(":")[2]
-        front = {urllib.parse.urlsplit(self.front).netloc} if self.front else set[str]()
-        return {self.listen, f"localhost:{port}", *front}
-
-    @property
-    def origins(self) -> set[str]:
-        """The origins whose forms are taken."""
-        own = {f"http://{host}" for host in Reached(self.listen, None).hosts}
-        at = urllib.parse.urlsplit(self.front or "")
-        return {*own, f"{at.scheme}://{at.netloc}"} if self.front else own
-
-    @property
-    def is_secure(self) -> bool:
-        """Whether browsers reach it by TLS."""
-        return bool(self.front and self.front.startswith("https:"))
-
-
 def make_app(desk: Desk, reached: Reached) -> flask.Flask:
     """The application over a desk."""
     app = flask.Flask(__name__, static_folder=None, template_folder=None)
-    app.config.update(MAX_CONTENT_LENGTH=MOST_BYTES)
+    # (later versions of Flask know a second limit, of what isn't a file)
+    app.config.update(MAX_CONTENT_LENGTH=MOST_BYTES, MAX_FORM_MEMORY_SIZE=MOST_BYTES)
     templates = section_pages.environment(TEMPLATES, desk.teller)
     templates.globals.update(url_for=flask.url_for, file_name=file_name, day=desk.teller.day)
 
@@ -148,7 +128,7 @@ def _let_in() -> Optional[Response]:
     desk: Desk = flask.current_app.extensions["desk"]
     reached: Reached = flask.current_app.extensions["reached"]
     request = flask.request
-    if request.host not in reached.hosts:
+    if request.host.lower() not in reached.hosts:
         return _refused(400, _not_here(request.host, reached))
     if request.path.startswith(FIELD_PATHS):
         return None if request.blueprint == FIELD else _refused(404, NO_PAGE)
@@ -168,8 +148,12 @@ def _let_in() -> Optional[Response]:
 
 
 def _not_here(host: str, reached: Reached) -> Told:
-    address = of_others(sorted(reached.hosts)[0])
-    return _("This application isn't {host}: it is reached as {address}.", host=of_others(host), address=address)
+    """Why a host isn't taken, and what to do."""
+    places = {"host": of_others(host), "address": of_others(reached.address)}
+    first = _("This application isn't {host}: it is reached as {address}.", **places)
+    if reached.front:
+        return first
+    return sentences(first, _("Behind a front it needs its address there ({names}).", names=of_others(SETTINGS)))
 
 
 def _refused(status: int, told: object) -> Response:

@@ -8,6 +8,7 @@ from typing import NamedTuple
 import flask
 from werkzeug.wrappers import Response
 
+from ..calendar_file import text_of, windows_since
 from ..stored import read_copy
 from ..terminal import Fault, month_text
 from ..told import Told, whole
@@ -89,3 +90,14 @@ def judge_year(year: int) -> Response:
     except Fault as fault:
         return shown_year(year, 503, str(fault))
     return flask.redirect(flask.url_for("sample.show", kind=kind.name), 303)
+
+
+# ---- the phones
+
+
+@views.get("/calendar/calendar.json")
+def phones() -> Response:
+    """The file by which phones show a deadline, as `cpi-tools calendar` writes it."""
+    with desk().copies_now() as copy, read_copy(copy.path) as office:
+        windows = windows_since(office.calendar(), None, int(time.time()))
+    return flask.Response(text_of(windows), mimetype="application/json")

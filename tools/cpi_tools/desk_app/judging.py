@@ -5,16 +5,20 @@ from __future__ import annotations
 
 import csv
 import time
-from collections.abc import Sequence
+from collections.abc import Iterator, Sequence
 from pathlib import Path
+from typing import NamedTuple
 
 from ..copying import private_copy
+from ..desk.early import early_tables
 from ..pack.clocks import Clock
 from ..program import Cpi, Reply, record
 from ..others import of_others
-from ..terminal import Fault
+from ..stored import read_copy
+from ..terminal import Fault, a_month
+from ..told import Told, whole
 from ..told import told as _
-from ..told import whole
+from ..trial import state_of
 from .standing import TABLES
 
 FREEZE = "freeze"
@@ -22,7 +26,11 @@ FREEZE = "freeze"
 WORDS = tuple(word for word in TABLES if word != FREEZE)
 """The words that are taken here: a freeze has a page of its own, on which two people confirm it."""
 
-MOST_RECORDS = 20_000
+MOST_ROWS = 20_000
+"""Rows of an import at most, and of what is pasted into a table."""
+
+MOST_RECORDS = 200_000
+"""So many assignments are in a file of 8 MB."""
 
 
 class NotRead(Fault):
@@ -78,12 +86,51 @@ def _moment(text: str, clock: Clock) -> str:
         return text
 
 
+class Judged(NamedTuple):
+    """What `cpi` answers to records, and warnings of tables that would come out too early by their windows."""
+
+    replies: list[Reply]
+    warnings: list[Told]
+
+
 def judged(cpi: Cpi, office_copy: Path, records: Sequence[Sequence[str]]) -> list[Reply]:
     """What `cpi` answers to records now, on a further copy. Raises Fault."""
+    return judge(cpi, office_copy, records).replies
+
+
+def judge(cpi: Cpi, office_copy: Path, records: Sequence[Sequence[str]]) -> Judged:
+    """The same, with warnings. Raises Fault."""
     now = int(time.time())
-    # (as one import, so that the copy is written once, and not for each record)
-    asked = record(now, "desk", "import", "".join(f"{record(*fields)}\n" for fields in records))
     with private_copy(office_copy) as copy:
-        (reply,) = cpi.replay([asked] if records else [], db=copy) or [{"rows": []}]
-    replies: list[Reply] = reply.get("rows", [reply] * len(records))
-    return replies
+        replies = _replies(cpi, copy, records, now)
+        set_now = {it[1] for it, reply in zip(records, replies) if it[0] == "calendar" and reply.get("done")}
+        warnings = {str(it): it for it in _warnings(copy, sorted(set_now), now)} if set_now else {}
+        return Judged(replies, [*warnings.values()])
+
+
+def _replies(cpi: Cpi, copy: Path, records: Sequence[Sequence[str]], now: int) -> list[Reply]:
+    """The replies to records on a copy, in imports, so that the copy is written a few times, and not for each record."""
+    parts = [records[at : at + MOST_ROWS] for at in range(0, len(records), MOST_ROWS)]
+    asked = [record(now, "desk", "import", "".join(f"{record(*fields)}\n" for fields in part)) for part in parts]
+    found = list[Reply]()
+    for part, reply in zip(parts, cpi.replay(asked, db=copy)):
+        found += reply.get("rows", [reply] * len(part))
+    return found
+
+
+def _warnings(office_copy: Path, months: Sequence[str], now: int) -> Iterator[Told]:
+    """The warnings on some months of an office."""
+    with read_copy(office_copy) as office:
+        for month in months:
+            yield from (it.told() for it in early_tables(office, state_of(office, a_month(month)), now))
+
+
+def lines_of(text: str) -> list[int]:
+    """The line of a text at which each of its records begins, counted from 1."""
+    found, begun = list[int](), 1
+    rows = csv.reader(text.splitlines(keepends=True), strict=True)
+    for fields in rows:
+        if fields:
+            found.append(begun)
+        begun = rows.line_num + 1
+    return found

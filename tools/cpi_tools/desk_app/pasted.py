@@ -12,7 +12,7 @@ from typing import NamedTuple, Optional
 
 from ..cells import shown
 from ..months_of_texts import month_of
-from .judging import MOST_RECORDS, NotRead
+from .judging import MOST_ROWS, NotRead
 from .sample_kinds import Kind, column_of, told_columns
 
 SEPARATORS = {"\t": "tabs", ";": "semicolons", ",": "commas"}
@@ -45,8 +45,8 @@ def pasted(text: str, kind: Kind) -> Pasted:
         unread = [head for head, column in zip(columns.written, columns.names) if head and not column]
     else:
         unread = []
-    if len(lines) > MOST_RECORDS:
-        raise NotRead(f"there are {len(lines):,} rows: {MOST_RECORDS:,} are taken at once at most")
+    if len(lines) > MOST_ROWS:
+        raise NotRead(f"there are {len(lines):,} rows: {MOST_ROWS:,} are taken at once at most")
     names = columns.names if columns else None
     return Pasted([cells_of(line, kind, names, separator) for line in lines], unread)
 

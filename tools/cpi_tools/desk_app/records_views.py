@@ -3,7 +3,7 @@
 from __future__ import annotations
 
 from collections.abc import Sequence
-from typing import Optional
+from typing import NamedTuple, Optional
 
 import flask
 from werkzeug.wrappers import Response
@@ -14,39 +14,85 @@ from ..terminal import Fault
 from ..told import told as _
 from .asked import desk, page, session
 from .faults import says
-from .judging import judged, records_of
+from .given_files import given
+from .judging import judge as judge_on_copy
+from .judging import lines_of, records_of
 from .told import NOT_SENT, Told, told
 
 views = flask.Blueprint("records", __name__)
 
 
+SHOWN = 200
+"""Rows of a kind that a page lists."""
+
+MOST_SHOWN_BYTES = 500_000
+"""Bytes of a text that is put into a field again, if it couldn't be read as records."""
+
+
+class Row(NamedTuple):
+    """A record with the line at which it is, and what is told of it."""
+
+    line: int
+    told: Told
+
+
 @views.get("/records")
 def show() -> Response:
     """The form."""
-    return page("records.html", text="", fault="", rows=[], offer="")
+    return records_page()
+
+
+def records_page(status: int = 200, /, **named: object) -> Response:
+    """The page of records: what was judged, and a form for more."""
+    empty = {
+        "text": "",
+        "fault": "",
+        "rows": [],
+        "offer": "",
+        "good": 0,
+        "bad": 0,
+        "warnings": [],
+        "plan": None,
+        "file": "",
+    }
+    return page("records.html", status, **{**empty, **named})
 
 
 @views.post("/records/judge")
 def judge() -> Response:
-    """What each record would be answered."""
-    text = flask.request.form.get("text", "") or of_fields()
+    """What each record would be answered. The form has records in `text`, or in `file`, or a record's `word` with each
+    argument in a `field`, or the `year` and rows of a plan."""
     try:
-        records = records_of(text, desk().given.clock)
-        with desk().copies_now() as copy:
-            replies = judged(desk().cpi, copy.path, records)
+        found = given()
     except Fault as fault:
-        return page("records.html", 400, text=text, fault=says(fault), rows=[], offer="")
-    rows = [told(fields, reply) for fields, reply in zip(records, replies)]
-    good = [fields for fields, row in zip(records, rows) if row.is_done]
-    left = "".join(f"{row.record}\n" for row in rows if not row.is_done)
-    offer = session().offer(good) if good else ""
-    return page("records.html", text=left, fault="", rows=rows, offer=offer, good=len(good))
+        return records_page(400, text=flask.request.form.get("text", ""), fault=says(fault))
+    try:
+        records = records_of(found.text, desk().given.clock)
+        with desk().copies_now() as copy:
+            replies, warnings = judge_on_copy(desk().cpi, copy.path, records)
+    except Fault as fault:
+        kept = "" if found.plan or len(found.text) > MOST_SHOWN_BYTES else found.text
+        return records_page(400, text=kept, plan=found.plan, fault=says(fault), file=found.file)
+    rows = [Row(*it) for it in zip(lines_of(found.text), map(told, records, replies))]
+    good = [fields for fields, row in zip(records, rows) if row.told.is_done]
+    bad = [row for row in rows if not row.told.is_done]
+    return records_page(
+        text="" if found.plan else "".join(f"{row.told.record}\n" for row in bad),
+        plan=found.plan if bad else None,
+        rows=shown(rows),
+        good=len(good),
+        bad=len(bad),
+        warnings=warnings,
+        offer=session().offer(good) if good else "",
+    )
 
 
-def of_fields() -> str:
-    """The record of a form that has a word and a field for each of its arguments; none of any other form."""
-    form = flask.request.form
-    return line_of([form["word"], *form.getlist("field")]) if form.get("word") else ""
+def shown(rows: Sequence[Row]) -> list[Row]:
+    """The rows that a page lists: all of them, or the first ones of each kind, those that are refused first."""
+    if len(rows) <= SHOWN:
+        return [*rows]
+    kinds = [[row for row in rows if row.told.is_done == is_done] for is_done in (False, True)]
+    return [row for kind in kinds for row in kind[:SHOWN]]
 
 
 @views.post("/records/send")
@@ -56,18 +102,18 @@ def send() -> Response:
     records, left = session().judged.pop(form.get("offer", ""), None), form.get("left", "")
     if records is None:
         fault = _("These records were sent already, or the session is another one: the log says what became of them.")
-        return page("records.html", 409, text=left, fault=fault, rows=[], offer="")
+        return records_page(409, text=left, fault=fault)
     try:
         replies = desk().send(session(), records)
     except Fault as fault:
         text = left + "".join(f"{line_of(fields)}\n" for fields in records)
-        told_so = _("Nothing was sent: {fault}", fault=says(fault))
-        return page("records.html", 503, text=text, fault=told_so, rows=[], offer="")
+        return records_page(503, text=text, fault=_("Nothing was sent: {fault}", fault=says(fault)))
     rows = answered(records, replies)
     text = left + "".join(
         f"{row.record}\n" for row in rows if row.answer == NOT_SENT or row.answer.startswith("refused")
     )
-    return page("records-sent.html", rows=rows, text=text, done=sum(row.is_done for row in rows))
+    listed = rows if len(rows) <= SHOWN else [row for row in rows if not row.is_done][:SHOWN]
+    return page("records-sent.html", rows=listed, count=len(rows), text=text, done=sum(row.is_done for row in rows))
 
 
 def answered(records: Sequence[Sequence[str]], replies: Sequence[Optional[Reply]]) -> list[Told]:

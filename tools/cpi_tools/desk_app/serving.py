@@ -8,14 +8,14 @@ import os
 import sys
 import tempfile
 import threading
-import urllib.parse
 from pathlib import Path
 
 import waitress
 
 from ..terminal import Fault, because_of
-from .app import Reached, make_app
+from .app import MOST_BYTES, make_app
 from .desk import Desk, Given
+from .reached import Reached
 
 THREADS = 8
 
@@ -48,10 +48,19 @@ def room(folder: Path) -> None:
 
 def listening(desk: Desk, reached: Reached) -> None:
     """Listens, says so, and answers."""
-    prefix = urllib.parse.urlsplit(reached.front or "").path.rstrip("/")
     try:
+        # (a front says whose request it is, and nobody else may)
         server = waitress.create_server(
-            make_app(desk, reached), listen=reached.listen, threads=THREADS, url_prefix=prefix, ident=""
+            make_app(desk, reached),
+            listen=reached.listen,
+            threads=THREADS,
+            url_prefix=reached.prefix,
+            ident="",
+            # (the application refuses what is longer than a form, in words)
+            max_request_body_size=4 * MOST_BYTES,
+            trusted_proxy=reached.trusted_proxy,
+            trusted_proxy_headers={"x-forwarded-for"} if reached.front else set[str](),
+            clear_untrusted_proxy_headers=True,
         )
     except (OSError, ValueError) as fault:
         raise Fault(f"{reached.listen} can't be listened at: {fault}") from fault

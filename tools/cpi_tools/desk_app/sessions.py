@@ -1,7 +1,7 @@
 """Who is at the desk: sessions in memory, each with the name of a person and the desk's key, which is written nowhere.
 
-The key is the office's, so each one is checked by asking the office. After some wrong keys nobody is let in for a
-while, longer with each further one.
+The key is the office's, so each one is checked by asking the office. After some wrong keys from an address nobody there
+is let in for a while (tries.py).
 """
 
 from __future__ import annotations
@@ -18,20 +18,16 @@ from typing import Optional
 from ..terminal import Fault
 from ..told import told as _
 from ..told import told_of, whole
+from .tries import Tries
 
 KEY = re.compile("[0-9a-f]{32}")
 
 MOST_LETTERS = 60
 """Letters of a name."""
 
-FREE_TRIES = 5
-"""Wrong keys before the first lock."""
-
-FIRST_LOCK, LONGEST_LOCK = 60, 1_800
-"""Seconds."""
-
 LONGEST_SESSION = 12 * 3_600
 """Seconds after which a person signs in again, however busy."""
+NO_KEY = _("This isn't the desk's key: 32 characters 0-9 and a-f, as in the office's desk-key file.")
 
 
 class NotSignedIn(Fault):
@@ -84,13 +80,14 @@ class Sessions:
         # (one person signs in at a time; while the office is asked, others go on)
         self._door, self._lock = threading.Lock(), threading.Lock()
         self._by_name: dict[str, Session] = {}
-        self._wrong, self._locked_until = 0, 0.0
+        self._tries = Tries(clock)
 
-    def sign_in(self, name: str, key: str) -> str:
-        """Begins a session; its name, which is a secret. Raises NotSignedIn, or what the office can't be asked for."""
+    def sign_in(self, name: str, key: str, address: str = "") -> str:
+        """Begins a session of a person at an address; its name, which is a secret. Raises NotSignedIn, or what the office
+        can't be asked for."""
         person = name_of(name)
         with self._door:
-            wait = self._locked_until - self._clock()
+            wait = self._tries.wait(address)
             if wait > 0:
                 raise NotSignedIn(
                     told_of(
@@ -100,20 +97,13 @@ class Sessions:
                     )
                 )
             if not KEY.fullmatch(key) or not self._is_desk(key):
-                raise self._wrong_key()
-            self._wrong = 0
+                self._tries.wrong(address)
+                raise NotSignedIn(NO_KEY)
+            self._tries.right(address)
         secret = secrets.token_urlsafe(32)
         with self._lock:
             self._by_name[secret] = Session(person, key, self._clock())
         return secret
-
-    def _wrong_key(self) -> NotSignedIn:
-        """Counts a wrong key, and locks the door after some."""
-        self._wrong += 1
-        over = self._wrong - FREE_TRIES
-        if over >= 0:
-            self._locked_until = self._clock() + min(LONGEST_LOCK, FIRST_LOCK * 2 ** min(over, 10))
-        return NotSignedIn(_("This isn't the desk's key: 32 characters 0-9 and a-f, as in the office's desk-key file."))
 
     def of(self, secret: Optional[str]) -> Optional[Session]:
         """The session of a secret, if it hasn't ended."""

@@ -7,6 +7,7 @@ from werkzeug.wrappers import Response
 
 from .asked import desk, page
 from .faults import says
+from .given_files import plain_digits
 from .office import NoReply, NotSent
 from .sessions import NotSignedIn
 
@@ -21,6 +22,11 @@ def place_after(to: str) -> str:
     return flask.request.script_root + (to if is_own else "/")
 
 
+def key_of(typed: str) -> str:
+    """A key as it was typed or pasted: with blanks, hyphens or capitals, perhaps, and with the digits of any keyboard."""
+    return "".join(plain_digits(typed).replace("-", "").split()).lower()
+
+
 @views.get("/sign-in")
 def show() -> Response:
     """The form."""
@@ -33,12 +39,12 @@ def enter() -> Response:
     form = flask.request.form
     name, to = form.get("name", ""), form.get("to", "/")
     try:
-        secret = desk().sessions.sign_in(name, form.get("key", "").strip())
+        secret = desk().sessions.sign_in(name, key_of(form.get("key", "")), flask.request.remote_addr or "")
     except (NotSignedIn, NotSent, NoReply) as fault:
         status = 403 if isinstance(fault, NotSignedIn) else 503
         return page("sign-in.html", status, to=to, name=name, told=says(fault))
     answer = flask.redirect(place_after(to), 303)
-    is_secure = flask.current_app.extensions["reached"].is_secure
+    is_secure = flask.current_app.extensions["reached"].is_secure(flask.request.host)
     path = flask.request.script_root or "/"
     answer.set_cookie(COOKIE, secret, httponly=True, samesite="Strict", secure=is_secure, path=path)
     return answer

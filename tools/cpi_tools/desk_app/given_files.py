@@ -1,0 +1,58 @@
+"""The text of a form that takes records: a file that was chosen, or what was typed."""
+
+from __future__ import annotations
+
+import unicodedata
+from typing import NamedTuple, Optional
+
+import flask
+
+from ..csv_files import line_of
+from ..others import of_others
+from ..told import told as _
+from .judging import NotRead
+
+PLAN = "plan"
+
+
+class Given(NamedTuple):
+    """Records as a text, the name of the file that they are from or none, and the year and rows of a form that has a plan
+    only."""
+
+    text: str
+    file: str
+    plan: Optional[tuple[str, str]]
+
+
+def given() -> Given:
+    """What the form of the request has: a file goes before what is typed. Raises NotRead."""
+    form, file = flask.request.form, flask.request.files.get("file")
+    name = (file.filename or "") if file else ""
+    content = text_of_file(name, file.read()) if file and name else None
+    if form.get("word") == PLAN:
+        year, rows = plain_digits(form.get("year", "")), content if content is not None else form.get("text", "")
+        plan = (year, rows.replace("\r\n", "\n"))
+        return Given(f"{line_of([PLAN, *plan])}\n", name, plan)
+    if form.get("word"):
+        first, *others = form.getlist("field")
+        return Given(f"{line_of([form['word'], plain_digits(first), *others])}\n", name, None)
+    return Given(content if content is not None else form.get("text", ""), name, None)
+
+
+def text_of_file(name: str, content: bytes) -> str:
+    """The text of a file. Raises NotRead."""
+    try:
+        text = content.decode("utf-8-sig")
+        if "\0" in text:
+            raise ValueError
+    except ValueError as fault:
+        says = _(
+            "{file} is no text in UTF-8. Save a spreadsheet as CSV, in UTF-8. Nothing was sent.", file=of_others(name)
+        )
+        raise NotRead(says) from fault
+    return text
+
+
+def plain_digits(typed: str) -> str:
+    """A text with the digits 0 to 9, whatever the keyboard writes, and without blanks around it."""
+    return "".join(str(unicodedata.decimal(it, it)) for it in typed.strip())

@@ -1,0 +1,60 @@
+"""How the application is reached: at this machine, and perhaps through a front that speaks TLS and passes on whose request
+it is."""
+
+from __future__ import annotations
+
+import ipaddress
+import urllib.parse
+from typing import NamedTuple, Optional
+
+DEFAULT_PORTS = {"http": ":80", "https": ":443"}
+
+
+class Reached(NamedTuple):
+    """Host and port where the application listens, and its address behind a front, if there is one."""
+
+    listen: str
+    front: Optional[str]
+
+    @property
+    def own_hosts(self) -> set[str]:
+        """The values of the field Host of those who come without the front."""
+        return {self.listen, f"localhost:{self.listen.rpartition(':')[2]}"}
+
+    @property
+    def front_host(self) -> str:
+        """The same of those who come through the front; none without one."""
+        at = urllib.parse.urlsplit(self.front or "")
+        return at.netloc.lower().removesuffix(DEFAULT_PORTS.get(at.scheme, "")) if self.front else ""
+
+    @property
+    def hosts(self) -> set[str]:
+        """The values of the field Host that are taken: those of other names could be a page of elsewhere."""
+        return {*self.own_hosts, *([self.front_host] if self.front else [])}
+
+    @property
+    def origins(self) -> set[str]:
+        """The origins whose forms are taken."""
+        own = {f"http://{host}" for host in self.own_hosts}
+        scheme = urllib.parse.urlsplit(self.front or "").scheme
+        return {*own, *([f"{scheme}://{self.front_host}"] if self.front else [])}
+
+    @property
+    def prefix(self) -> str:
+        """The path before each of the application's own, as /desk; none without a front."""
+        return urllib.parse.urlsplit(self.front or "").path.rstrip("/")
+
+    @property
+    def trusted_proxy(self) -> Optional[str]:
+        """The address from which the front calls, who says whose request it is; None without one."""
+        host = ipaddress.ip_address(self.listen.rpartition(":")[0].strip("[]"))
+        return ("::1" if host.version == 6 else "127.0.0.1") if self.front else None
+
+    def is_secure(self, host: str) -> bool:
+        """Whether a browser that asks for a host does so by TLS."""
+        return bool(self.front and self.front.startswith("https:")) and host.lower() == self.front_host
+
+    @property
+    def address(self) -> str:
+        """Where a person finds it."""
+        return self.front or f"http://{self.listen}/"
