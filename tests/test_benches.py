@@ -64,6 +64,12 @@ FORMS: dict[str, list[str]] = {
         rf"explain all: {N} s",
         rf"the greatest memory of one of them: {N} MB",
     ],
+    "desk_pages": [
+        rf"{N} series, a file of {N} MB",
+        ANY,
+        *rows("nobody at the desk/beside refreshes", 3),
+        rf"a refresh: {N} to {N} s, {N} s of processor, {N} MB of memory",
+    ],
     "filed": [rf"{N} series; {N} rows were written, both times the same ones", ANY, *FILED],
     "files": [
         ANY,
