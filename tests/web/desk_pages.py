@@ -107,13 +107,17 @@ class Person:
         self.press("#key")
         self.browser.wait_text(".who", name)
 
-    def send(self, *records: str) -> None:
-        """Pastes records, has them judged, and sends them: all are done."""
+    def judge(self, *records: str) -> None:
+        """Pastes records, and has them judged: none would be refused."""
         self.open("/records")
         self.reach("#text")
         self.browser.type("#text", "\n".join(records))
         self.press("form[action$='/records/judge'] button")
         assert not self.browser.all("tr.refused"), self.browser.text("main")
+
+    def send(self, *records: str) -> None:
+        """Pastes records, has them judged, and sends them: all are done."""
+        self.judge(*records)
         self.press("form[action$='/records/send'] button")
         self.browser.wait_text("main", f"{len(records)} of {len(records)} done.")
 

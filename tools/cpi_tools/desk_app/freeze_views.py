@@ -49,12 +49,24 @@ def show(month: str) -> Response:
 def shown(month: str, status: int = 200, fault: Worded = NOTHING, answer: Worded = NOTHING) -> Response:
     """The checklist, with what came of a step."""
     number = month_of(month)
-    found, prepared = desk().trials.latest(number), desk().prepared.read()
+    found = desk().trials.latest(number)
+    prepared = still_prepared(found)
     steps = steps_of(number, found) if found else []
     running, trial_fault = desk().trials.running, desk().trials.fault(number)
     named = {"month": month, "found": found, "steps": steps, "prepared": prepared, "is_own": is_own(prepared)}
     trial = {"running": running, "trial_fault": trial_fault, "now": int(time.time())}
     return page("freeze.html", status, fault=fault, answer=answer, **named, **trial)
+
+
+def still_prepared(found: Optional[Tried]) -> Optional[Prepared]:
+    """The freeze that waits for a second person. One that the office carried out, while its reply was lost and the
+    application ended, waits no longer."""
+    prepared = desk().prepared.read()
+    if prepared and found and found.state.month == prepared.month and found.state.revision >= prepared.revision:
+        desk().log.append(session().person, SAID, text=f"carried out already: {said(prepared)}")
+        desk().prepared.drop()
+        return None
+    return prepared
 
 
 def is_own(prepared: Optional[Prepared]) -> bool:
