@@ -114,7 +114,7 @@ def reason_rows() -> Iterator[Row]:
     """Why months were revised."""
     for (month, revision), found in sorted(reasons().items()):
         own = {"month": month, "revision": str(revision), "added": moment(month, revision)}
-        yield from ({**own, "reason": reason} for reason in found)
+        yield from ({**own, **said} for said in found)
 
 
 ADDED = ("shown_month_change", "shown_year_change", "contribution_month", "contribution_year")

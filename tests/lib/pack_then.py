@@ -67,7 +67,7 @@ class Then(NamedTuple):
     @property
     def reasons(self) -> list[str]:
         """Why the month was revised."""
-        return reasons().get((self.month, self.revision), [])
+        return [it["reason"] for it in reasons().get((self.month, self.revision), [])]
 
     @property
     def letters(self) -> str:

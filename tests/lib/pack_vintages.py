@@ -54,11 +54,13 @@ def changed(tables: Mapping[Id, Month]) -> dict[tuple[str, str], Row]:
     return found
 
 
-def reasons() -> dict[Id, list[str]]:
-    """Why the office revised months, in its own words."""
-    found: dict[Id, list[str]] = {}
+def reasons() -> dict[Id, list[dict[str, str]]]:
+    """Why the office revised months, in its own words: the columns of its file that begin so, `reason` and others in
+    languages."""
+    found: dict[Id, list[dict[str, str]]] = {}
     for row in data("revisions"):
-        found.setdefault((row["month"], int(row["revision"])), []).append(row["reason"])
+        said = {name: text for name, text in row.items() if name.startswith("reason")}
+        found.setdefault((row["month"], int(row["revision"])), []).append(said)
     return found
 
 

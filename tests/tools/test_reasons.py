@@ -3,6 +3,8 @@
 from __future__ import annotations
 
 import calendar
+import csv
+import html
 import re
 from pathlib import Path
 
@@ -12,10 +14,13 @@ import pytest
 from cpi_tools.csv_files import formulas_told
 from cpi_tools.pack.clocks import UTC, clock_of
 from cpi_tools.pack.config import Config, read_config
+from cpi_tools.pack.office_languages import OfficeLanguages
 from cpi_tools.pack.planned import Planned
 from cpi_tools.pack.public import Published
 from cpi_tools.pack.reason_files import REASONS
-from cpi_tools.pack.reasons import BadReasons, Reason, reasons_of
+from cpi_tools.pack.reasons import BadReasons, GivenReason, Reason, reasons_of
+from cpi_tools.pack.rows import NO_ROWS
+from cpi_tools.pack.tables import Table
 from cpi_tools.publish import check, publish
 from published import HIDDEN_REVISION, REVISED
 from test_site import words_of
@@ -68,6 +73,16 @@ def test_a_file_is_read(tmp_path: Path) -> None:
         ([HEAD, ["2026-01", "2", "Why", "today"]], "row 2: today is no time like 2026-01-28T09:30, and no seconds"),
         ([HEAD, ["2026-01", "2", "Why", ""], ["2026-01", "2", "More", ""]], "row 3: 2026-01, revision 2, has a reason"),
         ([HEAD, ["2026-01", "2", "A", "9"], ["2026-01", "2", "B", "9"]], "row 3: 2026-01, revision 2, has a reason"),
+        (
+            [[*HEAD, "reason-xx"]],
+            "its column reason-xx is of a language without a catalogue; it is one of en, ar, es, fr",
+        ),
+        ([[*HEAD, "reason-fr", "reason-fr"]], "its column reason-fr is there twice"),
+        ([[*HEAD, "raison"]], "its first row is month,revision,reason,added,raison, and not month,revision,reason"),
+        (
+            [[*HEAD, "reason-fr"], ["2026-01", "2", "A", "", "W" * 1001]],
+            "row 2: its reason-fr has 1001 letters, and not",
+        ),
     ],
 )
 def test_a_slip_in_the_file_is_refused(rows: list[list[str]], line: str) -> None:
@@ -125,6 +140,56 @@ def test_a_reason_waits_for_its_revision(published: list[Published], tmp_path: P
     )
     files = [it for it in (tmp_path / "p").rglob("*") if it.is_file()]
     assert files and not [it for it in files if b"Under-embargo" in it.read_bytes()]
+
+
+# ---- in the languages of the pages
+
+BILINGUAL = OfficeLanguages(("en", "fr"))
+POURQUOI = "Riz : 1 kg avait \u00e9t\u00e9 saisi comme 100 g."
+
+
+def test_a_reason_has_a_language_for_each_of_the_pages() -> None:
+    """A cell without a text, and a language without a column, have the reason as the office wrote it first."""
+    rows = [[*HEAD, "reason-fr", "reason-ar"], ["2026-01", "2", "Rice", "", " Du\nriz ", ""]]
+    (found,) = reasons_of(rows, UTC)
+    assert found == Reason("2026-01", 2, "Rice", None, {"fr": "Du riz"})
+    given = GivenReason(Table("2026-01", 2, 0, "", NO_ROWS), found.text, 0, found.texts)
+    assert [given.said(tag) for tag in ("fr", "ar", "en")] == ["Du riz", "Rice", "Rice"]
+
+
+def test_each_page_says_it_in_its_own_language(published: list[Published], tmp_path: Path) -> None:
+    """Pages, the list of revisions and the feed; the file has a column for each language."""
+    site = tmp_path / "public"
+    reasons = Reason(REVISED, 2, WHY, None, {"fr": POURQUOI}), Reason(REVISED, 2, "Wheat too.", ADDED)
+    publish(published, with_reasons(*reasons)._replace(address=ADDRESS, speaks=BILINGUAL), site, None, quiet)
+    for folder, said, other in (("", WHY, POURQUOI), ("fr/", POURQUOI, WHY)):
+        for name in (f"{folder}release/{REVISED}-r2.html", f"{folder}revisions.html"):
+            assert said in words_of(site / name) and other not in words_of(site / name)
+            assert "Wheat too." in words_of(site / name)
+        feed = feedparser.parse((site / f"{folder}feed.xml").read_bytes())
+        (entry,) = (it for it in feed.entries if it.id.endswith("-r2.html"))
+        assert said in html.unescape(entry.summary) and other not in html.unescape(entry.summary)
+    head, first, second = csv.reader((site / "data" / REASONS).read_text(encoding="utf-8").splitlines())
+    assert head == ["month", "revision", "added", "reason", "reason-fr"]
+    assert (first[3:], second[3:]) == ([WHY, POURQUOI], ["Wheat too.", ""])
+
+
+def test_a_reason_may_be_translated_later_and_stays_then(published: list[Published], tmp_path: Path) -> None:
+    """The first time no page but those of that language changes, and no line says that one did."""
+    site, plain = tmp_path / "public", Reason(REVISED, 2, WHY)
+    french = plain._replace(texts={"fr": POURQUOI})
+    lines = list[str]()
+    for reasons in ((plain,), (french,)):
+        publish(published, with_reasons(*reasons)._replace(speaks=BILINGUAL), site, None, lines.append)
+        then = (site / f"release/{REVISED}-r2.html").read_bytes()
+        assert (POURQUOI in words_of(site / f"fr/release/{REVISED}-r2.html")) == (reasons == (french,))
+    for other in (plain, plain._replace(texts={"fr": "Autre"})):
+        with pytest.raises(
+            BadReasons, match=f"of {REVISED}, revision 2, was published as 'Riz : 1 kg avait .*put it back"
+        ):
+            publish(published, with_reasons(other)._replace(speaks=BILINGUAL), site, None, quiet)
+    assert (site / f"release/{REVISED}-r2.html").read_bytes() == then
+    assert not [line for line in lines if "no longer say" in line]
 
 
 # ---- that it stays

@@ -61,7 +61,7 @@ def _says(release: Release, speech: Speech) -> Iterator[str]:
     if release.provisional:
         yield provisional_then(release.provisional, speech)
     for it in release.reasons:
-        yield speech.t("Why the office revised this month: {reason}", reason=it.text)
+        yield speech.t("Why the office revised this month: {reason}", reason=it.said(speech.language.tag))
 
 
 def _text(text: str) -> str:

@@ -1,15 +1,17 @@
 """Why the office revised a month, in its own words: from a file like `revisions.csv`.
 
 Its columns are `month`, `revision` and `reason`, and `added` if it likes. A reason without a time in `added` is given
-with the revision; one that is given later has its time there. What was published stays: a further row adds to it.
+with the revision; one that is given later has its time there. What was published stays: a further row adds to it. Columns
+such as `reason-fr` have the reason in other languages of the pages, which show `reason` without them.
 """
 
 from __future__ import annotations
 
-from collections.abc import Iterable, Iterator, Sequence
+from collections.abc import Iterable, Iterator, Mapping, Sequence
 from pathlib import Path
 from typing import NamedTuple, Optional
 
+from ..languages import known
 from ..terminal import Fault
 from .clocks import Clock
 from .office_rows import read_rows
@@ -18,6 +20,8 @@ from .public import MONTH
 from .tables import Series, Table
 
 NEEDED, ADDED = ("month", "revision", "reason"), "added"
+TRANSLATED = "reason-"
+"""How the column of a reason in a language begins; its tag (BCP 47) follows."""
 
 MOST_LETTERS = 1000
 """Of a reason."""
@@ -29,20 +33,26 @@ class BadReasons(Fault):
 
 class Reason(NamedTuple):
     """Why a month like `2026-01` got a further revision. `added` is when that was said, in seconds since 1970 UTC; None
-    if it was said with the revision."""
+    if it was said with the revision. `texts` has the same in other languages, by their tags."""
 
     month: str
     revision: int
     text: str
     added: Optional[int] = None
+    texts: Mapping[str, str] = {}
 
 
 class GivenReason(NamedTuple):
-    """A reason of a published revision, and when it was given, in seconds since 1970 UTC."""
+    """A reason of a published revision, when it was given, in seconds since 1970 UTC, and the same in other languages."""
 
     table: Table
     text: str
     moment: int
+    texts: Mapping[str, str] = {}
+
+    def said(self, tag: str) -> str:
+        """The reason in a language; as the office wrote it first if it isn't there in that one."""
+        return self.texts.get(tag, self.text)
 
     @property
     def is_later(self) -> bool:
@@ -62,8 +72,7 @@ def read_reasons(path: Path, clock: Clock) -> tuple[Reason, ...]:
 def reasons_of(rows: Sequence[Sequence[str]], clock: Clock) -> tuple[Reason, ...]:
     """The reasons of some rows, the first of which has the names of the columns. Raises BadReasons."""
     head = [*rows[0]] if rows else []
-    if sorted(head) not in (sorted(NEEDED), sorted((*NEEDED, ADDED))):
-        raise BadReasons(f"its first row is {','.join(head)}, and not {','.join(NEEDED)}, with or without {ADDED}")
+    _test_head(head)
     found: list[Reason] = []
     for number, row in enumerate(rows[1:], 2):
         if any(row):
@@ -72,6 +81,24 @@ def reasons_of(rows: Sequence[Sequence[str]], clock: Clock) -> tuple[Reason, ...
             found.append(_reason(number, {name: " ".join(cell.split()) for name, cell in zip(head, row)}, clock))
             _test_order(number, found)
     return tuple(found)
+
+
+def _test_head(head: Sequence[str]) -> None:
+    """Raises BadReasons if the names of the columns aren't those of such a file."""
+    translated = [name for name in head if name.startswith(TRANSLATED)]
+    own = sorted(name for name in head if name not in translated)
+    if own not in (sorted(NEEDED), sorted((*NEEDED, ADDED))):
+        raise BadReasons(
+            f"its first row is {','.join(head)}, and not {','.join(NEEDED)}, with or without {ADDED} and columns such as"
+            f" {TRANSLATED}fr"
+        )
+    for name in translated:
+        if name.removeprefix(TRANSLATED).replace("-", "_") not in known():
+            raise BadReasons(
+                f"its column {name} is of a language without a catalogue; it is one of {', '.join(known())}"
+            )
+        if translated.count(name) > 1:
+            raise BadReasons(f"its column {name} is there twice")
 
 
 def _reason(number: int, row: dict[str, str], clock: Clock) -> Reason:
@@ -83,8 +110,12 @@ def _reason(number: int, row: dict[str, str], clock: Clock) -> Reason:
         raise BadReasons(f"row {number}: revision {revision or 'without a number'} isn't 2 to {MOST_REVISIONS}")
     if not 0 < len(text) <= MOST_LETTERS:
         raise BadReasons(f"row {number}: its reason has {len(text)} letters, and not 1 to {MOST_LETTERS}")
+    texts = {name.removeprefix(TRANSLATED): it for name, it in row.items() if name.startswith(TRANSLATED) and it}
+    for tag, it in texts.items():
+        if len(it) > MOST_LETTERS:
+            raise BadReasons(f"row {number}: its {TRANSLATED}{tag} has {len(it)} letters, and not up to {MOST_LETTERS}")
     try:
-        return Reason(month, int(revision), text, moment_of(row[ADDED], clock) if row.get(ADDED) else None)
+        return Reason(month, int(revision), text, moment_of(row[ADDED], clock) if row.get(ADDED) else None, texts)
     except ValueError as fault:
         raise BadReasons(f"row {number}: {fault}") from None
 
@@ -116,7 +147,7 @@ def given_reasons(reasons: Iterable[Reason], series: Series, planned: Iterable[P
                 raise BadReasons(
                     f"a reason of {it.month}, revision {it.revision}, was added before the revision was out"
                 )
-            found.setdefault(it[:2], []).append(GivenReason(table, it.text, moment))
+            found.setdefault(it[:2], []).append(GivenReason(table, it.text, moment, it.texts))
         elif it[:2] not in announced:
             raise BadReasons(f"a reason names {it.month}, revision {it.revision}, which is neither out nor announced")
     return found
