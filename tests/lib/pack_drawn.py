@@ -145,11 +145,12 @@ def bar_faults(picture: str, then: Then, codes: Sequence[str], is_sorted: bool) 
         ", ".join(f"{title} {signed(value, 2)}" for title, (value, _) in zip(titles, found)) + "."
     ]
     low, high = min([Fraction(0), *(it for it, _ in found)]), max([Fraction(0), *(it for it, _ in found)])
+    span = high - low or Fraction(1)
     form = r'<path (fill="#[0-9a-f]{6}") d="M([0-9.]+) [0-9]+h([0-9.]+)v9h-\3z"/>'
     bars = re.findall(form, picture)
-    wrong, wide = [], 400 / ((high - low) or Fraction(1))
+    wrong = []
     for (fill, begin, size), (value, code) in zip(bars, found):
-        at, long = wide * (min(value, Fraction(0)) - low), max(wide * abs(value), 0.6)
+        at, long = 400 * (min(value, Fraction(0)) - low) / span, max(float(400 * abs(value) / span), 0.6)
         is_right = abs(float(begin) - at) <= NEAR and abs(float(size) - long) <= NEAR
         if not is_right or fill != f'fill="{("#0a5c7d", "#b1521d")[value < 0]}"':
             wrong.append(code)
