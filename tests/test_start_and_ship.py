@@ -278,8 +278,8 @@ def begin_test(it: Repository) -> int:
 
 def parts_that_fail(it: Repository) -> Iterator[Seen]:
     count, part = begin_test(it), "test_command_line.py"
-    # (two are run only before a release)
-    scripts = {path.name for path in (TOP / "tests").glob("test_*.py")} - {"test_outside.py", "test_year.py"}
+    # (one is run only before a release)
+    scripts = {path.name for path in (TOP / "tests").glob("test_*.py")} - {"test_outside.py"}
     yield "each script of tests/ is a part", scripts == parts_of_test()
     yield "nothing is shipped without a test", "wasn't green" in it.run("tools/dist").err
     for how, last, status in (

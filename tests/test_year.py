@@ -7,18 +7,20 @@
 - Each wrong system of tests/lib/year/slips.py is found, and the same life without its slip breaks no promise.
 - Of a list of faults the shortest that still shows what is broken is found.
 
-A check is a life, or two. It needs Debian's faketime.
+A check is a life, or two. It needs Debian's faketime (tools/setup), and nginx, which tests/web/setup.sh installs.
 """
 
 from __future__ import annotations
 
+import os
+import subprocess
 import sys
 from collections.abc import Iterator
 from functools import partial
 
-from lib.harness import Check, Checks, Fault, program_of, words_of
+from lib.harness import TOP, Check, Checks, Fault, program_of, words_of
 from lib.program import Program
-from lib.year import clock
+from lib.year import clock, front
 from lib.year.faults import KINDS
 from lib.year.lives import Life, Size, Ways, apart, faults_of, life, shortest
 from lib.year.slips import SLIPS
@@ -26,7 +28,7 @@ from lib.year.slips import SLIPS
 SMALL = 5, 6
 """So many collectors with so many slots each."""
 
-CERTAIN = [kind for kind in KINDS if kind not in ("burst", "promoted")]
+CERTAIN = [kind for kind in KINDS if kind not in ("burst", "promoted", "front")]
 LANES = 3
 
 
@@ -79,10 +81,12 @@ def checks_of(program: Program) -> Iterator[Check]:
 def main() -> int:
     chosen = program_of(words_of(__doc__))
     with Checks() as checks:
-        if clock.is_there():
-            checks.run(checks_of(chosen.program), LANES)
-        else:
+        if not clock.is_there():
             checks.tell("the clock", "there is no faketime: tools/setup installs it")
+        elif not front.is_there() and subprocess.run([os.path.join(TOP, "tests/web/setup.sh")], check=False).returncode:
+            checks.tell("the front", "tests/web/setup.sh failed")
+        else:
+            checks.run(checks_of(chosen.program), LANES)
     return checks.status
 
 

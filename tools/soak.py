@@ -9,8 +9,11 @@ It isn't part of ./test, which does the same for a minute with seeds of its own.
   cut, some with bytes changed, some of random bytes; between them peers that close at once, that send byte by byte, or
   that send more than is read; and at the end what `cpi replay` lists of the office's file.
 
+With --year MONTHS COLLECTORS it lives the years of made-up countries under all faults in place of these (tests/year tells
+how), one seed after another. A life that breaks a promise is told with its seed and the moment; tests/year makes it again.
+
 The first seed is drawn from the clock where it isn't given. The counts are told each minute and at the end. A check is
-a run of records, a message, a peer, or a file.
+a run of records, a message, a peer, a file, or a life.
 """
 
 from __future__ import annotations
@@ -35,9 +38,11 @@ from lib.program import Program  # noqa: E402
 from lib.records import first_difference  # noqa: E402
 from lib.runs import fault_of  # noqa: E402
 from lib.served import DESK, heard, message, reset  # noqa: E402
+from lib.year.faults import KINDS as FAULTS  # noqa: E402
+from lib.year.lives import Size, faults_of, life  # noqa: E402
 from second_office.records import text_of  # noqa: E402
 
-RUNS, MESSAGES, PEERS, MINUTE = 4, 1500, 15, 60
+RUNS, MESSAGES, PEERS, MINUTE, SLOTS = 4, 1500, 15, 60, 10
 WAYS = ["closes", "resets", "sends and resets", "byte by byte", "too much"]
 RECORDS = [
     ["1500", KA, "quotes", "2000-01", "2199-12"],
@@ -145,26 +150,48 @@ def serve(checks: Checks, program: Program, seed: int, counts: collections.Count
     counts["offices served"] += 1
 
 
+def lived(program: Program, seed: int, size: Size, counts: collections.Counter[str]) -> Fault:
+    """What a country has broken in its life under all faults."""
+    found = life(program, seed, size, faults_of(seed, size, FAULTS))
+    counts.update(messages=found.messages, drills=found.drills, **found.survived)
+    counts["months"] += size.months
+    return f"seed {seed}, {found.broken}" if found.broken else None
+
+
+def compare(checks: Checks, program: Program, seed: int, met: set[str], counts: collections.Counter[str]) -> None:
+    """Runs of records, and an office that is served."""
+    runs = range(seed, seed + RUNS)
+    checks.run((Check(f"run {at}", partial(fault_of, program, at, met)) for at in runs), lanes=1)
+    counts["runs of records"] += RUNS
+    serve(checks, program, seed, counts)
+
+
 def main() -> int:
     words = words_of(__doc__)
     words.add_argument("seconds", type=int, help="how long")
     words.add_argument("--first", type=int, default=int(time.time()), metavar="SEED", help="the first seed")
+    words.add_argument(
+        "--year", nargs=2, type=int, metavar=("MONTHS", "COLLECTORS"), help="live years of countries of this size"
+    )
     chosen, met, counts = program_of(words), set[str](), collections.Counter[str]()
     began = minute = time.monotonic()
     with Checks() as checks:
         checks.note(f"from seed {chosen.first}")
         seed = chosen.first
         while time.monotonic() - began < chosen.seconds:
-            runs = range(seed, seed + RUNS)
-            checks.run((Check(f"run {at}", partial(fault_of, chosen.program, at, met)) for at in runs), lanes=1)
-            counts["runs of records"] += RUNS
-            serve(checks, chosen.program, seed, counts)
-            seed += RUNS
+            if chosen.year:
+                size = Size(chosen.year[0], max(5, chosen.year[1]), SLOTS)
+                checks.run([Check(f"life {seed}", partial(lived, chosen.program, seed, size, counts))], lanes=1)
+                seed += 1
+            else:
+                compare(checks, chosen.program, seed, met, counts)
+                seed += RUNS
             if time.monotonic() - minute > MINUTE:
                 minute = time.monotonic()
                 checks.note(f"{minute - began:.0f} s: {told(counts)}")
         checks.note(f"{time.monotonic() - began:.0f} s: {told(counts)}")
-        checks.note(f"{len(met & KINDS)} of {len(KINDS)} kinds of replies were met")
+        if not chosen.year:
+            checks.note(f"{len(met & KINDS)} of {len(KINDS)} kinds of replies were met")
     return checks.status
 
 

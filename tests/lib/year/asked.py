@@ -22,17 +22,22 @@ class Asked(NamedTuple):
     def is_command(self) -> bool:
         return self.words[0] in BODIES
 
-    def message(self) -> bytes:
-        """The message over HTTP."""
+    def request(self) -> tuple[str, str, Optional[bytes]]:
+        """Method, path and body over HTTP."""
         word, *arguments = self.words
         if word == "import":
-            return message("POST /import", key=self.key, body=arguments[0].encode())
+            return "POST", "/import", arguments[0].encode()
         if word == "plan":
-            return message(f"PUT /plan/{arguments[0]}", key=self.key, body=arguments[1].encode())
+            return "PUT", f"/plan/{arguments[0]}", arguments[1].encode()
         if word == "quote":
             slot, month, *entry = arguments
-            return message(f"PUT /quote/{slot}/{month}", key=self.key, body=",".join(entry).encode())
-        return message("GET /" + "/".join(self.words), key=self.key)
+            return "PUT", f"/quote/{slot}/{month}", ",".join(entry).encode()
+        return "GET", "/" + "/".join(self.words), None
+
+    def message(self) -> bytes:
+        """The message over HTTP."""
+        method, path, body = self.request()
+        return message(f"{method} {path}", key=self.key, body=body)
 
     def record(self, now: int) -> Record:
         """The record, at a moment of the office's clock."""

@@ -20,6 +20,9 @@ class Clock:
         self.path = os.path.join(room, "clock")
         self.now, self.ahead = now, 0
         self.shown = -1
+        self.stamps = 0
+        self.jumped = 0
+        """When it jumped last."""
         self.set(now)
 
     @property
@@ -32,21 +35,35 @@ class Clock:
         self.now = now
         if self.office == self.shown:
             return
-        self.shown = self.office
+        self.shown, self.stamps = self.office, 0
         with open(self.path + ".new", "w", encoding="ascii") as out:
             out.write(time.strftime("%Y-%m-%d %H:%M:%S\n", time.gmtime(self.office)))
         os.replace(self.path + ".new", self.path)
 
+    def stamp(self, *paths: str) -> None:
+        """Files were changed just now, each later than those before it: their times are of this clock too, to the
+        thousandth of a second."""
+        for path in paths:
+            self.stamps += 1
+            moment = 10**9 * self.office + 10**6 * min(self.stamps, 999)
+            with contextlib.suppress(FileNotFoundError):
+                os.utime(path, ns=(moment, moment))
+
     def jump(self, ahead: int) -> None:
         """The clock of the office differs by so many seconds from now on."""
-        self.ahead = ahead
+        self.ahead, self.jumped = ahead, self.now
         self.set(self.now)
 
     def environment(self) -> dict[str, str]:
         """What a program is started with, so that it reads this clock."""
-        faking = {"FAKETIME_TIMESTAMP_FILE": self.path, "FAKETIME_NO_CACHE": "1", "NO_FAKE_STAT": "1"}
-        library = LIBRARY.format(os.uname().machine)
-        return {**os.environ, **faking, "LD_PRELOAD": library, "FAKETIME_DONT_FAKE_MONOTONIC": "1", "TZ": "UTC"}
+        return faked("FAKETIME_TIMESTAMP_FILE", self.path)
+
+
+def faked(name: str, value: str) -> dict[str, str]:
+    """The variables of a program whose time faketime sets by one of them."""
+    library = LIBRARY.format(os.uname().machine)
+    more = {"FAKETIME_NO_CACHE": "1", "NO_FAKE_STAT": "1", "FAKETIME_DONT_FAKE_MONOTONIC": "1", "TZ": "UTC"}
+    return {**os.environ, **more, "LD_PRELOAD": library, name: value}
 
 
 def forget(process: int) -> None:

@@ -5,14 +5,15 @@ from __future__ import annotations
 import collections
 import heapq
 import itertools
-import os
 from functools import partial
-from typing import Any, NamedTuple, Union
+from typing import Any, NamedTuple, Optional, Union
 
 from lib.offices import key_of
 from lib.program import Program
 
 from .asked import Asked
+from .befalling import Befalling
+from .closing import Closing
 from .clock import Clock
 from .desk import Desk, calendar
 from .faults import Fault
@@ -51,14 +52,17 @@ class Country:
         self.judge = Judge(lambda: self.clock.office, lambda: not self.machine.has_disk)
         self.wire = Wire(self.machine, self.judge)
         self.keeping = Keeping(self.machine, self.judge)
-        self.desk = Desk(self)
+        self.desk, self.closing = Desk(self), Closing(self.machine, self.met)
         self.collectors = [Collector(it, self) for it in world.collectors if it not in world.senders]
         self.senders = [Sender(it, self) for it in world.senders]
-        self.outside = Outside(self, os.path.join(room, "site"))
+        self.outside = Outside(self, self.machine.site)
+        self.befalling = Befalling(self)
         self.queue: list[tuple[int, int, Any]] = []
         self.order = itertools.count()
         self.heard: dict[str, list[Heard]] = collections.defaultdict(list)
-        self.survived: collections.Counter[str] = collections.Counter()
+        self.survived = self.wire.met
+        self.logged = 0
+        """How many messages had gone through the front when its log was moved away last."""
 
     # ---- what people have round them
 
@@ -72,14 +76,26 @@ class Country:
 
     def ask(self, who: str, asked: Asked) -> Any:
         """Asks the office; who has got an answer remembers it. Who manages the office starts it again if it ended."""
-        was_up = self.machine.is_up
+        self.find_out()
+        was_up, had_front = self.machine.is_up, self.machine.front.is_up
         reply = self.wire.ask(who, asked)
         if was_up and not self.machine.is_up:
             self.at(self.now + RESTART, self.restart)
+        if had_front and not self.machine.front.is_up:
+            self.at(self.now + RESTART, self.machine.front.start)
         if reply is not None:
             self.judge.given(asked, reply)
             self.heard[who].append(Heard(self.now, asked, reply))
         return reply
+
+    def find_out(self) -> None:
+        """Lets the judge find out what became of a message that had no answer."""
+        for asked in self.judge.doubts():
+            self.wire.find_out(asked)
+
+    def met(self, kind: str) -> None:
+        """A fault of a kind has befallen the country."""
+        self.survived[kind] += 1
 
     def wrote(self, collector: int, month: str, slot: int, quote: Quote) -> None:
         self.judge.written[collector, month, slot] = quote
@@ -99,18 +115,22 @@ class Country:
     def run(self) -> None:
         """Lives through all of it. Raises Broken."""
         self.machine.start()
+        self.machine.front.start()
         self.desk.rows(self.world.survey())
         for month in self.world.months:
             self._plan_month(month)
         for fault in self.faults:
-            self.at(fault.moment, self.outside.befalls, fault)
+            self.at(fault.moment, self.befalling.befalls, fault)
         try:
             while self.queue:
                 moment, _, work = heapq.heappop(self.queue)
                 self.clock.set(moment)
                 work()
+            told = self.machine.front.log_fault() if self.wire.through > self.logged else None
+            if told:
+                raise Broken(told)
         finally:
-            self.machine.kill()
+            self.machine.close()
 
     def _plan_month(self, month: Month) -> None:
         """All that is meant to happen for a month."""
@@ -152,10 +172,15 @@ class Country:
 
     def freeze(self, month: Month) -> None:
         """The desk freezes a month once all has been looked at that was promised for it."""
-        if not self.audit(month):
+        row = self._closed_by(month.name) if self.audit(month) else None
+        if row is None:
             self.at(self.now + AGAIN, self.freeze, month)
             return
-        self.desk.freeze(month.name)
+        self.desk.freeze(row)
+
+    def _closed_by(self, month: str) -> Optional[str]:
+        """The row that freezes a month; None if it can't be made now."""
+        return self.closing.row(month) if "closing" in self.outside.looks else f"freeze,{month}"
 
     def audit(self, month: Month) -> bool:
         """Looks whether all stands that was answered, and all is there that was written; whether it could look."""
@@ -171,13 +196,3 @@ class Country:
         people.update({it.number: it for it in self.senders})
         self.judge.is_complete(month.name, listed, lambda number, slot: people[number].holds(month.name, slot))
         return True
-
-
-def lived(program: Program, room: str, world: World, faults: list[Fault]) -> Country:
-    """A country that has lived through its months. Raises Broken, with the moment."""
-    country = Country(program, room, world, faults)
-    try:
-        country.run()
-    except Broken as broken:
-        raise Broken(f"at {country.now}: {broken}") from None
-    return country

@@ -13,6 +13,8 @@ from .people import Around
 
 AGAIN = 5 * MINUTE
 NOT_CLOSED, FAULT, IS_FROZEN = 47, 49, 50
+ROWS = 300
+"""So many rows are sent at once at most."""
 
 
 def calendar(month: Month) -> str:
@@ -32,6 +34,9 @@ class Desk:
         self.freezes: set[tuple[str, ...]] = set()
         self.is_going = False
         self.is_blind = False
+        self.is_forgetful = False  # a wrong desk, which sends nothing again after the office has moved
+        self.is_double_until = 0
+        """Until when a second person of the desk sends the same."""
 
     def send(self, *words: str) -> None:
         """Puts something last on the list of what is to be sent."""
@@ -41,11 +46,12 @@ class Desk:
 
     def rows(self, rows: list[str]) -> None:
         """Sends rows as an import."""
-        self.send("import", "".join(row + "\n" for row in rows))
+        for at in range(0, len(rows), ROWS):
+            self.send("import", "".join(row + "\n" for row in rows[at : at + ROWS]))
 
-    def freeze(self, month: str) -> None:
-        """Freezes a month."""
-        self._freeze(f"freeze,{month}")
+    def freeze(self, row: str) -> None:
+        """Freezes a month by a row."""
+        self._freeze(row)
         if not self.is_going:
             self._go_on()
 
@@ -67,6 +73,9 @@ class Desk:
         self.is_going = True
         while self.to_do:
             words = self.to_do[0]
+            if self.around.now < self.is_double_until:
+                self.around.met("two desks")
+                self.around.ask("second desk", Asked(DESK, words))
             reply = self.around.ask("desk", Asked(DESK, words))
             if self.is_blind and reply is None and words in self.freezes:
                 self._reopen(words[1].split(",")[1].strip())
@@ -104,6 +113,8 @@ class Desk:
 
     def again(self, since: int) -> None:
         """After the office has moved: sends once more what was answered since a moment."""
+        if self.is_forgetful:
+            return
         lost = [words for moment, words in self.log if moment >= since]
         self.log = [(moment, words) for moment, words in self.log if moment < since]
         self.to_do.extendleft(reversed(lost))

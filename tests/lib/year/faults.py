@@ -2,6 +2,7 @@
 
 from __future__ import annotations
 
+import time
 from typing import NamedTuple
 
 from .moments import DAY, HOUR, Month
@@ -17,13 +18,23 @@ EACH_MONTH = {
     "full": 1,
     "clock": 1,
     "burst": 1,
+    "restarted": 1,
+    "front": 2,
+    "certificates": 1,
+    "rotated": 2,
+    "publisher": 1,
+    "desk": 1,
+    "two desks": 1,
 }
 """So many of each kind are drawn for a month; `offline` is one for each collector."""
 
 OF_A_MACHINE = {"burned": 1, "promoted": 2}
 """In which month of three the machine is lost, and which way goes on: from a backup, or on a second machine."""
 
-KINDS = [*EACH_MONTH, "offline", *OF_A_MACHINE]
+UPGRADED = "upgraded"
+"""In the second month the office has a file of version 1.0, whose tables are of schema 1, and gets this version."""
+
+KINDS = [*EACH_MONTH, "offline", *OF_A_MACHINE, UPGRADED]
 KILLS = ["killed before", "killed within", "killed meanwhile", "killed after"]
 CERTAIN = {"killed": ["killed before", "killed within", "killed after"], "full": ["refusing"]}
 """The ways of a kind whose effect hangs on nothing that others have sent."""
@@ -39,7 +50,8 @@ class Fault(NamedTuple):
     whom: str
 
     def __str__(self) -> str:
-        return f"{self.number} {self.how} at {self.moment} for {self.whom}"
+        moment = time.strftime("%Y-%m-%d %H:%M:%S", time.gmtime(self.moment))
+        return f"{self.number} ({self.how}, {moment}, {self.whom})"
 
 
 def drawn_faults(world: World, kinds: list[str], is_certain: bool = False) -> list[Fault]:
@@ -52,7 +64,7 @@ def drawn_faults(world: World, kinds: list[str], is_certain: bool = False) -> li
                 moment = drawn.randrange(month.opens, month.publishes + DAY)
                 if kind in OF_A_MACHINE:
                     moment = month.opens + drawn.choice([8, 13]) * DAY - drawn.randrange(2 * HOUR)
-                elif kind == "offline":
+                elif kind in ("offline", UPGRADED):
                     moment = drawn.randrange(month.opens, month.closes - 3 * DAY)
                 elif kind == "burst":
                     moment = drawn.randrange(month.opens + DAY, month.closes - DAY)
@@ -60,7 +72,7 @@ def drawn_faults(world: World, kinds: list[str], is_certain: bool = False) -> li
                 how = drawn.choice(ways)
                 if is_certain and kind in CERTAIN and how not in CERTAIN[kind]:
                     how = CERTAIN[kind][0]
-                chosen = drawn.choice(people(world))
+                chosen = "desk" if kind == "desk" else drawn.choice(people(world))
                 chosen = f"collector {world.seen}" if is_certain else chosen
                 found.append(Fault(len(found), kind, how, moment, whom or chosen))
     return [fault for fault in found if fault.kind in kinds]
@@ -76,10 +88,12 @@ def falls_on(kind: str, world: World, month: Month) -> list[str]:
     """Whom the faults of a kind fall on in a month, one for each; empty where that is drawn."""
     if kind == "offline":
         return [f"collector {it}" for it in world.collectors if it not in world.senders]
+    if kind == UPGRADED:
+        return ["all"] if month.at == 1 else []
     if kind in OF_A_MACHINE:
         return ["all"] if month.at % 3 == OF_A_MACHINE[kind] else []
     return [""] * EACH_MONTH[kind]
 
 
-LASTING = {"refusing": 30 * HOUR, "full": 30 * HOUR, "clock": 3 * HOUR, "offline": DAY}
+LASTING = {"refusing": 30 * HOUR, "full": 30 * HOUR, "clock": 3 * HOUR, "offline": DAY, "two desks": DAY}
 """How long a fault lasts, if it doesn't end by itself."""

@@ -14,10 +14,16 @@ from typing import Any, Optional
 
 from lib.offices import key_of
 from second_office.office import Office, month_text
+from second_office.rows import Kept
 
 from .asked import Asked
 from .possible import Possible
+from .probing import CRITICAL, JUMP, WARNING, Writes, is_late
 from .world import Quote
+
+
+KEPT, NO_TABLE = 2, {"refused": 30}
+"""So many seconds a front may keep that a table isn't there yet."""
 
 
 class Broken(Exception):
@@ -27,7 +33,7 @@ class Broken(Exception):
 class Snapshot:
     """The offices of which a copy can be one: those from when it was begun until it was there."""
 
-    def __init__(self, moment: int, offices: list[Office]) -> None:
+    def __init__(self, moment: int, offices: list[Kept]) -> None:
         self.moment, self.offices = moment, offices
         self.is_open = True
 
@@ -37,29 +43,51 @@ class Judge:
 
     def __init__(self, clock: Callable[[], int], may_refuse: Callable[[], bool]) -> None:
         self.clock, self.may_refuse = clock, may_refuse
-        self.possible = Possible([Office()])
+        self.possible = Possible([Kept()])
         self.open: list[Snapshot] = []
         self.written: dict[tuple[int, str, int], Quote] = {}
         self.held: dict[tuple[str, str, int], tuple[int, str, str]] = {}
         """By key, month and slot the receipt that somebody was given last, and for what."""
         self.manifest: Optional[bytes] = None
-        self.refused = 0
+        self.writes = Writes()
+        self.shown: dict[tuple[str, ...], Any] = {}
+        """What the public was answered last, by the words."""
 
     # ---- exchanges
 
     def answered(self, asked: Asked, reply: Any) -> None:
         """The office has answered."""
+        if self._is_kept_by_front(asked, reply):
+            return
         told = reply.get("rows", [reply]) if isinstance(reply, dict) else []
-        self.refused += any(row.get("refused") == 90 for row in told)
         fault = self.possible.answered(asked, self.clock(), reply, self.may_refuse())
+        self.writes.answered(self.clock(), any(row.get("refused") == 90 for row in told), self.possible.has_stored)
         self._keep()
         if fault:
             raise Broken(fault)
 
+    def _is_kept_by_front(self, asked: Asked, reply: Any) -> bool:
+        """Whether a front may have kept the answer: for a day that of a table by its revision, and for two seconds that
+        there is none."""
+        if asked.key or asked.words[0] != "table" or len(asked.words) < 4:
+            return False
+        before = [office.reply(asked.record(self.clock() - KEPT)) for office in self.possible.offices]
+        if "table" in reply and reply == self.shown.get(asked.words) or reply == NO_TABLE and reply in before:
+            return True
+        self.shown[asked.words] = reply
+        return False
+
     def unanswered(self, asked: Asked) -> None:
         """The office may have carried something out."""
         self.possible.unanswered(asked, self.clock())
+        self.writes.unanswered(asked.is_command)
         self._keep()
+
+    def doubts(self) -> list[Asked]:
+        """What to ask so that fewer offices are possible."""
+        if len(self.possible.offices) == 1:
+            return []
+        return [Asked(key_of(it), ("quotes", "2000-01", "2199-12")) for it in sorted(self.possible.doubtful())]
 
     def given(self, asked: Asked, reply: Any) -> None:
         """Somebody was given a reply, with receipts perhaps."""
@@ -90,6 +118,7 @@ class Judge:
         self.possible = Possible(Possible(snapshot.offices).kept())
         self.possible.settle()
         self.held.clear()
+        self.writes = Writes()
 
     # ---- what stands
 
@@ -131,13 +160,27 @@ class Judge:
                         f"{month_text(month)} has {len(of)} revisions, and {frozen.get(month_text(month))} meant"
                     )
 
+    def probed(self, is_reached: bool, jumped: int) -> tuple[int, int]:
+        """The least and the greatest status that a probe may end with; the clock jumped last at a moment."""
+        if not is_reached:
+            return CRITICAL, CRITICAL
+        writes, late = self.writes, [is_late([office], self.clock()) for office in self.possible.offices]
+        least, most = writes.told(self.clock(), writes.refused is not None and jumped >= writes.refused - JUMP)
+        return max(least, WARNING if all(late) else least), max(most, CRITICAL if any(late) else most)
+
     # ---- what is published
 
-    def site(self, folder: str) -> None:
-        """A pack has the tables that are out, each as the second office has it, and follows the manifest before."""
+    def site(self, folder: str, may_be_before: bool = False) -> None:
+        """A pack has the tables that are out, each as the second office has it, and follows the manifest before. It may be
+        the pack that was there before, whole."""
         with open(os.path.join(folder, "manifest.json"), "rb") as found:
             text = found.read()
         manifest = json.loads(text)
+        fault = sums_fault(folder)
+        if fault:
+            raise Broken(fault)
+        if may_be_before and text == self.manifest:
+            return
         listed = {(it["month"], it["revision"]): it["sha256"] for it in manifest["tables"]}
         if listed != self._published():
             apart = sorted(set(listed.items()) ^ set(self._published().items()))
@@ -157,3 +200,14 @@ def digests(office: Office, now: int) -> Iterator[tuple[str, int, str]]:
     for month, revision in office.published(now):
         table = office.printed_table(now, month, "csv", revision)["table"]
         yield month_text(month), revision, hashlib.sha256(table.encode()).hexdigest()
+
+
+def sums_fault(folder: str) -> Optional[str]:
+    """What is wrong with the sums of a pack, by which anybody checks it: each file but theirs has its own."""
+    with open(os.path.join(folder, "SHA256SUMS"), encoding="utf-8") as found:
+        sums = [line.rstrip("\n").split("  ", 1) for line in found]
+    for own, name in sums:
+        with open(os.path.join(folder, name), "rb") as file:
+            if hashlib.sha256(file.read()).hexdigest() != own:
+                return f"{name} of the pack has another sum than SHA256SUMS says"
+    return None if any(name == "manifest.json" for _, name in sums) else "no sum of the pack is that of its manifest"

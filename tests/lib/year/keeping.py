@@ -6,13 +6,13 @@ import contextlib
 import glob
 import os
 import shutil
-import subprocess
 import time
 from collections.abc import Callable
 from typing import NamedTuple, Optional
 
 from .judge import Broken, Judge, Snapshot
-from .machine import PATIENCE, Machine
+from .machine import Machine
+from .tools import PATIENCE, Going
 
 
 class Copy(NamedTuple):
@@ -43,23 +43,23 @@ class Keeping:
         if self.is_plain:
             shutil.copy(self.machine.file, path)
         else:
-            going = self.machine.begin_tool("backup", self.machine.file, path)
+            going = self.machine.tools.begin("backup", self.machine.file, path)
             if meanwhile:
                 wait_for_reading(going, self.machine.file)
                 meanwhile()
-            told = going.communicate(timeout=PATIENCE)[0]
-            if going.returncode:
-                raise Broken(f"a backup failed: {told}")
+            ended = going.end()
+            if ended.status:
+                raise Broken(f"a backup failed: {ended.told}")
         self.judge.end_copy(snapshot)
         self.copies.append(Copy(path, snapshot))
         self.drill(path)
 
     def drill(self, path: str) -> None:
         """A copy passes its drill."""
-        status, told = self.machine.tool("drill", path)
+        ended = self.machine.tools.run("drill", path)
         self.drills += 1
-        if status not in ((0, 3) if self.is_plain else (0,)):
-            raise Broken(f"a drill ends with {status}: {told}")
+        if ended.status not in ((0, 3) if self.is_plain else (0,)):
+            raise Broken(f"a drill ends with {ended.status}: {ended.told}")
 
     def restore(self) -> Snapshot:
         """Puts the last backup in the place of the office, and starts it."""
@@ -73,17 +73,17 @@ class Keeping:
         folder = os.path.join(self.machine.room, f"second-{at}")
         os.makedirs(folder, mode=0o700, exist_ok=True)
         snapshot = self.judge.begin_copy(self.machine.clock.now)
-        status, told = self.machine.tool("follow", self.machine.file, folder, "--once")
+        ended = self.machine.tools.run("follow", self.machine.file, folder, "--once")
         self.judge.end_copy(snapshot)
-        if status:
-            raise Broken(f"a round of the follower ends with {status}: {told}")
+        if ended.status:
+            raise Broken(f"a round of the follower ends with {ended.status}: {ended.told}")
         return Copy(folder, snapshot)
 
     def promote(self, copy: Copy) -> Snapshot:
         """The second machine takes the place of the first, which is lost."""
-        status, told = self.machine.tool("promote", copy.path, "--office", self.machine.file)
-        if status:
-            raise Broken(f"a promotion ends with {status}: {told}")
+        ended = self.machine.tools.run("promote", copy.path, "--office", self.machine.file)
+        if ended.status:
+            raise Broken(f"a promotion ends with {ended.status}: {ended.told}")
         if self.has_two:
             self._take_the_first_again()
         self.judge.restored(copy.snapshot)
@@ -98,10 +98,10 @@ class Keeping:
             shutil.copy(path, self.machine.room)
 
 
-def wait_for_reading(going: "subprocess.Popen[str]", path: str) -> None:
+def wait_for_reading(going: Going, path: str) -> None:
     """Waits until a program has a file open, or has ended."""
     until = time.monotonic() + PATIENCE
-    while going.poll() is None and not has_open(going.pid, path) and time.monotonic() < until:
+    while going.is_going and not has_open(going.process, path) and time.monotonic() < until:
         time.sleep(0.001)
 
 

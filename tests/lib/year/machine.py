@@ -6,20 +6,19 @@ import contextlib
 import glob
 import os
 import resource
+import select
 import signal
 import subprocess
 import threading
+import time
 from typing import Optional
 
-from lib.harness import TOP
 from lib.program import Program
 from lib.served import free_port, heard_until_reset, peer_of, words_of
 
 from . import clock as clocks
-
-TOOLS = os.path.join(TOP, "cpi-tools")
-PATIENCE = 300
-"""Seconds of the real clock after which something is taken for hanging."""
+from .front import Front
+from .tools import PATIENCE, Tools, environment_of
 
 FREE = resource.RLIM_INFINITY
 
@@ -37,6 +36,10 @@ class Machine:
         self.port = free_port()
         self.file = os.path.join(room, "office.db")
         self.log = os.path.join(room, "serve.log")
+        self.site = os.path.join(room, "site")
+        self.front = Front(room, self.port, clock, self.site)
+        self.tools = Tools(room, environment_of(program.path, clock.environment()))
+        self.seen: dict[str, int] = {}
         self.process: Optional[subprocess.Popen[bytes]] = None
         self.most = FREE
         self.has_memory_log = False
@@ -45,6 +48,7 @@ class Machine:
 
     @property
     def url(self) -> str:
+        """Where the machine itself asks the office."""
         return f"http://127.0.0.1:{self.port}"
 
     @property
@@ -75,8 +79,36 @@ class Machine:
         if not process.stdout.readline().startswith(b"cpi: listening"):
             self.kill()
             return False
+        self.stamp()
         self.limit(self.most)
         return True
+
+    def stop(self) -> None:
+        """Ends the office as systemd does, and puts its log into its file as ops/cpi-stopped does."""
+        if self.process and self.is_up:
+            self.process.terminate()
+            self.process.wait()
+            self.kill()
+            self.program.replay(b"", self.file)
+            self.stamp()
+
+    def close(self) -> None:
+        """Ends all that runs on the machine."""
+        self.kill()
+        self.front.kill()
+        self.tools.close()
+
+    def stamp(self) -> None:
+        """Gives the times of the simulated clock to the files of the office that have changed."""
+        changed = []
+        for path in (self.file, self.file + "-wal"):
+            with contextlib.suppress(FileNotFoundError):
+                if os.stat(path).st_mtime_ns != self.seen.get(path):
+                    changed.append(path)
+        self.clock.stamp(*changed)
+        for path in changed:
+            with contextlib.suppress(FileNotFoundError):
+                self.seen[path] = os.stat(path).st_mtime_ns
 
     def kill(self) -> None:
         """Ends the process by the signal that nobody can hold up."""
@@ -99,12 +131,18 @@ class Machine:
         if self.process and self.is_up:
             resource.prlimit(self.process.pid, resource.RLIMIT_FSIZE, (most, FREE))
 
-    def write_log(self) -> None:
-        """Appends what the office has said meanwhile to its log, which lies on another disk, as a journal does."""
+    def write_log(self, is_awaited: bool = False) -> None:
+        """Appends what the office has said meanwhile to its log, which lies on another disk, as a journal does. After a
+        refusal by 90 it says two lines, which are awaited."""
         if self.process and self.process.stderr:
-            told = self.process.stderr.read()
+            told, until = self.process.stderr.read() or b"", time.monotonic() + PATIENCE
+            while is_awaited and b"open again" not in told and self.is_up and time.monotonic() < until:
+                select.select([self.process.stderr], [], [], 0.05)
+                told += self.process.stderr.read() or b""
             with open(self.log, "ab") as out:
-                out.write(told or b"")
+                out.write(told)
+            if told:
+                self.clock.stamp(self.log)
 
     def log_size(self) -> int:
         """How long the log of the office's file is."""
@@ -133,19 +171,5 @@ class Machine:
         self.is_lost = True
         aside = os.path.join(self.room, f"burned-{self.burned}")
         os.mkdir(aside)
-        for path in glob.glob(self.file + "*"):
+        for path in [*glob.glob(self.file + "*"), self.log]:
             os.rename(path, os.path.join(aside, os.path.basename(path)))
-
-    def begin_tool(self, *words: str, clock: bool = False) -> "subprocess.Popen[str]":
-        """Starts one of cpi-tools, by the office's clock if that is asked for."""
-        environment = self.clock.environment() if clock else dict(os.environ)
-        environment = {**environment, "CPI": self.program.path, "CPI_PYTHON": "/usr/bin/python3"}
-        return subprocess.Popen(
-            [TOOLS, *words], stdout=subprocess.PIPE, stderr=subprocess.STDOUT, text=True, env=environment
-        )
-
-    def tool(self, *words: str, clock: bool = False) -> tuple[int, str]:
-        """Status and output of one of cpi-tools."""
-        with self.begin_tool(*words, clock=clock) as going:
-            told = going.communicate(timeout=PATIENCE)[0]
-        return going.returncode, told

@@ -1,37 +1,32 @@
-"""What befalls the office, and who looks at it from outside: readers, the publisher, the probe."""
+"""Who looks at the office from outside: readers, the publisher, the probe, and who makes its backups."""
 
 from __future__ import annotations
 
 import os
+import shutil
+import time
 from typing import TYPE_CHECKING
 
 from .asked import Asked
-from .faults import LASTING, Fault
-from .judge import Broken, Snapshot
-from .keeping import Copy
-from .machine import FREE
-from .moments import DAY, HOUR, MINUTE, Month
+from .judge import Broken
+from .moments import DAY, HOUR, Month
+from .probing import WELL
 
 if TYPE_CHECKING:
     from .country import Country
 
 CONFIG = "[office]\nagency = NSO\narea = XX\noffice = Office of prices\ncurrency = crowns\n"
-AGAIN = 10 * MINUTE
-AWAY = 2 * HOUR
-"""So long the office is away once its machine is lost."""
-
-LAG = 9 * HOUR
-"""So old is the last copy when the machine is lost; a backup is older."""
+AGAIN = 600
 
 PATIENTLY = ["--slow", "500000,600000", "--timeout", "250"]
 """Words of the probe: this machine may be busy with other things."""
 
-LOOKS = frozenset(["copies", "site", "probe"])
-"""What is looked at beside the answers: backups with their drills, the site, and what the probe tells."""
+LOOKS = frozenset(["copies", "site", "probe", "closing"])
+"""What is looked at beside the answers: backups with their drills, the site, what the probe tells, and the desk's program
+for a freeze."""
 
-WELL, WARNING, CRITICAL = 0, 1, 2
-BURST = 25
-"""So many prices are sent while a backup is made."""
+PROBED = 3
+"""So many times a month somebody asks the probe, at moments that are drawn."""
 
 
 class Outside:
@@ -39,11 +34,15 @@ class Outside:
 
     def __init__(self, country: "Country", site: str) -> None:
         self.country, self.folder = country, site
-        self.probes = 0
+        self.probes = self.packs = 0
         self.looks = LOOKS
         self.is_eager = False  # a wrong publisher: it reads the file, and writes what isn't out
         self.is_anew = False  # a wrong publisher: each pack begins anew
         self.says_well = False  # a wrong probe: all is well
+        self.output = country.machine.log
+        """The log of the office that the probe reads."""
+        self.kills = 0
+        """So many times the publisher is killed as it writes."""
         self.config = site + ".ini"
         with open(self.config, "w", encoding="utf-8") as out:
             out.write(CONFIG)
@@ -52,14 +51,17 @@ class Outside:
 
     def plan_month(self, month: Month) -> None:
         """What readers, the publisher and the probe do in a month."""
-        for after in (-10 * 24 * HOUR, -HOUR, -1, 0, 1, HOUR):
-            self.country.at(month.publishes + after, self.read, month.name)
+        country = self.country
+        for after in (-10 * DAY, -HOUR, -1, 0, 1, HOUR):
+            country.at(month.publishes + after, self.read, month.name)
         if "copies" in self.looks:
-            self.country.at(month.opens + 4 * DAY, self.backup)
-            self.country.at(month.freezes + 2 * HOUR, self.backup)
-        self.country.at(month.publishes - 2 * HOUR, self.publish)
-        self.country.at(month.publishes + HOUR // 2, self.publish)
-        self.country.at(month.opens + HOUR, self.probe)
+            country.at(month.opens + 4 * DAY, self.backup)
+            country.at(month.freezes + 2 * HOUR, self.backup)
+        country.at(month.publishes - 2 * HOUR, self.publish)
+        country.at(month.publishes + HOUR // 2, self.publish)
+        drawn = country.world.drawn("probes", month.name)
+        for moment in (month.opens + HOUR, *(drawn.randrange(month.opens, month.publishes) for _ in range(PROBED))):
+            country.at(moment, self.probe)
 
     def read(self, month: str) -> None:
         """A reader asks for the list of tables and a table."""
@@ -76,32 +78,50 @@ class Outside:
             country.at(country.now + AGAIN, self.publish)
             return
         if self.is_anew and os.path.exists(self.folder):
-            os.rename(self.folder, f"{self.folder}-{country.now}")
+            shutil.rmtree(self.folder)
         source = ["--url", machine.url]
         if self.is_eager:
             source = ["--db", machine.file, "--at", str(country.now + 24 * 30 * HOUR), "--draft"]
-        status, told = machine.tool("publish", *source, "--config", self.config, "--out", self.folder)
-        if status and machine.is_up and "no table" not in told:
-            raise Broken(f"publish ends with {status}: {told}")
-        if not status:
+        words = ["publish", *source, "--config", self.config, "--out", self.folder]
+        while self.kills:
+            self._killed(words)
+        ended = machine.tools.run(*words)
+        if ended.status and machine.is_up and "no table" not in ended.told:
+            raise Broken(f"publish ends with {ended.status}: {ended.told}")
+        if not ended.status:
+            self.packs += 1
             country.judge.site(self.folder)
+
+    def _killed(self, words: list[str]) -> None:
+        """The publisher is killed at some moment; the pack that stands then is whole."""
+        self.kills -= 1
+        going = self.country.machine.tools.begin(*words)
+        time.sleep(self.country.world.drawn("publisher", self.country.now, self.kills).random() * 0.3)
+        going.kill()
+        going.end()
+        self.country.met("publisher")
+        if os.path.exists(self.folder):
+            self.country.judge.site(self.folder, may_be_before=True)
 
     # ---- the probe
 
-    def probe(self, wanted: int = WELL) -> None:
+    def probe(self) -> None:
         """Asks the probe, and looks whether it tells what is so."""
         country, machine = self.country, self.country.machine
-        if "probe" not in self.looks or wanted == WELL and not (machine.is_up and machine.has_disk):
+        if "probe" not in self.looks:
             return
-        # (the office has said why it refused the last request once it answers the next one)
-        country.ask("judge", Asked(None, ("tables",)))
-        words = ["--url", machine.url, "--file", machine.file, "--output", machine.log, "--free", "1,0", *PATIENTLY]
-        status, told = machine.tool("probe", *words, clock=True)
+        is_reached = machine.is_up and machine.front.is_up
+        if is_reached:
+            # (the office has said why it refused the last request once it answers the next one)
+            country.ask("judge", Asked(None, ("tables",)))
+        url = ["--url", machine.front.place.url + "/api", "--authority", machine.front.authority]
+        files = ["--file", machine.file, "--output", self.output, "--free", "1,0"]
+        ended = machine.tools.run("probe", *url, *files, *PATIENTLY)
         self.probes += 1
-        status = 0 if self.says_well else status
-        worst = {WELL: WARNING if country.judge.refused else WELL}.get(wanted, CRITICAL)
-        if not wanted <= status <= worst:  # (a request that was refused is a warning for some hours)
-            raise Broken(f"the probe ends with {status}, and not {wanted}: {told}")
+        status = WELL if self.says_well else ended.status
+        least, most = country.judge.probed(is_reached, country.clock.jumped)
+        if not least <= status <= most:
+            raise Broken(f"the probe ends with {status}, and not with {least} to {most}: {ended.told}")
 
     # ---- copies
 
@@ -109,76 +129,3 @@ class Outside:
         """A backup, as the timer makes it; on a machine that is lost there is nothing to copy."""
         if "copies" in self.looks and not self.country.machine.is_lost:
             self.country.keeping.backup()
-
-    def burst(self) -> None:
-        """A backup, while somebody sends price after price."""
-        country = self.country
-        collector = country.collectors[0]
-        month = next(it for it in country.world.months if it.opens <= country.now < it.closes)
-        slots = [slot for name, slot in collector.sheet if name == month.name]
-
-        def send() -> None:
-            for at in range(BURST):
-                slot = slots[at % len(slots)]
-                quote = collector.sheet[month.name, slot]
-                other = quote._replace(value=str(int(quote.value) + 1)) if quote.mark != "missing" else quote
-                collector.write(month, slot, other, is_confirmed=True)
-                collector.write(month, slot, quote, is_confirmed=True)
-
-        if not country.machine.is_lost:
-            country.keeping.backup(send if slots else None)
-
-    # ---- faults
-
-    def befalls(self, fault: Fault) -> None:
-        """A fault begins."""
-        country, machine = self.country, self.country.machine
-        if fault.kind in ("refusing", "full") and not machine.has_disk or machine.is_lost:
-            return
-        country.survived[fault.kind] += 1
-        kind, until = fault.kind, country.now + LASTING.get(fault.kind, 0)
-        if kind in ("killed", "lost", "cut", "garbled", "slow"):
-            country.wire.coming[fault.whom].append(fault.how)
-        elif kind in ("refusing", "full"):
-            machine.limit(0 if fault.how == "refusing" else machine.log_size() + 4096)
-            told = CRITICAL if fault.how == "refusing" else WARNING
-            country.at(until, self.frees, country.judge.refused, machine.burned, told)
-        elif kind == "clock":
-            country.clock.jump(HOUR if fault.number % 2 else -HOUR)
-            country.at(until, country.clock.jump, 0)
-        elif kind == "burst":
-            self.burst()
-        elif kind == "offline":
-            next(it for it in country.collectors if it.name == fault.whom).goes_offline(until)
-        elif kind in ("burned", "promoted") and not machine.is_lost:
-            copy = country.keeping.follow(str(fault.number)) if kind == "promoted" else None
-            country.at(country.now + LAG, self.burns, copy)
-
-    def frees(self, refused: int, burned: int, told: int) -> None:
-        """The disk takes writes again; if it refused one, the probe has told it until now. (A full disk may have taken
-        others since.)"""
-        machine = self.country.machine
-        if self.country.judge.refused > refused and machine.is_up and machine.burned == burned:
-            self.probe(told)
-        machine.limit(FREE)
-
-    def burns(self, copy: Copy | None) -> None:
-        """The machine is lost; the probe tells it, and later the office goes on elsewhere."""
-        country = self.country
-        country.machine.burn()
-        self.probe(CRITICAL)
-        country.at(country.now + AWAY, self.comes_back, copy)
-
-    def comes_back(self, copy: Copy | None) -> None:
-        """The office goes on with a copy, and everybody sends again what is missing."""
-        country = self.country
-        country.machine.is_lost = False
-        snapshot: Snapshot = country.keeping.promote(copy) if copy else country.keeping.restore()
-        country.desk.again(snapshot.moment)
-        for sender in country.senders:
-            sender.again(snapshot.moment)
-        for month in country.world.months:
-            if month.opens <= country.now < month.closes:
-                for collector in country.collectors:
-                    collector.is_moved = True
-                    country.at(country.now + HOUR, collector.look_again, month)

@@ -11,7 +11,7 @@ from .moments import DAY, HOUR, MINUTE, Month
 from .phone import NoAnswer, Phone
 from .world import Quote, World
 
-LONGEST = 15 * MINUTE
+LONGEST, WANTED = 15 * MINUTE, 5 * MINUTE
 FAR, NO_PRICE = 26, 25
 
 
@@ -29,6 +29,9 @@ class Around(Protocol):
 
     def ask(self, who: str, asked: Asked) -> Any:
         """The reply of the office, or None."""
+
+    def met(self, kind: str) -> None:
+        """A fault of a kind has befallen somebody."""
 
     def wrote(self, collector: int, month: str, slot: int, quote: Quote) -> None:
         """Somebody has written down what is found in a slot."""
@@ -48,6 +51,7 @@ class Collector:
         self.drawn = around.world.drawn("person", number)
         self.sheet: dict[tuple[str, int], Quote] = {}
         """What was written last, by month and slot."""
+        self.wants_lists = False
         self.is_moved = False
         """Whether the office has moved since this collector compared list and sheet."""
 
@@ -62,7 +66,7 @@ class Collector:
     def visit(self, month: Month, share: float) -> None:
         """Looks at the list of the month, and writes down a share of what is to do."""
         if not self.is_moved:
-            self.around.watch(self.number, self.sheet, self.phone.queue)
+            self.around.watch(self.number, self.sheet, {*self.phone.queue, *self.phone.back})
         self._refresh(month)
         slots = self.phone.to_do(month.name)
         for at, slot in enumerate(slots[: round(len(slots) * share + 0.5)]):
@@ -99,7 +103,23 @@ class Collector:
             self.around.at(self.around.now + wait, self._later, self.timer)
             return
         self.tries = 0
+        self._want_lists()
         self._look()
+
+    def _want_lists(self) -> None:
+        """The page asks for its lists, if it doubts one of them; again, if they don't come."""
+        if self.phone.is_in_doubt and not self.wants_lists:
+            self.wants_lists = True
+            self.around.at(self.around.now + WANTED, self._ask_for_lists)
+
+    def _ask_for_lists(self) -> None:
+        self.wants_lists = False
+        if self.phone.is_in_doubt:
+            self._refresh(self.month())
+
+    def month(self) -> Month:
+        """The month that the page shows."""
+        return max(month for month in self.around.world.months if month.begins <= self.around.now)
 
     def _later(self, timer: int) -> None:
         """The page has one timer: a later try takes the place of this one."""
@@ -108,7 +128,8 @@ class Collector:
 
     def _look(self) -> None:
         """Decides about what the office refused, or what another device has overtaken."""
-        for (name, slot), entry in list(self.phone.queue.items()):
+        for entry in self.phone.entries():
+            name, slot = entry.place
             month = next(month for month in self.around.world.months if month.name == name)
             quote = Quote(entry.mark, entry.value)
             refusal = entry.reply["refused"] if entry.state == "refused" else 0
@@ -120,29 +141,24 @@ class Collector:
                 self.write(month, slot, quote)
 
     def look_again(self, month: Month) -> None:
-        """After the office has moved to another machine: compares the list of the page with the own sheet, and writes
-        once more what isn't there."""
+        """After the office has moved to another machine the page asks for its lists, and sends again what is missing."""
         if not self._refresh(month):
             self.around.at(self.around.now + LONGEST, self.look_again, month)
             return
         self.is_moved = False
-        for row in self.phone.work[month.name]:
-            quote, stored = self.sheet.get((month.name, row[0])), self.phone.quotes[month.name].get(row[0])
-            is_there = stored and quote and (stored[2], str(stored[3])) == quote
-            if quote and not is_there and (month.name, row[0]) not in self.phone.queue:
-                self.write(month, row[0], quote, is_confirmed=True)
+        self.sync(is_all=True)
 
     def _refresh(self, month: Month) -> bool:
         """Sends what waits, and asks for the lists; whether they came."""
         self.sync(is_all=True)
         try:
-            return self.phone.refresh(month.name)
+            return self.phone.refresh(month.name, self.around.now)
         except NoAnswer:
             return False
 
     def holds(self, month: str, slot: int) -> bool:
         """Whether the phone still holds an entry, and says why it isn't stored."""
-        return (month, slot) in self.phone.queue
+        return self.phone.holds(month, slot)
 
 
 class Sender:

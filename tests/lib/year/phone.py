@@ -1,6 +1,6 @@
 """A collector's phone, as the page of web/collect sends: what it keeps, in which order it asks, and when again.
 
-It follows send.js, store.js, quotes.js and lists.js of the page, rule by rule, and has no code in common with them.
+It follows send.js, store.js, kept-lists.js and lists.js of the page, rule by rule, and has no code in common with them.
 """
 
 from __future__ import annotations
@@ -9,6 +9,7 @@ from collections.abc import Callable
 from typing import Any, NamedTuple, Optional
 
 from .asked import Asked
+from .known import Known, Stored, stored_of
 
 ROWS = 50
 FIRST_WAIT, LONGEST_WAIT = 60, 900
@@ -36,6 +37,8 @@ class Entry(NamedTuple):
     reply: Any = None
     tried: int = 0
     times: int = 0
+    had: int = 0
+    """The receipt that the office has given to it, if it was restored from a copy since."""
 
     @property
     def place(self) -> tuple[str, int]:
@@ -54,11 +57,11 @@ class Entry(NamedTuple):
         return is_all or now - self.tried >= min(LONGEST_WAIT, FIRST_WAIT * 2**self.times)
 
 
-def has_moved_on(entry: Entry, quote: Optional[list[Any]]) -> bool:
+def has_moved_on(entry: Entry, quote: Optional[Stored]) -> bool:
     """Whether another device has stored a quote since the entry was made."""
-    if quote is None or quote[4] <= entry.seen:
+    if quote is None or quote.receipt == entry.seen:
         return False
-    return (quote[2], str(quote[3])) not in [(entry.mark, entry.value), *entry.mine]
+    return quote.quote not in [(entry.mark, entry.value), *entry.mine]
 
 
 class Phone:
@@ -67,18 +70,23 @@ class Phone:
     def __init__(self, key: str, send: Callable[[Asked], Any]) -> None:
         self.key, self.send = key, send
         self.queue: dict[tuple[str, int], Entry] = {}
-        self.work: dict[str, list[list[Any]]] = {}  # by month
-        self.quotes: dict[str, dict[int, list[Any]]] = {}  # by month and slot
+        self.back: dict[tuple[str, int], Entry] = {}
+        """What an office that was restored from a copy lacks; it is sent before an own entry of its slot."""
+        self.lists: dict[str, Known] = {}  # by month
+        self.top = 0
+        """The greatest receipt that the office has given."""
         self.versions = 0
         self.fresh: set[int] = set()
         self.forgets = False  # a wrong phone: what was sent is gone, whether an answer came or not
         self.mixes = False  # a wrong phone: if a part of its rows was answered, it takes all for answered
+        self.trusts = False  # a wrong phone: it never sees that the office was restored
 
     # ---- what the collector does
 
     def save(self, month: str, slot: int, mark: str, value: str, now: int, is_confirmed: bool = False) -> Entry:
         """Keeps an entry in the place of the one before of its slot and month."""
-        before, stored = self.queue.get((month, slot)), self.receipt(month, slot)
+        lost = self.back.pop((month, slot), None)
+        before, stored = self.queue.get((month, slot), lost), self.receipt(month, slot)
         mine = (*before.mine, (before.mark, before.value)) if before else ()
         seen = max(before.seen if before else 0, stored)
         if before and before.state == "moved":
@@ -90,13 +98,17 @@ class Phone:
 
     def receipt(self, month: str, slot: int) -> int:
         """The receipt that the kept list has for a slot, or 0."""
-        quote = self.quotes.get(month, {}).get(slot)
-        return int(quote[4]) if quote else 0
+        quote = self.lists[month].quotes.get(slot) if month in self.lists else None
+        return quote.receipt if quote else 0
+
+    def holds(self, month: str, slot: int) -> bool:
+        """Whether there is an entry that the office hasn't stored."""
+        return (month, slot) in self.queue or (month, slot) in self.back
 
     def to_do(self, month: str) -> list[int]:
         """The slots of the list that have neither a receipt nor an entry on the phone."""
-        slots = [row[0] for row in self.work.get(month, [])]
-        return [slot for slot in slots if not self.receipt(month, slot) and (month, slot) not in self.queue]
+        slots = [row[0] for row in self.lists[month].work] if month in self.lists else []
+        return [slot for slot in slots if not self.receipt(month, slot) and not self.holds(month, slot)]
 
     # ---- what the page does
 
@@ -106,7 +118,7 @@ class Phone:
             return False
         done: set[int] = set()
         while True:
-            due = sorted(self.queue.values(), key=lambda entry: (entry.at, entry.slot))
+            due = [*self.back.values(), *sorted(self.queue.values(), key=lambda entry: (entry.at, entry.slot))]
             sent = [entry for entry in due if entry.is_due(now, is_all) and entry.version not in done][:ROWS]
             if not sent:
                 return True
@@ -137,47 +149,108 @@ class Phone:
     def drop(self, sent: list[Entry]) -> None:
         """Forgets entries, as only a wrong phone does."""
         for entry in sent:
-            self.queue.pop(entry.place, None)
+            (self.back if entry.had else self.queue).pop(entry.place, None)
 
     def settle(self, sent: Entry, reply: Any, now: int) -> None:
         """An entry was answered."""
-        entry, receipt = self.queue.get(sent.place), reply.get("receipt")
-        if receipt and sent.month in self.work:
-            self.quotes[sent.month][sent.slot] = [sent.slot, sent.month, sent.mark, sent.value, receipt]
+        queue, receipt = self.back if sent.had else self.queue, reply.get("receipt")
+        entry = queue.get(sent.place)
+        if receipt:
+            self.stored(sent.month, Stored(sent.slot, sent.mark, sent.value, receipt))
+            if not sent.had:
+                self.back.pop(sent.place, None)
         if entry is None:
             return
         if entry.version != sent.version:
-            self.queue[sent.place] = entry._replace(seen=max(entry.seen, receipt or 0))
+            queue[sent.place] = entry._replace(seen=receipt or entry.seen)
         elif receipt:
-            del self.queue[sent.place]
+            del queue[sent.place]
         else:
             is_same = entry.state == "refused" and entry.reply["refused"] == reply["refused"]
             times = entry.times + 1 if is_same else 0
-            self.queue[sent.place] = entry._replace(state="refused", reply=reply, tried=now, times=times)
+            queue[sent.place] = entry._replace(state="refused", reply=reply, tried=now, times=times)
+
+    def stored(self, month: str, stored: Stored) -> None:
+        """The office has given a receipt; one that isn't greater than all before makes the phone doubt its lists."""
+        known = self.lists.get(month)
+        is_known = known is not None and known.quotes.get(stored.slot) == stored
+        if stored.receipt <= self.top and not is_known:
+            self.doubt()
+        self.top = max(self.top, stored.receipt)
+        if known:
+            known.mark(stored)
+
+    @property
+    def is_in_doubt(self) -> bool:
+        """Whether the office may lack something of a list."""
+        return any(known.is_doubted for known in self.lists.values())
+
+    def doubt(self) -> None:
+        """The office may lack something of each list."""
+        for known in self.lists.values():
+            known.is_doubted = not self.trusts
 
     def look_up(self, now: int, is_all: bool) -> bool:
         """Looks up what the office has of entries that weren't sent at once; False if it is refused."""
-        late = [it for it in self.queue.values() if it.is_due(now, is_all) and it.version not in self.fresh]
+        late = [it for it in self.entries() if it.is_due(now, is_all) and it.version not in self.fresh]
         for month in sorted({entry.month for entry in late}):
             reply = self.asked("quotes", month, month)
             if "quotes" not in reply:
                 return False
-            quotes = {row[0]: row for row in reply["quotes"]}
-            for entry in late:
+            quotes = stored_of(reply["quotes"], month)
+            self.keep(month, quotes, now)
+            for entry in [it for it in self.entries() if it.month == month and it.version not in self.fresh]:
                 quote = quotes.get(entry.slot)
-                if entry.month == month and has_moved_on(entry, quote):
+                if entry.is_due(now, is_all) and has_moved_on(entry, quote):
                     assert quote
-                    self.queue[entry.place] = entry._replace(state="moved", reply=quote[4], tried=now)
+                    queue = self.back if entry.had else self.queue
+                    queue[entry.place] = entry._replace(state="moved", reply=quote.receipt, tried=now)
         return True
 
-    def refresh(self, month: str) -> bool:
-        """Asks for the work list of a month; whether there is one. Raises NoAnswer."""
+    def entries(self) -> list[Entry]:
+        """All that the office hasn't stored, as far as the phone knows."""
+        return [*self.back.values(), *self.queue.values()]
+
+    def keep(self, month: str, quotes: dict[int, Stored], now: int) -> None:
+        """Compares what the office has of a month with what is known; what it lacks is sent again."""
+        known = self.lists.get(month)
+        if known is None:
+            return
+        if self.trusts:
+            known.quotes = {**known.quotes, **quotes}
+            return
+        is_back, lost = known.compare(quotes)
+        if is_back:
+            self.doubt()
+        known.is_doubted = False
+        for it, seen in lost:
+            self.put_back(month, it, seen, now)
+        self.top = max((each.greatest for each in self.lists.values()), default=0) if is_back else self.top
+        self.top = max(self.top, known.greatest)
+
+    def put_back(self, month: str, lost: Stored, seen: int, now: int) -> None:
+        """Makes an entry of a quote that the office lacks; an own entry of its slot is sent behind it."""
+        own = self.queue.get((month, lost.slot))
+        if own:
+            self.queue[month, lost.slot] = own._replace(seen=seen, mine=(*own.mine, lost.quote))
+        self.versions += 1
+        entry = Entry(month, lost.slot, *lost.quote, True, self.versions, at=now, seen=seen, had=lost.receipt)
+        self.back[month, lost.slot] = entry
+
+    def refresh(self, month: str, now: int) -> bool:
+        """Asks for the work list of a month, and for the quotes of each month that is known; whether there is one. Raises
+        NoAnswer."""
         reply = self.asked("work", month)
-        quotes = self.asked("quotes", month, month)
-        if "work" in reply and "quotes" in quotes:
-            self.work[month] = reply["work"]
-            self.quotes[month] = {row[0]: row for row in quotes["quotes"]}
-        return "work" in reply
+        months = sorted({month, *(name for name, known in self.lists.items() if known.is_doubted)})
+        quotes = self.asked("quotes", months[0], months[-1])
+        if "work" not in reply or "quotes" not in quotes:
+            return False
+        if month not in self.lists:
+            self.lists[month] = Known(reply["work"], {})
+        self.lists[month].work = reply["work"]
+        for each in months:
+            self.keep(each, stored_of(quotes["quotes"], each), now)
+        return True
 
     def asked(self, *words: str) -> Any:
         """The reply to a question. Raises NoAnswer."""

@@ -13,20 +13,22 @@ from typing import Any, Optional
 from second_office.index import Index
 from second_office.office import Office
 from second_office.requests import Record, caller_of, request_of, rows_of
+from second_office.rows import Kept
 
 from .asked import Asked
 
 NO_DISK = {"refused": 90}
-MOST = 400
+MOST = 5000
 """So many offices are told apart at most."""
 
 
-def copied(office: Office) -> Office:
+def copied(office: Kept) -> Kept:
     """An office of its own with the same content."""
     twin = copy.copy(office)
     for name in ("items", "plans", "calendar", "outlets", "keys", "assignments", "quotes"):
         setattr(twin, name, dict(getattr(office, name)))
     twin.tables = {month: list(of) for month, of in office.tables.items()}
+    twin.of_releases = {name: list(rows) for name, rows in office.of_releases.items()}
     twin.index = Index(twin.plans, office.index.frozen, dict(office.index.known))
     return twin
 
@@ -37,7 +39,20 @@ def content(office: Office) -> tuple[Any, ...]:
     return (*lists, office.quotes, office.tables)
 
 
-def prefixes(office: Office, record: Record) -> Iterator[Office]:
+def outline(office: Office) -> tuple[Any, ...]:
+    """What two offices that are alike have in common, as a key."""
+    lengths = tuple(len(each) for each in content(office))
+    return (*lengths, hash(frozenset(office.quotes.items())), hash(frozenset(office.calendar.items())))
+
+
+def stored_by(asked: Asked, office: Office) -> tuple[Any, ...]:
+    """What changes in an office when it stores something of a command: a message that changes nothing isn't written."""
+    lengths = tuple(len(each) for each in content(office))
+    receipts = sum(receipt for place, (_, receipt) in office.quotes.items() if office.keys.get(place[0]) == asked.key)
+    return (*lengths, receipts, tuple(office.calendar.values()), sum(len(of) for of in office.tables.values()))
+
+
+def prefixes(office: Kept, record: Record) -> Iterator[Kept]:
     """What may stand after a record that nobody was answered: none of it, or some first rows of an import, or all."""
     yield office
     if record[2] == "import":
@@ -73,17 +88,21 @@ def replied(office: Office, record: Record, reply: Any, may_refuse: bool) -> Opt
 class Possible:
     """The offices that there may be."""
 
-    def __init__(self, offices: list[Office]) -> None:
+    def __init__(self, offices: list[Kept]) -> None:
         self.offices = offices
+        self.has_stored = False
+        """Whether the last command that was answered has stored something, in each office that may have answered."""
 
     def answered(self, asked: Asked, now: int, reply: Any, may_refuse: bool) -> str | None:
         """What is wrong with an answer, if no office can have given it; each other office is left out."""
-        record, left, wanted = asked.record(now), list[Office](), list[Any]()
+        record, left, wanted, changed = asked.record(now), list[Kept](), list[Any](), list[bool]()
         for office in self.offices:
             twin = copied(office) if len(self.offices) > 1 and asked.is_command else office
+            before = stored_by(asked, twin) if asked.is_command else ()
             other = replied(twin, record, reply, may_refuse)
             if other is None:
                 left.append(twin)
+                changed.append(asked.is_command and stored_by(asked, twin) != before)
             else:
                 wanted.append(other)
         if not left:
@@ -91,6 +110,7 @@ class Possible:
                 f"{record[1][:7]} {' '.join(record[2:])[:200]!r} is answered {reply!r:.300}, and not {wanted[0]!r:.300}"
             )
         self.offices = distinct(left)
+        self.has_stored = all(changed)
         return None
 
     def unanswered(self, asked: Asked, now: int) -> None:
@@ -103,18 +123,25 @@ class Possible:
         """Leaves one of each that are alike."""
         self.offices = distinct(self.offices)
 
-    def kept(self) -> list[Office]:
+    def kept(self) -> list[Kept]:
         """Copies, as they stand now."""
         return [copied(office) for office in self.offices]
 
+    def doubtful(self) -> set[int]:
+        """The collectors whose lists differ in the offices."""
+        first, *others = (office.quotes.items() for office in self.offices)
+        return {collector for other in others for (collector, *_), _ in first ^ other}
 
-def distinct(offices: list[Office]) -> list[Office]:
+
+def distinct(offices: list[Kept]) -> list[Kept]:
     """Those that differ, the first of each."""
     if len(offices) == 1:
         return offices
-    found: list[Office] = []
+    found: dict[tuple[Any, ...], list[Kept]] = {}
     for office in offices:
-        if not any(content(office) == content(other) for other in found):
-            found.append(office)
-    assert len(found) <= MOST, f"{len(found)} offices are possible"
-    return found
+        alike = found.setdefault(outline(office), [])
+        if not any(content(office) == content(other) for other in alike):
+            alike.append(office)
+    each = [office for alike in found.values() for office in alike]
+    assert len(each) <= MOST, f"{len(each)} offices are possible"
+    return each

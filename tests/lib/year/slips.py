@@ -31,6 +31,11 @@ def phone_mixes(country: Country) -> None:
         collector.phone.mixes = True
 
 
+def phone_trusts(country: Country) -> None:
+    for collector in country.collectors:
+        collector.phone.trusts = True
+
+
 def plain_copy(country: Country) -> None:
     country.keeping.is_plain = True
 
@@ -73,6 +78,20 @@ def probe_says_well(country: Country) -> None:
     country.outside.says_well = True
 
 
+def probe_reads_another_log(country: Country) -> None:
+    country.outside.output = country.machine.log + ".new"
+    with open(country.outside.output, "wb"):
+        pass
+
+
+def front_is_not_told(country: Country) -> None:
+    country.machine.front.hears = False
+
+
+def front_writes_keys(country: Country) -> None:
+    country.machine.front.change = lambda text: text.replace("$body_bytes_sent", "$http_authorization")
+
+
 def first_machine_comes_back(country: Country) -> None:
     country.keeping.has_two = True
 
@@ -81,6 +100,9 @@ SLIPS = {
     "phone forgets": Slip("a phone takes what it sent for stored, though no reply came", ("cut",), 2, phone_forgets),
     "phone mixes": Slip(
         "a phone takes a whole batch for stored, if a part of it was", ("full", "refusing", "offline"), 2, phone_mixes
+    ),
+    "phone trusts its list": Slip(
+        "a phone doesn't see that the office was restored", ("burned",), 2, phone_trusts, ("copies",)
     ),
     "plain copy": Slip("a backup copies the office's file without its log", ("burned",), 2, plain_copy, ("copies",)),
     "front keeps": Slip("a front keeps an answer that was given to a key", (), 1, front_keeps),
@@ -99,6 +121,18 @@ SLIPS = {
         "a sender throws a file away once it is answered", ("burned",), 2, sender_throws_away, ("copies",)
     ),
     "probe says well": Slip("a probe says that all is well", ("burned",), 2, probe_says_well, ("copies", "probe")),
+    "probe reads another log": Slip(
+        "a probe reads a log that was begun anew, not the one that the office writes",
+        ("refusing",),
+        2,
+        probe_reads_another_log,
+        ("probe",),
+    ),
+    "certificate isn't taken up": Slip(
+        "a front isn't told that its certificate was renewed", ("certificates",), 1, front_is_not_told
+    ),
+    "log isn't begun anew": Slip("a front isn't told that its log was moved away", ("rotated",), 1, front_is_not_told),
+    "log has keys": Slip("a front writes the keys of its askers into its log", (), 1, front_writes_keys),
     "first machine back": Slip(
         "the first machine serves again after a promotion", ("promoted",), 3, first_machine_comes_back
     ),

@@ -4,6 +4,7 @@ from __future__ import annotations
 
 import collections
 import contextlib
+import http.client
 from collections.abc import Callable
 from typing import Any, Optional, Protocol
 
@@ -12,6 +13,7 @@ from lib.served import heard_until_reset, peer_of
 from .asked import Asked, reply_of
 from .machine import Machine
 
+TABLES = Asked(None, ("tables",))
 STANDING = 0.03
 """Seconds for which the office stands still before a slow disk."""
 
@@ -35,17 +37,18 @@ class Wire:
         self.kept: Optional[dict[tuple[str, ...], Any]] = None  # what a wrong front keeps of keyed answers
         self.again: Optional[Callable[[Asked], None]] = None  # a wrong front that sends a message once more
         self.met: collections.Counter[str] = collections.Counter()
-        self.count = 0
+        self.count = self.through = 0
+        """How many messages there were, and how many went through the front."""
 
     def ask(self, who: str, asked: Asked) -> Any:
         """The reply, or None if no answer of the office came."""
         happens = self.coming[who].popleft() if self.coming[who] else ""
-        if not self.machine.is_up:
+        if not self.machine.is_up or not (self.machine.front.is_up or who == "judge"):
             if happens:
                 self.coming[who].appendleft(happens)
             return None
         if happens:
-            self.met[happens] += 1
+            self.met[happens.split()[0]] += 1
         self.count += 1
         if self.kept is not None and asked.key and not asked.is_command:
             if asked.words in self.kept:
@@ -69,25 +72,51 @@ class Wire:
                 if happens == "killed within":
                     self.machine.kill()
             return None
-        reply = self._answer_to(asked, text, happens)
-        if happens == "killed after":
-            self.machine.kill()
-        return None if happens in ("lost", "garbled", "killed meanwhile") else reply
-
-    def _answer_to(self, asked: Asked, text: bytes, happens: str) -> Any:
-        """The office's reply, of which the judge hears; None if there is none."""
+        if happens == "front":
+            self._without_front(asked)
+            return None
         if happens == "slow":
             self.machine.pause(STANDING)
-        response = b""
+        front = self.machine.front
+        is_direct = happens.startswith("killed") or not front.is_up
+        self.through += not is_direct
+        response = self._heard(text, happens) if is_direct else front.answer(asked)
+        reply = self._judged(asked, response)
+        if happens == "killed after":
+            self.machine.kill()
+        return None if happens in ("lost", "garbled", "desk", "killed meanwhile") else reply
+
+    def _heard(self, text: bytes, happens: str) -> bytes:
+        """The response of the office to a message that doesn't come by the front."""
         with contextlib.suppress(OSError), peer_of(self.machine.port) as one:
             one.sendall(text)
             if happens == "killed meanwhile":
                 self.machine.kill()
-            response = heard_until_reset(one)
-        self.machine.write_log()
+            return heard_until_reset(one)
+        return b""
+
+    def _without_front(self, asked: Asked) -> None:
+        """The front is killed once it has got a message. The office may have carried it out."""
+        with contextlib.suppress(OSError, http.client.HTTPException):
+            self.machine.front.send(asked)
+        self.machine.front.kill()
+        self._judged(asked, b"")
+        # (the office is asked one thing after another: what it had got is done by now)
+        self._judged(TABLES, self._heard(TABLES.message(), ""))
+
+    def _judged(self, asked: Asked, response: bytes) -> Any:
+        """The reply in a response, of which the judge hears; None if there is none."""
+        self.machine.stamp()
         reply = reply_of(response)
+        told = reply.get("rows", [reply]) if isinstance(reply, dict) else []
+        self.machine.write_log(is_awaited=any(row.get("refused") == 90 for row in told))
         if reply is None:
             self.judge.unanswered(asked)
         else:
             self.judge.answered(asked, reply)
         return reply
+
+    def find_out(self, asked: Asked) -> None:
+        """Asks the office itself, past the front, so that the judge knows what became of a message."""
+        if self.machine.is_up:
+            self._judged(asked, self._heard(asked.message(), ""))

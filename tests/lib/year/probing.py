@@ -1,0 +1,63 @@
+"""What a probe has to tell, by what the judge has heard: whether the office answers, and whether its last write stands."""
+
+from __future__ import annotations
+
+from typing import Optional
+
+from second_office.office import Office
+
+from .moments import HOUR
+
+WELL, WARNING, CRITICAL = 0, 1, 2
+WARNED = 24 * HOUR
+"""So long a refused request is told of although a later write succeeded."""
+
+JUMP = 2 * HOUR
+"""Times of before and after a jump of the clock are told apart by so much at most."""
+
+
+class Writes:
+    """What is known of an office's writes since one was refused."""
+
+    def __init__(self) -> None:
+        self.refused: Optional[int] = None
+        """When a request was refused last, by the office's clock."""
+        self.is_stored = False
+        """Whether something was stored since."""
+        self.is_clear = True
+        """Whether all that came since was answered, so that this is known."""
+
+    def answered(self, now: int, is_refused: bool, has_stored: bool) -> None:
+        """Something was answered."""
+        if is_refused:
+            # (rows of an import may be stored before and after the one that is refused)
+            self.refused, self.is_stored, self.is_clear = now, False, not has_stored
+        elif has_stored:
+            self.is_stored = True
+
+    def unanswered(self, is_command: bool) -> None:
+        """A command may have stored something."""
+        self.is_clear = self.is_clear and not is_command
+
+    def told(self, now: int, has_jumped: bool) -> tuple[int, int]:
+        """The least and the greatest status that a probe may end with."""
+        if self.refused is None:
+            return WELL, WELL
+        if has_jumped:
+            return WELL, CRITICAL
+        if not self.is_stored:
+            return (CRITICAL if self.is_clear else WELL), CRITICAL
+        age = now - self.refused
+        if abs(age - WARNED) <= 1:
+            return WELL, WARNING
+        return (WARNING, WARNING) if age < WARNED else (WELL, WELL)
+
+
+def is_late(offices: list[Office], now: int) -> bool:
+    """Whether a month's moment has come, and its table isn't there."""
+    for office in offices:
+        for month, (_, _, publishes) in office.calendar.items():
+            revisions = office.tables.get(month, [])
+            if publishes <= now and not any(moment == publishes for moment, _ in revisions):
+                return True
+    return False
