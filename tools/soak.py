@@ -9,8 +9,8 @@ It isn't part of ./test, which does the same for a minute with seeds of its own.
   cut, some with bytes changed, some of random bytes; between them peers that close at once, that send byte by byte, or
   that send more than is read; and at the end what `cpi replay` lists of the office's file.
 
-With --year MONTHS COLLECTORS it lives the years of made-up countries under all faults in place of these (tests/year tells
-how), one seed after another. A life that breaks a promise is told with its seed and the moment; tests/year makes it again.
+With --year MONTHS COLLECTORS it lives the years of made-up countries under all faults in place of these, one seed after
+another (see tests/year). It prints the seed and the moment of a promise that is broken; tests/year makes it again.
 
 The first seed is drawn from the clock where it isn't given. The counts are told each minute and at the end. A check is
 a run of records, a message, a peer, a file, or a life.

@@ -37,7 +37,7 @@ DRAWN_AT = "2020-01-01 00:00:00"
 
 DAYS = 20_000
 PATIENCE = 30
-"""Real seconds within which nginx listens, or takes up what it is told."""
+"""Real seconds within which nginx listens, or obeys a signal."""
 
 KEY = re.compile("[0-9a-f]{32}")
 DRAW = "import pathlib, sys, cpi_tools.front as f; f.draw_certificate(pathlib.Path(sys.argv[1]), 'localhost', {})"

@@ -1,4 +1,4 @@
-"""What a probe has to tell, by what the judge has heard: whether the office answers, and whether its last write stands."""
+"""The status that a probe has to end with, by the replies that the judge has heard."""
 
 from __future__ import annotations
 
@@ -10,10 +10,10 @@ from .moments import HOUR
 
 WELL, WARNING, CRITICAL = 0, 1, 2
 WARNED = 24 * HOUR
-"""So long a refused request is told of although a later write succeeded."""
+"""Seconds for which a probe warns of a refused request although a later write succeeded."""
 
 JUMP = 2 * HOUR
-"""Times of before and after a jump of the clock are told apart by so much at most."""
+"""Seconds by which times before and after a jump of the clock differ at most."""
 
 
 class Writes:
