@@ -8,6 +8,7 @@ import re
 import shutil
 from collections.abc import Iterator
 from pathlib import Path
+from xml.etree import ElementTree
 
 import pytest
 
@@ -20,6 +21,7 @@ from cpi_tools.pack.public import Published
 from cpi_tools.pack.specials import Special
 from cpi_tools.publish import check, publish
 from conftest import ROOT
+from lib.pack_forms import read_json_stat, read_px
 from lib.pseudo import write_catalogue
 from test_measures import two_years
 
@@ -64,16 +66,22 @@ def test_each_language_has_the_same_pages_and_data_are_there_once(site: Path) ->
 
 
 def test_the_first_language_is_as_without_others(site: Path, published: list[Published], tmp_path: Path) -> None:
-    """But for the switch, the addresses of the other languages, and the map of all pages."""
+    """But for the switch, the addresses of the other languages, the map of all pages, and forms of data that have their titles
+    in all languages, or a version by these."""
     publish(published, CONFIG._replace(speaks=OfficeLanguages()), tmp_path / "alone", None, lambda _: None)
     alone = {it.relative_to(tmp_path / "alone") for it in (tmp_path / "alone").rglob("*") if it.is_file()}
     of_others = re.compile(
         r'<link rel="alternate" hreflang=[^\n]*\n|<nav class="languages"[^>]*>\n<ul>\n(?:<li>[^\n]*\n)*</ul>\n</nav>\n|"inLanguage":"en",'
     )
-    for name in sorted(alone - {Path("SHA256SUMS"), Path("sitemap.xml")}):
+    forms = {
+        name for name in alone if re.search(r"(\.sdmx\.(csv|xml)|structure\.xml|\.px|\.jsonstat\.json)$", name.name)
+    }
+    assert len(forms) == 5
+    for name in sorted(alone - forms - {Path("SHA256SUMS"), Path("sitemap.xml")}):
         here, there = (site / name).read_bytes(), (tmp_path / "alone" / name).read_bytes()
         if name.suffix == ".html":
-            assert of_others.sub("", here.decode()) == there.decode(), name
+            sizes = re.compile(r"[0-9.]+.?k?B\b" if name.name == "data.html" else "^$")
+            assert sizes.sub("", of_others.sub("", here.decode())) == sizes.sub("", there.decode()), name
         else:
             assert here == there, name
 
@@ -126,6 +134,59 @@ def test_titles_are_those_of_the_language_and_else_the_offices_own(site: Path) -
     assert "<bdi>Ensemble</bdi>" in release and "All items" not in release
     with (site / "node/00.csv").open(encoding="utf-8", newline="") as file:
         assert {row["title"] for row in csv.DictReader(file)} == {"All items"}
+
+
+def test_px_has_titles_and_notes_in_each_language(site: Path) -> None:
+    """By the file format of PX: a keyword of another language has its tag, and names variables in that language."""
+    head, _ = read_px(site / "data/cpi.px")
+    assert head["LANGUAGE"] == ["en"] and head["LANGUAGES"] == ["en", "fr", "ar"]
+    assert head["STUB"] == ["Item"] and head["STUB[fr]"] == ["Poste"] and head["HEADING[fr]"] == ["Chiffre", "Mois"]
+    assert head['VALUES("Item")'][0] == "00 All items" and head['VALUES[fr]("Poste")'][0] == "00 Ensemble"
+    assert head['VALUES[fr]("Poste")'][-1] == "CORE Hors alimentation"
+    assert head['VALUES[ar]("\u0627\u0644\u0628\u0646\u062f")'][0] == "00 All items"  # (no titles-ar.csv)
+    assert head['VALUES[fr]("Mois")'][:2] == ["janvier 2025", "f\u00e9vrier 2025"]
+    assert head["TITLE[fr]"] == ["Indice des prix \u00e0 la consommation par poste, chiffre et mois"]
+    assert head['VALUENOTE[fr]("Poste","00 Ensemble")'] == ["Indice : d\u00e9cembre 2024 = 100."]
+    texts = {re.sub(r"\[[a-z]+\]|\(.*", "", name) for name in head if "[fr]" in name}
+    plain = {name for name in head if "[" not in name}
+    assert texts == {re.sub(r"\(.*", "", name) for name in plain} - {
+        *("CHARSET", "AXIS-VERSION", "CODEPAGE", "LANGUAGE", "LANGUAGES", "CREATION-DATE", "DECIMALS", "SHOWDECIMALS"),
+        *("MATRIX", "SUBJECT-CODE"),
+    }
+    assert len([name for name in head if "[fr]" in name]) == len([name for name in head if "[ar]" in name])
+
+
+def test_json_stat_has_titles_and_notes_in_each_language(site: Path) -> None:
+    data, _ = read_json_stat(site / "data/cpi.jsonstat.json")
+    french, arabic = (data["extension"]["languages"][tag] for tag in ("fr", "ar"))
+    assert data["dimension"]["item"]["category"]["label"]["00"] == "All items"
+    assert french["dimension"]["item"]["category"]["label"]["00"] == "Ensemble"
+    assert french["label"] == "Indice des prix \u00e0 la consommation" and arabic["label"] == data["label"]
+    for name, own in data["dimension"].items():
+        for part in ("label", "note"):
+            wanted = own["category"].get(part, {})
+            assert [*french["dimension"][name]["category"].get(part, {})] == [*wanted]
+    units = {it["label"] for it in arabic["dimension"]["measure"]["category"]["unit"].values()}
+    assert not re.search("[a-z]", " ".join(units)) and len(french["note"]) == len(data["note"])
+
+
+def test_sdmx_has_titles_in_each_language(site: Path) -> None:
+    """An element has a name for each language in which it is called something, as SDMX-ML has it."""
+    (path,) = (site / "data").glob("structure*.xml")
+    root = ElementTree.fromstring(path.read_text(encoding="utf-8"))
+    kind = "{http://www.sdmx.org/resources/sdmxml/schemas/v2_1/structure}"
+    language = "{http://www.w3.org/XML/1998/namespace}lang"
+
+    def names_of(element: ElementTree.Element) -> dict[str, str]:
+        found = [it for it in element if it.tag.endswith("}Name")]
+        assert len({it.attrib[language] for it in found}) == len(found)
+        return {it.attrib[language]: it.text or "" for it in found}
+
+    codes = {it.attrib["id"]: names_of(it) for it in root.iter(f"{kind}Code")}
+    assert codes["_T"] == {"en": "All items", "fr": "Ensemble"} and [*codes["CP01"]] == ["en"]
+    assert codes["PC"]["fr"] == "Pourcentage" and {*codes["PC"]} == {"en", "fr", "ar"}
+    assert all({*names_of(it)} == {"en", "fr", "ar"} for it in root.iter(f"{kind}Concept"))
+    assert [names_of(it)["fr"] for it in root.iter(f"{kind}Dataflow")] == ["Indice des prix \u00e0 la consommation"]
 
 
 def test_what_is_written_again_is_the_same(site: Path, published: list[Published]) -> None:

@@ -18,6 +18,7 @@ from typing import NamedTuple
 from ..exact import ALL_ITEMS, parent_of
 from .config import Config
 from .tables import Series
+from .tongues import Names, named, titles_of
 
 
 class Reference(NamedTuple):
@@ -55,11 +56,13 @@ class Code(NamedTuple):
 
 
 class CodeList(NamedTuple):
-    """A code list of the office: its title in English, its version, and its codes."""
+    """A code list of the office: its title in English, its version, its codes, and by their ids what these are called in
+    further languages."""
 
     title: str
     version: str
     codes: list[Code]
+    names: Mapping[str, Names] = {}
 
 
 def version_of(content: object, month: str = "") -> str:
@@ -93,10 +96,15 @@ def items(series: Series, config: Config, title: str) -> CodeList:
         for code, name in series.every_title.items()
     ]
     codes += [Code(name, it.title, config.language) for name, it in series.specials.items()]
-    return CodeList(title, version_of((title, codes), changed_last(series)), codes)
+    ids = {item_id(code): code for code in series.every_title} | {name: name for name in series.specials}
+    names = {id: titles_of(config, code) for id, code in ids.items()} if config.speaks.languages else {}
+    content = (title, codes, named(config, title), names) if config.speaks.languages else (title, codes)
+    return CodeList(title, version_of(content, changed_last(series)), codes, names)
 
 
 def fixed(config: Config, title: str, codes: Mapping[str, str]) -> CodeList:
     """A list that doesn't depend on the tables, with the office's own ids."""
     own = [Code(config.id(code), name, "en") for code, name in codes.items()]
-    return CodeList(title, version_of((title, own)), own)
+    names = {config.id(code): named(config, name) for code, name in codes.items()} if config.speaks.languages else {}
+    content = (title, own, named(config, title), names) if config.speaks.languages else (title, own)
+    return CodeList(title, version_of(content), own, names)

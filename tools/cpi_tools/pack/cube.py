@@ -5,17 +5,19 @@ from __future__ import annotations
 from collections.abc import Iterator
 from typing import NamedTuple
 
-from ..terminal import month_name
+from ..speech import SPEAKS_ENGLISH, Speech, marked, marked_as
 from . import figures
 from .config import Config
 from .figures import Figure, Known
-from .shown import RATES_SAY, period_name
+from .shown import EXACT, PUBLISHED
+
+ITEM = marked_as("what an index is of: the name of a dimension in a file of data", "Item")
 
 BREAK, IMPUTED = "b", "i"
 STATUSES = {
-    BREAK: "Break: not linked to the earlier levels, or other elementary aggregates in it",
-    IMPUTED: "A price at or below the item was imputed",
-    BREAK + IMPUTED: "Break, and a price was imputed",
+    BREAK: marked("Break: not linked to the earlier levels, or other elementary aggregates in it"),
+    IMPUTED: marked("A price at or below the item was imputed"),
+    BREAK + IMPUTED: marked("Break, and a price was imputed"),
 }
 """The statuses of a level, with what they mean."""
 
@@ -37,19 +39,30 @@ class Measure(NamedTuple):
         return self.figure in (figures.LEVEL, figures.CHAINED)
 
 
-INDEX = Measure("index", "Index", "points", 6, figures.LEVEL, 1)
-CHAINED = Measure("chained", "Chained level, December before the item came = 100", "points", 6, figures.CHAINED, 1)
+# t: the unit of an index
+POINTS, PERCENT = marked("points"), marked("percent")
+
+INDEX = Measure("index", marked("Index"), POINTS, 6, figures.LEVEL, 1)
+CHAINED_NAME = marked("Chained level, December before the item came = 100")
+CHAINED = Measure("chained", CHAINED_NAME, POINTS, 6, figures.CHAINED, 1)
 OTHERS = (
-    Measure("month_change", "Change on the month before", "percent", 1, figures.MONTH_CHANGE, 1),
-    Measure("year_change", "Change on the year before", "percent", 1, figures.YEAR_CHANGE, 1),
-    Measure("weight", "Weight in use", "parts per million, unless prices moved them", 0, figures.WEIGHT, 0),
+    Measure("month_change", marked("Change on the month before"), PERCENT, 1, figures.MONTH_CHANGE, 1),
+    Measure("year_change", marked("Change on the year before"), PERCENT, 1, figures.YEAR_CHANGE, 1),
     Measure(
-        "contribution", "Contribution to the annual change of all items", "percentage points", 6, figures.GIVEN_YEAR, 2
+        "weight", marked("Weight in use"), marked("parts per million, unless prices moved them"), 0, figures.WEIGHT, 0
+    ),
+    Measure(
+        "contribution",
+        marked("Contribution to the annual change of all items"),
+        marked("percentage points"),
+        6,
+        figures.GIVEN_YEAR,
+        2,
     ),
 )
 
 
-IMPUTED_PRICES = Measure("imputed", "A price at or below the item was imputed", "1 yes, 0 no", 0, figures.IMPUTED, 0)
+IMPUTED_PRICES = Measure("imputed", STATUSES[IMPUTED], marked("1 yes, 0 no"), 0, figures.IMPUTED, 0)
 """For forms whose cells have no status."""
 
 
@@ -76,24 +89,35 @@ def statuses_of(known: Known, code: str) -> Iterator[tuple[int, str]]:
             yield at, (BREAK if month in marks else "") + (IMPUTED if imputed == "1" else "")
 
 
-def notes_of(known: Known, code: str) -> list[str]:
+def notes_of(known: Known, code: str, speech: Speech = SPEAKS_ENGLISH) -> list[str]:
     """In which periods an item is 100, and where it has a break."""
     (_, first), *others = known.shown.hundreds(code)
-    found = [f"Index: {period_name(first)} = 100."]
+    found = [speech.t("Index: {period} = 100.", period=speech.period(first))]
     for month, hundred in others:
-        found.append(
-            f"Break: from {month_name(month)} on, {period_name(hundred)} = 100; not linked to the earlier levels."
-        )
+        places = {"month": speech.month(month), "period": speech.period(hundred)}
+        found.append(speech.t("Break: from {month} on, {period} = 100; not linked to the earlier levels.", **places))
     changes = known.series.specials[code].changes if code in known.series.specials else []
     for month in changes:
-        found.append(f"Break: from {month_name(month)} on, other elementary aggregates are in it.")
+        name = speech.month(month)
+        found.append(speech.t("Break: from {month} on, other elementary aggregates are in it.", month=name))
     return found
 
 
-def general_notes(known: Known, config: Config) -> list[str]:
-    """What holds for the whole cube."""
-    found = [f"Changes are computed {RATES_SAY[known.shown.rates]}, and rounded to one decimal, halves away from zero."]
+RATES_SAY = {
+    EXACT: marked(
+        "Changes are computed from levels before rounding, and rounded to one decimal, halves away from zero."
+    ),
+    PUBLISHED: marked(
+        "Changes are computed from the printed index with one decimal, and rounded to one decimal, halves away from zero."
+    ),
+}
+"""What is said of the rule for changes."""
+
+
+def general_notes(known: Known, config: Config, speech: Speech = SPEAKS_ENGLISH) -> list[str]:
+    """What holds for the whole cube; the configuration has the office's texts in the language."""
+    found = [speech.t(RATES_SAY[known.shown.rates])]
     if config.reference:
-        base = month_name(known.series.base)
-        found.append(f"The chained level is 100 in {base}, or in December before the item came.")
-    return found + [f"Licence: {config.licence}" for _ in [0] if config.licence]
+        base = speech.month(known.series.base)
+        found.append(speech.t("The chained level is 100 in {month}, or in December before the item came.", month=base))
+    return found + [speech.t("Licence: {licence}", licence=config.licence) for _ in [0] if config.licence]

@@ -1,5 +1,8 @@
 """The cube as JSON-stat 2.0 (https://json-stat.org/full/): one dataset of items, measures and months.
 
+The form has one language. The texts of the others are in `extension.languages`, by their tags, at the same places as in the
+dataset itself.
+
 Figures have the digits of the other forms, as numbers of JSON, and null if there is none; levels have their statuses.
 They are in the order of items, then of measures, then of months.
 """
@@ -14,6 +17,7 @@ from .config import Config
 from .cube import IMPUTED_PRICES, STATUSES, Measure, general_notes, measures_of, notes_of, statuses_of
 from .figures import Known
 from .tables import iso
+from .tongues import Tongue, first_of, others_of
 
 NAME = "cpi.jsonstat.json"
 
@@ -23,7 +27,7 @@ class JsonStat:
 
     def __init__(self, file: TextIO, known: Known, config: Config):
         self._file, self._separator = file, "\n"
-        head = {**_about(known, config), "dimension": _dimensions(known, config)}
+        head = {**_about(known, config), "dimension": _dimensions(known, first_of(config))}
         file.write(json.dumps(head, ensure_ascii=False, indent=1)[:-2])
         statuses = ",".join(f'"{place}":"{status}"' for place, status in _statuses(known, config))
         file.write(f',\n "status": {{{statuses}}},\n "value": [')
@@ -42,36 +46,58 @@ class JsonStat:
 
 def _about(known: Known, config: Config) -> dict[str, Any]:
     """What the dataset is, but for its dimensions."""
-    series, measures = known.series, measures_of(config)
+    series, measures, own = known.series, measures_of(config), first_of(config)
+    others = {it.tag: _in_language(known, it) for it in others_of(config)}
     return {
         "version": "2.0",
         "class": "dataset",
-        "label": config.title,
-        "source": config.office,
+        "label": own.config.title,
+        "source": own.config.office,
         "updated": iso(series.moment),
-        "note": general_notes(known, config),
+        "note": general_notes(known, own.config, own.speech),
         "id": ["item", "measure", "month"],
         "size": [len(series.all_titles), len(measures), len(series.months)],
         "role": {"time": ["month"], "metric": ["measure"]},
-        "extension": {"status": {"label": STATUSES}},
+        "extension": {"status": _statuses_in(own), **({"languages": others} if others else {})},
     }
 
 
-def _dimensions(known: Known, config: Config) -> dict[str, Any]:
-    series, measures = known.series, measures_of(config)
-    titles = series.all_titles
+def _statuses_in(tongue: Tongue) -> dict[str, Any]:
+    """What the statuses mean."""
+    return {"label": {status: tongue.speech.t(text) for status, text in STATUSES.items()}}
+
+
+def _in_language(known: Known, tongue: Tongue) -> dict[str, Any]:
+    """The texts of the dataset in another language."""
+    dimensions = _dimensions(known, tongue)
+    for it in dimensions.values():
+        it["category"] = {name: it["category"][name] for name in ("label", "unit", "note") if name in it["category"]}
+        if "unit" in it["category"]:
+            it["category"]["unit"] = {id: {"label": unit["label"]} for id, unit in it["category"]["unit"].items()}
+    return {
+        "label": tongue.config.title,
+        "source": tongue.config.office,
+        "note": general_notes(known, tongue.config, tongue.speech),
+        "dimension": dimensions,
+        "extension": {"status": _statuses_in(tongue)},
+    }
+
+
+def _dimensions(known: Known, tongue: Tongue) -> dict[str, Any]:
+    series, measures, t = known.series, measures_of(tongue.config), tongue.speech.t
+    titles = {code: tongue.title(series, code) for code in series.all_titles}
     items = {
         "index": [*titles],
         "label": titles,
         "child": {code: below for code in series.titles if (below := series.children(code))},
-        "note": {code: notes_of(known, code) for code in titles},
+        "note": {code: notes_of(known, code, tongue.speech) for code in titles},
     }
-    units = {it.id: {"label": it.unit, "decimals": it.decimals} for it in measures}
-    named = {"index": [it.id for it in measures], "label": {it.id: it.name for it in measures}, "unit": units}
+    units = {it.id: {"label": t(it.unit), "decimals": it.decimals} for it in measures}
+    named = {"index": [it.id for it in measures], "label": {it.id: t(it.name) for it in measures}, "unit": units}
     return {
-        "item": {"label": "Item, by COICOP 2018", "category": items},
-        "measure": {"label": "Figure", "category": named},
-        "month": {"label": "Month", "category": {"index": series.months}},
+        "item": {"label": t("Item, by COICOP 2018"), "category": items},
+        "measure": {"label": t("Figure"), "category": named},
+        "month": {"label": t("Month"), "category": {"index": series.months}},
     }
 
 

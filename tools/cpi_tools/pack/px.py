@@ -1,7 +1,8 @@
 """The cube as a PX file of PC-Axis (its file format 2013), which PxWeb shows.
 
 Rows are items, columns are measures and then months. A text of PX can't have a quotation mark in it, which becomes an
-apostrophe; the values of a variable have to differ, so an item is named by its code and its title.
+apostrophe; the values of a variable have to differ, so an item is named by its code and its title. A keyword with texts
+is there once for each language of the pages, `TITLE[fr]` after `TITLE`.
 """
 
 from __future__ import annotations
@@ -10,10 +11,11 @@ import textwrap
 from collections.abc import Iterable, Iterator, Sequence
 from typing import TextIO
 
-from ..terminal import month_name, time_text
+from ..terminal import time_text
 from .config import Config
-from .cube import BREAK, STATUSES, Measure, all_measures_of, general_notes, notes_of
+from .cube import BREAK, ITEM, STATUSES, Measure, all_measures_of, general_notes, notes_of
 from .figures import Known
+from .tongues import Tongue, first_of, others_of
 
 NAME = "cpi.px"
 NONE = '".."'
@@ -57,59 +59,76 @@ def listed(texts: Iterable[str]) -> str:
 
 def _keywords(known: Known, config: Config) -> Iterator[tuple[str, str]]:
     """The keywords before the data, in the order that the format asks for."""
-    series, measures = known.series, all_measures_of(config)
-    date, clock = time_text(series.moment).split(" ")[:2]
+    date, clock = time_text(known.series.moment).split(" ")[:2]
     moment = f"{date.replace('-', '')} {clock[:5]}"
     yield "CHARSET", '"ANSI"'
     yield "AXIS-VERSION", '"2013"'
     yield "CODEPAGE", '"utf-8"'
-    yield "LANGUAGE", quoted(config.language)
+    first, others = first_of(config), others_of(config)
+    yield "LANGUAGE", quoted(first.tag)
+    if others:
+        yield "LANGUAGES", ",".join(quoted(it.tag) for it in (first, *others))
     yield "CREATION-DATE", f'"{moment}"'
     yield "DECIMALS", "6"
     yield "SHOWDECIMALS", "0"
     yield "MATRIX", '"CPI"'
     yield "SUBJECT-CODE", '"CPI"'
+    for tongue in (first, *others):
+        mark = "" if tongue is first else f"[{tongue.tag}]"
+        for keyword, value in _in_language(known, tongue, moment):
+            name, bracket, rest = keyword.partition("(")
+            yield f"{name}{mark}{bracket}{rest}", value
+
+
+def _in_language(known: Known, tongue: Tongue, moment: str) -> Iterator[tuple[str, str]]:
+    """The keywords with texts, or with the names of variables, in a language."""
+    series, measures, t, config = known.series, all_measures_of(tongue.config), tongue.speech.t, tongue.config
+    item, figure, month = map(quoted, (tongue.speech.tc(*ITEM), t("Figure"), t("Month")))
     yield "SUBJECT-AREA", quoted(config.title)
     yield "CONTENTS", quoted(config.title)
-    yield "TITLE", quoted(f"{config.title} by item, figure and month")
-    yield "UNITS", '"by figure"'
-    yield "STUB", '"Item"'
-    yield "HEADING", '"Figure","Month"'
-    yield "CONTVARIABLE", '"Figure"'
-    yield 'VALUES("Item")', listed(_item(known, code) for code in series.all_titles)
-    yield 'VALUES("Figure")', listed(it.name for it in measures)
-    yield 'VALUES("Month")', listed(map(month_name, series.months))
-    yield 'TIMEVAL("Month")', "TLIST(M1),\n" + listed(month.replace("-", "M") for month in series.months)
-    yield 'CODES("Item")', listed(series.all_titles)
-    yield 'CODES("Figure")', listed(it.id for it in measures)
-    yield 'CODES("Month")', listed(month.replace("-", "M") for month in series.months)
-    yield from _of_measures(measures, moment)
+    yield "TITLE", quoted(t("{title} by item, figure and month", title=config.title))
+    yield "UNITS", quoted(t("by figure"))
+    yield "STUB", item
+    yield "HEADING", f"{figure},{month}"
+    yield "CONTVARIABLE", figure
+    yield f"VALUES({item})", listed(_item(known, code, tongue) for code in series.all_titles)
+    yield f"VALUES({figure})", listed(t(it.name) for it in measures)
+    yield f"VALUES({month})", listed(map(tongue.speech.month, series.months))
+    yield f"TIMEVAL({month})", "TLIST(M1),\n" + listed(each.replace("-", "M") for each in series.months)
+    yield f"CODES({item})", listed(series.all_titles)
+    yield f"CODES({figure})", listed(it.id for it in measures)
+    yield f"CODES({month})", listed(each.replace("-", "M") for each in series.months)
+    yield from _of_measures(measures, moment, tongue)
     yield "SOURCE", quoted(config.office)
-    yield "NOTE", quoted("#".join(general_notes(known, config)))
-    yield from _notes(known, measures)
+    yield "NOTE", quoted("#".join(general_notes(known, config, tongue.speech)))
+    yield from _notes(known, measures, tongue)
 
 
-def _of_measures(measures: Iterable[Measure], moment: str) -> Iterator[tuple[str, str]]:
+def _of_measures(measures: Iterable[Measure], moment: str, tongue: Tongue) -> Iterator[tuple[str, str]]:
     """Unit, decimals and time of each figure."""
+    t = tongue.speech.t
     for it in measures:
-        yield f"UNITS({quoted(it.name)})", quoted(it.unit)
-        yield f"LAST-UPDATED({quoted(it.name)})", f'"{moment}"'
+        name = quoted(t(it.name))
+        yield f"UNITS({name})", quoted(t(it.unit))
+        yield f"LAST-UPDATED({name})", f'"{moment}"'
         if it.shown:
-            yield f'PRECISION("Figure",{quoted(it.name)})', str(it.shown)
+            yield f"PRECISION({quoted(t('Figure'))},{name})", str(it.shown)
 
 
-def _notes(known: Known, measures: Iterable[Measure]) -> Iterator[tuple[str, str]]:
+def _notes(known: Known, measures: Iterable[Measure], tongue: Tongue) -> Iterator[tuple[str, str]]:
     """The notes of items, and of each level after a break."""
+    t, item = tongue.speech.t, quoted(tongue.speech.tc(*ITEM))
     for code in known.series.all_titles:
-        yield f'VALUENOTE("Item",{quoted(_item(known, code))})', quoted(" ".join(notes_of(known, code)))
+        notes = " ".join(notes_of(known, code, tongue.speech))
+        yield f"VALUENOTE({item},{quoted(_item(known, code, tongue))})", quoted(notes)
     for code in known.series.all_titles:
         for month in known.series.marks(code):
             for it in measures:
                 if it.is_level:
-                    place = ",".join(map(quoted, (_item(known, code), it.name, month_name(month))))
-                    yield f"CELLNOTE({place})", quoted(STATUSES[BREAK])
+                    names = (_item(known, code, tongue), t(it.name), tongue.speech.month(month))
+                    yield f"CELLNOTE({','.join(map(quoted, names))})", quoted(t(STATUSES[BREAK]))
 
 
-def _item(known: Known, code: str) -> str:
+def _item(known: Known, code: str, tongue: Tongue) -> str:
     """A name that no other item has."""
-    return f"{code} {known.series.title(code)}"
+    return f"{code} {tongue.title(known.series, code)}"

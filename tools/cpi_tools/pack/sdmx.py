@@ -27,6 +27,7 @@ from pathlib import Path
 from typing import NamedTuple, Optional, TextIO, Union
 
 from ..csv_files import line_of
+from ..speech import marked
 from . import figures
 from .artefacts import SHARED, CodeList, Reference, fixed, item_id, items, version_of
 from .config import Config, KnownIds
@@ -35,6 +36,7 @@ from .measures import average_change, full_years
 from .markup import attributes_of
 from .tables import Series, iso, link_of
 from .tidy import written
+from .tongues import named, title_of_index
 
 FLOW, DEFINITION, SCHEME = "DF_CPI", "DSD_CPI", "CS_CPI"
 
@@ -46,38 +48,50 @@ NEEDED = ("OBS_STATUS", "DECIMALS")
 
 LISTS: Mapping[str, tuple[str, Mapping[str, str]]] = {
     "MEASURE": (
-        "Measure",
+        marked("Measure"),
         {
-            "CPI": "Consumer price index",
-            "CPIC": "Consumer price index, December before the item came = 100",
-            "CPIW": "Weight in the consumer price index",
-            "CTR": "Contribution to the change of all items",
+            "CPI": marked("Consumer price index"),
+            "CPIC": marked("Consumer price index, December before the item came = 100"),
+            "CPIW": marked("Weight in the consumer price index"),
+            "CTR": marked("Contribution to the change of all items"),
         },
     ),
     "UNIT_MEASURE": (
-        "Unit of measure",
-        {"IX": "Index", "PC": "Percent", "PPM": "Parts per million, as in use", "PP": "Percentage points"},
+        marked("Unit of measure"),
+        {
+            "IX": marked("Index"),
+            "PC": marked("Percent"),
+            "PPM": marked("Parts per million, as in use"),
+            "PP": marked("Percentage points"),
+        },
     ),
     "TRANSFORMATION": (
-        "Transformation",
-        {"N": "As it is", "G1": "Change on the period before", "GY": "Change on the same period a year before"},
+        marked("Transformation"),
+        {
+            "N": marked("As it is"),
+            "G1": marked("Change on the period before"),
+            "GY": marked("Change on the same period a year before"),
+        },
     ),
-    "IMPUTED_PRICES": ("Prices imputed at or below the item", {"0": "None", "1": "At least one"}),
+    "IMPUTED_PRICES": (
+        marked("Prices imputed at or below the item"),
+        {"0": marked("None"), "1": marked("At least one")},
+    ),
 }
 """The code lists that don't depend on the tables: their titles, and the name of each code."""
 
 CONCEPTS: Mapping[str, str] = {
-    "FREQ": "Frequency",
+    "FREQ": marked("Frequency"),
     **{name: title for name, (title, _) in LISTS.items()},
-    "OBS_STATUS": "Observation status",
-    "REF_AREA": "Reference area",
-    "COICOP18": "Item, by COICOP 2018",
-    TIME: "Month or year",
-    VALUE: "Observation",
-    "BASE_PER": "Base period",
-    "DECIMALS": "Decimals",
-    "REVISION": "Revision of the month's table",
-    "EMBARGO_TIME": "Moment of publication",
+    "OBS_STATUS": marked("Observation status"),
+    "REF_AREA": marked("Reference area"),
+    "COICOP18": marked("Item, by COICOP 2018"),
+    TIME: marked("Month or year"),
+    VALUE: marked("Observation"),
+    "BASE_PER": marked("Base period"),
+    "DECIMALS": marked("Decimals"),
+    "REVISION": marked("Revision of the month's table"),
+    "EMBARGO_TIME": marked("Moment of publication"),
 }
 
 FIXED = {TIME, VALUE}
@@ -136,8 +150,16 @@ def structure_of(series: Series, config: Config) -> Structure:
     lists["COICOP18"] = items(series, config, CONCEPTS["COICOP18"])
     month = ".".join(lists["COICOP18"].version.split(".")[:2]).replace(".", "-")
     ids = {name: config.id(name) for name in CONCEPTS}
-    concepts = version_of((CONCEPTS, ids))
-    content = [{name: it.version for name, it in lists.items()}, concepts, ids, dict(config.ids), config.title]
+    spoken = [named(config, title) for title in CONCEPTS.values()] if config.speaks.languages else []
+    concepts = version_of((CONCEPTS, ids, spoken) if spoken else (CONCEPTS, ids))
+    content: list[object] = [
+        {name: it.version for name, it in lists.items()},
+        concepts,
+        ids,
+        dict(config.ids),
+        config.title,
+    ]
+    content += [title_of_index(config)] if spoken else []
     definition, flow = (version_of([name, *content], month) for name in (DEFINITION, FLOW))
     versions = {SCHEME: concepts, DEFINITION: definition, FLOW: flow}
     own = (Reference(config.agency, config.id(name), version) for name, version in versions.items())

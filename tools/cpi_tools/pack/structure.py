@@ -5,6 +5,7 @@ from __future__ import annotations
 from collections.abc import Iterator
 from pathlib import Path
 
+from ..speech import marked
 from .artefacts import SHARED, Reference, shared
 from .config import Config
 from .markup import attributes_of, text_of
@@ -26,9 +27,13 @@ from .sdmx import (
     structure_of,
 )
 from .tables import Series
+from .tongues import Names, named, title_of_index
 
 ENUMERATED = (*LISTS, *SHARED, "COICOP18")
 """The concepts that have a code list."""
+
+# t: the name of the list of concepts in a file of SDMX
+CONCEPTS_NAME = marked("Concepts")
 
 CHANGES = {"isFinal": "false"}
 """Nothing that an agency maintains here is final."""
@@ -56,10 +61,11 @@ def element(name: str, body: str = "", **attributes: str) -> str:
     return f"<{head}>\n{body}</{name}>\n" if body else f"<{head}/>\n"
 
 
-def _named(name: str, title: str, body: str = "", language: str = "en", **attributes: str) -> str:
-    """An element that has a name for readers."""
-    told = f'<common:Name xml:lang="{language}">{text_of(title)}</common:Name>\n{body}'
-    return element(name, told, **attributes)
+def _named(name: str, title: str, body: str = "", language: str = "en", others: Names = (), **attributes: str) -> str:
+    """An element that has a name for readers, and perhaps further ones in other languages."""
+    names = ((language, title), *others)
+    told = "".join(f'<common:Name xml:lang="{tag}">{text_of(text)}</common:Name>\n' for tag, text in names)
+    return element(name, told + body, **attributes)
 
 
 def _kept(own: Reference) -> dict[str, str]:
@@ -70,7 +76,9 @@ def _kept(own: Reference) -> dict[str, str]:
 def _dataflow(own: Structure, config: Config) -> str:
     reference = element("Ref", **_kept(own.definition), **{"class": "DataStructure"})
     body = element("str:Structure", reference)
-    return _named("str:Dataflow", config.title, body, config.language, **_kept(own.flow), **CHANGES)
+    return _named(
+        "str:Dataflow", config.title, body, config.language, title_of_index(config), **_kept(own.flow), **CHANGES
+    )
 
 
 def _list_of(own: Structure, config: Config, name: str) -> Reference:
@@ -81,23 +89,31 @@ def _list_of(own: Structure, config: Config, name: str) -> Reference:
 
 
 def _code_lists(own: Structure, config: Config) -> Iterator[str]:
-    for name, (title, _, codes) in own.lists.items():
+    for name, (title, _, codes, names) in own.lists.items():
         body = "".join(
             _named(
                 "str:Code",
                 code.name,
                 element("str:Parent", element("Ref", id=code.parent)) if code.parent else "",
                 code.language,
+                names.get(code.id, ()),
                 id=code.id,
             )
             for code in codes
         )
-        yield _named("str:Codelist", title, body, **_kept(_list_of(own, config, name)), **CHANGES)
+        yield _named(
+            "str:Codelist", title, body, others=named(config, title), **_kept(_list_of(own, config, name)), **CHANGES
+        )
 
 
 def _concepts(own: Structure, config: Config) -> str:
-    body = "".join(_named("str:Concept", title, id=config.id(name)) for name, title in CONCEPTS.items())
-    return _named("str:ConceptScheme", "Concepts", body, **_kept(own.concepts), **CHANGES)
+    body = "".join(
+        _named("str:Concept", title, others=named(config, title), id=config.id(name))
+        for name, title in CONCEPTS.items()
+    )
+    return _named(
+        "str:ConceptScheme", CONCEPTS_NAME, body, others=named(config, CONCEPTS_NAME), **_kept(own.concepts), **CHANGES
+    )
 
 
 def _identity(own: Structure, config: Config, name: str) -> str:
@@ -131,7 +147,15 @@ def _definition(own: Structure, config: Config) -> str:
         + element("str:AttributeList", "".join(attributes), id="AttributeDescriptor")
         + element("str:MeasureList", measure, id="MeasureDescriptor"),
     )
-    return _named("str:DataStructure", config.title, body, config.language, **_kept(own.definition), **CHANGES)
+    return _named(
+        "str:DataStructure",
+        config.title,
+        body,
+        config.language,
+        title_of_index(config),
+        **_kept(own.definition),
+        **CHANGES,
+    )
 
 
 def _attribute(own: Structure, config: Config, name: str) -> str:
