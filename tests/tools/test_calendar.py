@@ -57,6 +57,23 @@ def test_all_months_from_one_on(office: Path, tmp_path: Path) -> None:
     assert [month for month, *_ in windows_in(out)] == ["2026-02", "2030-01"]
 
 
+@pytest.mark.parametrize("zone", ["Europe/Prague", "CET-1CEST,M3.5.0,M10.5.0/3"])
+def test_what_the_office_s_clock_calls_its_time(
+    office: Path, tmp_path: Path, zone: str, monkeypatch: pytest.MonkeyPatch
+) -> None:
+    """Prague is an hour ahead of UTC in January 1970, and in November 2286. Such a calendar is replaced as any other."""
+    out, words = tmp_path / "calendar.json", ("--since", "2030-01")
+    assert run(None, "calendar", office, "--out", out, *words, "--zone", zone).status == 0
+    (month,) = json.loads(out.read_text(encoding="utf-8"))["months"]
+    assert month["closes_zone"] == ["CET", 3600] and month["opens_zone"][1] in (0, 3600)
+    monkeypatch.setenv("CPI_ZONE", zone)
+    before = out.read_bytes()
+    assert run(None, "calendar", office, "--out", out, *words).status == 0 and out.read_bytes() == before
+    assert run(None, "calendar", office, "--out", out, *words, "--zone", "UTC").status == 0
+    ran = run(None, "calendar", office, "--out", out, "--zone", "Europe/Nowhere")
+    assert (ran.status, ran.err.count("\n")) == (1, 1) and "Europe/Nowhere is neither a place" in ran.err
+
+
 def test_a_month_is_kept_for_400_days_after_its_window() -> None:
     now = 2_000_000_000
     closes = now - 400 * 86_400

@@ -44,6 +44,14 @@ def clock(phone: Phone) -> Iterator[Phone]:
         yield phone
 
 
+def publish_by(stage: Stage, zone: str, ahead: int, closes: int) -> int:
+    """Publishes one window with the office's clock, which is so many seconds ahead of UTC; the moment at which it closes."""
+    at = int(time.time()) + closes
+    row = {"month": NOW, "opens": at - DAY * 9, "closes": at, "opens_zone": [zone, ahead], "closes_zone": [zone, ahead]}
+    stage.calendar.write_text(json.dumps({"months": [row]}), encoding="utf-8")
+    return at
+
+
 def publish(stage: Stage, **windows: tuple[float, float]) -> None:
     """Publishes windows that open and close so many seconds from now, `m2026_11=(-DAY, DAY)`."""
     now = int(time.time())
@@ -93,6 +101,25 @@ def test_the_page_tells_when_the_window_closes(phone: Phone, stage: Stage) -> No
         phone.browser.wait_text("#deadline", f"The window closes on {told(stage)}, {words}.")
 
 
+def words_by(at: int, ahead: int) -> str:
+    """A moment by a clock that is so many seconds ahead of UTC."""
+    there = datetime.datetime.fromtimestamp(at, datetime.timezone(datetime.timedelta(seconds=ahead)))
+    year = "" if there.year == datetime.date.today().year else f" {there.year}"
+    return f"{there.day} {NAMES[there.month - 1]}{year}, {there:%H:%M}"
+
+
+def test_the_deadline_is_by_the_office_s_clock_and_by_the_phone_s_if_that_differs(phone: Phone, stage: Stage) -> None:
+    here = datetime.datetime.now().astimezone().utcoffset()
+    own = int(here.total_seconds()) if here else 0
+    at = publish_by(stage, "NPT", own + 20_700, DAY * 4)
+    phone.sign_in()
+    told_so = f"{words_by(at, own + 20_700)} NPT ({words_by(at, own)} by this phone)"
+    phone.browser.wait_text("#deadline", f"The window closes on {told_so}, in 3 days.")
+    at = publish_by(stage, "CET", own, DAY * 4 + 60)
+    phone.send()
+    phone.browser.wait_text("#deadline", f"The window closes on {words_by(at, own)} CET, in 4 days.")
+
+
 def test_a_window_that_opens_later_or_has_closed_is_told(phone: Phone, stage: Stage) -> None:
     publish(stage, **{named(NOW): (DAY * 3 + 60, DAY * 5)})
     phone.sign_in()
@@ -126,6 +153,8 @@ NONSENSE: tuple[Union[str, bytes], ...] = (
     "", "null", "[]", "{}", '{"months": null}', '{"months": [null]}', '{"months": [{"month": "2026-11"}]}',
     '{"months": [{"month": "NOW", "opens": "1", "closes": 9999999999}]}',
     '{"months": [{"month": "NOW", "opens": 9, "closes": 1}]}', '{"months": [{"month": "NOW", "opens": 9, "closes": 9e17}]}',
+    '{"months": [{"month": "NOW", "opens": 9, "closes": 99, "closes_zone": ["<b>", 3600]}]}',
+    '{"months": [{"month": "NOW", "opens": 9, "closes": 99, "closes_zone": ["CET", "3600"]}]}',
     '{"months": [{"month": "2026-13", "opens": 9, "closes": 9999999999}]}', "<html></html>", b"\xff\xfe\x00",
 )  # fmt: skip
 

@@ -1,7 +1,8 @@
 """`cpi-tools calendar FILE --out CALENDAR`: the windows of the months as JSON, by which the phone's page shows a deadline.
 
 `{"months": [{"month": "2026-11", "opens": 1793487600, "closes": 1796079599}]}`, in the order of the months, in seconds
-since 1970 UTC. Everybody can read it at the front's `/calendar.json`, so it has neither publishing moments nor anything
+since 1970 UTC. With the office's clock a month also has `"opens_zone": ["CET", 3600]` and `"closes_zone"`: what that clock
+calls its time then, and by how many seconds it is ahead of UTC. Everybody can read it at the front's `/calendar.json`, so it has neither publishing moments nor anything
 of collectors.
 """
 
@@ -9,13 +10,16 @@ from __future__ import annotations
 
 import argparse
 import json
+import os
 import time
 from collections.abc import Iterable
 from pathlib import Path
 from typing import Optional
 
 from .copying import private_copy
+from .pack.clocks import UTC, Clock, clock_of
 from .stored import Window, read_copy
+from .report_language import ZONE_VARIABLE
 from .terminal import Fault, Progress, ToolWords, a_file, a_month, because_of, counted, month_text
 from .whole_files import write_whole
 
@@ -27,6 +31,9 @@ DAY_SECONDS = 86_400
 COLUMNS = ("month", "opens", "closes")
 """The fields of a window that are written."""
 
+ZONES = ("opens_zone", "closes_zone")
+"""What the office's clock calls the time of both moments, and by how many seconds that is ahead of UTC."""
+
 
 def windows_since(windows: Iterable[Window], since: Optional[int], now: int) -> list[Window]:
     """The windows from a month on; without one, those that close in the last 400 days before `now` or later."""
@@ -35,9 +42,17 @@ def windows_since(windows: Iterable[Window], since: Optional[int], now: int) -> 
     return [it for it in windows if it.closes >= now - DAYS_KEPT * DAY_SECONDS]
 
 
-def text_of(windows: Iterable[Window]) -> str:
+def row_of(it: Window, clock: Clock) -> dict[str, object]:
+    """A month of the calendar; a clock that is UTC isn't told."""
+    row: dict[str, object] = dict(zip(COLUMNS, (month_text(it.month), it.opens, it.closes)))
+    if clock.zone:
+        row.update(zip(ZONES, map(clock.zone_at, (it.opens, it.closes))))
+    return row
+
+
+def text_of(windows: Iterable[Window], clock: Clock = UTC) -> str:
     """The calendar of some windows, a month a line."""
-    rows = (dict(zip(COLUMNS, (month_text(it.month), it.opens, it.closes))) for it in windows)
+    rows = (row_of(it, clock) for it in windows)
     return '{"months": [' + ",".join(f"\n{json.dumps(row)}" for row in rows) + "\n]}\n"
 
 
@@ -48,7 +63,9 @@ def is_calendar(content: bytes) -> bool:
     except (ValueError, RecursionError):
         return False
     months = found.get("months") if isinstance(found, dict) and [*found] == ["months"] else None
-    return isinstance(months, list) and all(isinstance(it, dict) and tuple(it) == COLUMNS for it in months)
+    return isinstance(months, list) and all(
+        isinstance(it, dict) and tuple(it) in (COLUMNS, (*COLUMNS, *ZONES)) for it in months
+    )
 
 
 def refuse_other_files(to: Path) -> None:
@@ -63,7 +80,7 @@ def refuse_other_files(to: Path) -> None:
         raise Fault(f"{to} is there already, and is no calendar: give the calendar a name of its own")
 
 
-def write_calendar(file: Path, to: Path, since: Optional[int] = None) -> list[Window]:
+def write_calendar(file: Path, to: Path, since: Optional[int] = None, clock: Clock = UTC) -> list[Window]:
     """Writes the calendar of an office's file, whole or not at all, with mode 0644; the windows in it.
 
     FILE is copied, and not a byte of it changes. Raises Fault if no right copy can be made, if it is no office, or if
@@ -73,7 +90,7 @@ def write_calendar(file: Path, to: Path, since: Optional[int] = None) -> list[Wi
     with private_copy(file) as copy, read_copy(copy) as office:
         windows = windows_since(office.calendar(), since, int(time.time()))
     try:
-        write_whole(to, text_of(windows).encode(), 0o644)
+        write_whole(to, text_of(windows, clock).encode(), 0o644)
     except OSError as fault:
         raise Fault(because_of(fault)) from fault
     return windows
@@ -83,8 +100,9 @@ def write_calendar(file: Path, to: Path, since: Optional[int] = None) -> list[Wi
 
 DESCRIPTION = """\
 Writes the windows of an office's calendar as JSON: of each month when its window opens and when it
-closes, in seconds since 1970 UTC, in the order of the months. The front serves the file as
-/calendar.json, and the collectors' page shows the deadline of a month by it. It has the months
+closes, in seconds since 1970 UTC, in the order of the months, and what the office's clock calls
+the time then. The front serves the file as /calendar.json, and the collectors' page shows the
+deadline of a month by it. It has the months
 whose window closes in the last 400 days or later. Publishing moments aren't in it, and nothing of
 collectors.
 
@@ -110,14 +128,17 @@ def add_words(tools: argparse._SubParsersAction[ToolWords]) -> None:
     words.add_argument(
         "--since", type=a_month, metavar="MONTH", help="the first month, like 2026-01 (else by the last 400 days)"
     )
+    says = f"the office's clock: a place, or a rule as POSIX has it (else that of {ZONE_VARIABLE}, or UTC)"
+    words.add_argument("--zone", metavar="ZONE", help=says)
     words.set_defaults(run=run, tool="calendar", words=words)
 
 
 def run(chosen: argparse.Namespace) -> int:
     """Runs the tool by its words; its exit status."""
+    clock = clock_of(chosen.zone or os.environ.get(ZONE_VARIABLE) or "")
     with Progress("cpi-tools calendar") as progress:
         progress.now("copying the office")
-        windows = write_calendar(chosen.file, chosen.out, chosen.since)
+        windows = write_calendar(chosen.file, chosen.out, chosen.since, clock)
     span = f", {month_text(windows[0].month)} to {month_text(windows[-1].month)}" if windows else ""
     print(f"{chosen.out}: {counted(len(windows), 'month')}{span}")
     return 0

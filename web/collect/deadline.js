@@ -1,7 +1,8 @@
 // When the window of a month opens and closes, as the desk has published it in calendar.json, and which month is open
-// by that. Moments are in seconds since 1970 UTC, as in the file; the page shows them by the phone's clock.
+// by that. Moments are in seconds since 1970 UTC, as in the file; the page shows them by the office's clock if the file has
+// it, and by the phone's if that differs.
 import { find } from "../shared/dom.js";
-import { inWords, moved, timeOf, thisMonth } from "../shared/months.js";
+import { inWords, moved, timeBy, timeOf, thisMonth } from "../shared/months.js";
 import { form, t, tn } from "../shared/texts.js";
 import { state } from "./state.js";
 
@@ -46,17 +47,27 @@ export function showDeadline() {
   find("unstored").classList.toggle("late", isSoon && count > 0);
 }
 
-function wordsOf({ month, opens, closes }) {
-  const now = seconds();
+function wordsOf(window) {
+  const now = seconds(), { month, opens, closes } = window;
   if (now < opens) {
-    const values = { month: inWords(month), moment: timeOf(opens * 1000), within: within(opens - now) };
+    const moment = momentOf(opens * 1000, window.opens_zone);
+    const values = { month: inWords(month), moment, within: within(opens - now) };
     // t: {moment} is such as 30 November, 18:00; {within} is such as in 2 days
     return t("The window of {month} opens on {moment}, {within}.", values);
   }
-  const moment = timeOf(closes * 1000);
+  const moment = momentOf(closes * 1000, window.closes_zone);
   // t: {moment} is such as 30 November, 18:00; {within} is such as in 2 days
   if (now < closes) return t("The window closes on {moment}, {within}.", { moment, within: within(closes - now) });
   return t("The window closed on {moment}.", { moment });
+}
+
+/** A moment by the office's clock; if the phone's differs, by that too, and by that only if the office's isn't known. */
+function momentOf(at, zone) {
+  if (!zone) return timeOf(at);
+  const moment = timeBy(zone, at);
+  if (new Date(at).getTimezoneOffset() * -MINUTE === zone[1]) return moment;
+  // t: one moment by two clocks: 30 November, 18:00 CET (30 November, 20:00 by this phone)
+  return t("{moment} ({own} by this phone)", { moment, own: timeOf(at) });
 }
 
 function warning(count) {

@@ -12,7 +12,7 @@ export const signedOut = () => ({
 export const state = {
   ...signedOut(),
   tolerance: new Map(), // [low, high] in thousandths, by item
-  windows: [], // { month, opens, closes } as the desk has published them, by month
+  windows: [], // { month, opens, closes, and zones } as the desk has published them, by month
 };
 
 /** Takes the tolerances of a list of items, if there is one. */

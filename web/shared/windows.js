@@ -1,5 +1,5 @@
 // The windows of the months, as the desk has published them beside the pages: when each opens and closes, in seconds
-// since 1970 UTC.
+// since 1970 UTC, and perhaps what the office's clock calls its time then, with how many seconds it is ahead of UTC.
 
 const FILE = new URL("../calendar.json", import.meta.url);
 
@@ -19,5 +19,8 @@ export async function readWindows() {
 const LAST = 8_640_000_000_000; // the last moment of a Date (ECMA-262)
 
 const isMoment = (at) => Number.isInteger(at) && at >= 0 && at <= LAST;
-const isWindow = ({ month, opens, closes }) =>
-  /^[0-9]{4}-(0[1-9]|1[0-2])$/.test(month) && isMoment(opens) && isMoment(closes) && opens < closes;
+const isZone = (it) => it === undefined
+  || (Array.isArray(it) && /^[A-Z][A-Za-z0-9+:-]{0,9}$/.test(it[0]) && Number.isInteger(it[1]) && Math.abs(it[1]) < 86_400);
+const isWindow = ({ month, opens, closes, opens_zone, closes_zone }) =>
+  /^[0-9]{4}-(0[1-9]|1[0-2])$/.test(month) && isMoment(opens) && isMoment(closes) && opens < closes
+  && isZone(opens_zone) && isZone(closes_zone);

@@ -55,6 +55,12 @@ class Clock(NamedTuple):
         there = datetime.fromtimestamp(moment, timezone.utc)
         return speech.time(there, "UTC") if own.date() == there.date() else UTC.local(moment, speech)
 
+    def zone_at(self, moment: int) -> tuple[str, int]:
+        """What the zone calls its time at a moment, such as CET, and by how many seconds that is ahead of UTC."""
+        at = datetime.fromtimestamp(moment, self.zone or timezone.utc)
+        ahead = at.utcoffset()
+        return self._zone_name(at), int(ahead.total_seconds()) if ahead else 0
+
     @staticmethod
     def _zone_name(at: datetime) -> str:
         """What the zone calls its time, such as CET, or how far it is from UTC."""
