@@ -136,7 +136,7 @@ def test_a_plan_outlives_the_application_and_anybody_takes_it_back(
 def test_what_isn_t_frozen_can_t_be_planned(application: Application, ada: Person, tmp_path: Path, form: Any) -> None:
     with_site(application, tmp_path)
     answer = ada.post("/publish/plan", **form)
-    assert answer.status_code == 400 and "so there is nothing to publish" in words_of(answer.text)
+    assert answer.status_code == 400 and "There is nothing to publish:" in words_of(answer.text)
 
 
 def test_a_website_that_couldn_t_be_written_says_why_and_stays(

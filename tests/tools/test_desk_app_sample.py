@@ -88,18 +88,18 @@ def test_what_may_be_missing_and_months_of_a_spreadsheet() -> None:
 @pytest.mark.parametrize(
     ("text", "told"),
     [
-        ("", "there are no rows: write or paste one a line, with the cells outlet, name"),
-        ("10,a\n\n11,b,c", 'line 3 has 3 cells "11", "b", "c" by commas: wanted are outlet, name'),
-        ("10", 'line 1 has the cell "10" by commas: wanted are outlet, name'),
-        ('10,"a\n', "line 1: unexpected end of data: look at its quotation marks"),
-        ("outlet;name;name\n10;a;b", "line 1 is a heading that has name twice: rename one of the two"),
-        ("10,a\n" * 20_001, "there are 20,001 rows: 20,000 are taken at once at most"),
+        ("", "There are no rows: write or paste one a line, with the cells outlet, name."),
+        ("10,a\n\n11,b,c", 'Line 3 has 3 cells by commas: "11", "b", "c". Wanted are outlet, name.'),
+        ("10", 'Line 1 has one cell by commas: "10". Wanted are outlet, name.'),
+        ('10,"a\n', "Line 1: unexpected end of data. Look at its quotation marks."),
+        ("outlet;name;name\n10;a;b", "Line 1 is a heading that has name twice: rename one of the two."),
+        ("10,a\n" * 20_001, "There are 20,001 rows: 20,000 are taken at once at most."),
     ],
 )
 def test_a_text_that_isn_t_read_says_what_was_read_where_and_what_is_wanted(text: str, told: str) -> None:
     with pytest.raises(NotRead, match=f"^{re.escape(told)}$"):
         pasted(text, KINDS["outlets"])
-    with pytest.raises(NotRead, match="line 2 is a heading without unit, low: it has"):
+    with pytest.raises(NotRead, match="Line 2 is a heading without unit, low: it has"):
         pasted("\nitem,text,high\nA,b,3", KINDS["items"])
 
 
@@ -210,7 +210,7 @@ def test_a_key_goes_with_its_row_and_is_gone_after_a_new_start(application: Appl
         assert office.keys()[13] == key_of(13)
     application.again()
     ada = application.person(ADA)
-    assert "a key is kept in memory only" in judged(ada, "collectors")
+    assert "A key is kept in memory only" in judged(ada, "collectors")
 
 
 def test_a_sheet_has_the_key_and_the_log_says_who_printed_it(application: Application, ada: Person) -> None:
@@ -272,7 +272,7 @@ def test_an_end_before_anything_was_sent_says_so(
         sent(ada, "outlets")
     application.again()
     ada = application.person(ADA)
-    assert "not sent: the application was ended before it could be" in ada.words("/sample/outlets")
+    assert "Not sent: the application was ended before it could be." in ada.words("/sample/outlets")
     assert "Send 1 row" in judged(ada, "outlets") and "1 row sent" in sent(ada, "outlets")
 
 
@@ -281,7 +281,7 @@ def test_nothing_is_sent_but_what_was_seen(application: Application, ada: Person
     (seen,) = re.findall('name="seen" value="([^"]+)"', ada.get("/sample/outlets").text)
     judged(ada, "outlets", pasted="13,Other")
     answer = ada.post("/sample/outlets/send", seen=seen)
-    assert answer.status_code == 409 and "look at what is here now" in words_of(answer.text)
+    assert answer.status_code == 409 and "see what is here now" in words_of(answer.text)
     assert 12 not in outlets(application)
     sent(ada, "outlets")
     assert ada.post("/sample/outlets/send", seen=seen).status_code == 409
@@ -292,9 +292,9 @@ def test_without_an_office_nothing_is_sent_and_the_rows_stay(application: Applic
     (seen,) = re.findall('name="seen" value="([^"]+)"', ada.get("/sample/outlets").text)
     application.desk.sender._office = Office(f"http://127.0.0.1:{free_port()}")
     answer = ada.post("/sample/outlets/send", seen=seen)
-    assert answer.status_code == 503 and "Nothing was sent: the office at" in words_of(answer.text)
+    assert answer.status_code == 503 and "Nothing was sent: The office at" in words_of(answer.text)
     words = ada.words("/sample/outlets")
-    assert "not sent: the office at" in words and "Send 1 row" in words
+    assert "Not sent: The office at" in words and "Send 1 row" in words
     application.desk.sender._office = application.desk.office
     assert "1 row sent, and carried out." in sent(ada, "outlets")
 
@@ -328,7 +328,7 @@ def test_a_year_is_set_in_one_form_by_the_office_s_clock(application: Applicatio
     judged(ada, "calendar", pasted="2026-02,2026-02-02T08:00,2026-02-24T18:00,2026-03-02T09:30")
     sent(ada, "calendar")
     page = ada.get("/calendar/2026").text
-    assert '<p class="note">2026-01: frozen' in page and 'id="opens-2026-01"' not in page
+    assert '<p class="note">January 2026: frozen' in page and 'id="opens-2026-01"' not in page
     for field in ('"opens" value="2026-03-02T08:00"', '"closes" value="2026-04-24T18:00"'):
         assert f"name={field}" in page
     # (December would be as the year before, whose window is in 1970: its times are emptied)

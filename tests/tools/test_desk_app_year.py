@@ -80,7 +80,7 @@ def test_a_draft_is_what_next_year_makes(application: Application, ada: Person) 
     assert "<b>wheat" not in ada.get(f"{PAGE}?sheet=leaving").text
     assert ada.get(f"{PAGE[:-1]}/weights.csv").text.splitlines() == ["code,weight", f"{RICE},600000", f"{FLOUR},400000"]
     again = ada.post("/year/make", year="2027")
-    assert again.status_code == 409 and "there is a draft of 2027 already" in words_of(again.text)
+    assert again.status_code == 409 and "There is a draft of 2027 already" in words_of(again.text)
     assert ada.post(f"{PAGE[:-1]}/drop").status_code == 303
     assert application.desk.drafts.years() == [] and ada.get(PAGE).status_code == 404
 
@@ -93,7 +93,7 @@ def test_a_year_that_can_t_be_drafted_says_why(application: Application, ada: Pe
     waited(application)
     assert told in ada.words("/year") and application.desk.drafts.years() == []
     refused = ada.post("/year/make", year="next")
-    assert refused.status_code == 400 and "'next' is no year like 2027" in words_of(refused.text)
+    assert refused.status_code == 400 and "next is no year, such as 2027" in words_of(refused.text)
 
 
 def test_weights_that_don_t_add_up_are_told_and_refused_by_cpi(application: Application, ada: Person) -> None:
@@ -106,7 +106,7 @@ def test_weights_that_don_t_add_up_are_told_and_refused_by_cpi(application: Appl
     ada.post(f"{PAGE[:-1]}/put", sheet="weights", code=RICE, weight="60 %")
     assert f"Weights that are no numbers: {RICE}" in ada.words(PAGE)
     refused = ada.post(f"{PAGE[:-1]}/put", sheet="weights", pasted=f"{RICE}\t600000\n09.1.1.1-01\t5\n")
-    assert refused.status_code == 400 and "no code '09.1.1.1-01'" in words_of(refused.text)
+    assert refused.status_code == 400 and "The draft has no code 09.1.1.1-01" in words_of(refused.text)
     assert "09.1.1.1-01\t5" in refused.text
 
 
@@ -132,7 +132,7 @@ def test_a_draft_is_pasted_judged_and_sent_once(application: Application, ada: P
     )
     words = judged(application, ada)
     assert "The weights add up to 100, which is all." in words and "The office would carry this out 4 " in words
-    assert "assign,7,3,10,RICE,2026-12,2027-12" in words and "plan,2027: 13 rows" in words
+    assert "assign,7,3,10,RICE,2026-12,2027-12" in words and "the plan of 2027 , 13 rows" in words
     (seen,) = re.findall('name="seen" value="([^"]+)"', ada.get(PAGE).text)
     assert "4 records sent, and carried out." in sent(ada)
     assert ada.post(f"{PAGE[:-1]}/send", seen=seen).status_code == 409
@@ -158,7 +158,7 @@ def test_what_isn_t_carried_out_is_told_and_the_draft_stays(
         lambda by, key, records: [*send(by, key, records[:1]), {"refused": 90}, None, None],
     )
     words = sent(ada)
-    assert "1 record" not in words and "1 of 4 records carried out; the others are below." in words
+    assert "1 of 4 records carried out. The answers to the others are below." in words
     assert "refused by 90" in words and "not sent" in words
     monkeypatch.undo()
     assert "The office would carry this out 3 " in judged(application, ada)
@@ -184,6 +184,5 @@ def test_a_draft_keeps_what_it_is_told(tmp_path: Path) -> None:
 
 def test_a_plan_that_is_longer_than_a_message_is_told() -> None:
     checked = Checked(0, [], [], [], [["plan", "2027", "T,00,All\n" * 9_000]], {}, 0)  # type: ignore[arg-type]
-    assert re.match(
-        "plan,2027: 9,000 rows has 81,0[0-9]{2} bytes, and a message to the office 65,536 at most", too_long(checked)
-    )
+    # (9 bytes a title and its end, in quotation marks, behind plan,2027 and a comma)
+    assert "the plan of 2027, 9,000 rows. It has 81,013 bytes, of 65,536 at most." in too_long(checked)

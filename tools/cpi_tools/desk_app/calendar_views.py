@@ -9,11 +9,13 @@ import flask
 from werkzeug.wrappers import Response
 
 from ..calendar_file import text_of, windows_since
+from ..others import Worded
 from ..stored import read_copy
 from ..terminal import Fault, month_text
 from ..told import Told, whole
 from ..told import told as _
 from .asked import desk, page, session
+from .faults import says
 from .sample_kinds import KINDS
 from .sampling import judge
 from .year_calendar import Row as YearRow, changed, rows_of
@@ -61,7 +63,7 @@ def show_year(year: int) -> Response:
     return shown_year(year)
 
 
-def shown_year(year: int, status: int = 200, fault: str = "") -> Response:
+def shown_year(year: int, status: int = 200, fault: Worded = Worded("")) -> Response:
     """The form of a year, with why it wasn't taken."""
     named = {"year": year, "rows": year_rows(year), "zone": desk().given.clock.name or "UTC"}
     return page("year-calendar.html", status, fault=fault, **named)
@@ -83,12 +85,12 @@ def judge_year(year: int) -> Response:
     given = [[*row] for row in zip(*(form.getlist(it) for it in kind.columns))]
     rows = changed(year_rows(year), given)
     if not rows:
-        return shown_year(year, 400, "No window differs from the office's, so there is nothing to send.")
+        return shown_year(year, 400, _("No window differs from the office's, so there is nothing to send."))
     try:
         desk().tray.take(session().person, kind.name, rows)
         judge(desk(), session().person, kind)
     except Fault as fault:
-        return shown_year(year, 503, str(fault))
+        return shown_year(year, 503, says(fault))
     return flask.redirect(flask.url_for("sample.show", kind=kind.name), 303)
 
 

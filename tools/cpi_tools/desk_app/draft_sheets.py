@@ -14,9 +14,11 @@ from typing import NamedTuple, Optional
 from ..csv_files import Writer
 from ..next_year import HEADS
 from ..numbers_of_texts import Numbers
+from ..others import of_others
 from ..plan_rows import WHOLE
 from ..sent import FIELDS
 from ..terminal import Fault, because_of
+from ..told import told as _
 from ..whole_files import write_whole
 from .sample_kinds import Kind
 
@@ -101,7 +103,8 @@ class Draft:
         given = {code: weight for code, weight in rows}
         before = self.rows(CLASSIFICATION)
         if unknown := sorted({*given} - {row[0] for row in before}):
-            raise Fault(f"the draft has no code {unknown[0]!r}: give it a title first, or leave its weight out")
+            code = of_others(unknown[0])
+            raise Fault(_("The draft has no code {code}: give it a title first, or leave its weight out.", code=code))
         left = "" if is_whole else None
         self._write(
             CLASSIFICATION,

@@ -16,14 +16,17 @@ from typing import NamedTuple, Optional
 from ..cells import SheetFault
 from ..next_year import next_year
 from ..office_files import Options
+from ..others import Worded, of_others
 from ..plan_rows import Weighed
 from ..program import Cpi
 from ..sent import Bundle, Problem, body_of
 from ..take_in import taken_in
 from ..terminal import Fault, because_of
+from ..told import Told
+from ..told import told as _
 from .copies import Copies
 from .draft_sheets import Draft
-from .told import Told
+from .faults import met, says
 
 UTC = "UTC0"
 """The clock of civil times; a draft has none."""
@@ -48,11 +51,18 @@ class Checked(NamedTuple):
         return hashlib.sha256(repr(self.records).encode()).hexdigest()
 
 
+class Left(NamedTuple):
+    """A record that wasn't carried out, as it is shown, and what was answered."""
+
+    record: Worded
+    answer: Worded
+
+
 class Running(NamedTuple):
     """What is being done for a year, and since when."""
 
     year: int
-    what: str
+    what: Told
     begun: int
 
 
@@ -63,10 +73,10 @@ class Drafts:
         self._cpi, self._copies, self._folder = cpi, copies, folder
         self._lock = threading.Lock()
         self._checked: dict[int, Checked] = {}
-        self.sent: dict[int, list[Told]] = {}
+        self.sent: dict[int, list[Left]] = {}
         """What the office answered to records of a year's draft that it didn't carry out, since the last change."""
         self.running: Optional[Running] = None
-        self.fault = ""
+        self.fault = Worded("")
 
     def years(self) -> list[int]:
         """The years that have a draft, the latest first."""
@@ -98,17 +108,17 @@ class Drafts:
 
     def make(self, year: int) -> bool:
         """Begins to make the draft of a year; whether it did."""
-        return self._begin(year, "asking cpi on a copy who is in the sample", self._make)
+        return self._begin(year, _("cpi says on a copy who is in the sample"), self._make)
 
     def check(self, year: int) -> bool:
         """Begins to judge the draft of a year; whether it did."""
-        return self._begin(year, "judging the draft on a copy", self._check)
+        return self._begin(year, _("cpi judges the draft on a copy"), self._check)
 
-    def _begin(self, year: int, what: str, job: Callable[[int], None]) -> bool:
+    def _begin(self, year: int, what: Told, job: Callable[[int], None]) -> bool:
         with self._lock:
             if self.running:
                 return False
-            self.running, self.fault = Running(year, what, int(time.time())), ""
+            self.running, self.fault = Running(year, what, int(time.time())), Worded("")
         threading.Thread(target=self._run, args=(year, job), daemon=True, name="draft").start()
         return True
 
@@ -116,12 +126,14 @@ class Drafts:
         try:
             job(year)
         except Fault as fault:
-            self.fault = str(fault)
-        except (OSError, sqlite3.Error) as fault:
-            self.fault = because_of(fault) if isinstance(fault, OSError) else f"the copy can't be read: {fault}"
+            self.fault = says(fault)
+        except OSError as fault:
+            self.fault = of_others(because_of(fault))
+        except sqlite3.Error as fault:
+            self.fault = _("The copy can't be read: {fault}", fault=of_others(str(fault)))
         except Exception as fault:
             # (a fault of ours: it is on the page too, and the journal has all of it)
-            self.fault = f"the application met an error: {type(fault).__name__}: {fault}"
+            self.fault = met(fault)
             raise
         finally:
             self.running = None

@@ -18,8 +18,10 @@ from ..languages import Language, a_language, language_of
 from ..stored import read_copy
 from ..stored_pages import collectors_in, key_of
 from ..terminal import Fault
+from ..told import told as _
 from .asked import desk, session
 from .desk_log import SAID
+from .faults import says
 from .sample_kinds import KINDS
 from .sample_views import shown
 
@@ -35,7 +37,7 @@ def sheet() -> Response:
     try:
         text = page_with_key()
     except Fault as fault:
-        return shown(KINDS["collectors"], 400, f"No sheet was made: {fault}")
+        return shown(KINDS["collectors"], 400, _("No sheet was made: {fault}", fault=says(fault)))
     answer = flask.Response(text)
     answer.headers["Content-Security-Policy"] = POLICY
     return answer
@@ -48,8 +50,8 @@ def page_with_key() -> str:
 
     given, form = desk().given, flask.request.form
     if not given.phones:
-        raise Fault("the application wasn't told the address of the front that collectors reach (--phones)")
-    named = Row(Origin("the form", 0), {NUMBER: form.get("collector", ""), NAME: form.get("name", "")})
+        raise Fault(_("The application wasn't told the address of the front that collectors reach (--phones)."))
+    named = Row(Origin("form", 0), {NUMBER: form.get("collector", ""), NAME: form.get("name", "")})
     with desk().copies_now() as copy, read_copy(copy.path) as office:
         number = number_of(named, collectors_in(office))
         key = key_of(office, number)

@@ -7,15 +7,21 @@ A text is read in one way, or refused in one line: what was read, where, and wha
 from __future__ import annotations
 
 import csv
-from collections.abc import Sequence
+from collections.abc import Iterable, Sequence
 from typing import NamedTuple, Optional
 
 from ..cells import shown
 from ..months_of_texts import month_of
+from ..others import Worded, of_others
+from ..told import Told, told_of, whole
+from ..told import told as _
 from .judging import MOST_ROWS, NotRead
-from .sample_kinds import Kind, column_of, told_columns
+from .sample_kinds import Kind, column_of
 
-SEPARATORS = {"\t": "tabs", ";": "semicolons", ",": "commas"}
+MOST_SHOWN = 8
+"""Cells of a line that are shown if it isn't read."""
+
+SEPARATORS = {"\t": _("tabs"), ";": _("semicolons"), ",": _("commas")}
 """What may be between two cells, and how it is called; the first one that fits is taken."""
 
 
@@ -38,7 +44,9 @@ def pasted(text: str, kind: Kind) -> Pasted:
     """The rows of a text. Raises NotRead."""
     lines, separator = lines_of(text.removeprefix("\ufeff"), kind)
     if not lines:
-        raise NotRead(f"there are no rows: write or paste one a line, with the cells {told_columns(kind.columns)}")
+        raise NotRead(
+            _("There are no rows: write or paste one a line, with the cells {columns}.", columns=listed(kind.columns))
+        )
     columns = heading_of(lines[0], kind)
     if columns:
         lines = lines[1:]
@@ -46,7 +54,8 @@ def pasted(text: str, kind: Kind) -> Pasted:
     else:
         unread = []
     if len(lines) > MOST_ROWS:
-        raise NotRead(f"there are {len(lines):,} rows: {MOST_ROWS:,} are taken at once at most")
+        places = {"count": whole(len(lines)), "most": whole(MOST_ROWS)}
+        raise NotRead(_("There are {count} rows: {most} are taken at once at most.", **places))
     names = columns.names if columns else None
     return Pasted([cells_of(line, kind, names, separator) for line in lines], unread)
 
@@ -86,7 +95,8 @@ def split(text: str, separator: str) -> list[Line]:
             if any(it.strip() for it in cells):
                 found.append(Line(rows.line_num, [it.strip() for it in cells]))
     except csv.Error as fault:
-        raise NotRead(f"line {rows.line_num}: {fault}: look at its quotation marks") from fault
+        places: dict[str, object] = {"line": whole(rows.line_num), "fault": of_others(str(fault))}
+        raise NotRead(_("Line {line}: {fault}. Look at its quotation marks.", **places)) from fault
     return found
 
 
@@ -135,11 +145,13 @@ def heading_of(line: Line, kind: Kind) -> Optional[Heading]:
     if not is_heading(names, kind):
         return None
     if lacks := [it for it in needed_of(kind) if it not in names]:
+        places: dict[str, object] = {"columns": listed(lacks), "read": listed(map(shown, line.cells))}
         raise NotRead(
-            f"line {line.number} is a heading without {told_columns(lacks)}: it has {told_columns(map(shown, line.cells))}"
+            _("Line {line} is a heading without {columns}: it has {read}.", line=whole(line.number), **places)
         )
     if twice := [it for it in kind.columns if names.count(it) > 1]:
-        raise NotRead(f"line {line.number} is a heading that has {twice[0]} twice: rename one of the two")
+        places = {"line": whole(line.number), "column": of_others(twice[0])}
+        raise NotRead(_("Line {line} is a heading that has {column} twice: rename one of the two.", **places))
     return Heading(names, line.cells)
 
 
@@ -154,13 +166,27 @@ def cells_of(line: Line, kind: Kind, names: Optional[Sequence[str]], separator: 
         if kind.optional and len(cells) == len(names) - 1:
             names = [it for it in names if it != kind.optional]
     if len(cells) != len(names):
-        told = "the cell" if len(cells) == 1 else f"{len(cells)} cells"
-        raise NotRead(
-            f"line {line.number} has {told} {told_columns(map(shown, cells[:8]))} by {SEPARATORS[separator]}: wanted are"
-            f" {told_columns(it or 'one that is not read' for it in names)}"
-        )
+        raise NotRead(wrong_width(line.number, cells, names, separator))
     by_name = {name: cell for name, cell in zip(names, cells) if name}
     return [_read(by_name.get(it, ""), it in kind.months) for it in kind.columns]
+
+
+def wrong_width(line: int, cells: Sequence[str], names: Sequence[str], separator: str) -> Told:
+    """What is told of a line with too few cells, or too many."""
+    return told_of(
+        "Line {line} has one cell by {separator}: {read}. Wanted are {columns}.",
+        "Line {line} has {count} cells by {separator}: {read}. Wanted are {columns}.",
+        len(cells),
+        line=whole(line),
+        separator=SEPARATORS[separator],
+        read=listed(map(shown, cells[:MOST_SHOWN])),
+        columns=listed(it or "-" for it in names),
+    )
+
+
+def listed(texts: Iterable[str]) -> Worded:
+    """Names of columns, or cells, in a line."""
+    return of_others(", ".join(texts))
 
 
 def _read(cell: str, is_month: bool) -> str:

@@ -12,12 +12,17 @@ import time
 import flask
 from werkzeug.wrappers import Response
 
+from ..others import Worded, of_others
 from ..stored import read_copy
 from ..terminal import Fault
+from ..told import told as _
 from .asked import desk, page, session
+from .faults import says
 from .publishing import Planned, Publisher, Release
 
 views = flask.Blueprint("publish", __name__)
+
+NOTHING = Worded("")
 
 
 @views.get("/publish")
@@ -26,7 +31,7 @@ def show() -> Response:
     return shown()
 
 
-def shown(status: int = 200, fault: str = "") -> Response:
+def shown(status: int = 200, fault: Worded = NOTHING) -> Response:
     """The page, with what came of a step."""
     publisher = desk().publisher
     if publisher is None:
@@ -34,7 +39,7 @@ def shown(status: int = 200, fault: str = "") -> Response:
     try:
         releases, address = releases_of(publisher), publisher.address()
     except Fault as told:
-        fault, releases, address = fault or str(told), [], ""
+        fault, releases, address = fault or says(told), [], ""
     now = int(time.time())
     named = {
         "publisher": publisher,
@@ -42,7 +47,6 @@ def shown(status: int = 200, fault: str = "") -> Response:
         "to_come": [it for it in releases[::-1] if it.at > now],
         "published": [it for it in releases if it.is_published],
         "address": address,
-        "clock": desk().given.clock,
         "written_at": publisher.written_at(),
     }
     return page("publish.html", status, fault=fault, **named)
@@ -72,10 +76,11 @@ def plan() -> Response:
         else:
             found = [it for it in releases_of(publisher) if (it.month, str(it.revision)) == (month, revision)]
             if not found:
-                raise Fault(f"{month or 'no month'} has no revision {revision}, so there is nothing to publish")
+                places = {"month": of_others(month), "revision": of_others(revision)}
+                raise Fault(_("There is nothing to publish: {month} has no revision {revision}.", **places))
             publisher.plan(Planned(session().person, month, int(revision), found[0].at))
     except Fault as fault:
-        return shown(400, str(fault))
+        return shown(400, says(fault))
     return flask.redirect(flask.url_for("publish.show"), 303)
 
 

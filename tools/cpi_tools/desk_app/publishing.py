@@ -17,20 +17,26 @@ from collections.abc import Sequence
 from pathlib import Path
 from typing import NamedTuple, Optional
 
+from ..others import Worded
 from ..pack.config import read_config
 from ..pack.manifest import MANIFEST, TableId, read_manifest
 from ..pack.release_names import page_of_release
 from ..pack.sdmx import KNOWN_IDS
 from ..stored import StoredOffice
 from ..terminal import Fault, because_of, month_text, time_text
+from ..told import told as _
 from ..whole_files import write_whole
 from .desk_log import SAID, DeskLog
+from .faults import met, says
 
 LOOKS_EVERY = 20.0
 """Seconds from one look at what is planned to the next, at most."""
 
 AGAIN_AFTER = 300
 """Seconds after which what came to nothing is tried again."""
+
+BEGINS = f"cpi-tools {'publish'}: "
+"""How a line of the tool begins."""
 
 READABLE = 0o022
 """The mask of a process whose files everybody may read."""
@@ -83,7 +89,7 @@ class Publisher:
         self._process: Optional[subprocess.Popen[str]] = None
         self._thread = threading.Thread(target=self._follow, daemon=True, name="publisher")
         self.running: Optional[Running] = None
-        self.fault, self.told, self._failed_at = "", "", 0.0
+        self.fault, self.told, self._failed_at = Worded(""), "", 0.0
 
     # ---- what there is
 
@@ -108,7 +114,7 @@ class Publisher:
         there, address, moments = self.published(), self.address(), office.frozen_moments()
         by = {(it.month, it.revision): it.by for it in self.planned()}
         found = list[Release]()
-        for (number, revision), (_, at) in moments.items():
+        for (number, revision), (__, at) in moments.items():
             table = (month_text(number), revision)
             page = address + page_of_release(*table) if address and table in there else ""
             found.append(Release(*table, at, table in there, by.get(table, ""), page))
@@ -165,18 +171,18 @@ class Publisher:
 
     def _run(self, by: str) -> None:
         try:
-            self.told, self.fault = self._written(by), ""
+            self.told, self.fault = self._written(by), Worded("")
             self._done()
         except Fault as fault:
-            self._failed(by, str(fault))
+            self._failed(by, says(fault))
         except Exception as fault:
             # (a fault of ours: it is on the page too, and the journal has all of it)
-            self._failed(by, f"the application met an error: {type(fault).__name__}: {fault}")
+            self._failed(by, met(fault))
             raise
         finally:
             self.running = None
 
-    def _failed(self, by: str, why: str) -> None:
+    def _failed(self, by: str, why: Worded) -> None:
         """Keeps why the website wasn't written; the log has it once, however often it is tried again."""
         self._failed_at = time.monotonic()
         if why != self.fault:
@@ -197,8 +203,9 @@ class Publisher:
         ) as self._process:
             told, errors = self._process.communicate()
         if self._process.returncode:
-            lines = errors.strip().splitlines() or [f"cpi-tools publish ended with status {self._process.returncode}"]
-            raise Fault(lines[-1].removeprefix("cpi-tools publish: "))
+            lines = errors.strip().splitlines()
+            ended = _("cpi-tools publish ended with the status {status}.", status=self._process.returncode)
+            raise Fault(lines[-1].removeprefix(BEGINS) if lines else ended)
         self._log.append(by, SAID, text=f"the website was written, with what is out at {time_text(at)}: {told.strip()}")
         return " ".join([told.strip(), *errors.strip().splitlines()])
 
@@ -236,7 +243,7 @@ class Publisher:
         try:
             planned = self.planned()
         except Fault as fault:
-            self.fault = str(fault)
+            self.fault = says(fault)
             return LOOKS_EVERY
         wait = planned[0].at - time.time() if planned else LOOKS_EVERY
         is_waiting = bool(self.fault) and time.monotonic() - self._failed_at < AGAIN_AFTER

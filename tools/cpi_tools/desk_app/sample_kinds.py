@@ -2,7 +2,6 @@
 
 from __future__ import annotations
 
-from collections.abc import Iterable
 from typing import NamedTuple
 
 from ..sent import FIELDS
@@ -36,25 +35,19 @@ NUMBER = "number"
 
 OTHER_NAMES = {
     "code": "item",
-    "first month": "first",
-    "last month": "last",
-    "new slot": "to_slot",
-    "to slot": "to_slot",
-    "from month": "month",
+    "first_month": "first",
+    "last_month": "last",
+    "new_slot": "to_slot",
+    "to_collector": "to",
+    "from_month": "month",
 }
 """What a heading may call a column besides its name; `number` is the kind's first column."""
 
 
 def column_of(kind: Kind, head: str) -> str:
     """The column that a cell of a heading names, or nothing."""
-    plain = " ".join(head.replace("_", " ").casefold().split())
-    named = plain.replace(" ", "_")
-    if named in kind.columns:
-        return named
+    plain = "_".join(head.replace("_", " ").casefold().split())
+    if plain in kind.columns:
+        return plain
     found = kind.columns[0] if plain == NUMBER else OTHER_NAMES.get(plain, "")
     return found if found in kind.columns else ""
-
-
-def told_columns(columns: Iterable[str]) -> str:
-    """Columns in a line for people."""
-    return ", ".join(columns)

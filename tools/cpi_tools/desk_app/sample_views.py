@@ -24,13 +24,17 @@ from werkzeug.wrappers import Response
 
 from ..csv_files import Writer, formulas_told, line_of
 from ..languages import known
+from ..others import Worded, of_others
 from ..stored import StoredOffice, read_copy
 from ..stored_pages import LISTINGS, Found, found_in
-from ..terminal import Fault, counted, month_text
+from ..terminal import Fault, month_text
+from ..told import Told, told_of, whole
+from ..told import told as _
 from .asked import csv_file, desk, page, session
+from .faults import says
 from .pasted import pasted
 from .sample_kinds import KINDS, Kind
-from .sampling import NotAsSeen, Sent, judge, send, settle, state_of
+from .sampling import NotAsSeen, Sent, answer_of, judge, send, settle, state_of
 from .tray import GOING, GOOD, NEW, REFUSED, Waiting
 
 views = flask.Blueprint("sample", __name__)
@@ -83,8 +87,16 @@ def show(kind: str) -> Response:
     return shown(it)
 
 
+NOTHING = Worded("")
+
+
 def shown(
-    kind: Kind, status: int = 200, fault: str = "", answer: str = "", text: str = "", unread: str = ""
+    kind: Kind,
+    status: int = 200,
+    fault: Worded = NOTHING,
+    answer: Worded = NOTHING,
+    text: str = "",
+    unread: Worded = NOTHING,
 ) -> Response:
     """The page of a kind, with what came of a step; `text` is what couldn't be read."""
     waiting = desk().tray.rows(session().person, kind.name)
@@ -102,6 +114,7 @@ def shown(
         "good": sum(it.state == GOOD for it in waiting),
         "refused_numbers": ",".join(str(it.number) for it in waiting if it.state == REFUSED),
         "seen": state_of(waiting),
+        "answer_of": answer_of,
         "mended": mended[0] if len(mended) == 1 else None,
         "instead": " ".join(str(it.number) for it in mended),
         "text": text or (text_of(kind, mended) if len(mended) > 1 else ""),
@@ -130,8 +143,8 @@ def rows_of(kind: Kind, found: Found) -> list[list[str]]:
 
 def windows(office: StoredOffice) -> Shown:
     """The windows by the office's clock, the latest month first."""
-    clock = desk().given.clock
-    rows = [[month_text(it.month), *map(clock.local, it[1:])] for it in reversed(office.calendar())]
+    moment = desk().teller.moment
+    rows = [[month_text(it.month), *map(moment, it[1:])] for it in reversed(office.calendar())]
     return Shown(KINDS["calendar"].columns, len(rows), 0, rows)
 
 
@@ -184,9 +197,9 @@ def judge_rows(kind: str) -> Response:
             desk().tray.take(session().person, it.name, rows, instead)
         judge(desk(), session().person, it)
     except Fault as fault:
-        return shown(it, 400, str(fault), text=text)
+        return shown(it, 400, says(fault), text=text)
     if unread:
-        return shown(it, unread=", ".join(unread))
+        return shown(it, unread=of_others(", ".join(unread)))
     return flask.redirect(flask.url_for("sample.show", kind=it.name), 303)
 
 
@@ -204,17 +217,22 @@ def send_rows(kind: str) -> Response:
     try:
         sent = send(desk(), session(), it, flask.request.form.get("seen", ""))
     except NotAsSeen as fault:
-        return shown(it, 409, str(fault))
+        return shown(it, 409, says(fault))
     except Fault as fault:
-        return shown(it, 503, f"Nothing was sent: {fault}")
+        return shown(it, 503, _("Nothing was sent: {fault}", fault=says(fault)))
     return shown(it, answer=told_sent(sent))
 
 
-def told_sent(sent: Sent) -> str:
+def told_sent(sent: Sent) -> Told:
     """How many rows were carried out."""
     if sent.done == sent.total:
-        return f"{counted(sent.total, 'row')} sent, and carried out."
-    return f"{sent.done:,} of {counted(sent.total, 'row')} carried out: the others are below, with what was answered."
+        return told_of("{count} row sent, and carried out.", "{count} rows sent, and carried out.", sent.total)
+    return told_of(
+        "{done} of {count} row carried out. The answer to the other is below.",
+        "{done} of {count} rows carried out. The answers to the others are below.",
+        sent.total,
+        done=whole(sent.done),
+    )
 
 
 @views.post("/sample/<kind>/drop")

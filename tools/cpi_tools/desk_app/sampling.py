@@ -12,7 +12,9 @@ from ..csv_files import line_of
 from ..pack.clocks import Clock
 from ..program import Reply
 from ..stored import StoredOffice, read_copy
+from ..others import Worded, of_others
 from ..terminal import Fault
+from ..told import told as _
 from .desk import Desk
 from .desk_log import ANSWERED, HIDDEN, LOOKED_UP, SENT, Entry, shown
 from .free_slots import FreeSlots
@@ -22,10 +24,27 @@ from .sessions import Session
 from .told import NO_REPLY, NOT_SENT, told
 from .tray import COLLECTORS, GOING, GOOD, KEY, REFUSED, Tray, Waiting
 
-KEY_IS_GONE = (
-    "a key is kept in memory only, and the application was started anew since: drop this row, and give it again"
-)
-WAS_NOT_SENT = "not sent: the application was ended before it could be"
+NO_REPLY_YET, NOT_SENT_YET, KEY_IS_GONE, WAS_ENDED = "no reply", "not sent", "key", "ended"
+"""Why a row has no answer, as the tray's file has it; a fault is there in its own words."""
+
+WHY = {
+    NO_REPLY_YET: NO_REPLY,
+    NOT_SENT_YET: NOT_SENT,
+    KEY_IS_GONE: _(
+        "A key is kept in memory only, and the application was started anew since: drop this row, and give it again."
+    ),
+    WAS_ENDED: _("Not sent: the application was ended before it could be."),
+}
+"""The same as a page says it."""
+
+
+def answer_of(row: Waiting) -> Worded:
+    """What a page says next to a row."""
+    if row.reply is not None:
+        return told(row.record, row.reply).answer
+    if row.why in WHY or not row.why:
+        return WHY.get(row.why, Worded(""))
+    return _("Not sent: {fault}", fault=of_others(row.why))
 
 
 class Record(NamedTuple):
@@ -91,9 +110,9 @@ def judge(desk: Desk, person: str, kind: Kind) -> None:
 def _judged(it: Record, reply: Optional[Reply]) -> Waiting:
     record = shown(it.fields)
     if reply is None:
-        return it.row._replace(record=record, state=REFUSED, answer=it.fault, since=0)
+        return it.row._replace(record=record, state=REFUSED, reply=None, why=it.fault, since=0)
     state = REFUSED if "refused" in reply else GOOD
-    return it.row._replace(record=record, state=state, answer=told(record, reply).answer, since=0)
+    return it.row._replace(record=record, state=state, reply=reply, why="", since=0)
 
 
 # ---- sending
@@ -123,16 +142,16 @@ def send(desk: Desk, session: Session, kind: Kind, seen: str) -> Sent:
         all_rows = desk.tray.rows(session.person, kind.name)
         rows = [it for it in all_rows if it.state == GOOD]
         if not rows or state_of(all_rows) != seen:
-            raise NotAsSeen("these rows were sent already, or changed since they were shown: look at what is here now")
+            raise NotAsSeen(_("These rows were sent already, or changed since they were shown: see what is here now."))
         records = [_for_office(desk.tray, kind, it) for it in rows]
         since = desk.log.entries[-1].number if desk.log.entries else 0
-        going = {it.number: it._replace(state=GOING, answer=NO_REPLY, since=since) for it in rows}
+        going = {it.number: it._replace(state=GOING, reply=None, why=NO_REPLY_YET, since=since) for it in rows}
         desk.tray.change(session.person, kind.name, going)
     try:
         replies = desk.send(session, records)
     except Fault as fault:
-        why = f"{NOT_SENT}: {fault}"
-        desk.tray.change(session.person, kind.name, {it.number: it._replace(answer=why) for it in rows})
+        changed = {it.number: it._replace(reply=None, why=str(fault)) for it in rows}
+        desk.tray.change(session.person, kind.name, changed)
         raise
     waiting = {tuple(it) for entry in desk.log.open_entries() for it in entry.records}
     after = {row.number: _after(row, since, reply, waiting) for row, reply in zip(rows, replies)}
@@ -146,7 +165,7 @@ def _for_office(tray: Tray, kind: Kind, row: Waiting) -> list[str]:
         return row.record
     key = tray.key(row.number)
     if key is None:
-        raise Fault(KEY_IS_GONE)
+        raise Fault(WHY[KEY_IS_GONE])
     return [*row.record[:2], key]
 
 
@@ -154,10 +173,9 @@ def _after(row: Waiting, since: int, reply: Optional[Reply], waiting: set[tuple[
     """A row after it was sent: None if it was carried out."""
     if reply is None:
         if tuple(row.record) in waiting:
-            return row._replace(state=GOING, answer=NO_REPLY, since=since)
-        return row._replace(answer=NOT_SENT, since=0)
-    answer = told(row.record, reply)
-    return None if answer.is_done else row._replace(state=REFUSED, answer=answer.answer, since=0)
+            return row._replace(state=GOING, reply=None, why=NO_REPLY_YET, since=since)
+        return row._replace(reply=None, why=NOT_SENT_YET, since=0)
+    return None if told(row.record, reply).is_done else row._replace(state=REFUSED, reply=reply, why="", since=0)
 
 
 # ---- what was on its way as the application ended
@@ -177,9 +195,8 @@ def found_in_log(row: Waiting, entries: Sequence[Entry]) -> Optional[Waiting]:
     for reply in _replies(row, entries):
         if reply is None:
             return row
-        answer = told(row.record, reply)
-        return None if answer.is_done else row._replace(state=REFUSED, answer=answer.answer, since=0)
-    return row._replace(state=REFUSED, answer=WAS_NOT_SENT, since=0)
+        return None if told(row.record, reply).is_done else row._replace(state=REFUSED, reply=reply, why="", since=0)
+    return row._replace(state=REFUSED, reply=None, why=WAS_ENDED, since=0)
 
 
 def _replies(row: Waiting, entries: Sequence[Entry]) -> Iterator[Optional[Reply]]:

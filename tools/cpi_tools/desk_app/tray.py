@@ -13,6 +13,7 @@ from collections.abc import Mapping, Sequence
 from pathlib import Path
 from typing import Any, NamedTuple, Optional
 
+from ..program import Reply
 from ..terminal import Fault, because_of
 from ..whole_files import write_whole
 from .desk_log import HIDDEN
@@ -26,14 +27,16 @@ COLLECTORS, KEY = "collectors", 1
 
 
 class Waiting(NamedTuple):
-    """A row: its number; its cells as they were given; the record that was judged, without a collector's key; where it is
-    and what was answered; and of one on its way the number of the log's last line before that."""
+    """A row: its number; its cells as they were given; the record that was judged, without a collector's key; where it
+    is; what was answered, or else why there is no answer; and of one on its way the number of the log's last line before
+    that."""
 
     number: int
     cells: list[str]
     record: list[str]
     state: str
-    answer: str
+    reply: Optional[Reply]
+    why: str
     since: int
 
 
@@ -62,7 +65,7 @@ class Tray:
             own, gone = [it for it in before if it.number not in instead], [it for it in before if it.number in instead]
             for each in cells:
                 last += 1
-                own.append(Waiting(last, self._hidden(last, kind, each, gone), [], NEW, "", 0))
+                own.append(Waiting(last, self._hidden(last, kind, each, gone), [], NEW, None, "", 0))
             self._write(last, {**all_rows, f"{who(person)}\n{kind}": own})
 
     def change(self, person: str, kind: str, changed: Mapping[int, Optional[Waiting]]) -> None:

@@ -17,18 +17,24 @@ from werkzeug.wrappers import Response
 
 from ..csv_files import line_of
 from ..numbers_of_texts import decimal
+from ..others import Worded, of_others
 from ..stored import read_copy
-from ..terminal import Fault, counted
+from ..terminal import Fault
+from ..told import Figure, Told, told_of, whole
+from ..told import told as _
 from .asked import csv_file, desk, page, session
 from .desk_log import shown as hidden
 from .draft_sheets import CLASSIFICATION, KEYS, LISTS, SHEETS, UNITS, WEIGHTS, Draft, Settings
-from .drafts import Checked
+from .drafts import Checked, Left
+from .faults import says
 from .office import MOST_BYTES, body_of
 from .pasted import pasted
 from .records_views import answered
 from .sample_views import SHOWN, number_in
 
 views = flask.Blueprint("year", __name__)
+
+NOTHING = Worded("")
 
 
 @views.get("/year")
@@ -40,7 +46,7 @@ def first() -> Response:
     return shown_form()
 
 
-def shown_form(status: int = 200, fault: str = "") -> Response:
+def shown_form(status: int = 200, fault: Worded = NOTHING) -> Response:
     """The form that makes a draft."""
     with desk().copies_now() as copy, read_copy(copy.path) as office:
         releases = office.releases()
@@ -55,9 +61,10 @@ def make() -> Response:
     """Begins to make a draft."""
     text = flask.request.form.get("year", "").strip()
     if not (text.isdecimal() and len(text) == 4):
-        return shown_form(400, f"{text!r} is no year like 2027")
+        return shown_form(400, _("{text} is no year, such as {year}.", text=of_others(text), year=2027))
     if desk().drafts.draft(int(text)):
-        return shown_form(409, f"there is a draft of {text} already: drop it first, if it is to be made anew")
+        told_so = _("There is a draft of {year} already: drop it first, if it is to be made anew.", year=int(text))
+        return shown_form(409, told_so)
     desk().drafts.make(int(text))
     return flask.redirect(flask.url_for("year.first"), 303)
 
@@ -79,7 +86,9 @@ def show(year: int) -> Response:
     return shown(draft_of(year))
 
 
-def shown(draft: Draft, status: int = 200, fault: str = "", answer: str = "", text: str = "") -> Response:
+def shown(
+    draft: Draft, status: int = 200, fault: Worded = NOTHING, answer: Worded = NOTHING, text: str = ""
+) -> Response:
     """The page of a draft, with what came of a step."""
     name = flask.request.values.get("sheet", WEIGHTS)
     name = name if name in SHEETS or name in LISTS else WEIGHTS
@@ -109,7 +118,7 @@ def shown(draft: Draft, status: int = 200, fault: str = "", answer: str = "", te
         "reference": draft.reference(),
         "running": drafts.running,
         "checked": checked,
-        "too_long": too_long(checked) if checked else "",
+        "too_long": too_long(checked) if checked else NOTHING,
         "lines": [line(it) for it in checked.records[:SHOWN]] if checked else [],
         "sent": drafts.sent.get(draft.year, []),
         "text": text,
@@ -117,9 +126,9 @@ def shown(draft: Draft, status: int = 200, fault: str = "", answer: str = "", te
     return page("year.html", status, fault=fault or drafts.fault, answer=answer, **named)
 
 
-def number_text(number: Fraction) -> str:
+def number_text(number: Fraction) -> Figure:
     """A number, with three decimals if it isn't whole."""
-    return f"{number.numerator:,}" if number.denominator == 1 else decimal(number)
+    return whole(number.numerator) if number.denominator == 1 else Figure(decimal(number))
 
 
 def searched(rows: list[list[str]], query: str) -> list[list[str]]:
@@ -128,19 +137,24 @@ def searched(rows: list[list[str]], query: str) -> list[list[str]]:
     return [row for row in rows if all(word in " ".join(row).casefold() for word in words)]
 
 
-def line(record: list[str]) -> str:
+def line(record: list[str]) -> Worded:
     """A record as it is shown: a plan by its rows, a collector without the key."""
     if record[0] == "plan":
-        return f"plan,{record[1]}: {counted(record[2].count(chr(10)), 'row')}"
-    return line_of(hidden(record))
+        count = record[2].count("\n")
+        year = of_others(record[1])
+        return told_of("the plan of {year}, {count} row", "the plan of {year}, {count} rows", count, year=year)
+    return of_others(line_of(hidden(record)))
 
 
-def too_long(checked: Checked) -> str:
+def too_long(checked: Checked) -> Worded:
     """Why the office can't take a record over its interface, or nothing."""
     for record in checked.records:
         if (size := len(body_of([record]))) > MOST_BYTES:
-            return f"{line(record)} has {size:,} bytes, and a message to the office {MOST_BYTES:,} at most"
-    return ""
+            places = {"record": line(record), "size": whole(size), "most": whole(MOST_BYTES)}
+            return _(
+                "Too long for a message to the office: {record}. It has {size} bytes, of {most} at most.", **places
+            )
+    return NOTHING
 
 
 @views.get("/year/<int:year>/<name>.csv")
@@ -172,10 +186,10 @@ def put(year: int) -> Response:
     try:
         rows = pasted(text, kind).rows if text.strip() else [[form.get(it, "").strip() for it in kind.columns]]
         if lacks := [it for it, cell in zip(kind.columns, rows[0]) if not cell and it not in (kind.optional, "weight")]:
-            raise Fault(f"the row has no {lacks[0]}")
+            raise Fault(_("The row lacks a cell: {column}.", column=of_others(lacks[0])))
         draft.put(name, rows, bool(form.get("whole")))
     except Fault as fault:
-        return shown(draft, 400, str(fault), text=text)
+        return shown(draft, 400, says(fault), text=text)
     desk().drafts.changed(year)
     return to_sheet(draft, name)
 
@@ -227,16 +241,28 @@ def send(year: int) -> Response:
     """Sends what was judged, once."""
     draft, checked = draft_of(year), desk().drafts.checked(year)
     if checked is None or not checked.records or checked.seen != flask.request.form.get("seen"):
-        return shown(draft, 409, "The draft was sent already, or changed since this was shown: judge it again.")
+        return shown(draft, 409, _("The draft was sent already, or changed since this was shown: judge it again."))
     desk().drafts.changed(year)
     try:
         replies = desk().send(session(), checked.records)
     except Fault as fault:
-        return shown(draft, 503, f"Nothing was sent: {fault}")
+        return shown(draft, 503, _("Nothing was sent: {fault}", fault=says(fault)))
     rows = answered([hidden(it) for it in checked.records], replies)
-    left = [it._replace(record=line(of)) for it, of in zip(rows, checked.records) if not it.is_done]
+    left = [Left(line(of), it.answer) for it, of in zip(rows, checked.records) if not it.is_done]
     desk().drafts.sent[year] = left
     done = len(rows) - len(left)
     if left:
-        return shown(draft, 409, f"{done:,} of {counted(len(rows), 'record')} carried out; the others are below.")
-    return shown(draft, answer=f"{counted(done, 'record')} sent, and carried out.")
+        return shown(draft, 409, told_left(done, len(rows)))
+    return shown(
+        draft, answer=told_of("{count} record sent, and carried out.", "{count} records sent, and carried out.", done)
+    )
+
+
+def told_left(done: int, count: int) -> Told:
+    """How many records were carried out, if not all."""
+    return told_of(
+        "{done} of {count} record carried out. The answer to the other is below.",
+        "{done} of {count} records carried out. The answers to the others are below.",
+        count,
+        done=whole(done),
+    )
