@@ -24,7 +24,7 @@ from .sessions import Session
 from .told import NO_REPLY, NOT_SENT, told
 from .tray import COLLECTORS, GOING, GOOD, KEY, REFUSED, Tray, Waiting
 
-NO_REPLY_YET, NOT_SENT_YET, KEY_IS_GONE, WAS_ENDED = "no reply", "not sent", "key", "ended"
+NO_REPLY_YET, NOT_SENT_YET, KEY_IS_GONE, WAS_ENDED = "no-reply", "not-sent", "key", "ended"
 """Why a row has no answer, as the tray's file has it; a fault is there in its own words."""
 
 WHY = {
