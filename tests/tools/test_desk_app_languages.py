@@ -14,6 +14,7 @@ from cpi_tools.program import Cpi
 from cpi_tools.speech import speech_of
 from desk_apps import ADA, BEN, LISTEN, Application, Person, applied
 from nobodys import NAMES, greek, left_in_english, nobodys_in, seen_of
+from test_desk_app_publish import frozen as published_at, waited, with_site
 
 MONTH, CODE = "2026-02", "01.1.1.2-01"
 WHY = {f"why-{CODE}": "the shop is closed for a week"}
@@ -123,3 +124,48 @@ def test_moments_are_those_of_the_office_s_clock(cpi: Cpi, tmp_path: Path) -> No
         words = ada.words("/calendar")
         assert "avril 2026 1 juillet 2026 à 12:00 CEST 2 juillet 2026 à 12:00 CEST" in words
         assert time.strftime("%Y") not in re.findall(r"\b(\d{4})-\d\d-\d\d", words)
+
+
+KEPT = (
+    *(f"/sample/{kind}" for kind in ("items", "outlets", "collectors", "assignments", "handovers", "calendar")),
+    *("/calendar", "/calendar/2026", "/publish", "/year", "/year/2027/"),
+    *(f"/year/2027/?sheet={sheet}" for sheet in ("classification", "places", "series", "gone")),
+)
+
+
+def given(ada: Person) -> list[str]:
+    """The pages of rows that were given, of what isn't taken, and of what is sent."""
+    ada.post("/sample/collectors/judge", pasted="9\n8\n")
+    ada.post("/sample/handovers/judge", pasted="7,1,8,2026-03\n7,9,8,2026-03\n")
+    ada.post("/sample/outlets/judge", pasted="12;Γ")
+    (seen,) = re.findall('name="seen" value="([^"]+)"', ada.get("/sample/outlets").text)
+    texts = ("1,2,3", "outlet;outlet\n1;2", '1,"2', "outlet;name", "outlet;name;name\n1;2;3")
+    return [
+        ada.post("/sample/outlets/send", seen=seen).text,
+        ada.post("/sample/outlets/send", seen=seen).text,
+        *(ada.post("/sample/outlets/judge", pasted=text).text for text in texts),
+        ada.post("/sample/collectors/sheet", collector="7").text,
+        ada.post("/publish/plan", month="2026-03", revision="1").text,
+        ada.post("/year/make", year="x").text,
+        ada.post("/year/make", year="2027").text,
+        ada.post("/year/2027/put", sheet="weights", code="09", weight="1").text,
+        ada.post("/year/2027/send", seen="x").text,
+        ada.post("/calendar/2026").text,
+    ]
+
+
+def test_no_word_of_the_sample_and_the_year_is_left_in_english(
+    cpi: Cpi, tmp_path: Path, monkeypatch: pytest.MonkeyPatch
+) -> None:
+    speech, moment = speech_of(nobodys_in(tmp_path, monkeypatch)), int(time.time()) + 86_400
+    with applied(cpi, published_at(cpi, tmp_path, moment), tmp_path / "room", speech=speech) as application:
+        publisher, ada = with_site(application, tmp_path), application.person(ADA)
+        for path in ("/year/make", "/year/2027/check", "/publish/now"):
+            ada.post(path, year="2027")
+            waited(lambda: not (application.desk.drafts.running or publisher.running))
+        left = {str(number): left_on(text) for number, text in enumerate(given(ada))}
+        for path in KEPT:
+            answer = ada.get(path, follow_redirects=True)
+            assert answer.status_code == 200 and 'lang="el"' in answer.text
+            left[path] = left_on(answer.text)
+    assert {name: texts for name, texts in left.items() if texts} == {}

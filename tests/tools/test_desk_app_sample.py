@@ -89,6 +89,7 @@ def test_what_may_be_missing_and_months_of_a_spreadsheet() -> None:
     ("text", "told"),
     [
         ("", "There are no rows: write or paste one a line, with the cells outlet, name."),
+        ("outlet,name\n", "There are no rows: write or paste one a line, with the cells outlet, name."),
         ("10,a\n\n11,b,c", 'Line 3 has 3 cells by commas: "11", "b", "c". Wanted are outlet, name.'),
         ("10", 'Line 1 has one cell by commas: "10". Wanted are outlet, name.'),
         ('10,"a\n', "Line 1: unexpected end of data. Look at its quotation marks."),

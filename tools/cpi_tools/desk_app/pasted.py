@@ -43,16 +43,16 @@ class Line(NamedTuple):
 def pasted(text: str, kind: Kind) -> Pasted:
     """The rows of a text. Raises NotRead."""
     lines, separator = lines_of(text.removeprefix("\ufeff"), kind)
-    if not lines:
-        raise NotRead(
-            _("There are no rows: write or paste one a line, with the cells {columns}.", columns=listed(kind.columns))
-        )
-    columns = heading_of(lines[0], kind)
+    columns = heading_of(lines[0], kind) if lines else None
     if columns:
         lines = lines[1:]
         unread = [head for head, column in zip(columns.written, columns.names) if head and not column]
     else:
         unread = []
+    if not lines:
+        raise NotRead(
+            _("There are no rows: write or paste one a line, with the cells {columns}.", columns=listed(kind.columns))
+        )
     if len(lines) > MOST_ROWS:
         places = {"count": whole(len(lines)), "most": whole(MOST_ROWS)}
         raise NotRead(_("There are {count} rows: {most} are taken at once at most.", **places))
