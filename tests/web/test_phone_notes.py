@@ -272,6 +272,34 @@ def test_a_file_that_is_no_picture_is_told_and_the_rest_goes_on(noting: Phone, s
     wait_sent(noting, stage, "Behind the till")
 
 
+SLOW = """
+const own = window.createImageBitmap;
+window.createImageBitmap = async (...words) => {
+  await new Promise((end) => setTimeout(end, 1500));
+  return own(...words);
+};
+"""
+
+
+def test_a_save_waits_until_the_photograph_is_drawn(noting: Phone, stage: Stage, tmp_path: Path) -> None:
+    browser = noting.browser
+    browser.run(SLOW)
+    wrong = tmp_path / "letter.jpg"
+    wrong.write_bytes(b"%PDF-1.4 no picture")
+    noting.edit(1)
+    unfold(noting)
+    browser.find("#note-photo").send_keys(str(wrong))
+    browser.type("#price", "3.21")
+    browser.click("#entry-save")
+    browser.wait_text("#note-fault", "This file can’t be read as a picture. Choose a photograph.")
+    assert noting.edited() == f"{NOW}/1" and browser.find("#price").get_attribute("value") == "3.21"
+    assert stage.quotes(ANNA) == []
+    browser.find("#note-photo").send_keys(str(camera_file(tmp_path)))
+    noting.save()
+    browser.wait_text("#line", "All sent")
+    assert at_the_desk(stage, ANNA) == [[1, NEXT, False, "", "", "", True]]
+
+
 def test_a_price_without_a_note_sends_none_and_a_note_that_is_emptied_is_gone(
     noting: Phone, stage: Stage, pages: DeskPages
 ) -> None:

@@ -78,7 +78,11 @@ async function keep(choice) {
   const price = form.awaitTyping();
   isSaving = true;
   try {
-    await notes.keep(edited, choice); // (first: its price is sent at once, and a note waits for it)
+    // (the note first: a price is sent at once, and a note waits for it)
+    if (!(await notes.keep(edited, choice))) {
+      if (editing === edited && isOpen()) find("price").value = price;
+      return;
+    }
     const kept = await store.keepEntry(state, { month, slot, row, seen, ...choice, state: "waiting" });
     if (kept) goOn(kept, edited, form.typedSince());
   } catch (fault) {

@@ -13,7 +13,7 @@ const EMPTY = { isSale: false, brand: "", quantity: "", text: "", photo: null };
 
 let of = null; // the month and slot of the form: { month, slot }
 let photo = null; // a JPEG
-let drawing = Promise.resolve(); // ends when the photograph that was chosen is drawn
+let drawing = Promise.resolve(null); // gives the photograph once it is drawn; undefined if the file is no picture
 let chosen = 0; // how many photographs were chosen
 const drafts = new Map(); // photographs that were chosen and not saved, by a name
 const names = new WeakMap(); // of photographs
@@ -65,7 +65,6 @@ function speak() {
 export function fill({ month, slot }, draft, note) {
   of = { month, slot };
   chosen += 1;
-  drawing = Promise.resolve();
   speak();
   const [isSale, brand, quantity, text, name] = draft ? JSON.parse(draft) : [];
   const said = draft ? { isSale, brand, quantity, text, photo: drafts.get(name) ?? null } : note ?? EMPTY;
@@ -94,12 +93,21 @@ function choose() {
   chosen += 1;
   const own = chosen;
   drawing = drawnAnew(file).then((made) => {
-    if (own !== chosen) return; // (another one was chosen, or another form came)
-    find("note-photo").value = "";
-    if (made) takePhoto(made);
-    else find("note-fault").textContent = t("This file can’t be read as a picture. Choose a photograph.");
-    if (made) find("note-drop").focus({ preventScroll: true }); // (the field is gone)
+    if (own === chosen) drawn(made); // (else another one was chosen, or another form came)
+    return made ?? undefined;
   });
+}
+
+/** Shows the photograph that was chosen, or that the file is none. */
+function drawn(made) {
+  find("note-photo").value = "";
+  takePhoto(made ?? photo);
+  if (made) {
+    find("note-drop").focus({ preventScroll: true }); // (the field is gone)
+  } else {
+    find("note-fault").textContent = t("This file can’t be read as a picture. Choose a photograph.");
+    find("note-fault").scrollIntoView({ block: "nearest" });
+  }
 }
 
 function dropPhoto() {
@@ -110,6 +118,7 @@ function dropPhoto() {
 /** Takes a photograph, which has the place of the field then; null gives the field again. */
 function takePhoto(taken) {
   photo = taken;
+  drawing = Promise.resolve(taken);
   if (photo && !names.has(photo)) {
     names.set(photo, crypto.randomUUID());
     drafts.set(names.get(photo), photo);
@@ -135,12 +144,11 @@ export function written() {
   return JSON.stringify([isSale, brand, quantity, text, photo && names.get(photo)]);
 }
 
-/** What is to be kept, once the photograph is drawn; null for nothing. */
+/** What is to be kept, once the photograph is drawn: null for nothing, undefined if the file turns out to be no picture. */
 export async function said() {
-  const own = fields(), month = of;
-  await drawing;
-  if (of !== month) return null;
-  return own.isSale || own.brand || own.quantity || own.text || photo ? { ...own, photo } : null;
+  const own = fields(), taken = await drawing;
+  if (taken === undefined) return undefined;
+  return own.isSale || own.brand || own.quantity || own.text || taken ? { ...own, photo: taken } : null;
 }
 
 /** Shows what the desk has of this slot by now, while the fold is open. */

@@ -38,14 +38,19 @@ function render() {
   showHead();
 }
 
-/** Keeps what is written in the form. A note that was emptied there is dropped: its collector wants it. */
+/**
+ * Keeps what is written in the form; whether its entry may be kept too. A note that was emptied there is dropped: its
+ * collector wants it.
+ */
 async function keep({ month, slot, row }, { mark, value }) {
   const { who } = state, before = noteAt(month, slot), said = await form.said();
+  if (said === undefined || state.who !== who) return false;
   if (said) await store.keep({ who, month, slot, row, mark, value, ...said });
   else if (before) await store.drop(before);
-  else return;
+  else return true;
   await reload();
   tabs.tell("entries");
+  return true;
 }
 
 // ---- Sending

@@ -8,8 +8,11 @@ export const notes = {
   fill: (edited, draft) => {},
   /** What is written in the form, as a text, or null. */
   written: () => null,
-  /** Puts what is written in the form on the phone's disk, for an entry and its choice. Throws the browser's error. */
-  keep: async (edited, choice) => {},
+  /**
+   * Puts what is written in the form on the phone's disk, for an entry and its choice; false if the form says that it
+   * can't, so the entry waits for it. Throws the browser's error.
+   */
+  keep: async (edited, choice) => true,
   /** Entries were answered. */
   settled: () => {},
   /** How many notes of the collector aren't sent. */
