@@ -325,20 +325,22 @@ def test_a_reply_has_no_field_that_only_pages_need(path: str, status: int, is_pa
     assert (policy[0] == "default-src 'none'") == (not is_page)
 
 
-PUBLIC = ("data/cpi.csv", "picture/00-level.svg", "node/01.csv", "manifest.json", "SHA256SUMS")
-OWN_FILES = ("index.html", "node/01.html", "assets/style.css", "embed/00.html")
+PUBLIC = ("data/cpi.csv", "picture/00-level.svg", "node/01.csv", "manifest.json", "SHA256SUMS", "fr/picture/00-level.svg",
+          "fr/feed.xml", "fr/release/2026-01-r1.png")  # fmt: skip
+OWN_FILES = ("index.html", "node/01.html", "assets/style.css", "embed/00.html", "fr/index.html", "fr/assets/words.js",
+             "fr/embed/00.html")  # fmt: skip
 
 
 def test_public_files_are_for_other_sites_and_pages_to_embed_are_framed(front: Front, tmp_path: Path) -> None:
     """As nginx does it: tests/web/test_pictures_elsewhere.py."""
     for name in (*PUBLIC, *OWN_FILES):
-        (tmp_path / "site" / name).parent.mkdir(exist_ok=True)
+        (tmp_path / "site" / name).parent.mkdir(exist_ok=True, parents=True)
         (tmp_path / "site" / name).write_text("x")
         with contextlib.closing(front.line()) as line:
             line.request("GET", f"/published/{name}")
             answer = line.getresponse()
             assert (answer.read(), answer.status) == (b"x", 200)
-        is_public, is_framed = name in PUBLIC, name.startswith("embed/")
+        is_public, is_framed = name in PUBLIC, "embed/" in name
         assert answer.headers.get_all("Access-Control-Allow-Origin") == (["*"] if is_public else None), name
         resource = "cross-origin" if is_public or is_framed else "same-origin"
         assert answer.headers.get_all("Cross-Origin-Resource-Policy") == [resource], name

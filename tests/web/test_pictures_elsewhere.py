@@ -58,6 +58,22 @@ def ancestors_of(front: Stage, path: str) -> str:
     return str(found)
 
 
+def test_pages_in_another_language_are_no_others(stage: Stage, tmp_path: Path) -> None:
+    """Their pictures, cards and feeds are in a folder of the language: read, shown and framed as those of the first one."""
+    public = ("picture/00-level.svg", "release/2026-01-r1.png", "feed.xml", "calendar.ics")
+    own = ("index.html", "embed/00.html", "assets/words.js", "node/01.html")
+    for name in (*public, *own):
+        (tmp_path / "site/pt-BR" / name).parent.mkdir(parents=True, exist_ok=True)
+        (tmp_path / "site/pt-BR" / name).write_text("x")
+    stage.published.symlink_to(tmp_path / "site")
+    fields = {name: stage.ask("GET", f"{PLACE}/pt-BR/{name}").fields for name in (*public, *own)}
+    assert {name for name, found in fields.items() if found.get("Access-Control-Allow-Origin") == "*"} == {*public}
+    framed_by = {name: ancestors_of(stage, f"{PLACE}/pt-BR/{name}") for name in (*public, *own)}
+    assert {name for name, them in framed_by.items() if them == "*"} == {"embed/00.html"}
+    resource = {name for name, found in fields.items() if found["Cross-Origin-Resource-Policy"] == "cross-origin"}
+    assert resource == {*public, "embed/00.html"}
+
+
 # ---- in a browser
 
 
