@@ -14,6 +14,7 @@ import pytest
 from browser import Browser
 from cpi_tools.program import Cpi
 from other_site import other_site
+from readable import faults_enlarged, faults_of_page
 from stage import Stage
 from test_choose import opened
 from test_pictures_elsewhere import PIXELS
@@ -183,6 +184,16 @@ def test_a_choice_is_framed_by_another_site(
             assert browser.text("#parts .readout").startswith("February 2013: All items ")
         finally:
             browser.driver.switch_to.default_content()
+
+
+@pytest.mark.parametrize("scheme", ["light", "dark"])
+def test_the_small_page_can_be_read_and_enlarged(browser: Browser, stage: Stage, later: Path, scheme: str) -> None:
+    stage.published.symlink_to(later)
+    browser.shown_as(scheme)
+    browser.size(360, 500)
+    said_at(browser, f"?items=00+01+01.1+01.1.1+{RICE}+{BREAD}&show=index+month&from=2011-01&hundred=own")
+    assert len(browser.all("#parts section:first-child .curve")) == 12  # (six lines, and their signs in the key)
+    assert [*faults_of_page(browser), *faults_enlarged(browser)] == []
 
 
 def test_a_wrong_address_is_said_in_the_frame(browser: Browser, stage: Stage, later: Path) -> None:

@@ -38,8 +38,7 @@ CONFIG = Config(
 )  # fmt: skip
 PAGES = ("index.html", "nodes.html", "node/00.html", "node/01.1.1.1-01.html", "node/CORE.html", "contract.html",
          "data.html", "revisions.html", "method.html", "how-to-read.html", "releases.html", "release/2021-01-r1.html",
-         "release/2025-06-r2.html", "release/2026-01-r1.html", "embed/2026-01-r1.html", "embed/00.html",
-         "embed/chosen.html")  # fmt: skip
+         "release/2025-06-r2.html", "release/2026-01-r1.html", "embed/2026-01-r1.html", "embed/00.html")  # fmt: skip
 
 
 def codes_of(division: str) -> list[str]:
