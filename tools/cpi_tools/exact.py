@@ -45,7 +45,8 @@ def scaled(over: int, under: int, digits: int) -> int:
 
 def decimal(over: int, under: int, digits: int) -> str:
     """over / under with some decimals, rounded to the nearest, halves away from zero (under > 0)."""
-    return fixed(scaled(over, under, digits), digits)
+    units = (2 * abs(over) * 10**digits + under) // (2 * under)
+    return fixed(-units if over < 0 else units, digits)
 
 
 def fixed(units: int, digits: int) -> str:

@@ -33,6 +33,9 @@ class ItemFiles:
         self._lines, self._tables = Lines(series), [series.latest[month] for month in series.months]
         is_final = same_to not in notes.last
         self._same = sum(month <= same_to for month in series.months) if is_final else 0
+        after = series.months[self._same :]
+        # (how the first of the later lines begins; a title in the earlier ones has no end of line)
+        self._next = f"\n{after[0]},".encode() if after else b"\n\n"
         found = groupby(table.rows.named for table in self._tables[: self._same])
         self._named = [(named, len([*months])) for named, months in found]
         self._broken = {
@@ -60,7 +63,14 @@ class ItemFiles:
         data = None if code in self._broken else self._before.read(f"node/{code}.csv")
         if data is None:
             return None
+        end = data.find(self._next) + 1
+        if data.count(b"\n", 0, end) == rows + 1:
+            found = data[:end]
+        else:
+            # (it isn't in the first of the later months)
+            parts = data.split(b"\n", rows + 1)
+            if len(parts) < rows + 2:
+                return None
+            found = data[: len(data) - len(parts[-1])]
         # (the months that can still be revised are the last ones: if there is one here, then the last one is)
-        parts = data.split(b"\n", rows + 1)
-        found = data[: len(data) - len(parts[-1])]
-        return None if len(parts) < rows + 2 or found.endswith(f"{PROVISIONAL}\n".encode()) else found
+        return None if found.endswith(f"{PROVISIONAL}\n".encode()) else found

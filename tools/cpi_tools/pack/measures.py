@@ -16,7 +16,7 @@ millionths of a point.
 
 from __future__ import annotations
 
-from collections.abc import Iterable, Sequence
+from collections.abc import Callable, Iterable, Sequence
 from typing import NamedTuple, Optional
 
 from ..exact import HUNDRED, Ratio
@@ -117,10 +117,20 @@ class Contributions:
         """What a node gives to both changes of one at or above it."""
         return Contribution(code, to, self.to_month(month, code, to), self.to_year(month, code, to))
 
+    def both(self, month: str, to: str) -> tuple[Callable[[str], Optional[Ratio]], Callable[[str], Optional[Ratio]]]:
+        """What tells of nodes at or below one what they give to both of its changes in a month."""
+        whole = self.whole(month, to)
+        is_hidden = [(month, is_annual) in self.unexplained for is_annual in (False, True)]
+        return _none if is_hidden[0] else whole.to_month, _none if is_hidden[1] else whole.to_year
+
     def below(self, month: str, to: str) -> list[Contribution]:
         """Those of all nodes next below one in a month, also of such as left in the year before."""
         found = (self.of(month, code, to) for code in self.series.children(to))
         return [each for each in found if each.to_month is not None or each.to_year is not None]
+
+
+def _none(_: str) -> Optional[Ratio]:
+    return None
 
 
 # ---- averages, in points

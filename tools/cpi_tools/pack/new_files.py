@@ -3,6 +3,7 @@
 from __future__ import annotations
 
 import hashlib
+import os
 from pathlib import Path
 
 
@@ -17,6 +18,11 @@ class NewFiles:
 
     def write(self, name: str, content: bytes) -> None:
         """Writes a file by its name in the pack, in a folder that is there. Raises OSError."""
-        with open(self._top + name, "xb") as file:
-            file.write(content)
+        number = os.open(self._top + name, os.O_WRONLY | os.O_CREAT | os.O_EXCL | os.O_CLOEXEC, 0o666)
+        try:
+            left = memoryview(content)
+            while left:
+                left = left[os.write(number, left) :]
+        finally:
+            os.close(number)
         self.sums[name] = hashlib.sha256(content).hexdigest()

@@ -176,10 +176,10 @@ def _contribution_lines(known: Known) -> Iterator[str]:
         for (code, parent), to_month, to_year in zip(above, *given):
             if to_month or to_year:
                 yield f"{month},{code},{ALL_ITEMS},{to_month},{to_year}\n"
-            if parent not in (None, ALL_ITEMS):
-                it = known.contributions.of(month, code, str(parent))
-                if it.to_month is not None or it.to_year is not None:
-                    yield f"{month},{code},{parent},{written(it.to_month, 6)},{written(it.to_year, 6)}\n"
+            if parent is not None and parent != ALL_ITEMS:
+                monthly, annual = (each(code) for each in known.contributions.both(month, parent))
+                if monthly is not None or annual is not None:
+                    yield f"{month},{code},{parent},{written(monthly, 6)},{written(annual, 6)}\n"
 
 
 def _printed_lines(known: Known) -> Iterator[str]:
