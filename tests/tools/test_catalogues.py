@@ -203,11 +203,11 @@ def outside_of_python(module: str) -> list[str]:
 
 
 NO_TEXT = re.compile(
-    r"^default-src |^<svg |^\"/?><path |^record or step$|isn't as it was written|^refused by |^not carried out; it would be |^; $"
+    r"^default-src |^<svg |^\"/?><path |^record or step$|isn't as it was written|^refused by |^not carried out; it would be |^; $|^no reply$|^not sent$"
     r"|^\s*(?:CREATE|DELETE|INSERT|PRAGMA|SELECT) |^ (?:AND|FROM|ORDER) | NOT NULL$"
 )
-"""What is no text of a page: a field of HTTP, markup, SQL, a heading of a file, why the application doesn't start, and a
-refusal's line in English."""
+"""What is no text of a page: a field of HTTP, markup, SQL, a heading of a file, why the application doesn't start, a
+refusal's line in English, and names of states."""
 
 
 @pytest.mark.parametrize("path", MODULES, ids=lambda path: str(path.stem))

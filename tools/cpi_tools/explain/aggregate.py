@@ -51,7 +51,11 @@ def about(sources: Sources, series: Series) -> Told:
     """What a series prices, and where."""
     it = sources.holder(series, sources.month)
     item = sources.items[it.item]
-    places = {"item": of_others(item.text), "unit": of_others(item.unit), "outlet": of_others(sources.outlets[it.outlet])}
+    places = {
+        "item": of_others(item.text),
+        "unit": of_others(item.unit),
+        "outlet": of_others(sources.outlets[it.outlet]),
+    }
     return told("{code} {item}, {unit}; {outlet}", code=Code(item.code), **places)
 
 
@@ -80,7 +84,9 @@ def quote_line(sources: Sources, series: Series) -> Line:
         who: dict[str, object] = {"collector": holder.collector, "slot": holder.slot}
         if holder.has_ended(sources.month):
             last = month_of(holder.last_month)
-            says = told("no longer priced: the last month of collector {collector}, slot {slot} was {month}", month=last, **who)
+            says = told(
+                "no longer priced: the last month of collector {collector}, slot {slot} was {month}", month=last, **who
+            )
             return Line(name, "", None, says)
         return Line(name, "", None, told("nothing was sent by collector {collector}, slot {slot}", **who))
     by = who_sent(sources, series, sources.month, quote)
@@ -132,7 +138,9 @@ def imputed_lines(sources: Sources, series: Series, up: int, down: int) -> Itera
     if quote is not None and is_other:
         says = told("ticks that a minor unit of its price counts as from now on")
         scale = Fraction(it.knum, it.kden)
-        yield Line(told("scale of {series}", series=Code(slot_text(series))), f"{it.ticks} / {quote.value}", scale, says, row)
+        yield Line(
+            told("scale of {series}", series=Code(slot_text(series))), f"{it.ticks} / {quote.value}", scale, says, row
+        )
 
 
 # ---- lines of the aggregate
@@ -146,7 +154,9 @@ def movement(sources: Sources, code: str, sample: Sequence[Series]) -> tuple[int
     now, then = [sources.own.carried[it].ticks for it in matched], [sources.then(it)[0] for it in matched]
     up, down, count = sum(now), sum(then), len(matched)
     months = month_of(sources.month), month_of(month_before(sources.month))
-    what = [told("carried prices of the {count} matched series in {month}", count=count, month=month) for month in months]
+    what = [
+        told("carried prices of the {count} matched series in {month}", count=count, month=month) for month in months
+    ]
     lines = [
         Line(told("moved to"), summed(now), up, what[0]),
         Line(told("moved from"), summed(then), down, what[1]),
@@ -187,18 +197,37 @@ def aggregate_parts(sources: Sources, code: str) -> list[Part]:
     imputed = [line for it in sample if it not in seen for line in imputed_lines(sources, it, up, down)]
     link, month = month_of(link_month(sources.month)), month_of(sources.month)
     parts = [
-        Part(told("Elementary index"), told("The sum of the carried prices over the sum of the bases, of the same series (Dutot)."),
-             index_lines(sources, code, sample)),
-        Part(told("Movement"), told("Of the matched series: a comparable price now, and observed in the month before."), moved),
+        Part(
+            told("Elementary index"),
+            told("The sum of the carried prices over the sum of the bases, of the same series (Dutot)."),
+            index_lines(sources, code, sample),
+        ),
+        Part(
+            told("Movement"),
+            told("Of the matched series: a comparable price now, and observed in the month before."),
+            moved,
+        ),
         Part(told("Imputed prices"), told("What can't be compared moves with the matched series, in ticks."), imputed),
-        Part(told("Observed prices"), told("What they count as, in ticks: price times scale."),
-             [observed_line(sources, it) for it in seen]),
-        Part(told("What was found"), told("The quotes that {month} was frozen with, in minor units of money.", month=month),
-             [quote_line(sources, it) for it in sample]),
-        Part(told("The month before"), told("What each series counted as then, in ticks."),
-             [then_line(sources, it) for it in sample]),
-        Part(told("Bases"), told("In ticks, 10,000 a minor unit of money; the link month is {month}.", month=link),
-             [base_line(sources, it) for it in sample]),
+        Part(
+            told("Observed prices"),
+            told("What they count as, in ticks: price times scale."),
+            [observed_line(sources, it) for it in seen],
+        ),
+        Part(
+            told("What was found"),
+            told("The quotes that {month} was frozen with, in minor units of money.", month=month),
+            [quote_line(sources, it) for it in sample],
+        ),
+        Part(
+            told("The month before"),
+            told("What each series counted as then, in ticks."),
+            [then_line(sources, it) for it in sample],
+        ),
+        Part(
+            told("Bases"),
+            told("In ticks, 10,000 a minor unit of money; the link month is {month}.", month=link),
+            [base_line(sources, it) for it in sample],
+        ),
     ]
     return [part for part in parts if part.lines]
 

@@ -49,13 +49,15 @@ def level_part(sources: Sources, code: str) -> Part:
         Line(told("link level"), "", link, says),
         Line(told("chained level"), f"round({link} * {own.within} / {HUNDRED})", own.chained, "", row, True),
         Line(told("level before"), "", then, told("the link level") if sources.is_january else from_before),
-        Line(
-            told("monthly change"), change_expression(then, own.chained), own.month_change, TENTHS, row, True
-        ),
+        Line(told("monthly change"), change_expression(then, own.chained), own.month_change, TENTHS, row, True),
         *year_lines(sources, code),
         *revision_lines(sources, code),
     ]
-    return Part(told("Chained level and changes"), told("Levels in millionths of a point, changes in tenths of a percent."), lines)
+    return Part(
+        told("Chained level and changes"),
+        told("Levels in millionths of a point, changes in tenths of a percent."),
+        lines,
+    )
 
 
 def year_lines(sources: Sources, code: str) -> list[Line]:

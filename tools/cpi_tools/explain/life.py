@@ -91,7 +91,11 @@ def is_new(quote: Frozen) -> bool:
 
 def handed_over(former: Assignment, it: Assignment, price: Optional[int]) -> Told:
     """A hand-over in words."""
-    places: dict[str, object] = {"former": former.collector, "former_slot": former.slot, "month": month_of(it.first_month)}
+    places: dict[str, object] = {
+        "former": former.collector,
+        "former_slot": former.slot,
+        "month": month_of(it.first_month),
+    }
     places.update(collector=it.collector, slot=it.slot)
     if price is None:
         return told(

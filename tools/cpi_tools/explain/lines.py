@@ -11,7 +11,7 @@ from fractions import Fraction
 from functools import cached_property
 from typing import NamedTuple, Union
 
-from ..others import Worded, of_others
+from ..others import of_others
 from ..sections import Section
 from ..told import Code, Told, told
 from .expressions import value_of

@@ -81,8 +81,16 @@ def node_parts(sources: Sources, node: str) -> list[Part]:
     adds = [line for _, _, line in contributions(sources, node)[:MOST_CONTRIBUTIONS]]
     return [
         Part(told("Mean"), told("Always of the elementary indices, by their weights in use, and rounded once."), mean),
-        Part(told("The greatest contributions"), told("In millionths of a percentage point of the index's monthly change."), adds),
-        Part(told("Elementary indices"), told("Each goes on down to its receipts, where it is asked for by its code."), indices),
+        Part(
+            told("The greatest contributions"),
+            told("In millionths of a percentage point of the index's monthly change."),
+            adds,
+        ),
+        Part(
+            told("Elementary indices"),
+            told("Each goes on down to its receipts, where it is asked for by its code."),
+            indices,
+        ),
         Part(told("Weights in use"), told("Of the aggregates below."), [weight_line(sources, code) for code in codes]),
     ]
 

@@ -71,7 +71,12 @@ def samples_part(sources: Sources, node: str) -> Part:
     counts, imputed = [len(it) for it in samples], [len(imputed_of(sources, it)) for it in samples]
     outlets = len(outlets_of(sources, (series for sample in samples for series in sample)))
     lines = [
-        Line(told("prices below"), summed(counts), sum(counts), told("the samples of the aggregates below, as their codes come")),
+        Line(
+            told("prices below"),
+            summed(counts),
+            sum(counts),
+            told("the samples of the aggregates below, as their codes come"),
+        ),
         Line(told("imputed below"), summed(imputed), sum(imputed), told("of these")),
         Line(told("outlets below"), "", outlets, told("each counted once")),
     ]

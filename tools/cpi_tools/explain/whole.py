@@ -5,7 +5,6 @@ from __future__ import annotations
 from collections.abc import Iterator
 
 from ..exact import at_and_above, depth_of, points, tenths
-from ..others import Worded
 from ..terminal import month_text, slot_text
 from ..told import Code, Figure as FigureText, Told, moment_of, month_of, row, told, whole
 from . import wording
@@ -78,7 +77,9 @@ def facts_of(sources: Sources, code: str) -> Iterator[Told]:
     others = [FigureText(it.revision) for it in sources.releases if it.month == own.month and it != own]
     if others:
         text = row(others)
-        yield told("The month has other revisions: {revisions}. Later months are computed from the latest.", revisions=text)
+        yield told(
+            "The month has other revisions: {revisions}. Later months are computed from the latest.", revisions=text
+        )
     listed = [Code(each) for each in own.carry if code in at_and_above(each)]
     if listed:
         yield told("On the carry list: {codes}.", codes=row(listed))
