@@ -77,7 +77,9 @@ def test_a_file_that_is_no_text_is_told_and_what_was_typed_stays(
     more = {"word": word, "year": "2027"} if word else {}
     answer = chosen(ada, content, name, text="outlet,60,Typed", **more)
     assert answer.status_code == 400
-    assert f"{name} is no text in UTF-8. Save a spreadsheet as CSV" in words_of(answer.text).replace("\u2068", "").replace("\u2069", "")
+    assert f"{name} is no text in UTF-8. Save a spreadsheet as CSV" in words_of(answer.text).replace(
+        "\u2068", ""
+    ).replace("\u2069", "")
     assert "outlet,60,Typed" in answer.text and 'name="offer"' not in answer.text
 
 

@@ -78,7 +78,7 @@ def test_a_file_is_read(tmp_path: Path) -> None:
             "its column reason-xx is of a language without a catalogue; it is one of en, ar, es, fr",
         ),
         ([[*HEAD, "reason-fr", "reason-fr"]], "its column reason-fr is there twice"),
-        ([[*HEAD, "raison"]], "its first row is month,revision,reason,added,raison, and not month,revision,reason"),
+        ([[*HEAD, "motif"]], "its first row is month,revision,reason,added,motif, and not month,revision,reason"),
         (
             [[*HEAD, "reason-fr"], ["2026-01", "2", "A", "", "W" * 1001]],
             "row 2: its reason-fr has 1001 letters, and not",

@@ -35,11 +35,12 @@ def test_a_killed_machine_is_followed_by_a_second_one(
     shell = tmp_path / "shell"
     shell.write_text(SHELL)
     shell.chmod(0o755)
-    follow = {
-        "folder": lambda: [str(dest)],
-        "rsync": lambda: [f"second:{dest}", "--ssh", str(shell)],
-        "receiver": lambda: ["second:.", "--ssh", receiver(shell, dest)],
-    }[way]()
+    if way == "folder":
+        follow = [str(dest)]
+    elif way == "rsync":
+        follow = [f"second:{dest}", "--ssh", str(shell)]
+    else:
+        follow = ["second:.", "--ssh", receiver(shell, dest)]
     kill = kill_and_promote(cpi, first, second, follow, dest, random.Random(seed))
     assert kill.answered > LEAST and kill.missing_after == 0 and kill.age >= 0
 

@@ -59,3 +59,6 @@ export const inDigits = (figure) => (digits ? figure.replace(/[0-9]/g, (digit) =
 
 /** A whole number, such as a count or a receipt, in the digits of the office. */
 export const whole = (number) => inDigits(String(number));
+
+/** A whole number that may be large, such as a count of letters: its digits in groups. */
+export const grouped = (number) => form(Intl.NumberFormat).format(number);
