@@ -115,7 +115,7 @@ def test_the_website_is_published_and_a_sheet_printed(
     ada.sign_in("Ada")
     ada.open("/publish")
     ada.press("form[action$='/publish/now'] button")
-    browser.wait_text("#published", "2011-02, revision 2")
+    browser.wait_text("#published", "February 2011, revision 2")
     assert (tmp_path / "public/release/2011-02-r2.html").is_file()
     assert faults_of(["/publish", "/sample/collectors"], ada, browser) == []
     ada.open("/sample/collectors")
