@@ -9,6 +9,7 @@ from __future__ import annotations
 import hashlib
 import json
 import os
+import re
 from collections.abc import Callable, Iterator
 from typing import Any, Optional
 
@@ -22,6 +23,7 @@ from .probing import CRITICAL, JUMP, WARNING, Writes, is_late
 from .world import Quote
 
 
+MONTH = re.compile(r"\b20\d\d-(?:0[1-9]|1[0-2])\b")
 KEPT, NO_TABLE = 2, {"refused": 30}
 """So many seconds a front may keep that a table isn't there yet."""
 
@@ -185,6 +187,9 @@ class Judge:
         if listed != self._published():
             apart = sorted(set(listed.items()) ^ set(self._published().items()))
             raise Broken(f"the site has other tables than are out: {apart[:4]}")
+        early = pages_of(folder) - {month for month, _ in listed}
+        if early:
+            raise Broken(f"the site has pages of months that aren't out: {sorted(early)}")
         before = hashlib.sha256(self.manifest).hexdigest() if self.manifest else None
         if text != self.manifest and manifest["previous"] != before:
             raise Broken(f"the manifest follows {manifest['previous']}, and not {before}")
@@ -200,6 +205,12 @@ def digests(office: Office, now: int) -> Iterator[tuple[str, int, str]]:
     for month, revision in office.published(now):
         table = office.printed_table(now, month, "csv", revision)["table"]
         yield month_text(month), revision, hashlib.sha256(table.encode()).hexdigest()
+
+
+def pages_of(folder: str) -> set[str]:
+    """The months that files of a pack have in their names."""
+    names = (os.path.join(where, name) for where, _, files in os.walk(folder) for name in files)
+    return {month for name in names for month in MONTH.findall(os.path.relpath(name, folder))}
 
 
 def sums_fault(folder: str) -> Optional[str]:

@@ -13,6 +13,8 @@ from typing import NamedTuple, Optional
 
 from lib.harness import TOP
 
+from . import clock as clocks
+
 START = os.path.join(TOP, "tools/cpi_tools/start")
 FORKING = os.path.join(os.path.dirname(os.path.abspath(__file__)), "forking.py")
 
@@ -105,6 +107,7 @@ class Tools:
         if self.server:
             with self.server:
                 self.server.kill()
+            clocks.forget(self.server.pid)
             self.server = None
 
 
