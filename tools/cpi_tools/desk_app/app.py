@@ -40,6 +40,22 @@ from .sign_in_views import COOKIE
 TEMPLATES = Path(__file__).resolve().parent / "templates"
 
 
+VIEWS = (
+    sign_in_views,
+    month_views,
+    looks_views,
+    table_views,
+    freeze_views,
+    calendar_views,
+    sample_views,
+    key_views,
+    year_views,
+    publish_views,
+    records_views,
+    log_views,
+)
+"""The modules of the pages."""
+
 FREE = ("sign_in.show", "sign_in.enter", "style")
 """What is answered without a session, by the names of the views."""
 
@@ -99,20 +115,7 @@ def make_app(desk: Desk, reached: Reached) -> flask.Flask:
     app.register_error_handler(Fault, _fault)
     app.register_error_handler(HTTPException, _http_fault)
     app.add_url_rule("/style.css", "style", _style)
-    for views in (
-        sign_in_views,
-        month_views,
-        looks_views,
-        table_views,
-        freeze_views,
-        calendar_views,
-        sample_views,
-        key_views,
-        year_views,
-        publish_views,
-        records_views,
-        log_views,
-    ):
+    for views in VIEWS:
         app.register_blueprint(views.views)
     if desk.field:
         from . import field_pages, field_views  # (they need python3-pil, which an office without notes hasn't)
