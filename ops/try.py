@@ -221,7 +221,8 @@ def place_of(address: str, port: int, folder: Path) -> Place:
 def of_a_trial(folder: Path, text: str) -> str:
     """The front's file with the certificate that a phone has to trust, and without the field by which a browser would
     remember, for a year, to speak TLS alone here."""
-    forgetful = re.sub(r"\n *add_header Strict-Transport-Security .*", "", text)
+    # (an empty field isn't sent; a location without any field would have all those of its server)
+    forgetful = re.sub(r'"max-age=31536000"', '""', text)
     certificate = f"    location = /ca.crt {{ root {folder}; }}\n\n"
     return re.sub(r"^ *location = /config\.js ", rf"{certificate}\g<0>", forgetful, count=1, flags=re.M)
 

@@ -71,6 +71,9 @@ class Trial:
             answer = line.getresponse()
             page = answer.read().decode()
             assert answer.status == 200 and f"/desk/month/{NOW}/table" in page and "The window closes" in page
+            # (a second policy, that of the server, would forbid a browser the forms of these pages)
+            policies = answer.headers.get_all("Content-Security-Policy") or []
+            assert len(policies) == 1 and "form-action 'self'" in policies[0], policies
 
     def stop(self, how: int) -> int:
         """Its status after a signal."""
