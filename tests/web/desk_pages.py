@@ -22,7 +22,9 @@ PREFIX = "/desk"
 
 class DeskPages:
     """The process, at the port that the front leads to, with more words on its command line; it can be killed, and another
-    one takes its place over the same folder."""
+    one takes its place over the same folder. `tools` is where its program is."""
+
+    tools = ROOT / "tools"
 
     def __init__(self, stage: Stage, folder: Path, front: str = "", *more: str):
         self.stage, self.folder, self.front, self.more = stage, folder, front, more
@@ -45,7 +47,7 @@ class DeskPages:
         ]
         words += ["--room", str(self.folder / "room"), "--listen", f"127.0.0.1:{self.port}"]
         words += ["--program", str(self.stage.cpi.path), *(["--front", self.front] if self.front else []), *self.more]
-        told = {**os.environ, "PYTHONPATH": str(ROOT / "tools"), "PYTHONDONTWRITEBYTECODE": "1"}
+        told = {**os.environ, "PYTHONPATH": str(self.tools), "PYTHONDONTWRITEBYTECODE": "1"}
         command = [sys.executable, "-m", "cpi_tools", *words]
         self.process = subprocess.Popen(command, stdout=subprocess.PIPE, text=True, env=told)
         assert self.process.stdout
